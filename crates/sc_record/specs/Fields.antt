@@ -1,0 +1,72 @@
+-- The names of dynamic fields, and what a document is (Solr Reference Guide, "Dynamic Fields").
+use Rattle.std.specs.Prelude.{◌≡◌, ℕ, Bool, true, false, List, length, codes, nat_eq, nat_lt, ◌&&◌, if◌then◌else◌, IsTrue, Option, Some, None, [], ◌∷◌, ⊤}
+use Rattle.std.specs.List.{ends_with, list_all, AllByRecursion}
+use Rattle.std.specs.Cmp.Lexicographic.{slice_cmp}
+use Rattle.std.specs.Ordering.{nat_cmp}
+use Rattle.std.specs.declared.cmp.Ordering.TheVariants.{Less}
+use Rattle.sc_record.specs.declared.value.Kind.{Kind}
+use Rattle.sc_record.specs.declared.value.Kind.TheVariants as kinds
+use Rattle.sc_record.specs.declared.value.Value.{Value}
+use Rattle.sc_record.specs.declared.value.Value.TheVariants as values
+use Rattle.sc_record.specs.declared.document.Field.{Field}
+
+-- the name ends in these bytes
+abbrev pub has_ending : List ℕ → List ℕ → Bool
+has_ending name ending = ends_with nat_eq name ending
+
+-- the kind that a name's ending stands for, and whether the field has many values
+abbrev pub kind_by_ending : List ℕ → Option (Kind × Bool)
+kind_by_ending name =
+    if has_ending name (codes "_s") then Some (kinds.Str, false)
+    else (if has_ending name (codes "_ss") then Some (kinds.Str, true)
+    else (if has_ending name (codes "_i") then Some (kinds.Int, false)
+    else (if has_ending name (codes "_is") then Some (kinds.Int, true)
+    else (if has_ending name (codes "_l") then Some (kinds.Long, false)
+    else (if has_ending name (codes "_ls") then Some (kinds.Long, true)
+    else (if has_ending name (codes "_b") then Some (kinds.Flag, false)
+    else (if has_ending name (codes "_bs") then Some (kinds.Flag, true)
+    else (if has_ending name (codes "_t") then Some (kinds.Words, false)
+    else (if has_ending name (codes "_txt") then Some (kinds.Words, true)
+    else None)))))))))
+
+-- the kind of a dynamic field, whose name has at most 256 bytes
+unfoldable pub kind_of : List ℕ → Option (Kind × Bool)
+kind_of name = if nat_lt 256 (length name) then None else kind_by_ending name
+
+-- the value is one that a field of the kind keeps: Words keep their text
+abbrev pub fits_kind : Kind → Value → Bool
+fits_kind kinds.Str (values.Text text) = true
+fits_kind kinds.Words (values.Text text) = true
+fits_kind kinds.Int (values.Int n) = true
+fits_kind kinds.Long (values.Long n) = true
+fits_kind kinds.Flag (values.Flag b) = true
+fits_kind kind value = false
+
+-- how many values a field may have: one at least, and one only where the field has one
+abbrev pub fits_count : Bool → ℕ → Bool
+fits_count true n = nat_lt 0 n
+fits_count false n = nat_eq n 1
+
+-- the values are of the kind that the name stands for, and as many as it may have
+abbrev pub fits_name : Option (Kind × Bool) → List Value → Bool
+fits_name None values = false
+fits_name (Some (kind, many)) values = list_all (fits_kind kind) values && fits_count many (length values)
+
+-- the field's values fit its name
+abbrev pub IsField : Field → Type 0
+IsField f = IsTrue (fits_name (kind_of f.name) f.values)
+
+-- the name comes before that of the first field
+abbrev pub IsBelowFirst : List ℕ → List Field → Type 0
+IsBelowFirst name [] = ⊤
+IsBelowFirst name (f ∷ fields) = slice_cmp nat_cmp name f.name ≡ Less
+
+-- the names ascend by their bytes, so that each stands once
+abbrev pub Ascends : List Field → Type 0
+Ascends [] = ⊤
+Ascends (f ∷ fields) = IsBelowFirst f.name fields × Ascends fields
+
+-- the fields of a document, without its id and its version
+pub record IsDocument (fields : List Field) : Type 0 where
+  pub each : AllByRecursion IsField fields
+  pub ascends : Ascends fields

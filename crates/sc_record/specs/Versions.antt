@@ -1,0 +1,22 @@
+-- Versions of documents (Solr Reference Guide, "Optimistic Concurrency").
+use Rattle.std.specs.Prelude.{ℕ, ◌*◌, ◌-◌, ◌^◌, min, ℤ, pos, negsuc, neg_ℤ, ◌+ℤ◌, Option, Some, None}
+use Rattle.std.specs.Int.{int_max}
+use Rattle.sc_record.specs.declared.write.Write.{Write}
+
+-- a version as it is shown: that of a write without a document, a deletion, is negative
+abbrev pub signed : {A : Type 0} → Option A → ℤ → ℤ
+signed (Some doc) version = version
+signed None version = neg_ℤ version
+
+-- a write's version as it is shown
+abbrev pub shown_version : Write → ℤ
+shown_version w = signed w.doc w.version
+
+-- the version that is found of an id whose last write this is: -1 where there is none
+abbrev pub found_version : Option Write → ℤ
+found_version None = negsuc 0
+found_version (Some w) = shown_version w
+
+-- the version of a write at this moment (milliseconds), after a clock: the greater of the moment's and the clock's next
+abbrev pub version_after : ℕ → ℤ → ℤ
+version_after now clock = int_max (pos (min now (2 ^ 42 - 1) * 2 ^ 20)) (clock +ℤ pos 1)

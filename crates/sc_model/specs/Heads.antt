@@ -1,0 +1,103 @@
+-- What the head of a request says (RFC 9112 and RFC 9110; the grammar of heads is that of `httparse`).
+use Rattle.std.specs.Prelude.{ℕ, ◌==◌, Bool, not, ◌&&◌, ◌||◌, List, [], ◌∷◌, length, codes, filter, map, nat_lt, if◌then◌else◌, Result, Ok, Err}
+use Rattle.std.specs.Char.{is_ascii_digit}
+use Rattle.std.specs.List.{list_all, list_any, before_first, after_first}
+use Rattle.std.specs.Str.{bytes_eq, str_eq_ignore_ascii_case}
+use Rattle.std.specs.Str.Lossy.{utf8_lossy}
+use Rattle.std.specs.Str.Parse.{digits_value}
+use Rattle.httparse.specs.Grammar.{RequestHead, Field, field_value, trim_ows}
+use Rattle.form_urlencoded.specs.Form.{raw_pairs, decode, split}
+use Rattle.sc_model.specs.declared.message.Incoming.{Incoming}
+use Rattle.sc_model.specs.declared.message.Method.{Method}
+use Rattle.sc_model.specs.declared.message.Method.TheVariants as methods
+use Rattle.sc_model.specs.declared.message.Param.{Param}
+
+-- the most bytes of a head
+abbrev pub head_limit : ℕ
+head_limit = 65536
+
+-- the most header lines of a head
+abbrev pub line_limit : ℕ
+line_limit = 128
+
+-- the most bytes of a body
+abbrev pub body_limit : ℕ
+body_limit = 16777216
+
+-- the values of the headers of a name, which is read in any case, in order and without the white space around them
+abbrev pub values_of : List ℕ → RequestHead → List (List ℕ)
+values_of name head = map field_value (filter (λ field. str_eq_ignore_ascii_case field.name name) head.fields)
+
+-- there is a header of the name
+abbrev pub has_header : List ℕ → RequestHead → Bool
+has_header name head = list_any (λ (field : Field). str_eq_ignore_ascii_case field.name name) head.fields
+
+-- why the length of a body can't be read
+pub data LengthFault : Type 0 where
+  badly_stated : LengthFault
+  too_great : LengthFault
+
+-- one or more decimal digits
+abbrev pub is_digits : List ℕ → Bool
+is_digits text = nat_lt 0 (length text) && list_all is_ascii_digit text
+
+-- the length of a body by the values of Content-Length, judged in order (RFC 9112, section 6.3)
+abbrev pub length_by : List (List ℕ) → Result ℕ LengthFault
+length_by [] = Ok 0
+length_by (value ∷ more) =
+    if not (is_digits value) then Err badly_stated
+    else (if nat_lt body_limit (digits_value 10 value) then Err too_great
+    else (if nat_lt 0 (length more) then Err badly_stated else Ok (digits_value 10 value)))
+
+-- the length of the body that follows a head
+abbrev pub body_length : RequestHead → Result ℕ LengthFault
+body_length head = length_by (values_of (codes "content-length") head)
+
+-- the body has a transfer coding (RFC 9112, section 6.1)
+abbrev pub is_coded : RequestHead → Bool
+is_coded head = has_header (codes "transfer-encoding") head
+
+-- the method, as far as it is told apart
+abbrev pub method_of : List ℕ → Method
+method_of name =
+    if bytes_eq name (codes "GET") then methods.Get
+    else (if bytes_eq name (codes "POST") then methods.Post else methods.Other)
+
+-- the byte that ends the path, and the one between two tokens of a list
+abbrev pub question_mark : ℕ
+question_mark = 63
+
+abbrev pub comma : ℕ
+comma = 44
+
+-- the target up to its first question mark
+abbrev pub path_of : List ℕ → List ℕ
+path_of target = before_first (λ b. b == question_mark) target
+
+-- a parameter, decoded as a form's (URL Standard, section 5.1)
+abbrev pub param_of : List ℕ × List ℕ → Param
+param_of (name, value) = record { name = utf8_lossy (decode name); value = utf8_lossy (decode value) }
+
+-- the parameters behind the first question mark
+abbrev pub params_of : List ℕ → List Param
+params_of target = map param_of (raw_pairs (after_first (λ b. b == question_mark) target))
+
+-- the value of a Connection header has the token close, in any case (RFC 9112, section 9.6)
+abbrev pub says_close : List ℕ → Bool
+says_close value = list_any (λ token. str_eq_ignore_ascii_case (trim_ows token) (codes "close")) (split comma value)
+
+-- the connection is to be closed: by HTTP/1.0 or by a Connection header
+abbrev pub asks_close : RequestHead → Bool
+asks_close head = head.minor == 0 || list_any says_close (values_of (codes "connection") head)
+
+-- the request that a head and the body behind it are
+abbrev pub request_of : RequestHead → List ℕ → Incoming
+request_of head body = record {
+  method = method_of head.method;
+  path = path_of head.target;
+  params = params_of head.target;
+  body = body;
+  encoded = has_header (codes "content-encoding") head;
+  lengthless = not (has_header (codes "content-length") head);
+  close = asks_close head;
+}

@@ -1,0 +1,22 @@
+/// How a connection ended.
+#[derive(Clone, Copy, Debug, PartialEq, Eq)]
+pub enum End {
+    /// The input ended between two messages.
+    Done,
+    /// A request asked for it.
+    Closed,
+    /// The connection has had its requests or its places.
+    Limit,
+    /// The input ended inside a message, for which nothing was written.
+    Cut,
+    /// A head, or how it states a body's length, can't be read; a 400 was written.
+    BadHead,
+    /// A head or a body is too large; a 413 was written.
+    TooLarge,
+    /// The source failed.
+    ReadFault,
+    /// The sink failed.
+    WriteFault,
+    /// Memory ran out; a 503 was written.
+    Memory,
+}

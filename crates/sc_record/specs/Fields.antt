@@ -2,6 +2,7 @@
 use Rattle.std.specs.Prelude.{◌≡◌, ℕ, Bool, true, false, List, length, codes, nat_eq, nat_lt, ◌&&◌, if◌then◌else◌, IsTrue, Option, Some, None, [], ◌∷◌, ⊤}
 use Rattle.std.specs.List.{ends_with, list_all, AllByRecursion}
 use Rattle.std.specs.Cmp.Lexicographic.{slice_cmp}
+use Rattle.std.specs.Str.{bytes_eq}
 use Rattle.std.specs.Ordering.{nat_cmp}
 use Rattle.std.specs.declared.cmp.Ordering.TheVariants.{Less}
 use Rattle.sc_record.specs.declared.value.Kind.{Kind}
@@ -70,3 +71,8 @@ Ascends (f ∷ fields) = IsBelowFirst f.name fields × Ascends fields
 pub record IsDocument (fields : List Field) : Type 0 where
   pub each : AllByRecursion IsField fields
   pub ascends : Ascends fields
+
+-- the values of the field of this name, if a field has it
+abbrev pub values_of : List Field → List ℕ → Option (List Value)
+values_of [] name = None
+values_of (f ∷ fields) name = if bytes_eq f.name name then Some f.values else values_of fields name

@@ -1,14 +1,20 @@
+ghost use Rattle.std.specs.Prelude.{◌≡◌, option_copied};
+ghost use Rattle.sc_record.specs.Fields.{IsDocument, values_of};
+
 use crate::list::List;
 use crate::text::Text;
 use crate::value::Value;
 use std::marker::Model;
 
+/// A field's name and its values, in the order in which they were given.
 #[derive(Debug, Drop)]
 pub struct Field {
     pub name: Text,
     pub values: List<Value>,
 }
 
+/// A document without its id and its version, which contracts see as its fields. Their names
+/// ascend by their bytes, and each field has values, of the kind that its name stands for.
 #[derive(Debug, Drop)]
 pub struct Doc {
     fields: List<Field>,
@@ -20,5 +26,45 @@ impl Model for Doc {
 
     ghost Value = { List Field };
 
+    ghost use Rattle.sc_record.specs.Fields.{IsDocument};
+
     ghost view = { λ a. a.fields };
+
+    ghost invariant = { λ a. IsDocument a.fields };
+}
+
+impl Doc {
+    pub fn new(fields: List<Field>) -> Doc
+        requires { IsDocument fields }
+        ensures { result ≡ fields }
+    {
+        Doc { fields }
+    }
+
+    pub fn fields(&self) -> &[Field]
+        ensures value { result.now ≡ self.now }
+        ensures document { IsDocument self.now }
+    {
+        self.fields.as_slice()
+    }
+
+    /// The values of the field of this name.
+    pub fn get(&self, name: &str) -> Option<&List<Value>>
+        ensures { option_copied result ≡ values_of self.now name.now }
+    {
+        for field in self.fields.as_slice() {
+            if field.name.as_str() == name {
+                return Some(&field.values);
+            }
+        }
+        None
+    }
+
+    pub fn into_fields(self) -> List<Field>
+        ensures value { result ≡ self }
+        ensures document { IsDocument result }
+    {
+        let Doc { fields } = self;
+        fields
+    }
 }

@@ -1,10 +1,10 @@
-use crate::write::Write;
-use std::sync::Arc;
+use crate::write::Cell;
 
-pub type Cell = Arc<Write>;
-
+/// One entry of a journal.
 #[derive(Debug, Drop)]
 pub enum Entry {
+    /// A write that was accepted.
     Write(Cell),
+    /// The write at this place, counted from 0, has been answered.
     Settled { place: u64 },
 }

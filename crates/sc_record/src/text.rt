@@ -1,10 +1,10 @@
-ghost use Rattle.std.specs.Prelude.{◌≡◌, ◌++◌, length, OnOk, OnErr, IfOk};
+ghost use Rattle.std.specs.Prelude.{◌≡◌, IfOk};
 ghost use Rattle.std.specs.String.{string_bytes};
 
 use std::alloc::{AllocError, Global};
 use std::marker::Model;
 
-/// A text, seen by contracts as its UTF-8 bytes.
+/// A text that is kept, which contracts see as its UTF-8 bytes.
 #[derive(Debug, Drop)]
 pub struct Text {
     text: String,
@@ -20,12 +20,23 @@ impl Model for Text {
 }
 
 impl Text {
+    /// A copy of the text.
+    pub fn new(alloc: Global, text: &str) -> Result<Text, AllocError>
+        ensures { IfOk result (λ kept. kept ≡ text.now) }
+    {
+        Ok(Text {
+            text: String::from_str(alloc, text)?,
+        })
+    }
+
+    /// The same text, with no copy.
     pub fn from_string(text: String) -> Text
         ensures { result ≡ string_bytes text }
     {
         Text { text }
     }
 
+    /// The same text, with no copy.
     pub fn into_string(self) -> String
         ensures { string_bytes result ≡ self }
     {

@@ -1,5 +1,6 @@
 use crate::text::Text;
 
+/// One value of a field.
 #[derive(Debug, Drop)]
 pub enum Value {
     Text(Text),
@@ -8,6 +9,7 @@ pub enum Value {
     Flag(bool),
 }
 
+/// What kind of values a dynamic field keeps. `Str` and `Words` keep texts: a `Str` is found whole, and `Words` word by word.
 #[derive(Clone, Copy, Debug, PartialEq, Eq)]
 pub enum Kind {
     Str,

@@ -1,0 +1,35 @@
+ghost use Rattle.std.specs.Prelude.{◌≡◌, ◌-◌, ◌^◌, option_copied, pos, ◌≤ℤ◌, ◌<ℤ◌};
+ghost use Rattle.std.specs.Option.{option_map};
+ghost use Rattle.std.specs.Arc.{arc_value};
+ghost use Rattle.sc_record.specs.Versions.{found_version, version_after};
+
+use crate::write::Cell;
+
+/// The last moment, in milliseconds, that versions tell apart.
+const LAST_MOMENT: u64 = (1 << 42) - 1;
+
+/// How many versions a millisecond has.
+const VERSIONS_A_MILLISECOND: u64 = 1 << 20;
+
+/// The version that is found of an id whose last write the cell holds, as it is shown to clients:
+/// above 0 for a document, below 0 for a deletion, and -1 for an id that never was
+/// (Solr Reference Guide, "Optimistic Concurrency").
+pub fn found(cell: Option<&Cell>) -> i64
+    ensures { result ≡ found_version (option_map arc_value (option_copied cell.entry)) }
+{
+    match cell {
+        Some(write) => write.shown(),
+        None => -1,
+    }
+}
+
+/// The version of a write that comes at this moment, in milliseconds since 1970, to a core whose
+/// clock stands at `clock`.
+pub fn next_version(now: u64, clock: i64) -> i64
+    requires from_zero { pos 0 ≤ℤ clock }
+    requires can_rise { clock <ℤ pos (2 ^ 63 - 1) }
+    ensures { result ≡ version_after now clock }
+{
+    let moment = now.min(LAST_MOMENT) * VERSIONS_A_MILLISECOND;
+    i64::max(moment as i64, clock + 1)
+}

@@ -1,0 +1,2 @@
+-- What the proofs of a read share.
+pub mod Taken

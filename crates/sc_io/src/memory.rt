@@ -1,0 +1,230 @@
+ghost use Rattle.std.specs.Prelude.{◌≡◌, ℕ, ◌+◌, ◌-◌, ◌^◌, ◌<◌, ◌≤◌, ◌↔◌, List, [], ◌++◌, length, take, drop, min, Some, None, IfOk, IfSome, IsErr, OnOk, OnErr, Contains, slice_index, if◌then◌else◌};
+ghost use Rattle.sc_io.specs.Pieces.{TakesFront, AddsFront};
+ghost use Rattle.sc_io.specs.Moments.{next_place};
+
+use crate::clock::Clock;
+use crate::fault::{Failed, Faults};
+use crate::sink::Sink;
+use crate::source::Source;
+use sc_record::List;
+use std::alloc::Global;
+use std::mem;
+
+/// A source of these bytes. `at` is the place of the next one, `most` how many a read gives at most.
+/// The reads whose numbers, counted from 0, are in `fails` fail; `calls` is the number of the next
+/// read, and stands still at 2^64 - 1.
+#[derive(Debug, Drop)]
+pub struct MemSource {
+    pub bytes: List<u8>,
+    pub at: usize,
+    pub most: usize,
+    pub fails: List<u64>,
+    pub calls: u64,
+    pub faults: Faults,
+    pub ghost within: { at ≤ length bytes },
+    pub ghost gives_some: { 0 < most },
+}
+
+impl MemSource {
+    /// A source of which nothing was read yet.
+    pub fn new(bytes: List<u8>, most: usize, fails: List<u64>) -> MemSource
+        requires { 0 < most }
+        ensures bytes { result.bytes ≡ bytes }
+        ensures at { result.at ≡ 0 }
+        ensures most { result.most ≡ most }
+        ensures fails { result.fails ≡ fails }
+        ensures calls { result.calls ≡ 0 }
+        ensures faults { result.faults ≡ 0 }
+    {
+        MemSource {
+            bytes,
+            at: 0,
+            most,
+            fails,
+            calls: 0,
+            faults: Faults::none(),
+        }
+    }
+}
+
+impl Source for MemSource {
+    ghost rest = { λ s. Some (drop s.at s.bytes) };
+
+    ghost faults = { λ s. s.faults };
+
+    fn read(&mut self, into: &mut [u8]) -> Result<usize, Failed>
+        requires { 0 < length into.old }
+        ensures bounded { IfOk result (λ n. n ≤ length into.new) }
+        ensures taken { IfOk result (λ n. TakesFront (take n into.new) (drop self.old.at self.old.bytes)
+            (Some (drop self.new.at self.new.bytes))) }
+        ensures end { result ≡ Ok 0 → drop self.old.at self.old.bytes ≡ [] }
+        ensures failed { OnErr result (self.new.at ≡ self.old.at) }
+        ensures cause { OnErr result (self.new.faults ≡ self.old.faults + 1) }
+        ensures no_fault { OnOk result (self.new.faults ≡ self.old.faults) }
+
+        ensures fails { IsErr result ↔ Contains self.old.fails self.old.calls }
+        ensures piece { IfOk result (λ n. n ≡ min (min (length self.old.bytes - self.old.at) self.old.most) (length into.old)) }
+        ensures beyond { IfOk result (λ n. drop n into.new ≡ drop n into.old) }
+        ensures untouched { OnErr result (into.new ≡ into.old) }
+        ensures counted { self.new.calls ≡ min (self.old.calls + 1) (2 ^ 64 - 1) }
+        ensures kept_bytes { self.new.bytes ≡ self.old.bytes }
+        ensures kept_fails { self.new.fails ≡ self.old.fails }
+        ensures kept_most { self.new.most ≡ self.old.most }
+    {
+        let call = self.calls;
+        self.calls = call.saturating_add(1);
+        if self.fails.as_slice().contains(&call) {
+            self.faults.rise();
+            return Err(Failed);
+        }
+        let bytes = &self.bytes.as_slice()[self.at..];
+        let count = bytes.len().min(self.most).min(into.len());
+        into[..count].copy_from_slice(&bytes[..count]);
+        self.at += count;
+        Ok(count)
+    }
+}
+
+/// A sink that keeps what it is given. The writes whose numbers, counted from 0, are in `fails`
+/// fail, and so does one that finds no memory; a write that failed wrote nothing. `calls` is the
+/// number of the next write, and stands still at 2^64 - 1.
+#[derive(Debug, Drop)]
+pub struct MemSink {
+    pub bytes: List<u8>,
+    pub fails: List<u64>,
+    pub calls: u64,
+    pub faults: Faults,
+    alloc: Global,
+}
+
+impl MemSink {
+    /// A sink that was given nothing yet. It takes no memory before the first write.
+    pub fn new(alloc: Global, fails: List<u64>) -> MemSink
+        ensures bytes { result.bytes ≡ [] }
+        ensures fails { result.fails ≡ fails }
+        ensures calls { result.calls ≡ 0 }
+        ensures faults { result.faults ≡ 0 }
+    {
+        MemSink {
+            bytes: List::from_vec(Vec::new(alloc)),
+            fails,
+            calls: 0,
+            faults: Faults::none(),
+            alloc,
+        }
+    }
+
+    fn append(&mut self, piece: &[u8]) -> bool
+        ensures bytes { self.new.bytes ≡ (if result then self.old.bytes ++ piece.now else self.old.bytes) }
+        ensures fails { self.new.fails ≡ self.old.fails }
+        ensures calls { self.new.calls ≡ self.old.calls }
+        ensures faults { self.new.faults ≡ self.old.faults }
+    {
+        let empty = List::from_vec(Vec::new(self.alloc));
+        let mut bytes = mem::replace(&mut self.bytes, empty).into_vec();
+        let added = bytes.extend_from_slice(piece).is_ok();
+        self.bytes = List::from_vec(bytes);
+        added
+    }
+}
+
+impl Sink for MemSink {
+    ghost written = { λ s. Some s.bytes };
+
+    ghost faults = { λ s. s.faults };
+
+    fn write(&mut self, piece: &[u8]) -> Result<(), Failed>
+        ensures whole { OnOk result (self.new.bytes ≡ self.old.bytes ++ piece.now) }
+        ensures failed { OnErr result (self.new.bytes ≡ self.old.bytes) }
+        ensures cause { OnErr result (self.new.faults ≡ self.old.faults + 1) }
+        ensures no_fault { OnOk result (self.new.faults ≡ self.old.faults) }
+
+        ensures fails { Contains self.old.fails self.old.calls → IsErr result }
+        ensures counted { self.new.calls ≡ min (self.old.calls + 1) (2 ^ 64 - 1) }
+        ensures kept_fails { self.new.fails ≡ self.old.fails }
+    {
+        let call = self.calls;
+        self.calls = call.saturating_add(1);
+        if self.fails.as_slice().contains(&call) || !self.append(piece) {
+            self.faults.rise();
+            return Err(Failed);
+        }
+        Ok(())
+    }
+}
+
+/// A clock that gives these moments in order, and then the last one for ever.
+#[derive(Debug, Drop)]
+pub struct MemClock {
+    pub moments: List<u64>,
+    pub at: usize,
+    pub ghost within: { at < length moments },
+}
+
+impl MemClock {
+    pub fn new(moments: List<u64>) -> MemClock
+        requires { 0 < length moments }
+        ensures moments { result.moments ≡ moments }
+        ensures at { result.at ≡ 0 }
+    {
+        MemClock { moments, at: 0 }
+    }
+}
+
+impl Clock for MemClock {
+    ghost gives = { λ s moment t. (moment ≡ slice_index s.moments s.at)
+        × (t.moments ≡ s.moments) × (t.at ≡ next_place s.moments s.at) };
+
+    fn now(&mut self) -> u64 {
+        let moments = self.moments.as_slice();
+        let moment = moments[self.at];
+        if self.at + 1 < moments.len() {
+            self.at += 1;
+        }
+        moment
+    }
+}
+
+/// A clock that stands still.
+#[derive(Debug, Clone, Copy, PartialEq, Eq)]
+pub struct Fixed {
+    pub moment: u64,
+}
+
+impl Clock for Fixed {
+    ghost gives = { λ s moment t. (moment ≡ s.moment) × (t ≡ s) };
+
+    fn now(&mut self) -> u64 {
+        self.moment
+    }
+}
+
+/// A source with no bytes, and a sink that drops what it is given. It never fails.
+#[derive(Debug, Clone, Copy, PartialEq, Eq)]
+pub struct Never;
+
+impl Source for Never {
+    ghost rest = { λ _. Some [] };
+
+    ghost faults = { λ _. 0 };
+
+    fn read(&mut self, into: &mut [u8]) -> Result<usize, Failed>
+        requires { 0 < length into.old }
+        ensures end { result ≡ Ok 0 }
+        ensures untouched { into.new ≡ into.old }
+    {
+        Ok(0)
+    }
+}
+
+impl Sink for Never {
+    ghost written = { λ _. None };
+
+    ghost faults = { λ _. 0 };
+
+    fn write(&mut self, piece: &[u8]) -> Result<(), Failed>
+        ensures { result ≡ Ok tt }
+    {
+        Ok(())
+    }
+}

@@ -1,7 +1,12 @@
-ghost use Rattle.std.specs.Prelude.{◌≡◌, ◌≤◌, ◌<◌, ◌↔◌, length, IfOk};
+ghost use Rattle.std.specs.Prelude.{◌≡◌, Some, refl, ◌≤◌, ◌<◌, ◌↔◌, length, IfOk};
 ghost use Rattle.sc_record.specs.declared.id.TheConstants.{MAX_ID_LENGTH};
+ghost use Rattle.std.specs.Cmp.{partial_equiv_from_equiv};
+ghost use Rattle.std.specs.Cmp.Lexicographic.{slice_cmp, texts_po, texts_ties, nat_list_cmp_total, nat_list_eq_equiv};
+ghost use Rattle.std.specs.Ordering.{nat_cmp};
+ghost use Rattle.std.specs.Str.{bytes_eq};
 
 use std::alloc::Global;
+use std::cmp::Ordering;
 use std::marker::Model;
 use thiserror::Error;
 
@@ -9,7 +14,7 @@ use thiserror::Error;
 pub const MAX_ID_LENGTH: usize = 512;
 
 /// What names a document: a text of 1 to 512 bytes, which contracts see as its UTF-8 bytes.
-#[derive(Debug, Drop)]
+#[derive(Clone, Debug, Drop)]
 pub struct Id {
     text: String,
 }
@@ -63,5 +68,43 @@ impl Id {
         ensures bounded { length self.now ≤ MAX_ID_LENGTH }
     {
         self.text.as_str()
+    }
+}
+
+impl PartialEq for Id {
+    ghost eq = { bytes_eq };
+
+    ghost laws = { partial_equiv_from_equiv nat_list_eq_equiv };
+
+    fn eq(&self, other: &Id) -> bool {
+        self.as_str() == other.as_str()
+    }
+}
+
+impl Eq for Id {
+    ghost laws = { nat_list_eq_equiv };
+}
+
+impl PartialOrd for Id {
+    ghost partial_cmp = { λ a b. Some (slice_cmp nat_cmp a b) };
+
+    ghost laws = { texts_po };
+
+    fn partial_cmp(&self, other: &Id) -> Option<Ordering> {
+        Some(self.cmp(other))
+    }
+}
+
+impl Ord for Id {
+    ghost cmp = { slice_cmp nat_cmp };
+
+    ghost total = { nat_list_cmp_total };
+
+    ghost matches_partial_cmp = { λ a b. refl };
+
+    ghost matches_eq = { texts_ties };
+
+    fn cmp(&self, other: &Id) -> Ordering {
+        self.as_str().cmp(other.as_str())
     }
 }

@@ -6,15 +6,26 @@
 //! above the clock and at least the moment's.
 #![tactic(auto)]
 
-mod document;
-mod entry;
-mod id;
-mod kind;
+// Texts and lists.
 mod list;
 mod text;
+
+// What names a document.
+mod id;
+
+// What a field keeps, and how its name tells.
+mod kind;
 mod value;
-mod version;
+
+// A document, and a write of it.
+mod document;
 mod write;
+
+// The numbers that order the writes.
+mod version;
+
+// What a journal is made of.
+mod entry;
 
 pub use document::{Doc, Field};
 pub use entry::Entry;
@@ -25,3 +36,6 @@ pub use text::Text;
 pub use value::{Kind, Value};
 pub use version::{found, next_version};
 pub use write::{Cell, Write};
+
+#[cfg(test)]
+mod tests;

@@ -3,7 +3,7 @@ use Rattle.std.proofs.Common.{◌≡◌, ℕ, ◌≤◌, Bool, true, false, List
 use Rattle.std.specs.Str.{bytes_eq}
 use Rattle.std.specs.List.{IsDistinct, AllByRecursion}
 use Rattle.std.specs.List.Sorted.{IsStrictlySortedBy}
-use Rattle.std.specs.Ordering.{nat_cmp, eq_by_cmp}
+use Rattle.std.specs.Ordering.{nat_cmp}
 use Rattle.std.specs.Cmp.Lexicographic.{slice_cmp, texts_ties}
 use Rattle.std.specs.declared.cmp.Ordering.TheVariants.{Less}
 use Rattle.std.proofs.lemmas.Bool.Decides.{nat_tests}
@@ -34,7 +34,7 @@ pub IsField-text : (name text : List ℕ) → kind_of name ≡ Some (kinds.Str, 
 IsField-text name text h = rw h refl
 
 -- what is below a name is below what comes after it
-below_next : (name next : List ℕ) (fields : List Field) → slice_cmp nat_cmp name next ≡ Less → IsBelowFirst next fields → IsBelowFirst name fields
+pub below_next : (name next : List ℕ) (fields : List Field) → slice_cmp nat_cmp name next ≡ Less → IsBelowFirst next fields → IsBelowFirst name fields
 below_next name next [] h b = tt
 below_next name next (f ∷ fields) h b = nat_list_cmp_total.trans name next f.name h b
 

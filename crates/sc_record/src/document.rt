@@ -48,16 +48,15 @@ impl Doc {
         self.fields.as_slice()
     }
 
-    /// The values of the field of this name.
+    /// The values of the field of this name: a binary search, since the names ascend.
     pub fn get(&self, name: &str) -> Option<&List<Value>>
         ensures { option_copied result ≡ values_of self.now name.now }
     {
-        for field in self.fields.as_slice() {
-            if field.name.as_str() == name {
-                return Some(&field.values);
-            }
+        let fields = self.fields.as_slice();
+        match fields.binary_search_by(|field| field.name.as_str().cmp(name)) {
+            Ok(place) => Some(&fields[place].values),
+            Err(_) => None,
         }
-        None
     }
 
     pub fn into_fields(self) -> List<Field>

@@ -60,10 +60,12 @@ above_first : (name : List ℕ) (fields : List Field) (g : Field) → IsBelowFir
 above_first name [] g b h = h
 above_first name (f ∷ fields) g b h = b
 
+-- a field whose name comes after all names keeps them ascending
 Ascends-push : (fields : List Field) (g : Field) → Ascends fields → AreBelow fields g.name → Ascends (fields ++ g ∷ [])
 Ascends-push [] g a h = (tt, tt)
 Ascends-push (f ∷ fields) g a h = (above_first f.name fields g a.0 h.0, Ascends-push fields g a.1 h.1)
 
+-- one more field that fits its name
 each-push : (fields : List Field) (g : Field) → AllByRecursion IsField fields → IsField g → AllByRecursion IsField (fields ++ g ∷ [])
 each-push [] g all h = (h, tt)
 each-push (f ∷ fields) g all h = (all.0, each-push fields g all.1 h)

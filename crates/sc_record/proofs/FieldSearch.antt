@@ -33,12 +33,15 @@ searchable fields name a =
     (λ k d _ h. ap is_lt (nat_list_cmp_total.antisymm (get_or fields (k + 1) d).name (get_or fields k d).name
     ∙ ap ordering_reverse (Less-at fields k (k + 1) d a (omega arith) h)))
 
+-- names that compare equal are one name
 same_name : (x y : List ℕ) → slice_cmp nat_cmp x y ≡ Equal → bytes_eq x y ≡ true
 same_name x y h = texts_ties x y ∙ ap is_eq h
 
+-- a lower name is another name
 lower_name : (x y : List ℕ) → slice_cmp nat_cmp x y ≡ Less → bytes_eq x y ≡ false
 lower_name x y h = texts_ties x y ∙ ap is_eq h
 
+-- a higher name is another name
 higher_name : (x y : List ℕ) → slice_cmp nat_cmp x y ≡ Greater → bytes_eq x y ≡ false
 higher_name x y h = texts_ties x y ∙ ap is_eq h
 

@@ -65,6 +65,8 @@ fn ids_have_1_to_512_bytes(rt: HostRuntime) -> Result<(), Fail> {
         Id::new(alloc, too_long.as_str()).err(),
         Some(IdFault::TooLong)
     );
+    let message = format!(in alloc; "{}", IdFault::TooLong)?;
+    assert_eq!(rt; message.as_str(), "an id has at most 512 bytes");
     // 171 characters of three bytes each
     let wide = "€".repeat(alloc, 171)?;
     assert_eq!(rt; Id::new(alloc, wide.as_str()).err(), Some(IdFault::TooLong));
@@ -156,5 +158,23 @@ fn a_field_is_got_by_its_whole_name(rt: HostRuntime) -> Result<(), Fail> {
         names.push(field.name.clone()?.into_string())?;
     }
     assert_eq!(rt; names.join(alloc, " ")?.as_str(), "n_i name_s seen_b");
+    Ok(())
+}
+
+fn least<T: Ord + Drop>(a: T, b: T) -> T {
+    if b < a { b } else { a }
+}
+
+#[test]
+fn texts_and_ids_are_in_the_order_of_their_bytes(rt: HostRuntime) -> Result<(), Fail> {
+    let alloc = rt.alloc();
+    for (lower, higher) in [("", "a"), ("Z", "a"), ("a", "aa"), ("ab", "b"), ("z", "ä")] {
+        let text = least(Text::new(alloc, higher)?, Text::new(alloc, lower)?);
+        assert_eq!(rt; text.as_str(), lower);
+        assert!(rt; text == text.clone()?);
+    }
+    let id = least(Id::new(alloc, "a9")?, Id::new(alloc, "a10")?);
+    assert_eq!(rt; id.as_str(), "a10");
+    assert!(rt; id == id.clone()?);
     Ok(())
 }

@@ -1,6 +1,9 @@
--- What a read that copied the next bytes into the front of its buffer took.
-use Rattle.std.proofs.Common.{◌≡◌, ℕ, ◌+◌, ◌≤◌, List, ◌++◌, length, take, drop, Some, refl, sym, ◌∙◌, ap}
+-- What a read that copied the next bytes into the front of its buffer took, and what reads in a row took.
+use Rattle.std.proofs.Common.{◌≡◌, ℕ, ◌+◌, ◌≤◌, List, ◌++◌, length, take, drop, Option, None, Some, refl, sym, ◌∙◌, ap}
 use Rattle.std.proofs.lemmas.List.{take-append-drop, take_at, length-take-le, drop-drop}
+use Rattle.std.proofs.lemmas.Grind.{common_steps}
+use Rattle.std.proofs.Common.{arith}
+use Rattle.std.specs.Prelude.{IfSome}
 use Rattle.sc_io.specs.Pieces.{TakesFront}
 
 -- a buffer that begins with the next n bytes took them, and leaves what comes behind
@@ -12,4 +15,17 @@ takes_next bytes front back at n fits is =
       more = drop (at + n) bytes;
       whole = rw (take_at front back n long, is, ← drop-drop n at bytes) (sym (take-append-drop n (drop at bytes)));
       left = refl;
+    }
+
+-- what two reads took is one front, where the source tells what it holds
+pub takes_more : (told between after : Option (List ℕ)) (front next : List ℕ)
+    → IfSome told (λ bytes. TakesFront front bytes between) → IfSome between (λ bytes. TakesFront next bytes after)
+    → IfSome told (λ bytes. TakesFront (front ++ next) bytes after)
+takes_more None between after front next first second = tt
+takes_more (Some bytes) between after front next first second =
+    let rest : TakesFront next first.more after = rw first.left at second in
+    record {
+      more = rest.more;
+      whole = grind (arith, common_steps, first.whole, rest.whole);
+      left = rest.left;
     }

@@ -7,12 +7,16 @@
 
 mod clock;
 mod fault;
+mod machine;
 mod memory;
 mod sink;
 mod source;
+#[cfg(test)]
+mod tests;
 
 pub use clock::Clock;
 pub use fault::{Failed, Faults};
+pub use machine::{MachineClock, StdSink, StdSource};
 pub use memory::{Fixed, MemClock, MemSink, MemSource, Never};
 pub use sink::Sink;
 pub use source::Source;

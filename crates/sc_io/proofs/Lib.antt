@@ -1,2 +1,2 @@
--- What the proofs of a read share.
+-- What the proofs of readers share.
 pub mod Taken

@@ -1,8 +1,9 @@
 //! Where bytes come from and go to, and what tells the time: three traits, the forms of them that
-//! lie in memory, and the real ones at the program's edge. It stands on the project's lists alone.
-//! The layers above are generic over `Source`, `Sink` and `Clock`, and use the clauses of their one
-//! method each: which bytes a call took or gave, which moment it answered, and that a call fails
-//! only where its object's count of faults rose.
+//! lie in memory, and the real ones at the program's edge. It stands on the project's lists, and on
+//! a log that only proofs read, for the counts of faults. The layers above are generic over
+//! `Source`, `Sink` and `Clock`, and use the clauses of their one method each: which bytes a call
+//! took or gave, which moment it answered, and that a call fails only where its object's count of
+//! faults rose.
 #![tactic(auto)]
 
 mod clock;

@@ -11,8 +11,8 @@ use std::alloc::Global;
 use std::mem;
 
 /// A source of these bytes. `at` is the place of the next one, `most` how many a read gives at most.
-/// The reads whose numbers, counted from 0, are in `fails` fail; `calls` is the number of the next
-/// read, and stands still at 2^64 - 1.
+/// The reads whose numbers, counted from 0, are in `fails` fail. `calls` is the number of the next
+/// read; at 2^64 - 1 it stands still, and each read from there on has that number.
 #[derive(Debug, Drop)]
 pub struct MemSource {
     pub bytes: List<u8>,
@@ -87,7 +87,8 @@ impl Source for MemSource {
 
 /// A sink that keeps what it is given. The writes whose numbers, counted from 0, are in `fails`
 /// fail, and so does one that finds no memory; a write that failed wrote nothing. `calls` is the
-/// number of the next write, and stands still at 2^64 - 1.
+/// number of the next write; at 2^64 - 1 it stands still, and each write from there on has that
+/// number.
 #[derive(Debug, Drop)]
 pub struct MemSink {
     pub bytes: List<u8>,
@@ -153,7 +154,8 @@ impl Sink for MemSink {
     }
 }
 
-/// A clock that gives these moments in order, and then the last one for ever.
+/// A clock that gives these moments in order, and then the last one for ever. `at` is the place of
+/// the next one.
 #[derive(Debug, Drop)]
 pub struct MemClock {
     pub moments: List<u64>,

@@ -1,0 +1,5 @@
+pub mod Adding
+pub mod Bits
+pub mod Bounds
+pub mod Rows
+pub mod Search

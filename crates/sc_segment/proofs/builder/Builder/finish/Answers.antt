@@ -1,0 +1,9 @@
+use Rattle.std.proofs.Common.{◌≡◌, rules}
+use Rattle.std.specs.Map.{keys_of}
+use Rattle.sc_segment.proofs.Bounds.{IsStrictlySortedBy-alike}
+use Rattle.sc_segment.proofs.builder.Builder.finish.Goals as goal
+
+pub new-requires : goal.new-requires
+new-requires g c =
+    let same : c.in_ok-entries.entries.items ≡ c.self.inside.lists.entries = search rules in
+    rw same (IsStrictlySortedBy-alike c.self.invariant.0 (keys_of c.self.inside.lists.entries) c.into_iter.ensures.into_iter_gives.5)

@@ -1,0 +1,9 @@
+use Rattle.std.proofs.Common.{ap, ◌∙◌, unwrap_or, []}
+use Rattle.sc_segment.proofs.Adding.{unwrap_or-non_empty}
+use Rattle.sc_segment.proofs.segment.Segment.postings.Goals as goal
+
+pub returns-clause-rows : goal.returns-clause-rows
+returns-clause-rows g c = λ added index.
+    (rw (c.as_slice.ensures.value, c.self.view_is) at c.search.ensures.rows)
+    ∙ ap (λ o. unwrap_or o []) (index.rows c.args.key.now)
+    ∙ unwrap_or-non_empty _

@@ -1,0 +1,17 @@
+use Rattle.std.proofs.Common.{◌≡◌, ℕ, ◌+◌, ◌-◌, ◌*◌, ◌^◌, ◌≤◌, ◌<◌, length, slice_get, Some}
+use Rattle.std.specs.declared.cmp.Ordering.TheVariants.{Less, Greater}
+use Rattle.sc_segment.proofs.segment.search.Given as goal
+
+abbrev pub invariant-halving : goal.invariant-halving
+invariant-halving g l = record {
+  in_order : l.low ≤ l.high;
+  within : l.high ≤ length l.entries;
+  greater : (j : ℕ) (e : _) → j < l.low → slice_get l.entries j ≡ Some e → g.K.Key.order l.key e.0 ≡ Greater;
+  less : (j : ℕ) (e : _) → l.high ≤ j → slice_get l.entries j ≡ Some e → g.K.Key.order l.key e.0 ≡ Less;
+  counted : l.initial.steps ≤ l.steps;
+  halved : 2 ^ (l.steps - l.initial.steps) * (l.high - l.low) ≤ length l.entries;
+  bound : 2 ^ (l.steps - l.initial.steps) ≤ 2 * length l.entries + 1;
+}
+
+abbrev pub decreases-halving : goal.decreases-halving
+decreases-halving g l = l.high - l.low

@@ -1,0 +1,24 @@
+-- What a builder keeps, and what becomes of it when a row is added.
+use Rattle.std.specs.Prelude.{◌≡◌, ℕ, ◌+◌, ◌≤◌, if◌then◌else◌, List, [], ◌∷◌, ◌++◌, length, All, Some, is_some, unwrap_or}
+use Rattle.std.specs.declared.cmp.Ordering.{Ordering}
+use Rattle.std.specs.Map.{lookup}
+use Rattle.std.specs.Ordering.{is_eq}
+use Rattle.sc_segment.specs.Index.{without_repeats}
+
+-- a builder: its index of what was added, and the row that was added last, or 0
+pub record BuilderState (K : Type 0) : Type 0 where
+  pub index : List (K × List ℕ)
+  pub last_row : ℕ
+
+-- no row of an index is above this one
+abbrev pub NoRowAbove : {K : Type 0} → ℕ → List (K × List ℕ) → Type 0
+NoRowAbove row index = All (λ e. All (λ r. r ≤ row) e.1) index
+
+-- a new index has one row more at a key, and at each other key what the old one has
+pub record FilesRow {K : Type 0} (order : K → K → Ordering) (row : ℕ) (key : K) (old new : List (K × List ℕ)) : Type 0 where
+  pub lists : (other : K) → lookup (λ k. is_eq (order other k)) new
+      ≡ (if is_eq (order key other)
+      then Some (without_repeats (unwrap_or (lookup (λ k. is_eq (order key k)) old) [] ++ row ∷ []))
+      else lookup (λ k. is_eq (order other k)) old)
+  pub size : length new ≡ length old + (if is_some (lookup (λ k. is_eq (order key k)) old) then 0 else 1)
+  pub up_to : NoRowAbove row new

@@ -1,0 +1,30 @@
+-- What a segment keeps of the rows that were added with keys.
+use Rattle.std.specs.Prelude.{◌≡◌, ℕ, ◌+◌, ◌==◌, if◌then◌else◌, List, [], ◌∷◌, length, map, filter, Option, None, Some}
+use Rattle.std.specs.declared.cmp.Ordering.{Ordering}
+use Rattle.std.specs.Ordering.{is_eq}
+use Rattle.std.specs.List.{dedup, list_any}
+use Rattle.std.specs.Map.{lookup}
+
+-- a list, or nothing in place of an empty one
+abbrev pub non_empty : List ℕ → Option (List ℕ)
+non_empty [] = None
+non_empty (row ∷ rows) = Some (row ∷ rows)
+
+-- rows without one that comes again at once
+abbrev pub without_repeats : List ℕ → List ℕ
+without_repeats = dedup (λ x y. x == y)
+
+module _ {K : Type 0} (order : K → K → Ordering) where
+  -- the rows that were added with a key that compares equal, as they came, where a row that comes again counts once
+  abbrev pub rows_with : List (ℕ × K) → K → List ℕ
+  rows_with added key = without_repeats (map (λ p. p.0) (filter (λ p. is_eq (order key p.1)) added))
+
+  -- how many keys were added, where those that compare equal count as one
+  abbrev pub distinct_keys : List (ℕ × K) → ℕ
+  distinct_keys [] = 0
+  distinct_keys (p ∷ later) = if list_any (λ q. is_eq (order p.1 q.1)) later then distinct_keys later else distinct_keys later + 1
+
+  -- an index of the added pairs of a row and a key has, for each distinct key, one entry with its rows
+  pub record IsIndexOf (added : List (ℕ × K)) (index : List (K × List ℕ)) : Type 0 where
+    pub rows : (key : K) → lookup (λ k. is_eq (order key k)) index ≡ non_empty (rows_with added key)
+    pub size : length index ≡ distinct_keys added

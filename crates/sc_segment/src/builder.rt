@@ -1,0 +1,88 @@
+ghost use Rattle.std.specs.Prelude.{◌≡◌, ℕ, ◌≤◌, List, [], ◌∷◌, ◌++◌, IfOk, OnOk, OnErr};
+ghost use Rattle.std.specs.BTreeMap.{IsUnchanged};
+ghost use Rattle.sc_segment.specs.Index.{IsIndexOf};
+ghost use Rattle.sc_segment.specs.Filing.{NoRowAbove, FilesRow};
+
+use crate::key::Key;
+use crate::posting_list::PostingList;
+use crate::segment::Segment;
+use std::alloc::{AllocError, Global};
+use std::collections::BTreeMap;
+use std::marker::Model;
+
+/// Takes rows with their keys, in the order of the rows. It keeps each distinct key once, and each row
+/// once for each key.
+#[derive(Drop)]
+pub struct Builder<K: Key + Ord> {
+    lists: BTreeMap<K, PostingList>,
+    last_row: u32,
+    alloc: Global,
+}
+
+impl<K: Key + Ord> Model for Builder<K> {
+    ghost use Rattle.std.specs.Prelude.{◌≡◌};
+    ghost use Rattle.sc_segment.specs.Filing.{BuilderState, NoRowAbove};
+
+    ghost Value = { BuilderState K };
+
+    ghost view = { λ a. record { index = a.lists.entries; last_row = a.last_row } };
+
+    ghost invariant = { λ a. ((x y : K) → K.cmp x y ≡ K.order x y) × NoRowAbove a.last_row a.lists.entries };
+}
+
+impl<K: Key + Ord + Drop> Builder<K> {
+    /// A builder to which nothing was added. `Ord` and `Key` have to compare alike.
+    pub fn new(alloc: Global) -> Self
+        requires { (x y : K) → K.cmp x y ≡ K.order x y }
+        ensures index { IsIndexOf K.order [] result.index }
+        ensures last_row { result.last_row ≡ 0 }
+    {
+        Builder {
+            lists: BTreeMap::new(alloc),
+            last_row: 0,
+            alloc,
+        }
+    }
+
+    /// Adds a row with one of its keys. The same key may be added again for the same row, and counts once.
+    pub fn add(&mut self, row: u32, key: K) -> Result<(), AllocError>
+        requires { self.old.last_row ≤ row }
+        ensures ok { OnOk result ((added : List (ℕ × K)) → IsIndexOf K.order added self.old.index → IsIndexOf K.order (added ++ (row, key) ∷ []) self.new.index) }
+        ensures last_row { OnOk result (self.new.last_row ≡ row) }
+        ensures err { OnErr result (self.new ≡ self.old) }
+    {
+        file_row(&mut self.lists, self.alloc, row, key)?;
+        self.last_row = row;
+        Ok(())
+    }
+
+    /// The segment of what was added. No row is copied. After an error the builder is gone.
+    pub fn finish(self) -> Result<Segment<K>, AllocError>
+        ensures { IfOk result (λ segment. segment ≡ self.index) }
+    {
+        let alloc = self.alloc;
+        let Builder { lists, .. } = self;
+        let entries = lists.into_iter().collect(alloc)?;
+        Ok(Segment::new(entries))
+    }
+}
+
+fn file_row<K: Ord + Drop>(
+    lists: &mut BTreeMap<K, PostingList>,
+    alloc: Global,
+    row: u32,
+    key: K,
+) -> Result<(), AllocError>
+    requires { NoRowAbove row lists.old.entries }
+    ensures ok { OnOk result (FilesRow K.cmp row key lists.old.entries lists.new.entries) }
+    ensures err { OnErr result (IsUnchanged lists.old lists.new) }
+{
+    match lists.get_mut(&key) {
+        Some(list) => list.add(row),
+        None => {
+            let list = PostingList::with_row(alloc, row)?;
+            lists.insert(key, list)?;
+            Ok(())
+        }
+    }
+}

@@ -1,0 +1,24 @@
+ghost use Rattle.std.specs.Prelude.{◌≡◌, ◌+◌, IfOk};
+ghost use Rattle.std.specs.declared.cmp.Ordering.{Ordering};
+ghost use Rattle.std.specs.declared.cmp.Ordering.TheVariants.{Equal};
+ghost use Rattle.std.specs.Cmp.{IsTotalOrder};
+
+use crate::steps::Steps;
+use std::alloc::AllocError;
+use std::cmp::Ordering;
+use std::sync::ledger::Ledger;
+
+/// What rows are found by. Two keys can be compared only at the cost of a step.
+pub trait Key: Sized {
+    ghost order: { Self → Self → Ordering };
+
+    fn compare<L: Ledger>(&self, other: &Self, steps: &mut Steps<L>) -> Ordering
+        ensures answer { result ≡ order self.now other.now }
+        ensures counted { steps.new ≡ steps.old + 1 };
+
+    /// One more key that compares equal. An error is want of memory.
+    fn share(&self) -> Result<Self, AllocError>
+        ensures { IfOk result (λ shared. order self.now shared ≡ Equal) };
+
+    ghost total: { IsTotalOrder order };
+}

@@ -1,6 +1,7 @@
 -- What a segment keeps of the rows that were added with keys.
-use Rattle.std.specs.Prelude.{◌≡◌, ℕ, ◌+◌, ◌==◌, if◌then◌else◌, List, [], ◌∷◌, length, map, filter, Option, None, Some}
+use Rattle.std.specs.Prelude.{◌≡◌, ℕ, ◌+◌, ◌==◌, if◌then◌else◌, List, [], ◌∷◌, length, map, filter, Any, Option, None, Some}
 use Rattle.std.specs.declared.cmp.Ordering.{Ordering}
+use Rattle.std.specs.declared.cmp.Ordering.TheVariants.{Equal}
 use Rattle.std.specs.Ordering.{is_eq}
 use Rattle.std.specs.List.{dedup, list_any}
 use Rattle.std.specs.Map.{lookup}
@@ -18,6 +19,10 @@ module _ {K : Type 0} (order : K → K → Ordering) where
   -- the rows that were added with a key that compares equal, as they came, where a row that comes again counts once
   abbrev pub rows_with : List (ℕ × K) → K → List ℕ
   rows_with added key = without_repeats (map (λ p. p.0) (filter (λ p. is_eq (order key p.1)) added))
+
+  -- a row was added with a key that compares equal
+  abbrev pub WasAddedWith : List (ℕ × K) → K → ℕ → Type 0
+  WasAddedWith added key row = Any (λ p. (p.0 ≡ row) × (order key p.1 ≡ Equal)) added
 
   -- how many keys were added, where those that compare equal count as one
   abbrev pub distinct_keys : List (ℕ × K) → ℕ

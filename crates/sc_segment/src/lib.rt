@@ -19,3 +19,6 @@ pub use key::Key;
 pub use live_bits::LiveBits;
 pub use segment::Segment;
 pub use steps::Steps;
+
+#[cfg(test)]
+mod tests;

@@ -1,8 +1,8 @@
-ghost use Rattle.std.specs.Prelude.{◌≡◌, ℕ, ◌+◌, ◌-◌, ◌*◌, ◌^◌, ◌≤◌, List, [], length, unwrap_or};
+ghost use Rattle.std.specs.Prelude.{◌≡◌, ℕ, ◌+◌, ◌-◌, ◌*◌, ◌^◌, ◌≤◌, ◌↔◌, List, [], length, Contains, unwrap_or};
 ghost use Rattle.std.specs.List.Sorted.{IsStrictlyIncreasing, IsStrictlySortedBy};
 ghost use Rattle.std.specs.Map.{keys_of, lookup};
 ghost use Rattle.std.specs.BTreeMap.{is_at};
-ghost use Rattle.sc_segment.specs.Index.{IsIndexOf, rows_with};
+ghost use Rattle.sc_segment.specs.Index.{IsIndexOf, rows_with, WasAddedWith};
 
 use crate::key::Key;
 use crate::posting_list::PostingList;
@@ -36,6 +36,7 @@ impl<K: Key> Segment<K> {
     /// The rows that were added with a key that compares equal, found by halving.
     pub fn postings<L: Ledger>(&self, key: &K, steps: &mut Steps<L>) -> &[u32]
         ensures rows { (added : List (ℕ × K)) → IsIndexOf K.order added self.now → result.now ≡ rows_with K.order added key.now }
+        ensures members { (added : List (ℕ × K)) → IsIndexOf K.order added self.now → (row : ℕ) → Contains result.now row ↔ WasAddedWith K.order added key.now row }
         ensures ascending { IsStrictlyIncreasing result.now }
         ensures counted { steps.old ≤ steps.new }
         ensures bound { 2 ^ (steps.new - steps.old) ≤ 2 * length self.now + 1 }

@@ -1,4 +1,4 @@
-use Rattle.std.proofs.Common.{◌+◌, ◌-◌, ◌^◌, ◌/◌, [], refl, sym, ap, ◌∙◌, arith, unwrap_or}
+use Rattle.std.proofs.Common.{◌+◌, ◌-◌, ◌^◌, ◌/◌, [], length, refl, sym, ap, ◌∙◌, arith, unwrap_or}
 use Rattle.std.proofs.lemmas.Map.Entries.{lookup_at_gap}
 use Rattle.std.proofs.lemmas.Option.{slice_get_read}
 use Rattle.sc_segment.proofs.Search.{less_from, greater_up_to, lookup-equal, pow-step, halved_more, bound_more}
@@ -17,7 +17,7 @@ halving-preserved-in-Less g c =
       greater = i.greater;
       less = less_from g.met.K.Key.total c.args.key.now c.args.entries.now middle e c.requires at_middle (sym c.in-Less.ensures.answer);
       counted = omega (arith, c.in-Less.ensures.counted);
-      halved = rw steps (halved_more _ _ _ _ i.halved (omega arith));
+      halved = rw steps (halved_more (2 ^ (c.halving.steps - c.args.steps.now)) (c.halving.high - c.halving.low) (middle - c.halving.low) (length c.args.entries.now) i.halved (omega arith));
       bound = rw steps (bound_more _ _ _ i.halved (omega arith));
     }
 
@@ -34,7 +34,7 @@ halving-preserved g c =
       greater = greater_up_to g.met.K.Key.total c.args.key.now c.args.entries.now middle e c.requires at_middle (sym c.in-Greater.ensures.answer);
       less = i.less;
       counted = omega (arith, c.in-Greater.ensures.counted);
-      halved = rw steps (halved_more _ _ _ _ i.halved (omega arith));
+      halved = rw steps (halved_more (2 ^ (c.halving.steps - c.args.steps.now)) (c.halving.high - c.halving.low) (c.halving.high - (middle + 1)) (length c.args.entries.now) i.halved (omega arith));
       bound = rw steps (bound_more _ _ _ i.halved (omega arith));
     }
 

@@ -1,0 +1,4 @@
+use Rattle.sc_segment.proofs.tests.finds_the_rows_of_each_key.Given as goal
+
+abbrev pub ghosts-finds : goal.ghosts-finds
+ghosts-finds g a = record { name = a.blank.name; parts = a.blank.parts }

@@ -1,0 +1,196 @@
+ghost use Rattle.std.specs.Prelude.{◌≡◌, ◌<◌};
+ghost use Rattle.std.specs.Ordering.{nat_cmp};
+ghost use Rattle.std.proofs.lemmas.Cmp.{on_total, nat_cmp_total};
+
+use crate::{Builder, Key, LiveBits, Segment, Steps};
+use std::alloc::{AllocError, Global};
+use std::cell::Cell;
+use std::cmp::Ordering;
+use std::marker::{Brand, Send, Sync};
+use std::process::Abort;
+use std::sync::ledger::{Blank, Ledger};
+use std::test::Fail;
+
+// A number as a key, which besides counts by itself how often it is compared.
+#[derive(Drop)]
+#[derive_where(PartialEq, Eq, PartialOrd, Ord)]
+struct CountedKey<'a> {
+    number: u32,
+    #[derive_where(skip(EqHashOrd))]
+    compared: &'a Cell<u32>,
+}
+
+impl Key for CountedKey<'_> {
+    ghost order = { λ a b. nat_cmp a.number b.number };
+
+    fn compare<L: Ledger>(&self, other: &Self, steps: &mut Steps<L>) -> Ordering {
+        self.compared.set(self.compared.get().saturating_add(1));
+        steps.tick();
+        self.number.cmp(&other.number)
+    }
+
+    fn share(&self) -> Result<Self, AllocError> {
+        Ok(CountedKey {
+            number: self.number,
+            compared: self.compared,
+        })
+    }
+
+    ghost total = { on_total (λ a. a.number) nat_cmp_total };
+}
+
+fn filled<'a>(
+    rt: &impl Abort,
+    alloc: Global,
+    pairs: &[(u32, u32)],
+    compared: &'a Cell<u32>,
+) -> Result<Segment<CountedKey<'a>>, AllocError> {
+    let mut builder = Builder::new(alloc);
+    let mut last = 0;
+    for (row, number) in pairs {
+        assert!(rt; last <= *row);
+        let key = CountedKey {
+            number: *number,
+            compared,
+        };
+        builder.add(*row, key)?;
+        last = *row;
+    }
+    builder.finish()
+}
+
+// The rows, and that the key was compared as often as the segment's number of keys allows.
+fn assert_rows<L: Ledger>(
+    rt: &impl Abort,
+    segment: &Segment<CountedKey<'_>>,
+    key: &CountedKey<'_>,
+    rows: &[u32],
+    limit: u32,
+    steps: &mut Steps<L>,
+) {
+    key.compared.set(0);
+    assert_eq!(rt; segment.postings(key, steps), rows);
+    assert!(rt; key.compared.get() <= limit);
+}
+
+fn finds<L: Ledger>(rt: &impl Abort, alloc: Global, blank: Blank) -> Result<(), Fail>
+    requires name { blank.name ≡ L.name }
+    requires parts { blank.parts ≡ L.parts }
+    requires whole { 0 < blank.parts }
+{
+    let mut steps = Steps::<L>::new(blank);
+    let compared = Cell::new(0);
+    let pairs = [
+        (0, 20),
+        (0, 10),
+        (0, 10),
+        (2, 10),
+        (2, 30),
+        (2, 20),
+        (5, 10),
+        (5, 30),
+    ];
+    let segment = filled(rt, alloc, &pairs, &compared)?;
+    let table = [
+        (10, [0, 2, 5].as_slice()),
+        (20, [0, 2].as_slice()),
+        (30, [2, 5].as_slice()),
+        (5, [].as_slice()),
+        (15, [].as_slice()),
+        (35, [].as_slice()),
+    ];
+    for (number, rows) in table {
+        let key = CountedKey {
+            number,
+            compared: &compared,
+        };
+        let shared = key.share()?;
+        assert!(rt; shared == key);
+        assert_rows(rt, &segment, &shared, rows, 2, &mut steps);
+    }
+
+    let empty = filled(rt, alloc, &[], &compared)?;
+    let key = CountedKey {
+        number: 10,
+        compared: &compared,
+    };
+    assert_rows(rt, &empty, &key, &[], 0, &mut steps);
+    Ok(())
+}
+
+#[test]
+fn finds_the_rows_of_each_key(rt: HostRuntime) -> Result<(), Fail> {
+    finds::<Brand>(&rt, rt.alloc(), Blank::new(1))
+}
+
+// The even numbers below 2,000 as keys, each of one row, in no order: 7 * 143 is 1 more than 1,000.
+fn finds_among_many<L: Ledger>(rt: &impl Abort, alloc: Global, blank: Blank) -> Result<(), Fail>
+    requires name { blank.name ≡ L.name }
+    requires parts { blank.parts ≡ L.parts }
+    requires whole { 0 < blank.parts }
+{
+    let mut steps = Steps::<L>::new(blank);
+    let compared = Cell::new(0);
+    let mut pairs = Vec::new(alloc);
+    for row in 0..1000 {
+        pairs.push((row, row * 7 % 1000 * 2))?;
+    }
+    let segment = filled(rt, alloc, &pairs, &compared)?;
+    for half in 0..1000 {
+        let even = CountedKey {
+            number: 2 * half,
+            compared: &compared,
+        };
+        assert_rows(rt, &segment, &even, &[half * 143 % 1000], 10, &mut steps);
+        let odd = CountedKey {
+            number: 2 * half + 1,
+            compared: &compared,
+        };
+        assert_rows(rt, &segment, &odd, &[], 10, &mut steps);
+    }
+    Ok(())
+}
+
+#[test]
+fn compares_at_most_ten_of_a_thousand_keys(rt: HostRuntime) -> Result<(), Fail> {
+    finds_among_many::<Brand>(&rt, rt.alloc(), Blank::new(1))
+}
+
+#[test]
+fn clears_one_row(rt: HostRuntime) -> Result<(), Fail> {
+    let mut live = LiveBits::new(rt.alloc(), 130)?;
+    live.clear(0);
+    live.clear(63);
+    live.clear(64);
+    live.clear(129);
+    live.clear(129);
+    for row in 0..130 {
+        assert_eq!(rt; live.is_live(row), !matches!(row, 0 | 63 | 64 | 129));
+    }
+    LiveBits::new(rt.alloc(), 0)?;
+    Ok(())
+}
+
+// Threads may share what a snapshot keeps.
+#[test]
+fn may_be_shared() {
+    assert_shared::<Segment<u64>>();
+    assert_shared::<LiveBits>();
+}
+
+fn assert_shared<T: Send + Sync>() {}
+
+impl Key for u64 {
+    ghost order = { nat_cmp };
+
+    fn compare<L: Ledger>(&self, other: &Self, steps: &mut Steps<L>) -> Ordering {
+        steps.tick();
+        self.cmp(other)
+    }
+
+    fn share(&self) -> Result<Self, AllocError> {
+        Ok(*self)
+    }
+
+    ghost total = { nat_cmp_total };
+}

@@ -31,5 +31,7 @@ module _ {K : Type 0} (order : K → K → Ordering) where
 
   -- an index of the added pairs of a row and a key has, for each distinct key, one entry with its rows
   pub record IsIndexOf (added : List (ℕ × K)) (index : List (K × List ℕ)) : Type 0 where
+    -- the key's entry has the rows that were added with it, and a key that was not added has no entry
     pub rows : (key : K) → lookup (λ k. is_eq (order key k)) index ≡ non_empty (rows_with added key)
+    -- no key has two entries
     pub size : length index ≡ distinct_keys added

@@ -12,6 +12,7 @@ use std::sync::ledger::Ledger;
 pub trait Key: Sized {
     ghost order: { Self → Self → Ordering };
 
+    /// Compares by the key's total order. An implementation calls `Steps::tick` once.
     fn compare<L: Ledger>(&self, other: &Self, steps: &mut Steps<L>) -> Ordering
         ensures answer { result ≡ order self.now other.now }
         ensures counted { steps.new ≡ steps.old + 1 };

@@ -22,7 +22,7 @@ impl Model for LiveBits {
 }
 
 impl LiveBits {
-    /// All rows live.
+    /// All rows live. An error is want of memory.
     pub fn new(alloc: Global, rows: u32) -> Result<Self, AllocError>
         ensures { IfOk result (λ live. live ≡ replicate rows true) }
     {
@@ -31,7 +31,7 @@ impl LiveBits {
         Ok(LiveBits { words, rows })
     }
 
-    /// From here on the row isn't live.
+    /// Marks the row as deleted.
     pub fn clear(&mut self, row: u32)
         requires { row < length self.old }
         ensures { self.new ≡ slice_set self.old row false }

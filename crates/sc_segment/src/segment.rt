@@ -11,7 +11,7 @@ use std::cmp::Ordering;
 use std::marker::Model;
 use std::sync::ledger::Ledger;
 
-/// The rows of each key.
+/// For each distinct key the list of its rows, the keys in ascending order.
 #[derive(Drop)]
 pub struct Segment<K: Key> {
     entries: Vec<(K, PostingList)>,
@@ -33,7 +33,8 @@ impl<K: Key> Segment<K> {
         Segment { entries }
     }
 
-    /// The rows that were added with a key that compares equal, found by halving.
+    /// The rows that were added with a key that compares equal, none where no row was. The key is sought by
+    /// halving, so that among a thousand keys it is compared at most ten times.
     pub fn postings<L: Ledger>(&self, key: &K, steps: &mut Steps<L>) -> &[u32]
         ensures rows { (added : List (ℕ × K)) → IsIndexOf K.order added self.now → result.now ≡ rows_with K.order added key.now }
         ensures members { (added : List (ℕ × K)) → IsIndexOf K.order added self.now → (row : ℕ) → Contains result.now row ↔ WasAddedWith K.order added key.now row }

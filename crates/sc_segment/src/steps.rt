@@ -5,7 +5,8 @@ use std::sync::ledger::{Blank, Book, Ledger, Share};
 
 /// How many steps were taken: a number for proofs alone, which takes no bytes and which only `tick` changes.
 ///
-/// A function that is bounded takes `&mut Steps<L>` for any ledger `L`.
+/// What a step stands for is said by those that tick: for a `Key` it is one comparison. A function with a
+/// bound takes `&mut Steps<L>` for any ledger `L`, last.
 #[derive(Drop)]
 pub struct Steps<L: Ledger> {
     book: Book<L>,

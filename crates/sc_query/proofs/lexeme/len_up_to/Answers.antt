@@ -1,0 +1,41 @@
+use Rattle.std.proofs.Common.{◌≡◌, ℕ, ◌+◌, ◌≤◌, Bool, List, length, get_or, drop, false, ap, sym, ◌∙◌, inl, inr, arith}
+use Rattle.sc_query.specs.Ends.{ends_of}
+use Rattle.sc_query.specs.Tokens.{up_to}
+use Rattle.sc_query.proofs.Bytes.{up_to-one, up_to-escape, up_to-none}
+use Rattle.sc_query.proofs.lexeme.len_up_to.Goals as goal
+use Rattle.sc_query.proofs.lexeme.len_up_to.Goals.{then-bytes-at-eq92+then-at-bytes, else-bytes-at-eq92, else-bytes-at-eq92-via-then-bytes-at-eq92+else-at-bytes, else-bytes-at-eq92-via-else-bytes-at-eq92}
+
+-- n bytes are passed at once
+passed : (ends : ℕ → Bool) (bs : List ℕ) (i k n total : ℕ) → k ≡ n → length (up_to ends (drop i bs)) ≡ n + length (up_to ends (drop (i + n) bs)) → i + length (up_to ends (drop i bs)) ≡ total → i + k + length (up_to ends (drop (i + k) bs)) ≡ total
+passed ends bs i k n total e h w =
+    let same : length (up_to ends (drop (i + k) bs)) ≡ length (up_to ends (drop (i + n) bs)) = ap (λ (m : ℕ). length (up_to ends (drop (i + m) bs))) e in
+    omega (arith, same)
+
+pub loop-at-preserved : goal.loop-at-preserved
+loop-at-preserved c =
+    let ends = ends_of c.args.part in
+    let bs = c.args.bytes.now in
+    let at = c.loop-at.at in
+    let total = length (up_to ends bs) in
+    let whole = c.loop-at.invariant.counted in
+    let within = c.loop-at-test.true in
+    let open_end : ends (get_or bs at 0) ≡ false = sym c.ends.ensures ∙ c.if-not-ends.true in
+    elim c.if-bytes-at-eq92.branch [
+      | then-bytes-at-eq92+then-at-bytes w ↦ record {
+        within = omega arith;
+        counted = passed ends bs at c.if-bytes-at-eq92.at 2 total w.at-is (up_to-escape ends bs at w.if-at-bytes.true open_end w.if-bytes-at-eq92.true) whole;
+      }
+      | else-bytes-at-eq92 w ↦ record {
+        within = omega arith;
+        counted = passed ends bs at c.if-bytes-at-eq92.at 1 total w.at-is (up_to-one ends bs at within open_end (elim w.else-bytes-at-eq92.branch [
+          | else-bytes-at-eq92-via-then-bytes-at-eq92+else-at-bytes v ↦ inr v.if-at-bytes.false
+          | else-bytes-at-eq92-via-else-bytes-at-eq92 v ↦ inl v.if-bytes-at-eq92.false
+        ])) whole;
+      }
+    ]
+
+pub returns-else-not-ends : goal.returns-else-not-ends
+returns-else-not-ends c = record {
+  len = omega (arith, c.loop-at.invariant.counted, up_to-none (ends_of c.args.part) c.args.bytes.now c.loop-at.at c.loop-at-test.true (sym c.ends.ensures ∙ c.if-not-ends.false));
+  within = c.loop-at.invariant.within;
+}

@@ -1,0 +1,31 @@
+ghost use Rattle.std.specs.Prelude.{◌≡◌};
+ghost use Rattle.sc_query.specs.declared.fault.QueryFault.TheVariants.{Memory};
+
+use std::alloc::{AllocError, AllocFailed};
+use thiserror::Error;
+
+/// Why a text is no query.
+#[derive(Debug, Drop, Error)]
+pub enum QueryFault {
+    /// The place, in bytes, of the first token that can't stand there, or the text's length where it ends too early.
+    #[error("bad query at {at}")]
+    At { at: u32 },
+    #[error("out of memory")]
+    Memory,
+}
+
+impl From<AllocError> for QueryFault {
+    ghost from_gives = { λ _ fault. fault ≡ Memory };
+
+    fn from(_error: AllocError) -> QueryFault {
+        QueryFault::Memory
+    }
+}
+
+impl<T: Drop> From<AllocFailed<T>> for QueryFault {
+    ghost from_gives = { λ _ fault. fault ≡ Memory };
+
+    fn from(_error: AllocFailed<T>) -> QueryFault {
+        QueryFault::Memory
+    }
+}

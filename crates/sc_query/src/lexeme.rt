@@ -1,0 +1,196 @@
+//! The tokens of a text, one at a time.
+
+ghost use Rattle.std.specs.Prelude.{◌≡◌, ◌<◌, ◌≤◌, length, drop, IfOk, string_bytes};
+ghost use Rattle.sc_query.specs.Tokens.{is_space, ends_run, ends_field, ends_quoted, up_to, plain, is_cut_short, opens_quoted, opens_value, run_token, quoted_leaf, word_at, token_at};
+ghost use Rattle.sc_query.specs.Reading.{token_of};
+ghost use Rattle.sc_query.specs.Ends.{ends_of};
+
+use std::alloc::{AllocError, Global};
+
+/// What stands at a place of a text: a token, or what is none. A value still has its backslashes.
+#[derive(Clone, Copy)]
+pub enum Lexeme<'a> {
+    Open,
+    Close,
+    And,
+    Or,
+    Not,
+    Every,
+    Leaf { field: &'a str, value: &'a str },
+    Broken,
+}
+
+/// A part of a leaf.
+#[derive(Clone, Copy)]
+enum Part {
+    Field,
+    Run,
+    Quoted,
+}
+
+pub fn is_space(byte: u8) -> bool
+    ensures { result ≡ is_space byte }
+{
+    byte == b' ' || byte == b'\t' || byte == b'\r' || byte == b'\n'
+}
+
+fn ends_run(byte: u8) -> bool
+    ensures { result ≡ ends_run byte }
+{
+    is_space(byte) || byte == b'(' || byte == b')'
+}
+
+fn ends(part: Part, byte: u8) -> bool
+    ensures { result ≡ ends_of part byte }
+{
+    match part {
+        Part::Field => byte == b':' || byte == b'"' || byte == b'\\' || ends_run(byte),
+        Part::Run => ends_run(byte),
+        Part::Quoted => byte == b'"',
+    }
+}
+
+// How many bytes come before the first that ends the part.
+fn len_up_to(part: Part, bytes: &[u8]) -> usize
+    ensures len { result ≡ length (up_to (ends_of part) bytes.now) }
+    ensures within { result ≤ length bytes.now }
+{
+    let mut at = 0;
+    while at < bytes.len() && !ends(part, bytes[at]) {
+        at += if bytes[at] == b'\\' && at + 1 < bytes.len() {
+            2
+        } else {
+            1
+        };
+    }
+    at
+}
+
+fn is_cut_short(bytes: &[u8]) -> bool
+    ensures { result ≡ is_cut_short bytes.now }
+{
+    let mut at = 0;
+    while at < bytes.len() {
+        if bytes[at] == b'\\' {
+            if at + 1 == bytes.len() {
+                return true;
+            }
+            at += 2;
+        } else {
+            at += 1;
+        }
+    }
+    false
+}
+
+/// The text that a value with backslashes stands for.
+pub fn plain(alloc: Global, value: &str) -> Result<String, AllocError>
+    ensures { IfOk result (λ text. string_bytes text ≡ plain value.now) }
+{
+    let bytes = value.as_bytes();
+    let mut text = String::new(alloc);
+    let mut from = 0;
+    let mut at = 0;
+    while at < bytes.len() {
+        if bytes[at] == b'\\' && at + 1 < bytes.len() {
+            text.push_str(&value[from..at])?;
+            from = at + 1;
+            at += 2;
+        } else {
+            at += 1;
+        }
+    }
+    text.push_str(&value[from..])?;
+    Ok(text)
+}
+
+// A colon and a quote stand at the place.
+fn opens_quoted(bytes: &[u8], at: usize) -> bool
+    ensures { result ≡ opens_quoted (drop at bytes.now) }
+{
+    if bytes.len() < 2 || at > bytes.len() - 2 {
+        return false;
+    }
+    bytes[at] == b':' && bytes[at + 1] == b'"'
+}
+
+// A colon and at least one byte more stand at the place.
+fn opens_value(bytes: &[u8], at: usize) -> bool
+    ensures { result ≡ opens_value (drop at bytes.now) }
+{
+    if bytes.len() < 2 || at > bytes.len() - 2 {
+        return false;
+    }
+    bytes[at] == b':'
+}
+
+// The token of a run of bytes outside quotes, which begins with the field.
+fn run_lexeme<'a>(field: &'a str, run: &'a str) -> Lexeme<'a>
+    ensures { token_of result ≡ run_token field.now run.now }
+{
+    if run == "AND" {
+        return Lexeme::And;
+    }
+    if run == "OR" {
+        return Lexeme::Or;
+    }
+    if run == "NOT" {
+        return Lexeme::Not;
+    }
+    if run == "*:*" {
+        return Lexeme::Every;
+    }
+    if field.len() == 0 || is_cut_short(run.as_bytes()) {
+        return Lexeme::Broken;
+    }
+    if opens_value(run.as_bytes(), field.len()) {
+        let value = &run[field.len() + 1..];
+        return Lexeme::Leaf { field, value };
+    }
+    Lexeme::Broken
+}
+
+// A leaf whose value is quoted, from the value's first byte on, and how many bytes it takes with its field.
+fn quoted_lexeme<'a>(field: &'a str, text: &'a str) -> (Lexeme<'a>, usize)
+    requires field { length field.now ≤ 4096 }
+    requires text { length text.now ≤ 4096 }
+    ensures token { token_of result.0 ≡ (quoted_leaf field.now (up_to ends_quoted text.now) text.now).0 }
+    ensures len { result.1 ≡ (quoted_leaf field.now (up_to ends_quoted text.now) text.now).1 }
+{
+    let inside = len_up_to(Part::Quoted, text.as_bytes());
+    if field.len() == 0 || inside == text.len() || inside == 0 {
+        return (Lexeme::Broken, field.len() + 2 + text.len());
+    }
+    let value = &text[..inside];
+    (Lexeme::Leaf { field, value }, field.len() + 3 + inside)
+}
+
+// A token that is no parenthesis, and how many bytes it takes.
+fn word_at(text: &str) -> (Lexeme<'_>, usize)
+    requires { length text.now ≤ 4096 }
+    ensures token { token_of result.0 ≡ (word_at (up_to ends_field text.now) text.now).0 }
+    ensures len { result.1 ≡ (word_at (up_to ends_field text.now) text.now).1 }
+{
+    let bytes = text.as_bytes();
+    let len = len_up_to(Part::Field, bytes);
+    let field = &text[..len];
+    if opens_quoted(bytes, len) {
+        return quoted_lexeme(field, &text[len + 2..]);
+    }
+    let len = len_up_to(Part::Run, bytes);
+    (run_lexeme(field, &text[..len]), len)
+}
+
+/// The token that begins with a text's first byte, which is no space, and how many bytes it takes.
+pub fn lexeme_at(text: &str) -> (Lexeme<'_>, usize)
+    requires some { 0 < length text.now }
+    requires in_limit { length text.now ≤ 4096 }
+    ensures token { token_of result.0 ≡ (token_at text.now).0 }
+    ensures len { result.1 ≡ (token_at text.now).1 }
+{
+    match text.as_bytes()[0] {
+        b'(' => (Lexeme::Open, 1),
+        b')' => (Lexeme::Close, 1),
+        _ => word_at(text),
+    }
+}

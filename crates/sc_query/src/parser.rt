@@ -1,0 +1,29 @@
+ghost use Rattle.std.specs.Prelude.{◌≡◌, ℕ, ◌⊎◌, IsOkAnd, IfOk, Err};
+ghost use Rattle.sc_query.specs.Tree.{Tree, tree_of};
+ghost use Rattle.sc_query.specs.Grammar.{HasTree, HasFault};
+ghost use Rattle.sc_query.specs.declared.fault.QueryFault.TheVariants.{At, Memory};
+
+use crate::fault::QueryFault;
+use crate::query::Query;
+use crate::reader;
+use std::alloc::Global;
+
+/// The longest text that is read, in bytes.
+const LONGEST: usize = 4096;
+
+/// Reads a query text.
+pub fn parse(alloc: Global, text: &str) -> Result<Query, QueryFault>
+    // What is read is a query of the grammar, with its tree.
+    ensures tree { IfOk result (λ query. HasTree text.now (tree_of query)) }
+    // A fault is where the definition has it.
+    ensures fault { (at : ℕ) → result ≡ Err (At at) → HasFault text.now at }
+
+    // Every query of the grammar is read, and every fault is told, unless memory runs out.
+    ensures reads { (t : Tree) → HasTree text.now t → result ≡ Err Memory ⊎ IsOkAnd result (λ query. tree_of query ≡ t) }
+    ensures refuses { (at : ℕ) → HasFault text.now at → result ≡ Err Memory ⊎ (result ≡ Err (At at)) }
+{
+    if text.len() > LONGEST {
+        return Err(QueryFault::At { at: LONGEST as u32 });
+    }
+    reader::read(alloc, text)
+}

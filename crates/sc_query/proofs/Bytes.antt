@@ -1,9 +1,8 @@
 -- Runs of bytes and what they stand for, a byte at a time.
-use Rattle.std.proofs.Common.{◌≡◌, ◌≢◌, ℕ, suc, ◌+◌, ◌-◌, ◌<◌, ◌≤◌, Bool, true, false, ◌⊎◌, inl, inr, cond, eqb, if◌then◌else◌, List, [], ◌∷◌, ◌++◌, length, get_or, take, drop, refl, sym, ap, ◌∙◌, subst, arith, eq-eqb}
+use Rattle.std.proofs.Common.{◌≡◌, ◌≢◌, ℕ, ◌+◌, ◌<◌, ◌≤◌, Bool, true, false, ◌⊎◌, inl, inr, cond, eqb, List, [], ◌∷◌, length, get_or, drop, refl, ap, ◌∙◌, arith, eq-eqb}
 use Rattle.std.proofs.lemmas.Bool.{ne_eqb}
-use Rattle.std.proofs.lemmas.Bool.Decides.{eqb_tells}
 use Rattle.std.proofs.lemmas.List.{drop_more, drop_all}
-use Rattle.sc_query.specs.Tokens.{up_to, plain, is_cut_short, is_space, ends_run, ends_field, ends_quoted}
+use Rattle.sc_query.specs.Tokens.{up_to, plain, is_cut_short}
 
 -- the byte at a place and the byte after it stand at the front of what is left
 pub drop_two : (bs : List ℕ) (i : ℕ) → i + 1 < length bs → drop i bs ≡ get_or bs i 0 ∷ get_or bs (i + 1) 0 ∷ drop (i + 2) bs
@@ -23,7 +22,7 @@ up_to-cons ends c (d ∷ rest) e (inr h) = let no : d ∷ rest ≡ [] = h in cc
 up_to-two : (ends : ℕ → Bool) (c d : ℕ) (rest : List ℕ) → ends c ≡ false → c ≡ 92 → up_to ends (c ∷ d ∷ rest) ≡ c ∷ d ∷ up_to ends rest
 up_to-two ends c d rest e h = ap (λ (b : Bool). cond b [] (cond (eqb c 92) (c ∷ d ∷ up_to ends rest) (c ∷ up_to ends (d ∷ rest)))) e ∙ ap (λ (b : Bool). cond b (c ∷ d ∷ up_to ends rest) (c ∷ up_to ends (d ∷ rest))) (eq-eqb c 92 h)
 
-up_to-stop : (ends : ℕ → Bool) (c : ℕ) (rest : List ℕ) → ends c ≡ true → up_to ends (c ∷ rest) ≡ []
+pub up_to-stop : (ends : ℕ → Bool) (c : ℕ) (rest : List ℕ) → ends c ≡ true → up_to ends (c ∷ rest) ≡ []
 up_to-stop ends c [] e = ap (λ (b : Bool). cond b [] (c ∷ [])) e
 up_to-stop ends c (d ∷ rest) e = ap (λ (b : Bool). cond b [] (cond (eqb c 92) (c ∷ d ∷ up_to ends rest) (c ∷ up_to ends (d ∷ rest)))) e
 
@@ -56,7 +55,7 @@ plain-one bs i l h = ap plain (drop_more bs i 0 l) ∙ plain-cons (get_or bs i 0
 pub plain-escape : (bs : List ℕ) (i : ℕ) → i + 1 < length bs → get_or bs i 0 ≡ 92 → plain (drop i bs) ≡ get_or bs (i + 1) 0 ∷ plain (drop (i + 2) bs)
 plain-escape bs i l h = ap plain (drop_two bs i l) ∙ ap (λ (b : Bool). cond b (get_or bs (i + 1) 0 ∷ plain (drop (i + 2) bs)) (get_or bs i 0 ∷ plain (get_or bs (i + 1) 0 ∷ drop (i + 2) bs))) (eq-eqb (get_or bs i 0) 92 h)
 
-cut-cons : (c : ℕ) (rest : List ℕ) → c ≢ 92 → is_cut_short (c ∷ rest) ≡ is_cut_short rest
+pub cut-cons : (c : ℕ) (rest : List ℕ) → c ≢ 92 → is_cut_short (c ∷ rest) ≡ is_cut_short rest
 cut-cons c [] h = ne_eqb c 92 h
 cut-cons c (d ∷ rest) h = ap (λ (b : Bool). cond b (is_cut_short rest) (is_cut_short (d ∷ rest))) (ne_eqb c 92 h)
 

@@ -1,11 +1,10 @@
 -- What is in the grammar is read: `complete`.
-use Rattle.std.proofs.Common.{◌≡◌, ℕ, suc, zero, ◌+◌, ◌-◌, ◌<◌, Bool, true, false, Option, Some, None, Result, Ok, Err, nat_lt, if◌then◌else◌, List, [], ◌∷◌, refl, sym, ap, ◌∙◌, arith, add-one}
+use Rattle.std.proofs.Common.{◌≡◌, ℕ, suc, ◌+◌, ◌-◌, ◌<◌, Bool, Option, Some, None, Result, Ok, Err, if◌then◌else◌, List, [], ◌∷◌, refl, ap, ◌∙◌, arith, add-one}
 use Rattle.std.proofs.lemmas.Bool.{lt-ltb}
-use Rattle.sc_query.specs.Tokens.{Token, Placed}
+use Rattle.sc_query.specs.Tokens.{Placed}
 use Rattle.sc_query.specs.Tree.{Tree}
 use Rattle.sc_query.specs.Grammar.{Rule, Reads, IsQuery}
-use Rattle.sc_query.specs.Reading.{Before, Reader, negated, and_with, or_with, empty, with_operand, opened, closed, operand_step, operator_step, step, finish, goes_on, run}
-use Rattle.sc_query.proofs.Sound.{placed}
+use Rattle.sc_query.specs.Reading.{Before, Reader, negated, and_with, or_with, empty, with_operand, opened, goes_on, run}
 
 -- after the tokens that a rule reads the reader has its tree
 abbrev Complete : Rule → ℕ → List Placed → Tree → List Placed → Type 0

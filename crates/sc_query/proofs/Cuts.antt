@@ -1,5 +1,5 @@
 -- Where a text is cut into a field, a value and a rest: between characters.
-use Rattle.std.proofs.Common.{◌≡◌, ◌≢◌, ℕ, suc, ◌+◌, ◌-◌, ◌<◌, ◌≤◌, Bool, true, false, ◌||◌, ◌&&◌, ◌==◌, ◌⊎◌, inl, inr, cond, eqb, List, [], ◌∷◌, ◌++◌, length, get_or, take, drop, slice_range, refl, sym, ap, ◌∙◌, subst, arith}
+use Rattle.std.proofs.Common.{◌≡◌, ◌≢◌, ℕ, ◌+◌, ◌-◌, ◌<◌, ◌≤◌, Bool, true, false, ◌||◌, ◌&&◌, ◌⊎◌, inl, inr, cond, eqb, List, [], ◌∷◌, length, get_or, take, drop, slice_range, refl, sym, ap, ◌∙◌, subst, arith}
 use Rattle.std.proofs.lemmas.Bool.{ne_eqb, eqb-true}
 use Rattle.std.proofs.lemmas.Bool.Decides.{nat_tests}
 use Rattle.std.proofs.lemmas.List.{length-drop, get_or-drop}
@@ -87,7 +87,7 @@ both_true : (a b : Bool) → (a && b) ≡ true → (a ≡ true) × (b ≡ true)
 both_true true b h = (refl, h)
 both_true false b h = (h, absurd (let no : false ≡ true = h in cc))
 
-quoted_front : (xs : List ℕ) → opens_quoted xs ≡ true → (1 < length xs) × (get_or xs 0 0 ≡ 58) × (get_or xs 1 0 ≡ 34)
+pub quoted_front : (xs : List ℕ) → opens_quoted xs ≡ true → (1 < length xs) × (get_or xs 0 0 ≡ 58) × (get_or xs 1 0 ≡ 34)
 quoted_front [] h = absurd (let no : false ≡ true = h in cc)
 quoted_front (c ∷ []) h = absurd (let no : false ≡ true = h in cc)
 quoted_front (c ∷ d ∷ rest) h = let both = both_true (eqb c 58) (eqb d 34) h in (omega arith, eqb-true c 58 both.0, eqb-true d 34 both.1)
@@ -135,3 +135,7 @@ word_at-quoted field text h = ap (λ (b : Bool). cond b (quoted_leaf field (up_t
 
 pub word_at-run : (field text : List ℕ) → opens_quoted (drop (length field) text) ≡ false → word_at field text ≡ (run_token field (up_to ends_run text), length (up_to ends_run text))
 word_at-run field text h = ap (λ (b : Bool). cond b (quoted_leaf field (up_to ends_quoted (drop (length field + 2) text)) (drop (length field + 2) text)) (run_token field (up_to ends_run text), length (up_to ends_run text))) h
+
+pub none_true : (a b : Bool) → (a || b) ≡ false → (a ≡ false) × (b ≡ false)
+none_true true b h = let no : true ≡ false = h in absurd (cc)
+none_true false b h = (refl, h)

@@ -6,3 +6,4 @@ pub mod Bytes
 pub mod Plain
 pub mod Cuts
 pub mod Tokens
+pub mod Enclosed

@@ -1,5 +1,5 @@
 -- The pieces between backslashes, one after another, are what the bytes stand for.
-use Rattle.std.proofs.Common.{◌≡◌, ℕ, ◌+◌, ◌-◌, ◌<◌, ◌≤◌, List, [], ◌∷◌, ◌++◌, length, get_or, take, drop, refl, sym, ap, ◌∙◌, arith, append_assoc}
+use Rattle.std.proofs.Common.{◌≡◌, ℕ, ◌+◌, ◌-◌, ◌<◌, ◌≤◌, List, [], ◌∷◌, ◌++◌, length, get_or, take, drop, sym, ap, ◌∙◌, arith, append_assoc}
 use Rattle.std.proofs.lemmas.List.{drop_more, drop_all, take_more, take_rest, get_or-drop, length-drop, append-nil}
 use Rattle.sc_query.specs.Tokens.{plain}
 use Rattle.sc_query.proofs.Bytes.{StandsAlone, plain-one, plain-escape}

@@ -1,14 +1,13 @@
 -- How the tokens of a text begin.
-use Rattle.std.proofs.Common.{◌≡◌, ◌≢◌, ℕ, suc, zero, ◌+◌, ◌-◌, ◌*◌, ◌<◌, ◌≤◌, Bool, true, false, ◌||◌, ◌==◌, ◌⊎◌, inl, inr, cond, eqb, Result, Ok, Err, List, [], ◌∷◌, ◌++◌, length, get_or, take, drop, refl, sym, ap, ◌∙◌, subst, arith}
+use Rattle.std.proofs.Common.{◌≡◌, ◌≢◌, ℕ, suc, zero, ◌+◌, ◌-◌, ◌<◌, ◌≤◌, Bool, true, false, ◌||◌, ◌==◌, cond, eqb, Result, Ok, Err, List, [], ◌∷◌, length, get_or, drop, refl, sym, ap, ◌∙◌, subst, arith}
 use Rattle.std.proofs.lemmas.Bool.{eqb-false, eqb-true}
 use Rattle.std.proofs.lemmas.List.{length-drop, get_or-drop}
 use Rattle.std.proofs.lemmas.Str.{IsCharBoundary-after_ascii, IsCharBoundary-end}
 use Rattle.std.specs.Str.{IsCharBoundary, IsUtf8}
 use Rattle.sc_query.specs.Tokens.{Token, Placed, up_to, plain, is_space, ends_run, ends_field, ends_quoted, opens_quoted, quoted_leaf, run_token, word_at, token_at, tokens_from}
-use Rattle.sc_query.specs.Tree.{Tree}
 use Rattle.sc_query.specs.Reading.{Reader, step, finish, goes_on, run}
 use Rattle.sc_query.proofs.Sound.{placed}
-use Rattle.sc_query.proofs.Cuts.{up_to-stops, up_to-boundary, quoted_ascii, run_ascii, quoted-boundary}
+use Rattle.sc_query.proofs.Cuts.{up_to-stops, up_to-boundary, quoted_ascii, run_ascii, quoted-boundary, none_true}
 
 -- what belongs to an earlier token is passed over
 tokens_from-inside : (k at : ℕ) (text : List ℕ) → k ≤ length text → tokens_from k at text ≡ tokens_from 0 (at + k) (drop k text)
@@ -35,10 +34,6 @@ tokens_from-token at c rest h some within =
         ap (λ (m : ℕ). tokens_from m (at + 1) rest) one
         ∙ (tokens_from-inside n (at + 1) rest (omega (arith, k))
         ∙ ap (λ (m : ℕ). tokens_from 0 m (drop n rest)) (let same : at + 1 + n ≡ at + suc n = omega arith in same))
-
-none_true : (a b : Bool) → (a || b) ≡ false → (a ≡ false) × (b ≡ false)
-none_true true b h = let no : true ≡ false = h in absurd (cc)
-none_true false b h = (refl, h)
 
 -- a text may be cut after a quoted leaf, which takes some of it
 abbrev pub Cuts : List ℕ → ℕ → Type 0

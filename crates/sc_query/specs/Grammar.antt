@@ -1,5 +1,5 @@
 -- Which lists of tokens are queries, with their trees, and where the fault of every other list lies.
-use Rattle.std.specs.Prelude.{◌≡◌, ℕ, ◌+◌, ◌<◌, ◌≤◌, suc, List, [], ◌∷◌, ◌++◌, length}
+use Rattle.std.specs.Prelude.{◌≡◌, ℕ, ◌<◌, ◌≤◌, suc, List, [], ◌∷◌, ◌++◌, length}
 use Rattle.sc_query.specs.Tokens.{Token, Placed, tokens}
 use Rattle.sc_query.specs.Tree.{Tree}
 
@@ -20,9 +20,13 @@ pub data Reads : Rule → ℕ → List Placed → Tree → List Placed → Type 
   one_conjunction : {room : ℕ} {ts rest : List Placed} {t : Tree} → Reads Conjunction room ts t rest → Reads Query room ts t rest
   or : {room at : ℕ} {ts us rest : List Placed} {s t : Tree} → Reads Query room ts s (record { at = at; token = Token.Or } ∷ us) → Reads Conjunction room us t rest → Reads Query room ts (Tree.Or s t) rest
 
--- the tokens are a query, and this is its tree
+-- the tokens are a query with this tree, in which at most so many parentheses and NOTs are open at once
+abbrev pub IsQueryWithin : ℕ → List Placed → Tree → Type 0
+IsQueryWithin room ts t = Reads Rule.Query room ts t []
+
+-- the tokens are a query with this tree, within the language's limit
 abbrev pub IsQuery : List Placed → Tree → Type 0
-IsQuery ts t = Reads Query 32 ts t []
+IsQuery ts t = IsQueryWithin 32 ts t
 
 -- some query begins with these tokens
 abbrev pub BeginsQuery : List Placed → Type 0

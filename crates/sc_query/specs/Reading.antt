@@ -1,14 +1,15 @@
--- What the private functions that read a query do, one token at a time. No public contract cites this file: `proofs/Grammar.antt` shows that it agrees with specs/Grammar.antt.
-use Rattle.std.specs.Prelude.{◌≡◌, ℕ, suc, zero, ◌+◌, ◌-◌, nat_lt, Option, Some, None, Result, Ok, Err, if◌then◌else◌, List, [], ◌∷◌, length, map, reverse, option_map}
-use Rattle.sc_query.specs.declared.query.Query.{Query}
+-- What the private functions do that read a query, a token at a time. No public contract cites this file: each reader of the contracts may leave it out, since proofs/Outcome.antt shows that what it gives is what specs/Grammar.antt says.
+use Rattle.std.specs.Prelude.{◌≡◌, ℕ, Bool, suc, zero, ◌+◌, ◌-◌, nat_lt, Option, Some, None, Result, Ok, Err, if◌then◌else◌, List, [], ◌∷◌, length, map, reverse, option_map}
 use Rattle.sc_query.specs.declared.fault.QueryFault.{QueryFault}
 use Rattle.sc_query.specs.declared.fault.QueryFault.TheVariants.{At, Memory}
 use Rattle.sc_query.specs.declared.lexeme.Lexeme.{Lexeme}
 use Rattle.sc_query.specs.declared.lexeme.Lexeme.TheVariants as lexeme
+use Rattle.sc_query.specs.declared.lexeme.Part.{Part}
+use Rattle.sc_query.specs.declared.lexeme.Part.TheVariants.{Field, Run, Quoted}
 use Rattle.sc_query.specs.declared.reader.Level.{Level}
 use Rattle.sc_query.specs.declared.reader.State.{State}
 use Rattle.sc_query.specs.declared.reader.State.TheVariants.{Awaits, After}
-use Rattle.sc_query.specs.Tokens.{Token, Placed, plain, tokens}
+use Rattle.sc_query.specs.Tokens.{Token, Placed, plain, ends_field, ends_run, ends_quoted, tokens}
 use Rattle.sc_query.specs.Tree.{Tree, tree_of}
 
 -- the token that a lexeme is
@@ -21,6 +22,12 @@ token_of lexeme.Not = Token.Not
 token_of lexeme.Every = Token.Every
 token_of (lexeme.Leaf field value) = Token.Leaf field.now (plain value.now)
 token_of lexeme.Broken = Token.Broken
+
+-- which bytes end a part of a leaf
+abbrev pub ends_of : Part → ℕ → Bool
+ends_of Field = ends_field
+ends_of Run = ends_run
+ends_of Quoted = ends_quoted
 
 -- what stands before an operand, back to the parenthesis that is open: a left side of OR, one of AND, and NOTs
 pub record Before : Type 0 where

@@ -5,7 +5,7 @@ use std::alloc::{AllocError, AllocFailed};
 use thiserror::Error;
 
 /// Why a text is no query.
-#[derive(Debug, Drop, Error)]
+#[derive(Clone, Copy, Debug, PartialEq, Eq, Error)]
 pub enum QueryFault {
     /// The place, in bytes, of the first token that can't stand there, or the text's length where it ends too early.
     #[error("bad query at {at}")]

@@ -2,8 +2,7 @@
 
 ghost use Rattle.std.specs.Prelude.{◌≡◌, ◌<◌, ◌≤◌, length, drop, IfOk, string_bytes};
 ghost use Rattle.sc_query.specs.Tokens.{is_space, ends_run, ends_field, ends_quoted, up_to, plain, is_cut_short, opens_quoted, opens_value, run_token, quoted_leaf, word_at, token_at};
-ghost use Rattle.sc_query.specs.Reading.{token_of};
-ghost use Rattle.sc_query.specs.Ends.{ends_of};
+ghost use Rattle.sc_query.specs.Reading.{token_of, ends_of};
 
 use std::alloc::{AllocError, Global};
 
@@ -20,7 +19,7 @@ pub enum Lexeme<'a> {
     Broken,
 }
 
-/// A part of a leaf.
+// A part of a text that goes up to a byte that ends it.
 #[derive(Clone, Copy)]
 enum Part {
     Field,
@@ -140,7 +139,7 @@ fn run_lexeme<'a>(field: &'a str, run: &'a str) -> Lexeme<'a>
     if run == "*:*" {
         return Lexeme::Every;
     }
-    if field.len() == 0 || is_cut_short(run.as_bytes()) {
+    if field.is_empty() || is_cut_short(run.as_bytes()) {
         return Lexeme::Broken;
     }
     if opens_value(run.as_bytes(), field.len()) {
@@ -158,7 +157,7 @@ fn quoted_lexeme<'a>(field: &'a str, text: &'a str) -> (Lexeme<'a>, usize)
     ensures len { result.1 ≡ (quoted_leaf field.now (up_to ends_quoted text.now) text.now).1 }
 {
     let inside = len_up_to(Part::Quoted, text.as_bytes());
-    if field.len() == 0 || inside == text.len() || inside == 0 {
+    if field.is_empty() || inside == text.len() || inside == 0 {
         return (Lexeme::Broken, field.len() + 2 + text.len());
     }
     let value = &text[..inside];

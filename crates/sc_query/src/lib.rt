@@ -1,4 +1,7 @@
-//! Query texts.
+//! The query language of the search: a text is read to a tree of `AND`, `OR` and `NOT` over leaves `field:value`,
+//! or refused with the place of its fault. The grammar is this project's own; `specs/Grammar.antt` and `specs/Tokens.antt` state it.
+//! The crate stands on std and `thiserror` alone, and knows no field and no document. The layer above uses the contract of
+//! [`parse`], which says of each text which tree it has or where its fault is, and that of [`and`].
 #![tactic(auto)]
 
 mod fault;
@@ -10,6 +13,7 @@ mod reader;
 mod word;
 
 pub use fault::QueryFault;
+pub use laws::{one_answer, parentheses};
 pub use parser::parse;
 pub use query::{Query, and};
 pub use word::Word;

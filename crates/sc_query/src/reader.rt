@@ -7,8 +7,7 @@ ghost use Rattle.sc_query.specs.Reading.{Reader, empty, opened, Gives, reader_of
 
 use crate::fault::QueryFault;
 use crate::lexeme::{self, Lexeme};
-use crate::query;
-use crate::query::Query;
+use crate::query::{self, Query};
 use crate::word::Word;
 use std::alloc::{AllocError, Global};
 

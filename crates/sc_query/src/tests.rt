@@ -35,7 +35,7 @@ fn answer(alloc: Global, text: &str) -> Result<String, AllocError> {
     }
 }
 
-const WORDS: [(&str, &str); 46] = [
+const WORDS: [(&str, &str); 50] = [
     // Leaves.
     ("a:b", "a=b@0"),
     ("  a:b  ", "a=b@2"),
@@ -75,6 +75,10 @@ const WORDS: [(&str, &str); 46] = [
     ("a:", "fault 0"),
     (":b", "fault 0"),
     (":", "fault 0"),
+    ("a:(b)", "fault 0"),
+    ("\"", "fault 0"),
+    ("*:*\\", "fault 0"),
+    ("*\\:*", "fault 0"),
     ("and", "fault 0"),
     ("\\AND", "fault 0"),
     ("\"a b\"", "fault 0"),
@@ -88,7 +92,7 @@ const WORDS: [(&str, &str); 46] = [
     ("  a:\\", "fault 2"),
 ];
 
-const SENTENCES: [(&str, &str); 58] = [
+const SENTENCES: [(&str, &str); 61] = [
     ("*:*", "*"),
     ("(*:*)", "*"),
     (" ( *:* ) ", "*"),
@@ -162,6 +166,9 @@ const SENTENCES: [(&str, &str); 58] = [
     ("a:1 x AND \"", "fault 4"),
     ("a:1 AND x:\"", "fault 8"),
     ("a:1 b:2 AND", "fault 4"),
+    ("a:1 AND\\ b:2", "fault 4"),
+    ("a:1\tAND\r\nb:2", "(a=1@0 & b=2@9)"),
+    ("😀:\\😀 OR a:1", "(😀=😀@0 | a=1@14)"),
 ];
 
 #[test]
@@ -221,30 +228,28 @@ fn is_read(alloc: Global, text: &str) -> bool {
     parse(alloc, text).is_ok()
 }
 
-// Texts of 4,096 bytes are read and dropped, however long their chains are; one byte more is a fault at 4096.
+// Chains in a text of 4,096 bytes are read and dropped, however long they are. A byte more is a fault at 4096, whatever stands before.
 #[test]
 fn length_is_limited(rt: HostRuntime) {
     let alloc = rt.alloc();
-    for (before, count, middle) in [
-        ("*:* AND ", 511, "a:123456"),
-        ("*:* OR ", 585, "*"),
-        ("NOT *:*OR(*:*)AND ", 227, "a:12345678"),
-        ("(*:*)OR ", 511, "a:123456"),
+    for (link, count, last, fault) in [
+        ("*:* AND ", 511, "a:123456", false),
+        ("*:* OR ", 584, "a:123456", false),
+        ("(*:*)OR ", 511, "a:123456", false),
+        ("NOT a:\"b\"OR ", 341, "a:12", false),
+        ("*:* AND ", 511, "a:1234567", true),
+        (") AND OR ", 455, "ab", true),
     ] {
-        let text = repeated(alloc, before, count, middle, "").unwrap_or(String::new(alloc));
-        let longer = repeated(alloc, before, count, middle, "").unwrap_or(String::new(alloc));
-        assert!(&rt; text.len() <= 4096, "{}", text.len());
-    }
-    let chain = repeated(alloc, "*:* AND ", 511, "a:123456", "").unwrap_or(String::new(alloc));
-    assert_eq!(&rt; chain.len(), 4096);
-    assert!(&rt; is_read(alloc, chain.as_str()));
-    let chain = repeated(alloc, "*:* OR ", 584, "a:123456", "").unwrap_or(String::new(alloc));
-    assert_eq!(&rt; chain.len(), 4096);
-    assert!(&rt; is_read(alloc, chain.as_str()));
-    for middle in ["a:1234567", ")", "\""] {
-        let chain = repeated(alloc, "*:* AND ", 512, middle, "").unwrap_or(String::new(alloc));
-        let found = answer(alloc, chain.as_str()).unwrap_or(String::new(alloc));
-        assert_eq!(&rt; found.as_str(), "fault 4096");
+        let text = repeated(alloc, link, count, last, "").unwrap_or(String::new(alloc));
+        let length = text.len();
+        match parse(alloc, text.as_str()) {
+            Ok(_) => assert!(&rt; !fault && length == 4096, "{link}{last} of {length} bytes"),
+            Err(found) => assert_eq!(&rt;
+                (fault, found),
+                (true, QueryFault::At { at: 4096 }),
+                "{link}{last} of {length} bytes"
+            ),
+        }
     }
 }
 

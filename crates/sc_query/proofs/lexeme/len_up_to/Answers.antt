@@ -1,5 +1,5 @@
-use Rattle.std.proofs.Common.{◌≡◌, ℕ, ◌+◌, ◌≤◌, Bool, List, length, get_or, drop, false, ap, sym, ◌∙◌, inl, inr, arith}
-use Rattle.sc_query.specs.Ends.{ends_of}
+use Rattle.std.proofs.Common.{◌≡◌, ℕ, ◌+◌, Bool, List, length, get_or, drop, false, ap, sym, ◌∙◌, inl, inr, arith}
+use Rattle.sc_query.specs.Reading.{ends_of}
 use Rattle.sc_query.specs.Tokens.{up_to}
 use Rattle.sc_query.proofs.Bytes.{up_to-one, up_to-escape, up_to-none}
 use Rattle.sc_query.proofs.lexeme.len_up_to.Goals as goal

@@ -1,6 +1,6 @@
 use Rattle.std.proofs.Common.{◌≡◌, ◌+◌, ◌-◌, ◌≤◌, length, drop}
 use Rattle.sc_query.specs.Tokens.{up_to}
-use Rattle.sc_query.specs.Ends.{ends_of}
+use Rattle.sc_query.specs.Reading.{ends_of}
 use Rattle.sc_query.proofs.lexeme.len_up_to.Given as goal
 
 -- the bytes passed, and those that are left to pass, are all

@@ -1,4 +1,4 @@
-use Rattle.std.proofs.Common.{◌≡◌, ◌+◌, ◌++◌, ◌-◌, length, take, drop, get_or, string_bytes, subst, sym, ap, ◌∙◌, inl, inr, arith, rules}
+use Rattle.std.proofs.Common.{◌++◌, ◌-◌, take, drop, string_bytes, sym, ap, ◌∙◌, inl, inr, arith, rules}
 use Rattle.std.proofs.lemmas.Str.{IsCharBoundary-start, IsCharBoundary-after_ascii}
 use Rattle.sc_query.proofs.Plain.{piece_written, piece_longer, piece_last}
 use Rattle.sc_query.specs.Tokens.{plain}

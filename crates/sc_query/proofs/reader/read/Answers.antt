@@ -1,13 +1,13 @@
-use Rattle.std.proofs.Common.{◌≡◌, ℕ, ◌+◌, ◌-◌, ◌<◌, ◌≤◌, Result, Ok, Err, List, ◌∷◌, length, get_or, drop, true, false, refl, sym, ap, subst, ◌∙◌, arith, rules, false-eqb}
+use Rattle.std.proofs.Common.{◌≡◌, ℕ, ◌-◌, ◌<◌, Result, Ok, List, ◌∷◌, length, get_or, drop, true, false, refl, sym, ap, subst, ◌∙◌, arith, false-eqb}
 use Rattle.std.proofs.lemmas.Bool.{eqb-true}
 use Rattle.std.proofs.lemmas.Result.{err_from_is_err_and}
 use Rattle.std.proofs.lemmas.Str.{IsCharBoundary-after_ascii}
-use Rattle.std.specs.Str.{IsUtf8, IsCharBoundary}
+use Rattle.std.specs.Str.{IsCharBoundary}
 use Rattle.sc_query.specs.declared.fault.QueryFault.{QueryFault}
 use Rattle.sc_query.specs.declared.fault.QueryFault.TheVariants.{At, Memory}
 use Rattle.sc_query.specs.Tokens.{Token, Placed, is_space, token_at, tokens_from}
 use Rattle.sc_query.specs.Tree.{Tree, tree_of}
-use Rattle.sc_query.specs.Reading.{Reader, Gives, Fails, reader_of, token_of, run, step, finish, reading}
+use Rattle.sc_query.specs.Reading.{Reader, Gives, Fails, reader_of, run, step, finish, reading}
 use Rattle.sc_query.proofs.Sound.{placed}
 use Rattle.sc_query.proofs.Cuts.{space_ascii}
 use Rattle.sc_query.proofs.Tokens.{rest_cut, tokens-space, tokens-token, tokens-end, run-step, run-stop, run-end}

@@ -1,0 +1,5 @@
+use Rattle.sc_query.proofs.Enclosed.{enclosed}
+use Rattle.sc_query.proofs.laws.parentheses.Goals as goal
+
+pub returns : goal.returns
+returns c = enclosed

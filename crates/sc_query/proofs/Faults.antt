@@ -1,11 +1,11 @@
 -- Where the reader stops is where no query can go on.
 use Rattle.std.proofs.Common.{◌≡◌, ℕ, Bool, true, false, Option, Result, Ok, Err, nat_lt, if◌then◌else◌, List, [], ◌∷◌, ◌++◌, ◌⊎◌, inl, inr, refl, sym, ap, ◌∙◌, append_assoc}
 use Rattle.std.proofs.lemmas.List.{append-nil}
-use Rattle.sc_query.specs.Tokens.{Token, Placed}
+use Rattle.sc_query.specs.Tokens.{Token, Placed, placed}
 use Rattle.sc_query.specs.Tree.{Tree}
 use Rattle.sc_query.specs.Grammar.{BeginsQuery, StopsAt, EndsEarly}
 use Rattle.sc_query.specs.Reading.{Before, Reader, negated, and_with, or_with, empty, closed, operand_step, operator_step, step, finish, goes_on, run}
-use Rattle.sc_query.proofs.Sound.{placed, sound}
+use Rattle.sc_query.proofs.Sound.{sound}
 use Rattle.sc_query.proofs.Complete.{complete}
 
 abbrev pub start : Reader

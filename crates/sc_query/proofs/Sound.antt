@@ -1,13 +1,10 @@
 -- What the reader reads is in the grammar: `sound`.
 use Rattle.std.proofs.Common.{◌≡◌, ℕ, suc, zero, ◌+◌, ◌-◌, ◌<◌, Bool, true, false, Option, Some, None, Result, Ok, Err, nat_lt, if◌then◌else◌, List, [], ◌∷◌, refl, sym, subst, arith, add-one}
 use Rattle.std.proofs.lemmas.Bool.{ltb-true}
-use Rattle.sc_query.specs.Tokens.{Token, Placed}
+use Rattle.sc_query.specs.Tokens.{Token, Placed, placed}
 use Rattle.sc_query.specs.Tree.{Tree}
 use Rattle.sc_query.specs.Grammar.{Rule, Reads, IsQuery}
 use Rattle.sc_query.specs.Reading.{Before, Reader, negated, and_with, or_with, empty, with_operand, closed, operand_step, operator_step, step, finish, goes_on, run}
-
-abbrev pub placed : ℕ → Token → Placed
-placed at token = record { at = at; token = token }
 
 -- what stands before an OR, if there is one
 abbrev pub EitherRead : Option Tree → ℕ → List Placed → List Placed → Type 0

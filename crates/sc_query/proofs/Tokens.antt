@@ -4,9 +4,8 @@ use Rattle.std.proofs.lemmas.Bool.{eqb-false, eqb-true}
 use Rattle.std.proofs.lemmas.List.{length-drop, get_or-drop}
 use Rattle.std.proofs.lemmas.Str.{IsCharBoundary-after_ascii, IsCharBoundary-end}
 use Rattle.std.specs.Str.{IsCharBoundary, IsUtf8}
-use Rattle.sc_query.specs.Tokens.{Token, Placed, up_to, plain, is_space, ends_run, ends_field, ends_quoted, opens_quoted, quoted_leaf, run_token, word_at, token_at, tokens_from}
+use Rattle.sc_query.specs.Tokens.{Token, Placed, placed, up_to, plain, is_space, ends_run, ends_field, ends_quoted, opens_quoted, quoted_leaf, run_token, word_at, token_at, tokens_from}
 use Rattle.sc_query.specs.Reading.{Reader, step, finish, goes_on, run}
-use Rattle.sc_query.proofs.Sound.{placed}
 use Rattle.sc_query.proofs.Cuts.{up_to-stops, up_to-boundary, quoted_ascii, run_ascii, quoted-boundary, none_true}
 
 -- what belongs to an earlier token is passed over

@@ -1,6 +1,6 @@
 -- Which lists of tokens are queries, with their trees, and where the fault of every other list lies.
 use Rattle.std.specs.Prelude.{◌≡◌, ℕ, ◌<◌, ◌≤◌, suc, List, [], ◌∷◌, ◌++◌, length}
-use Rattle.sc_query.specs.Tokens.{Token, Placed, tokens}
+use Rattle.sc_query.specs.Tokens.{Token, Placed, placed, tokens}
 use Rattle.sc_query.specs.Tree.{Tree}
 
 -- the three rules of the grammar, the loosest first
@@ -9,16 +9,37 @@ pub data Rule : Type 0 where
   Conjunction : Rule
   Negation : Rule
 
--- `Reads rule room tokens t rest`: the tokens begin with what the rule reads as t, and the rest comes after it. At most `room` parentheses and NOTs are open in it at once.
+-- `Reads rule room ts t rest`: the tokens ts begin with what the rule reads as the tree t, and the rest comes after it.
+-- At most `room` parentheses and NOTs are open in it at once. In the notation of grammars:
+--
+--     Query       = Conjunction | Query OR Conjunction
+--     Conjunction = Negation | Conjunction AND Negation
+--     Negation    = NOT Negation | ( Query ) | *:* | leaf
 pub data Reads : Rule → ℕ → List Placed → Tree → List Placed → Type 0 where
-  every : {room at : ℕ} {rest : List Placed} → Reads Negation room (record { at = at; token = Token.Every } ∷ rest) Tree.All rest
-  leaf : {room at : ℕ} {field value : List ℕ} {rest : List Placed} → Reads Negation room (record { at = at; token = Token.Leaf field value } ∷ rest) (Tree.Leaf field value at) rest
-  not : {room at : ℕ} {ts rest : List Placed} {t : Tree} → Reads Negation room ts t rest → Reads Negation (suc room) (record { at = at; token = Token.Not } ∷ ts) (Tree.Not t) rest
-  parentheses : {room at close : ℕ} {ts rest : List Placed} {t : Tree} → Reads Query room ts t (record { at = close; token = Token.Close } ∷ rest) → Reads Negation (suc room) (record { at = at; token = Token.Open } ∷ ts) t rest
-  one_negation : {room : ℕ} {ts rest : List Placed} {t : Tree} → Reads Negation room ts t rest → Reads Conjunction room ts t rest
-  and : {room at : ℕ} {ts us rest : List Placed} {s t : Tree} → Reads Conjunction room ts s (record { at = at; token = Token.And } ∷ us) → Reads Negation room us t rest → Reads Conjunction room ts (Tree.And s t) rest
-  one_conjunction : {room : ℕ} {ts rest : List Placed} {t : Tree} → Reads Conjunction room ts t rest → Reads Query room ts t rest
-  or : {room at : ℕ} {ts us rest : List Placed} {s t : Tree} → Reads Query room ts s (record { at = at; token = Token.Or } ∷ us) → Reads Conjunction room us t rest → Reads Query room ts (Tree.Or s t) rest
+  every : {room at : ℕ} {rest : List Placed} →
+      Reads Negation room (placed at Token.Every ∷ rest) Tree.All rest
+  leaf : {room at : ℕ} {field value : List ℕ} {rest : List Placed} →
+      Reads Negation room (placed at (Token.Leaf field value) ∷ rest) (Tree.Leaf field value at) rest
+  not : {room at : ℕ} {ts rest : List Placed} {t : Tree} →
+      Reads Negation room ts t rest →
+      Reads Negation (suc room) (placed at Token.Not ∷ ts) (Tree.Not t) rest
+  parentheses : {room at close : ℕ} {ts rest : List Placed} {t : Tree} →
+      Reads Query room ts t (placed close Token.Close ∷ rest) →
+      Reads Negation (suc room) (placed at Token.Open ∷ ts) t rest
+  one_negation : {room : ℕ} {ts rest : List Placed} {t : Tree} →
+      Reads Negation room ts t rest →
+      Reads Conjunction room ts t rest
+  and : {room at : ℕ} {ts us rest : List Placed} {s t : Tree} →
+      Reads Conjunction room ts s (placed at Token.And ∷ us) →
+      Reads Negation room us t rest →
+      Reads Conjunction room ts (Tree.And s t) rest
+  one_conjunction : {room : ℕ} {ts rest : List Placed} {t : Tree} →
+      Reads Conjunction room ts t rest →
+      Reads Query room ts t rest
+  or : {room at : ℕ} {ts us rest : List Placed} {s t : Tree} →
+      Reads Query room ts s (placed at Token.Or ∷ us) →
+      Reads Conjunction room us t rest →
+      Reads Query room ts (Tree.Or s t) rest
 
 -- the tokens are a query with this tree, in which at most so many parentheses and NOTs are open at once
 abbrev pub IsQueryWithin : ℕ → List Placed → Tree → Type 0
@@ -52,7 +73,8 @@ pub record HasTree (text : List ℕ) (t : Tree) : Type 0 where
   pub in_limit : length text ≤ 4096
   pub query : IsQuery (tokens text) t
 
--- A text's fault is at the first token that can't follow those before it, at the text's length where it ends too early, and at 4096 where it is longer.
+-- A text's fault is at the first token that can't follow those before it, at the text's length where it ends too early,
+-- and at 4096 where the text is longer than that, whatever stands in it.
 pub data HasFault (text : List ℕ) : ℕ → Type 0 where
   too_long : 4096 < length text → HasFault text 4096
   stops : {at : ℕ} → length text ≤ 4096 → StopsAt (tokens text) at → HasFault text at

@@ -1,4 +1,5 @@
--- What the private functions do that read a query, a token at a time. No public contract cites this file: each reader of the contracts may leave it out, since proofs/Outcome.antt shows that what it gives is what specs/Grammar.antt says.
+-- What the private functions do that read a query, a token at a time. No public contract cites this file, and a reader of
+-- the contracts may leave it out: proofs/Outcome.antt shows that what it gives is what specs/Grammar.antt says.
 use Rattle.std.specs.Prelude.{◌≡◌, ℕ, Bool, suc, zero, ◌+◌, ◌-◌, nat_lt, Option, Some, None, Result, Ok, Err, if◌then◌else◌, List, [], ◌∷◌, length, map, reverse, option_map}
 use Rattle.sc_query.specs.declared.fault.QueryFault.{QueryFault}
 use Rattle.sc_query.specs.declared.fault.QueryFault.TheVariants.{At, Memory}

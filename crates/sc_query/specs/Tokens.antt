@@ -22,7 +22,10 @@ ends_quoted c = c == 34
 abbrev pub up_to : (ℕ → Bool) → List ℕ → List ℕ
 up_to ends [] = []
 up_to ends (c ∷ []) = if ends c then [] else c ∷ []
-up_to ends (c ∷ d ∷ rest) = if ends c then [] else (if c == 92 then c ∷ d ∷ up_to ends rest else c ∷ up_to ends (d ∷ rest))
+up_to ends (c ∷ d ∷ rest) =
+    if ends c then [] else
+    (if c == 92 then c ∷ d ∷ up_to ends rest else
+    c ∷ up_to ends (d ∷ rest))
 
 -- what bytes with backslashes stand for: each backslash for the byte after it
 abbrev pub plain : List ℕ → List ℕ
@@ -59,36 +62,57 @@ opens_value [] = false
 opens_value (c ∷ []) = false
 opens_value (c ∷ d ∷ rest) = c == 58
 
--- A leaf whose value is quoted, from the value's first byte on, where `inside` stands before the closing quote. It is broken where it has no field, the quote stays open or nothing is inside.
+-- A leaf whose value is quoted, and how many bytes it takes. The text begins behind the quote, and `inside` is what
+-- comes before the next. It is broken where it has no field, the quote stays open or nothing is inside.
 abbrev pub quoted_leaf : (field inside text : List ℕ) → Token × ℕ
 quoted_leaf field inside text =
-    if length field == 0 || length inside == length text || length inside == 0 then (Broken, length field + 2 + length text) else (Leaf field (plain inside), length field + 3 + length inside)
+    if length field == 0 || length inside == length text || length inside == 0
+    then (Broken, length field + 2 + length text)
+    else (Leaf field (plain inside), length field + 3 + length inside)
 
 -- a run of bytes outside quotes: a word of the language, or a leaf
 abbrev pub run_token : (field run : List ℕ) → Token
 run_token field run =
-    if bytes_eq run (codes "AND") then And else (if bytes_eq run (codes "OR") then Or else (if bytes_eq run (codes "NOT") then Not else (if bytes_eq run (codes "*:*") then Every else (if length field == 0 || is_cut_short run then Broken else (if opens_value (drop (length field) run) then Leaf field (plain (drop (length field + 1) run)) else Broken)))))
+    if bytes_eq run (codes "AND") then And else
+    (if bytes_eq run (codes "OR") then Or else
+    (if bytes_eq run (codes "NOT") then Not else
+    (if bytes_eq run (codes "*:*") then Every else
+    (if length field == 0 || is_cut_short run then Broken else
+    (if opens_value (drop (length field) run) then Leaf field (plain (drop (length field + 1) run)) else
+    Broken)))))
 
--- a token that is no parenthesis, and how many bytes it takes
+-- a token that is no parenthesis, and how many bytes it takes; the field is what stands before the first byte that ends one
 abbrev pub word_at : (field text : List ℕ) → Token × ℕ
 word_at field text =
-    if opens_quoted (drop (length field) text) then quoted_leaf field (up_to ends_quoted (drop (length field + 2) text)) (drop (length field + 2) text) else (run_token field (up_to ends_run text), length (up_to ends_run text))
+    if opens_quoted (drop (length field) text)
+    then quoted_leaf field (up_to ends_quoted (drop (length field + 2) text)) (drop (length field + 2) text)
+    else (run_token field (up_to ends_run text), length (up_to ends_run text))
 
 -- the token that begins with the first byte, which is no space, and how many bytes it takes
 abbrev pub token_at : List ℕ → Token × ℕ
 token_at [] = (Broken, 0)
-token_at (c ∷ rest) = if c == 40 then (Open, 1) else (if c == 41 then (Close, 1) else word_at (up_to ends_field (c ∷ rest)) (c ∷ rest))
+token_at (c ∷ rest) =
+    if c == 40 then (Open, 1) else
+    (if c == 41 then (Close, 1) else
+    word_at (up_to ends_field (c ∷ rest)) (c ∷ rest))
 
 -- a token and the place of its first byte
 pub record Placed : Type 0 where
   pub at : ℕ
   pub token : Token
 
--- The tokens of a text whose first byte stands at a place, where the first `inside` bytes belong to a token that began before.
+abbrev pub placed : ℕ → Token → Placed
+placed at token = record { at = at; token = token }
+
+-- The tokens of a text whose first byte stands at the place `at`: spaces between them don't count, and the first `inside`
+-- bytes belong to a token that began before.
 unfoldable pub tokens_from : (inside at : ℕ) → List ℕ → List Placed
 tokens_from inside at [] = []
 tokens_from (suc inside) at (c ∷ rest) = tokens_from inside (at + 1) rest
-tokens_from zero at (c ∷ rest) = if is_space c then tokens_from zero (at + 1) rest else record { at = at; token = (token_at (c ∷ rest)).0 } ∷ tokens_from ((token_at (c ∷ rest)).1 - 1) (at + 1) rest
+tokens_from zero at (c ∷ rest) =
+    if is_space c
+    then tokens_from zero (at + 1) rest
+    else placed at (token_at (c ∷ rest)).0 ∷ tokens_from ((token_at (c ∷ rest)).1 - 1) (at + 1) rest
 
 -- the tokens of a whole text, each with its place
 abbrev pub tokens : List ℕ → List Placed

@@ -1,7 +1,9 @@
 //! The tokens of a text, one at a time.
 
 ghost use Rattle.std.specs.Prelude.{◌≡◌, ◌<◌, ◌≤◌, length, drop, IfOk, string_bytes};
-ghost use Rattle.sc_query.specs.Tokens.{is_space, ends_run, ends_field, ends_quoted, up_to, plain, is_cut_short, opens_quoted, opens_value, run_token, quoted_leaf, word_at, token_at};
+ghost use Rattle.sc_query.specs.Tokens.{is_space, ends_run, ends_field, ends_quoted, up_to, plain};
+ghost use Rattle.sc_query.specs.Tokens.{is_cut_short, opens_quoted, opens_value};
+ghost use Rattle.sc_query.specs.Tokens.{run_token, quoted_leaf, word_at, token_at};
 ghost use Rattle.sc_query.specs.Reading.{token_of, ends_of};
 
 use std::alloc::{AllocError, Global};

@@ -1,7 +1,9 @@
 //! The query language of the search: a text is read to a tree of `AND`, `OR` and `NOT` over leaves `field:value`,
-//! or refused with the place of its fault. The grammar is this project's own; `specs/Grammar.antt` and `specs/Tokens.antt` state it.
-//! The crate stands on std and `thiserror` alone, and knows no field and no document. The layer above uses the contract of
-//! [`parse`], which says of each text which tree it has or where its fault is, and that of [`and`].
+//! or refused with the place of its fault. The grammar is this project's own: `specs/Tokens.antt` says what a text's
+//! tokens are, and `specs/Grammar.antt` which of them are a query, and where the fault of the others lies.
+//!
+//! The crate stands on std and `thiserror` alone, and knows no field and no document. The layer above uses the contract
+//! of [`parse`], which says of each text which tree it has or where its fault is, and that of [`and`].
 #![tactic(auto)]
 
 mod fault;

@@ -9,11 +9,13 @@ use std::alloc::{AllocError, Global};
 pub enum Query {
     /// `*:*`, every document.
     All,
-    /// `field:value`. `at` is the place of its first byte in the text that it was read from, counted in bytes.
+    /// `field:value`, where `at` is the place of its first byte in the text, counted in bytes from 0.
     Leaf { field: Word, value: Word, at: u32 },
     /// Every document that the operand doesn't find.
     Not(Box<Query>),
+    /// What both operands find.
     And(Box<Query>, Box<Query>),
+    /// What one of the operands finds, or both.
     Or(Box<Query>, Box<Query>),
 }
 
@@ -42,7 +44,7 @@ impl Drop for Query {
     }
 }
 
-/// The documents that both queries find.
+/// The query that finds what both queries find.
 pub fn and(alloc: Global, left: Query, right: Query) -> Result<Query, AllocError>
     ensures { IfOk result (λ query. tree_of query ≡ Tree.And (tree_of left) (tree_of right)) }
 {

@@ -1,9 +1,11 @@
-//! A query is read one token at a time, without recursion.
+//! A query is read one token at a time, without recursion: what is open stands in a vector of levels, one for each parenthesis.
 
 ghost use Rattle.std.specs.Prelude.{◌≡◌, ℕ, ◌+◌, ◌-◌, ◌≤◌, ◌∷◌, length, IfOk, option_map};
 ghost use Rattle.sc_query.specs.Tokens.{plain};
 ghost use Rattle.sc_query.specs.Tree.{Tree, tree_of};
-ghost use Rattle.sc_query.specs.Reading.{Reader, empty, opened, Gives, reader_of, outer_of, before_of, token_of, step, operand_step, operator_step, finish, with_operand, closed, negated, and_with, or_with, reading};
+ghost use Rattle.sc_query.specs.Reading.{Reader, Gives, reader_of, outer_of, before_of, token_of};
+ghost use Rattle.sc_query.specs.Reading.{empty, opened, closed, negated, and_with, or_with, with_operand};
+ghost use Rattle.sc_query.specs.Reading.{step, operand_step, operator_step, finish, reading};
 
 use crate::fault::QueryFault;
 use crate::lexeme::{self, Lexeme};
@@ -15,6 +17,7 @@ use std::alloc::{AllocError, Global};
 const DEPTH: u32 = 32;
 
 /// What stands before an operand, back to the parenthesis that is open: what is joined to it by OR and by AND, and its NOTs.
+///
 /// `room` is how many parentheses and NOTs could be open here without these NOTs.
 #[derive(Drop)]
 pub struct Level {
@@ -39,6 +42,7 @@ pub enum State {
     },
 }
 
+// The query under so many NOTs.
 fn negated(alloc: Global, query: Query, negations: u32) -> Result<Query, AllocError>
     ensures { IfOk result (λ found. tree_of found ≡ negated negations (tree_of query)) }
 {
@@ -50,7 +54,8 @@ fn negated(alloc: Global, query: Query, negations: u32) -> Result<Query, AllocEr
 }
 
 fn and_with(alloc: Global, both: Option<Query>, query: Query) -> Result<Query, AllocError>
-    ensures { IfOk result (λ found. tree_of found ≡ and_with (option_map tree_of both) (tree_of query)) }
+    ensures { IfOk result
+        (λ found. tree_of found ≡ and_with (option_map tree_of both) (tree_of query)) }
 {
     match both {
         None => Ok(query),
@@ -59,7 +64,8 @@ fn and_with(alloc: Global, both: Option<Query>, query: Query) -> Result<Query, A
 }
 
 fn or_with(alloc: Global, either: Option<Query>, query: Query) -> Result<Query, AllocError>
-    ensures { IfOk result (λ found. tree_of found ≡ or_with (option_map tree_of either) (tree_of query)) }
+    ensures { IfOk result
+        (λ found. tree_of found ≡ or_with (option_map tree_of either) (tree_of query)) }
 {
     match either {
         None => Ok(query),
@@ -78,7 +84,8 @@ fn with_operand(
     level: Level,
     query: Query,
 ) -> Result<State, AllocError>
-    ensures { IfOk result (λ state. reader_of state ≡ with_operand (outer_of outer.items) (before_of level) (tree_of query)) }
+    ensures { IfOk result (λ state. reader_of state
+        ≡ with_operand (outer_of outer.items) (before_of level) (tree_of query)) }
 {
     let Level {
         either,
@@ -96,6 +103,7 @@ fn with_operand(
     })
 }
 
+// A leaf, whose value still has its backslashes.
 fn leaf(alloc: Global, field: &str, value: &str, at: u32) -> Result<Query, AllocError>
     ensures { IfOk result (λ query. tree_of query ≡ Tree.Leaf field.now (plain value.now) at) }
 {
@@ -112,7 +120,8 @@ fn operand_step(
     lexeme: Lexeme,
     at: u32,
 ) -> Result<State, QueryFault>
-    ensures { Gives reader_of result (operand_step (outer_of outer.items) (before_of level) (token_of lexeme.entry) at) }
+    ensures { Gives reader_of result
+        (operand_step (outer_of outer.items) (before_of level) (token_of lexeme.entry) at) }
 {
     match lexeme {
         Lexeme::Open => open(outer, level, at),
@@ -128,7 +137,8 @@ fn operand_step(
 
 // A parenthesis opens.
 fn open(outer: Vec<Level>, level: Level, at: u32) -> Result<State, QueryFault>
-    ensures { let before = before_of level in Gives reader_of result (opened before at (Reader.Operand (before ∷ outer_of outer.items) (empty (before.room - (before.negations + 1))))) }
+    ensures { let before = before_of level in Gives reader_of result (opened before at
+        (Reader.Operand (before ∷ outer_of outer.items) (empty (before.room - (before.negations + 1))))) }
 {
     if level.negations >= level.room {
         return Err(QueryFault::At { at });
@@ -149,7 +159,8 @@ fn open(outer: Vec<Level>, level: Level, at: u32) -> Result<State, QueryFault>
 
 // A NOT opens.
 fn negate(outer: Vec<Level>, level: Level, at: u32) -> Result<State, QueryFault>
-    ensures { let before = before_of level in Gives reader_of result (opened before at (Reader.Operand (outer_of outer.items) (record before { negations = before.negations + 1 }))) }
+    ensures { let before = before_of level in Gives reader_of result (opened before at
+        (Reader.Operand (outer_of outer.items) (record before { negations = before.negations + 1 }))) }
 {
     if level.negations >= level.room {
         return Err(QueryFault::At { at });
@@ -181,7 +192,9 @@ fn operator_step(
     lexeme: Lexeme,
     at: u32,
 ) -> Result<State, QueryFault>
-    ensures { Gives reader_of result (operator_step (outer_of outer.items) (option_map tree_of either) room (tree_of query) (token_of lexeme.entry) at) }
+    ensures { Gives reader_of result
+        (operator_step (outer_of outer.items) (option_map tree_of either) room (tree_of query)
+        (token_of lexeme.entry) at) }
 {
     match lexeme {
         Lexeme::And => Ok(State::Awaits {
@@ -213,6 +226,7 @@ fn operator_step(
     }
 }
 
+// A parenthesis closes after a whole query.
 fn close(alloc: Global, outer: Vec<Level>, query: Query, at: u32) -> Result<State, QueryFault>
     ensures { Gives reader_of result (closed (outer_of outer.items) (tree_of query) at) }
 {
@@ -237,6 +251,7 @@ fn step(alloc: Global, state: State, lexeme: Lexeme, at: u32) -> Result<State, Q
     }
 }
 
+// The text has ended.
 fn finish(alloc: Global, state: State, end: u32) -> Result<Query, QueryFault>
     ensures { Gives tree_of result (finish (reader_of state) end) }
 {
@@ -256,7 +271,7 @@ fn finish(alloc: Global, state: State, end: u32) -> Result<Query, QueryFault>
     }
 }
 
-/// Reads a whole text.
+/// Reads a whole text of at most 4,096 bytes.
 pub fn read(alloc: Global, text: &str) -> Result<Query, QueryFault>
     requires { length text.now ≤ 4096 }
     ensures { Gives tree_of result (reading text.now) }

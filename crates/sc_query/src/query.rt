@@ -1,6 +1,5 @@
 ghost use Rattle.std.specs.Prelude.{◌≡◌, IfOk};
-ghost use Rattle.sc_query.specs.Tree.{tree_of};
-ghost use Rattle.sc_query.specs.Tree.{Tree};
+ghost use Rattle.sc_query.specs.Tree.{Tree, tree_of};
 
 use crate::word::Word;
 use std::alloc::{AllocError, Global};
@@ -26,10 +25,14 @@ impl Drop for Query {
             match self {
                 Query::All => return,
                 Query::Leaf {
-                    field: _,
-                    value: _,
+                    field,
+                    value,
                     at: _,
-                } => return,
+                } => {
+                    drop(field);
+                    drop(value);
+                    return;
+                }
                 Query::Not(inner) => self = Box::into_inner(inner),
                 Query::And(left, right) => {
                     drop(right);

@@ -1,12 +1,12 @@
 //! MurmurHash3 x86_32, the public standard by Austin Appleby.
 
-ghost use Rattle.std.specs.Prelude.{◌≡◌, ◌+◌, ◌*◌, ◌^◌, ◌<◌, ◌≤◌, length, drop, List, [], ◌∷◌};
-ghost use Rattle.std.specs.Int.{w32, from_le_bytes};
-ghost use Rattle.sc_hash.specs.Hash.{scrambled, after_word, after_text, finished, murmur3};
+ghost use Rattle.std.specs.Prelude.{◌≡◌, ◌^◌, ◌<◌, length};
+ghost use Rattle.sc_hash.specs.Hash.{word_mix, after_word, after_text, final_mix, murmur3};
 
-#[tactic(auto, unfolding(crate::specs::Hash::scrambled))]
-fn scrambled(word: u32) -> u32
-    ensures { result ≡ scrambled word }
+// What a word adds to the hash.
+#[tactic(auto, unfolding(crate::specs::Hash::word_mix))]
+fn word_mix(word: u32) -> u32
+    ensures { result ≡ word_mix word }
 {
     word.wrapping_mul(0xcc9e_2d51)
         .rotate_left(15)
@@ -17,7 +17,7 @@ fn scrambled(word: u32) -> u32
 fn after_word(hash: u32, word: u32) -> u32
     ensures { result ≡ after_word hash word }
 {
-    (hash ^ scrambled(word))
+    (hash ^ word_mix(word))
         .rotate_left(13)
         .wrapping_mul(5)
         .wrapping_add(0xe654_6b64)
@@ -30,16 +30,16 @@ fn after_rest(hash: u32, rest: &[u8]) -> u32
     ensures { result ≡ after_text hash rest.now }
 {
     match *rest {
-        [a] => hash ^ scrambled(u32::from_le_bytes([a, 0, 0, 0])),
-        [a, b] => hash ^ scrambled(u32::from_le_bytes([a, b, 0, 0])),
-        [a, b, c] => hash ^ scrambled(u32::from_le_bytes([a, b, c, 0])),
+        [a] => hash ^ word_mix(u32::from_le_bytes([a, 0, 0, 0])),
+        [a, b] => hash ^ word_mix(u32::from_le_bytes([a, b, 0, 0])),
+        [a, b, c] => hash ^ word_mix(u32::from_le_bytes([a, b, c, 0])),
         _ => hash,
     }
 }
 
-#[tactic(auto, unfolding(crate::specs::Hash::finished))]
-fn finished(mut hash: u32) -> u32
-    ensures { result ≡ finished hash }
+#[tactic(auto, unfolding(crate::specs::Hash::final_mix))]
+fn final_mix(mut hash: u32) -> u32
+    ensures { result ≡ final_mix hash }
 {
     hash ^= hash >> 16;
     hash = hash.wrapping_mul(0x85eb_ca6b);
@@ -62,5 +62,5 @@ pub fn murmur3(bytes: &[u8], seed: u32) -> u32
         hash = after_word(hash, word);
     }
     let hash = after_rest(hash, &bytes[4 * word_count..]);
-    finished(hash ^ bytes.len() as u32)
+    final_mix(hash ^ bytes.len() as u32)
 }

@@ -1,7 +1,7 @@
 -- Each word of the loop is the next word of the recursion, and what is left is its rest.
 use Rattle.std.proofs.Common.{◌≡◌, ◌*◌, ◌/◌, ◌+◌, length, drop, ap, sym, ◌∙◌, arith, bit_xor}
 use Rattle.std.proofs.lemmas.List.{take_rest}
-use Rattle.sc_hash.specs.Hash.{after_word, after_text, finished, murmur3}
+use Rattle.sc_hash.specs.Hash.{after_word, after_text, final_mix, murmur3}
 use Rattle.sc_hash.proofs.Words.{after_text-drop}
 use Rattle.sc_hash.proofs.hash.murmur3.Goals as goal
 
@@ -24,4 +24,4 @@ returns c =
     ∙ ap (after_text c.loop-i.hash) (take_rest bytes (4 * (length bytes / 4)))
     ∙ ap (λ i. after_text c.loop-i.hash (drop (4 * i) bytes)) (sym at_end)
     ∙ c.loop-i.invariant in
-    c.finished.ensures ∙ ap (λ hash. finished (bit_xor hash (length bytes))) rest
+    c.final_mix.ensures ∙ ap (λ hash. final_mix (bit_xor hash (length bytes))) rest

@@ -15,6 +15,7 @@ use Rattle.std.proofs.Math.Nat.{le_trans, lt_of_lt_of_le, pow-le-pow_right}
 use Rattle.sc_hash.specs.declared.range.Range.{Range}
 use Rattle.std.specs.Result.{result_ok}
 use Rattle.std.specs.Prelude.{Result, Ok, Err, Option, Some, None, IsSome, IfSome, IsSomeAnd, ◌↔◌}
+use Rattle.sc_hash.proofs.Cuts.{Lacks, Lacks-rest, same_cut}
 use Rattle.sc_hash.specs.Range.{Meets, IsBound, bound_of, IsRange, ReadsAs, range_text}
 
 -- two ranges of which none ends before the other begins both have the greater of their first numbers
@@ -78,36 +79,18 @@ pub not_IsBound-refused : {E : Type 0} (text : List ℕ) (r : Result ℕ E) (bit
 not_IsBound-refused text (Ok n) bits h e none plus = let apart : Some n ≡ None = sym e ∙ none in absurd (cc)
 not_IsBound-refused text (Err k) bits h e none plus = not_IsBound text plus h
 
--- no byte of the text is a dash
-abbrev pub NoDash : List ℕ → Type 0
-NoDash text = (i : ℕ) → i < length text → get_or text i 0 ≢ 45
-
-NoDash-rest : (c : ℕ) (text : List ℕ) → NoDash (c ∷ text) → NoDash text
-NoDash-rest c text h i lt = h (suc i) (omega arith)
-
 -- no hexadecimal digit is a dash
-NoDash-digits : (text : List ℕ) → AllDigits 16 text → NoDash text
-NoDash-digits [] h i lt = absurd (omega arith)
-NoDash-digits (c ∷ text) h zero lt = λ e. let P : ℕ → Type 0 = λ d. digit_value d < 16 in absurd (omega (arith, subst P e h.0))
-NoDash-digits (c ∷ text) h (suc i) lt = NoDash-digits text h.1 i (omega arith)
-
--- a text is cut at its first dash in one way
-same_cut : (xs ys us vs : List ℕ) → NoDash xs → NoDash us → xs ++ 45 ∷ ys ≡ us ++ 45 ∷ vs → (xs ≡ us) × (ys ≡ vs)
-same_cut [] ys [] vs h k e = (refl, (cc))
-same_cut [] ys (u ∷ us) vs h k e = let same : u ≡ 45 = cc in absurd (k 0 (omega arith) same)
-same_cut (x ∷ xs) ys [] vs h k e = let same : x ≡ 45 = cc in absurd (h 0 (omega arith) same)
-same_cut (x ∷ xs) ys (u ∷ us) vs h k e =
-    let rest : xs ++ 45 ∷ ys ≡ us ++ 45 ∷ vs = cc in
-    let parts = same_cut xs ys us vs (NoDash-rest x xs h) (NoDash-rest u us k) rest in
-    let first : x ≡ u = cc in
-    ((cc), parts.1)
+Lacks_dash-digits : (text : List ℕ) → AllDigits 16 text → Lacks 45 text
+Lacks_dash-digits [] h i lt = absurd (omega arith)
+Lacks_dash-digits (c ∷ text) h zero lt = λ e. let P : ℕ → Type 0 = λ d. digit_value d < 16 in absurd (omega (arith, subst P e h.0))
+Lacks_dash-digits (c ∷ text) h (suc i) lt = Lacks_dash-digits text h.1 i (omega arith)
 
 -- a text without a dash is no range
-pub ReadsAs-no_dash : (text : List ℕ) (min max : ℤ) → NoDash text → ¬ (ReadsAs text min max)
-ReadsAs-no_dash text min max h r = absurd (no_dash_at r.low r.high (subst NoDash r.parts h)) where
-  no_dash_at : (low high : List ℕ) → ¬ (NoDash (low ++ 45 ∷ high))
+pub ReadsAs-no_dash : (text : List ℕ) (min max : ℤ) → Lacks 45 text → ¬ (ReadsAs text min max)
+ReadsAs-no_dash text min max h r = absurd (no_dash_at r.low r.high (subst (Lacks 45) r.parts h)) where
+  no_dash_at : (low high : List ℕ) → ¬ (Lacks 45 (low ++ 45 ∷ high))
   no_dash_at [] high k = k 0 (omega arith) refl
-  no_dash_at (c ∷ low) high k = no_dash_at low high (NoDash-rest c _ k)
+  no_dash_at (c ∷ low) high k = no_dash_at low high (Lacks-rest 45 c _ k)
 
 -- what a text that is cut at its first dash reads as
 pub record ReadsParts (low high : List ℕ) (min max : ℤ) : Type 0 where
@@ -117,9 +100,9 @@ pub record ReadsParts (low high : List ℕ) (min max : ℤ) : Type 0 where
   pub max_is : max ≡ bound_of high
   pub ordered : min ≤ℤ max
 
-pub ReadsAs-cut : (text low high : List ℕ) (min max : ℤ) → text ≡ low ++ 45 ∷ high → NoDash low → ReadsAs text min max → ReadsParts low high min max
+pub ReadsAs-cut : (text low high : List ℕ) (min max : ℤ) → text ≡ low ++ 45 ∷ high → Lacks 45 low → ReadsAs text min max → ReadsParts low high min max
 ReadsAs-cut text low high min max cut none r =
-    let same = same_cut r.low r.high low high (NoDash-digits r.low r.low_form.0.1) none (sym r.parts ∙ cut) in
+    let same = same_cut 45 r.low r.high low high (Lacks_dash-digits r.low r.low_form.0.1) none (sym r.parts ∙ cut) in
     record {
       low_form = subst IsBound same.0 r.low_form;
       high_form = subst IsBound same.1 r.high_form;
@@ -129,7 +112,7 @@ ReadsAs-cut text low high min max cut none r =
     }
 
 -- the range of the two bounds, where they are in order, is what the text reads as
-pub ReadsAs-new : (text low high : List ℕ) (a b : ℤ) (r : Option Range) → text ≡ low ++ 45 ∷ high → NoDash low → IsBound low × (a ≡ bound_of low) → IsBound high × (b ≡ bound_of high) → IsSome r ↔ (a ≤ℤ b) → IfSome r (λ range. (range.min ≡ a) × (range.max ≡ b)) → (min max : ℤ) → IsSomeAnd r (λ range. (range.min ≡ min) × (range.max ≡ max)) ↔ ReadsAs text min max
+pub ReadsAs-new : (text low high : List ℕ) (a b : ℤ) (r : Option Range) → text ≡ low ++ 45 ∷ high → Lacks 45 low → IsBound low × (a ≡ bound_of low) → IsBound high × (b ≡ bound_of high) → IsSome r ↔ (a ≤ℤ b) → IfSome r (λ range. (range.min ≡ a) × (range.max ≡ b)) → (min max : ℤ) → IsSomeAnd r (λ range. (range.min ≡ min) × (range.max ≡ max)) ↔ ReadsAs text min max
 ReadsAs-new text low high a b None cut none p q o bounds min max = (λ s. absurd s, λ s. refused (ReadsAs-cut text low high min max cut none s)) where
   refused : ReadsParts low high min max → ⊥
   refused k = let order : a ≤ℤ b = subst (λ x. a ≤ℤ x) (k.max_is ∙ sym q.1) (subst (λ x. x ≤ℤ max) (k.min_is ∙ sym p.1) k.ordered) in false≢true (o.1 order)

@@ -1,0 +1,5 @@
+pub mod Cut
+pub mod Count
+pub mod Sum
+pub mod Block
+pub mod Under

@@ -1,0 +1,62 @@
+//! What a part before the last gives to the hash.
+
+ghost use Rattle.std.specs.Prelude.{◌≡◌, ◌≤◌, ◌*◌, ◌+◌, ◌/◌, ◌%◌, ◌^◌, length, IfSome};
+ghost use Rattle.sc_router.specs.Parts.{digit_of, stated_count, key_of, bits_of};
+
+use crate::parts::cut_at;
+
+// A decimal digit's value.
+fn digit_of(byte: u8) -> Option<u32>
+    ensures value { result ≡ digit_of byte }
+    ensures most { IfSome result (λ digit. digit ≤ 9) }
+{
+    if byte.is_ascii_digit() {
+        Some(u32::from(byte - b'0'))
+    } else {
+        None
+    }
+}
+
+// The bit count that one or two decimal digits state, where it is at most 32.
+fn stated_count(text: &[u8]) -> Option<u32>
+    ensures value { result ≡ stated_count text.now }
+    ensures most { IfSome result (λ count. count ≤ 32) }
+{
+    match *text {
+        [ones] => digit_of(ones),
+        [tens, ones] => {
+            let count = 10 * digit_of(tens)? + digit_of(ones)?;
+            if count <= 32 { Some(count) } else { None }
+        }
+        _ => None,
+    }
+}
+
+/// The key of a part, and the bit count that it states or else the other one.
+pub(crate) fn key_and_count(part: &[u8], unstated: u32) -> (&[u8], u32)
+    requires { unstated ≤ 32 }
+    ensures key { result.0.now ≡ key_of part.now }
+    ensures count { result.1 ≡ bits_of unstated part.now }
+    ensures most { result.1 ≤ 32 }
+    ensures length { length result.0.now ≤ length part.now }
+{
+    let Some((key, count)) = cut_at(part, b'/') else {
+        return (part, unstated);
+    };
+    if key.is_empty() {
+        return (part, unstated);
+    }
+    match stated_count(count) {
+        Some(count) => (key, count),
+        None => (part, unstated),
+    }
+}
+
+/// The bits of `high` from bit `count` up, and the lowest `count` bits of `low`.
+pub(crate) fn joined(high: u32, low: u32, count: u32) -> u32
+    requires { count ≤ 32 }
+    ensures { result ≡ high / 2 ^ count * 2 ^ count + low % 2 ^ count }
+{
+    let mask = ((1u64 << count) - 1) as u32;
+    high & !mask | low & mask
+}

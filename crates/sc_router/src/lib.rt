@@ -9,3 +9,6 @@ mod route;
 mod share;
 
 pub use route::{bucket_of, key_range, plain_hash, route_hash};
+
+#[cfg(test)]
+mod tests;

@@ -1,6 +1,6 @@
 //! The parts of a composite id.
 
-ghost use Rattle.std.specs.Prelude.{◌≡◌, ℕ, ◌+◌, ◌<◌, ◌≤◌, length, position, ◌==◌, MatchOption, ⊤};
+ghost use Rattle.std.specs.Prelude.{◌≡◌, ◌+◌, ◌<◌, ◌≤◌, length, position, ◌==◌, MatchOption, ⊤};
 ghost use Rattle.sc_router.specs.Parts.{before, after, occurrences, parts};
 ghost use Rattle.sc_router.specs.Shown.{shown_parts, longest_part};
 
@@ -31,6 +31,7 @@ pub(crate) fn cut_at(text: &[u8], mark: u8) -> Option<(&[u8], &[u8])>
     }
 }
 
+/// The parts of an id: a `!!` at its end, without others before it, closes a first part like one `!`.
 pub(crate) fn parts_of(id: &[u8]) -> Parts<'_>
     ensures parts { shown_parts result ≡ parts id.now }
     ensures lengths { longest_part result ≤ length id.now }

@@ -25,6 +25,7 @@ fn free_of(last: &[u8], given: u32) -> u32
     if last.is_empty() { given } else { 0 }
 }
 
+// The routing of an id of two parts.
 fn routing_of_two(first: &[u8], last: &[u8]) -> Routing
     requires first { length first.now < 2 ^ 32 }
     requires last { length last.now < 2 ^ 32 }
@@ -40,6 +41,7 @@ fn routing_of_two(first: &[u8], last: &[u8]) -> Routing
     }
 }
 
+// The routing of an id of three parts, of which the second gives at most what the first leaves.
 fn routing_of_three(first: &[u8], second: &[u8], last: &[u8]) -> Routing
     requires first { length first.now < 2 ^ 32 }
     requires second { length second.now < 2 ^ 32 }
@@ -59,6 +61,7 @@ fn routing_of_three(first: &[u8], second: &[u8], last: &[u8]) -> Routing
     }
 }
 
+// The routing of an id, each of whose parts is hashed once.
 fn routing_of(id: &[u8]) -> Routing
     requires { length id.now < 2 ^ 32 }
     ensures bits { result.bits ≡ route_bits id.now }
@@ -93,8 +96,7 @@ pub fn plain_hash(id: &str) -> i32
     murmur3(id.as_bytes(), 0).cast_signed()
 }
 
-/// The number of the bucket, from 0, whose journal keeps the id. It goes by the plain hash, so that ids of one
-/// route are spread over all buckets.
+/// The number of the bucket, from 0, that keeps the id. It goes by the whole id's hash, and not by its route.
 pub fn bucket_of(id: &str, buckets: u32) -> u32
     requires length { length id.now < 2 ^ 32 }
     requires buckets { IsBucketCount buckets }

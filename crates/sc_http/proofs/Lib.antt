@@ -1,0 +1,9 @@
+-- What the proofs of the reader and the writer share.
+pub mod HeadEndLemmas
+pub mod StreamLemmas
+pub mod MessageLemmas
+pub mod HeaderLemmas
+pub mod DecimalLemmas
+pub mod ParsedLemmas
+pub mod ReaderLemmas
+pub mod ReplyLemmas

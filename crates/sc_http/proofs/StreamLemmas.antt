@@ -1,0 +1,133 @@
+-- Bytes that were read, behind those that were there.
+use Rattle.std.proofs.Common.{◌≡◌, ℕ, ◌+◌, ◌-◌, ◌<◌, ◌≤◌, List, [], ◌++◌, length, take, drop, refl, sym, ap, ◌∙◌, subst, inl, inr, ◌⊎◌, arith, append_assoc, append-nil, Option, Some, None}
+use Rattle.std.proofs.lemmas.Bool.{cases_lt}
+use Rattle.std.proofs.lemmas.List.{drop-drop, drop-take, drop_all, take_all, take-append-drop, length-take, take-take, take-append-le, length-take-le}
+use Rattle.std.proofs.Math.Seq.{take-append-add}
+use Rattle.sc_http.specs.Stream.{Gives, Grows, GivesOut, FallsShort, IsBehindGiven, HasEnded}
+
+drop-take_front : (n m : ℕ) (xs : List ℕ) → drop n (take m xs) ≡ take (m - n) (drop n xs)
+drop-take_front n m xs = by_order (cases_lt m n)
+  where
+    by_order : (m < n) ⊎ (n ≤ m) → drop n (take m xs) ≡ take (m - n) (drop n xs)
+    by_order (inl less) =
+        let none : m - n ≡ 0 = omega arith in
+        let short : length (take m xs) ≤ n = omega (arith, length-take m xs) in
+        rw (none, drop_all n (take m xs) short) refl
+    by_order (inr more) =
+        let whole : m ≡ n + (m - n) = omega arith in
+        ap (λ k. drop n (take k xs)) whole ∙ drop-take n (m - n) xs
+
+-- a part of a list without its first bytes
+pub drop_front : (xs : List ℕ) (start end n : ℕ) → take (end - (start + n)) (drop (start + n) xs) ≡ drop n (take (end - start) (drop start xs))
+drop_front xs start end n =
+    let less : end - (start + n) ≡ end - start - n = omega arith in
+    rw (drop-take_front n (end - start) (drop start xs), drop-drop n start xs, less) refl
+
+-- what was read into the room behind the first bytes
+pub read_behind : (old m into post tail : List ℕ) (filled count len : ℕ) → take filled m ≡ take filled old → filled ≤ length m
+    → count ≤ length into → filled + count ≤ len
+    → take (filled + count) (take len ((take filled m ++ (into ++ post)) ++ tail)) ≡ take filled old ++ take count into
+read_behind old m into post tail filled count len kept inside came fits =
+    let long : length (take filled m) ≡ filled = length-take-le filled m inside in
+    take-take (filled + count) len ((take filled m ++ (into ++ post)) ++ tail) fits
+    ∙ ap (take (filled + count)) (append_assoc (take filled m) (into ++ post) tail ∙ ap (λ ys. take filled m ++ ys) (append_assoc into post tail))
+    ∙ ap (λ n. take (n + count) (take filled m ++ (into ++ (post ++ tail)))) (sym long)
+    ∙ take-append-add (take filled m) (into ++ (post ++ tail)) count
+    ∙ ap (λ ys. take filled m ++ ys) (take-append-le count into (post ++ tail) came)
+    ∙ ap (λ xs. xs ++ take count into) kept
+
+-- nothing was taken
+pub gives_none : (rest : Option (List ℕ)) → Gives [] rest rest
+gives_none None = tt
+gives_none (Some bytes) = record { more = bytes; whole = refl; left = refl }
+
+-- one piece after another
+pub gives_both : (p q : List ℕ) (a b c : Option (List ℕ)) → Gives p a b → Gives q b c → Gives (p ++ q) a c
+gives_both p q None b c first second = tt
+gives_both p q (Some bytes) b c first second =
+    let next : Gives q (Some first.more) c = subst (λ (o : Option (List ℕ)). Gives q o c) first.left second in
+    record { more = next.more; whole = first.whole ∙ ap (λ ys. p ++ ys) next.whole ∙ sym (append_assoc p q next.more); left = next.left }
+
+-- whether a source tells its bytes stays
+pub gives_ended : (p : List ℕ) (a b c : Option (List ℕ)) → Gives p a b → HasEnded b c → HasEnded a c
+gives_ended p None b c first second = tt
+gives_ended p (Some bytes) b c first second =
+    subst (λ (o : Option (List ℕ)). HasEnded o c) first.left second
+
+-- the bytes that were there are given out
+pub gives_out_all : (bytes : List ℕ) (rest : Option (List ℕ)) → GivesOut bytes [] bytes rest rest
+gives_out_all bytes rest = record { piece = []; whole = refl; gives = gives_none rest }
+
+-- none of them is
+pub gives_out_nothing : (bytes : List ℕ) (rest : Option (List ℕ)) → GivesOut [] bytes bytes rest rest
+gives_out_nothing bytes rest = record { piece = []; whole = sym (append-nil bytes); gives = gives_none rest }
+
+-- what grew behind bytes that were given out
+pub gives_out_more : (out after before : List ℕ) (a b c : Option (List ℕ)) → GivesOut out [] before a b → Grows out after b c → GivesOut after [] before a c
+gives_out_more out after before a b c given grown = record {
+  piece = given.piece ++ grown.piece;
+  whole = ap (λ xs. xs ++ []) (grown.whole ∙ ap (λ xs. xs ++ grown.piece) (sym (append-nil out) ∙ given.whole) ∙ append_assoc before given.piece grown.piece)
+      ∙ append-nil (before ++ (given.piece ++ grown.piece));
+  gives = gives_both given.piece grown.piece a b c given.gives grown.gives;
+}
+
+-- what is left grew
+pub left_more : (left after before : List ℕ) (a b c : Option (List ℕ)) → GivesOut [] left before a b → Grows left after b c → GivesOut [] after before a c
+left_more left after before a b c given grown = record {
+  piece = given.piece ++ grown.piece;
+  whole = grown.whole ∙ ap (λ xs. xs ++ grown.piece) given.whole ∙ append_assoc before given.piece grown.piece;
+  gives = gives_both given.piece grown.piece a b c given.gives grown.gives;
+}
+
+-- a call that took nothing changes nothing
+pub gives_then_none : (out left before : List ℕ) (a b c : Option (List ℕ)) → GivesOut out left before a b → Gives [] b c → GivesOut out left before a c
+gives_then_none out left before a b c given none = record {
+  piece = given.piece;
+  whole = given.whole;
+  gives = subst (λ (p : List ℕ). Gives p a c) (append-nil given.piece) (gives_both given.piece [] a b c given.gives none);
+}
+
+-- too few bytes came
+pub falls_short : (out before : List ℕ) (wanted : ℕ) (a b c : Option (List ℕ)) → GivesOut out [] before a b → length out < wanted → Gives [] b c
+    → FallsShort before wanted a c
+falls_short out before wanted a b c given few none =
+    let all = gives_then_none out [] before a b c given none in
+    record {
+      piece = all.piece;
+      short = subst (λ (xs : List ℕ). length xs < wanted) (sym (append-nil out) ∙ all.whole) few;
+      gives = all.gives;
+    }
+
+-- the first bytes are given out, and the others left
+pub given_front : (front left before : List ℕ) (n : ℕ) (rest : Option (List ℕ)) → front ≡ take n before → left ≡ drop n before
+    → GivesOut front left before rest rest
+given_front front left before n rest first others = record {
+  piece = [];
+  whole = rw (first, others) (take-append-drop n before ∙ sym (append-nil before));
+  gives = gives_none rest;
+}
+
+-- all that was there is given out, and more
+pub given_whole : (out front left before : List ℕ) (n : ℕ) (a b : Option (List ℕ)) → front ≡ take n before → left ≡ drop n before
+    → length before ≤ n → GivesOut out [] front a b → GivesOut out left before a b
+given_whole out front left before n a b first others short given =
+    let all : front ≡ before = first ∙ take_all n before short in
+    let none : left ≡ [] = others ∙ drop_all n before short in
+    record {
+      piece = given.piece;
+      whole = ap (λ xs. out ++ xs) none ∙ given.whole ∙ ap (λ xs. xs ++ given.piece) all;
+      gives = given.gives;
+    }
+
+-- where too few bytes came, none is left
+pub left_none : (front left before : List ℕ) (n wanted : ℕ) (a b : Option (List ℕ)) → left ≡ drop n before → length before ≤ n
+    → FallsShort front wanted a b → IsBehindGiven left before a b
+left_none front left before n wanted a b others short falls =
+    let none : left ≡ [] = others ∙ drop_all n before short in (
+      before ++ falls.piece,
+      record {
+        piece = falls.piece;
+        whole = ap (λ xs. (before ++ falls.piece) ++ xs) none ∙ append-nil (before ++ falls.piece);
+        gives = falls.gives;
+      },
+    )

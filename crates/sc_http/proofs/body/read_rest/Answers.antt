@@ -1,0 +1,34 @@
+-- Each read adds what the source gave, and one that failed adds nothing.
+use Rattle.std.proofs.Common.{◌≡◌, ◌<◌, List, ℕ, [], length, take, arith, sym, subst}
+use Rattle.std.proofs.lemmas.Grind.{common_steps}
+use Rattle.std.proofs.lemmas.Result.{err_from_is_err_and}
+use Rattle.sc_http.specs.Stream.{GivesOut}
+use Rattle.sc_http.proofs.StreamLemmas.{gives_out_all, gives_out_more, falls_short}
+use Rattle.sc_http.proofs.body.read_rest.Goals as goal
+
+pub loop-filled-init : goal.loop-filled-init
+loop-filled-init g c =
+    let rest = g.S.Source.rest c.args.source.now in
+    let whole : take c.len-filled.result c.args.body.now.items ≡ c.args.body.now.items = grind (arith, common_steps) in
+    record {
+      within = omega arith;
+      below = omega arith;
+      size = omega arith;
+      out = subst (λ (xs : List ℕ). GivesOut xs [] c.args.body.now.items rest rest) (sym whole) (gives_out_all c.args.body.now.items rest);
+      fall = omega arith;
+    }
+
+pub loop-filled-preserved : goal.loop-filled-preserved
+loop-filled-preserved g c = record {
+  within = c.in_ok-filled.ensures.inside;
+  below = c.in_ok-filled.ensures.bounded;
+  size = omega arith;
+  out = gives_out_more _ _ _ _ _ _ c.loop-filled.invariant.out c.in_ok-filled.ensures.grows;
+  fall = omega arith;
+}
+
+pub returns-in_err-filled-clause-short : goal.returns-in_err-filled-clause-short
+returns-in_err-filled-clause-short g c =
+    let p = err_from_is_err_and c.from_residual.result c.from_residual.ensures.1 in
+    let few : length (take c.loop-filled.filled c.loop-filled.body.items) < c.args.whole = grind (arith, common_steps) in
+    rw p.1 (falls_short _ _ _ _ _ _ c.loop-filled.invariant.out few c.in_err-filled.ensures.stays)

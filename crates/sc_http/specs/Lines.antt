@@ -1,0 +1,54 @@
+-- What the parsed lines of a head say.
+use Rattle.std.specs.Prelude.{◌≡◌, ◌≤◌, ℕ, Bool, false, not, List, codes, length, map, filter, drop, Result, Ok, Err}
+use Rattle.std.specs.List.{list_any}
+use Rattle.std.specs.Str.{str_eq_ignore_ascii_case}
+use Rattle.httparse.specs.Grammar.{RequestHead, trim_ows}
+use Rattle.sc_model.specs.Heads.{LengthFault, badly_stated, too_great, has_header, is_coded, body_length, method_of, path_of, params_of, asks_close}
+use Rattle.sc_model.specs.Messages.{HasHead}
+use Rattle.sc_http.specs.declared.head.Head.{Head}
+use Rattle.sc_http.specs.declared.lines.LengthError.{LengthError}
+use Rattle.sc_http.specs.declared.lines.LengthError.TheVariants as errors
+
+-- the line has this name, in any case
+abbrev pub is_named : List ℕ → List ℕ × List ℕ → Bool
+is_named name line = str_eq_ignore_ascii_case line.0 name
+
+-- the values of the lines of a name, in order
+abbrev pub values_in : List ℕ → List (List ℕ × List ℕ) → List (List ℕ)
+values_in name lines = map (λ line. line.1) (filter (is_named name) lines)
+
+-- there is a line of the name
+abbrev pub has_line : List ℕ → List (List ℕ × List ℕ) → Bool
+has_line name lines = list_any (is_named name) lines
+
+-- the token says to close, in any case
+abbrev pub is_close : List ℕ → Bool
+is_close token = str_eq_ignore_ascii_case (trim_ows token) (codes "close")
+
+-- why a length can't be read, as the definitions say it
+abbrev pub fault_of : LengthError → LengthFault
+fault_of errors.BadlyStated = badly_stated
+fault_of errors.TooGreat = too_great
+
+-- the length that was found, or why there is none
+abbrev pub length_is : Result ℕ LengthError → Result ℕ LengthFault
+length_is (Ok length) = Ok length
+length_is (Err error) = Err (fault_of error)
+
+-- what was kept of a head is what the head says
+pub record Describes (kept : Head) (head : RequestHead) : Type 0 where
+  pub method : kept.method ≡ method_of head.method
+  pub path : kept.path ≡ path_of head.target
+  pub params : kept.params ≡ params_of head.target
+  pub encoded : kept.encoded ≡ has_header (codes "content-encoding") head
+  pub lengthless : kept.lengthless ≡ not (has_header (codes "content-length") head)
+  pub close : kept.close ≡ asks_close head
+  pub plain : is_coded head ≡ false
+  pub length_of_body : body_length head ≡ Ok kept.body_length
+
+-- the bytes begin with a head, and this was kept of it
+pub record IsHeadOf (bytes : List ℕ) (kept : Head) : Type 0 where
+  pub head : RequestHead
+  pub has : HasHead bytes head (drop kept.size bytes)
+  pub fits : kept.size ≤ length bytes
+  pub describes : Describes kept head

@@ -1,0 +1,114 @@
+ghost use Rattle.std.specs.Prelude.{◌≡◌, ◌≢◌, ◌≤◌, ◌⊎◌, length, IfOk, IfErr, IfSome, Err};
+ghost use Rattle.httparse.specs.Spans.{IsRequestWithin, IsRequestOf};
+ghost use Rattle.sc_model.specs.Heads.{head_limit, line_limit, body_limit};
+ghost use Rattle.sc_model.specs.Messages.{EndsSo, EndsInHead};
+ghost use Rattle.sc_http.specs.Ends.{ending_of};
+ghost use Rattle.sc_http.specs.Lines.{IsHeadOf};
+
+use crate::end::MessageEnd;
+use crate::lines::{LengthError, asks_close, has_line, stated_length};
+use crate::target::{method_of, split_target};
+use httparse::spans::{EMPTY_HEADER_SPAN, HeaderSpan, RequestSpans, parse_request};
+use httparse::{Error, Status};
+use sc_model::{Method, Param};
+use sc_record::{List, Text};
+use std::alloc::Global;
+use std::str;
+
+/// The most bytes of a head.
+pub(crate) const MAX_HEAD: usize = 65_536;
+
+/// The most header lines of a head.
+const MAX_LINES: usize = 128;
+
+/// What a head says, as far as it is kept.
+#[derive(Debug, Drop)]
+pub(crate) struct Head {
+    pub method: Method,
+    pub path: Text,
+    pub params: List<Param>,
+    pub encoded: bool,
+    pub lengthless: bool,
+    pub close: bool,
+    /// How many bytes the body has.
+    pub body_length: usize,
+    /// How many bytes the head has.
+    pub size: usize,
+}
+
+/// The head that comes first of these bytes, or why they have none.
+pub(crate) fn parse_head(alloc: Global, bytes: &[u8]) -> Result<Head, MessageEnd>
+    ensures head { IfOk result (IsHeadOf bytes.now) }
+    ensures body { IfOk result (λ head. head.body_length ≤ body_limit) }
+    ensures ends { IfErr result (λ end. IfSome (ending_of end) (EndsSo bytes.now)) }
+    ensures cut { result ≡ Err MessageEnd.Cut → EndsInHead bytes.now }
+    ensures no_fault { result ≢ Err MessageEnd.ReadFault }
+{
+    if bytes.is_empty() {
+        return Err(MessageEnd::Done);
+    }
+    let window = &bytes[..bytes.len().min(MAX_HEAD)];
+    let mut lines = [EMPTY_HEADER_SPAN; MAX_LINES];
+    match parse_request(window, &mut lines) {
+        Ok(Status::Complete(spans)) => describe(alloc, window, &spans, &lines),
+        Ok(Status::Partial) if bytes.len() > MAX_HEAD => Err(MessageEnd::TooLarge),
+        Ok(Status::Partial) => Err(MessageEnd::Cut),
+        Err(error) => Err(refused(error)),
+    }
+}
+
+/// What an error of the parser is to a request.
+fn refused(error: Error) -> MessageEnd
+    ensures { ((error ≡ Error.TooManyHeaders) × (result ≡ MessageEnd.TooLarge))
+        ⊎ ((error ≢ Error.TooManyHeaders) × (result ≡ MessageEnd.BadHead)) }
+{
+    match error {
+        Error::TooManyHeaders => MessageEnd::TooLarge,
+        _ => MessageEnd::BadHead,
+    }
+}
+
+/// What a head says whose parts are these.
+fn describe(
+    alloc: Global,
+    window: &[u8],
+    spans: &RequestSpans,
+    headers: &[HeaderSpan],
+) -> Result<Head, MessageEnd>
+    requires within { IsRequestWithin window.now headers.now spans.now }
+    requires parsed { IsRequestOf window.now headers.now spans.now }
+    requires size { length window.now ≤ head_limit }
+    requires lines { length headers.now ≤ line_limit }
+    ensures head { IfOk result (IsHeadOf window.now) }
+    ensures body { IfOk result (λ head. head.body_length ≤ body_limit) }
+    ensures ends { IfErr result (λ end. IfSome (ending_of end) (EndsSo window.now)) }
+    ensures not_done { result ≢ Err MessageEnd.Done }
+    ensures not_cut { result ≢ Err MessageEnd.Cut }
+    ensures no_fault { result ≢ Err MessageEnd.ReadFault }
+{
+    let lines = &headers[..spans.headers];
+    if has_line(window, lines, b"transfer-encoding") {
+        return Err(MessageEnd::NotBuilt);
+    }
+    let body_length = match stated_length(window, lines) {
+        Ok(length) => length,
+        Err(LengthError::BadlyStated) => return Err(MessageEnd::BadHead),
+        Err(LengthError::TooGreat) => return Err(MessageEnd::TooLarge),
+    };
+    let Ok(target) = str::from_utf8(spans.path.of(window)) else {
+        return Err(MessageEnd::BadHead);
+    };
+    let Ok((path, params)) = split_target(alloc, target) else {
+        return Err(MessageEnd::Memory);
+    };
+    Ok(Head {
+        method: method_of(spans.method.of(window)),
+        path,
+        params,
+        encoded: has_line(window, lines, b"content-encoding"),
+        lengthless: !has_line(window, lines, b"content-length"),
+        close: spans.version == 0 || asks_close(window, lines),
+        body_length,
+        size: spans.len,
+    })
+}

@@ -1,0 +1,52 @@
+ghost use Rattle.std.specs.Prelude.{◌≡◌, ◌↔◌, IsTrue, fold};
+ghost use Rattle.sc_http.specs.HeadEnd.{next_place};
+
+/// How far the search for the end of a head has come: a head ends at the first empty line behind some text.
+#[derive(Clone, Copy, Debug)]
+pub(crate) enum Place {
+    /// In the line ends before the head's text, which belong to it.
+    Before,
+    Text,
+    /// Behind the end of a line.
+    LineStart,
+    /// Behind the end of a line and a carriage return.
+    LineStartReturn,
+    /// The end was found.
+    End,
+}
+
+impl Place {
+    /// The place behind one byte more.
+    fn next(self, byte: u8) -> Place
+        ensures { result ≡ next_place self byte }
+    {
+        match (self, byte) {
+            (Place::End, _) => Place::End,
+            (Place::Before, b'\r' | b'\n') => Place::Before,
+            (Place::LineStart | Place::LineStartReturn, b'\n') => Place::End,
+            (_, b'\n') => Place::LineStart,
+            (Place::LineStart, b'\r') => Place::LineStartReturn,
+            _ => Place::Text,
+        }
+    }
+
+    pub(crate) fn is_end(self) -> bool
+        ensures { IsTrue result ↔ (self ≡ Place.End) }
+    {
+        matches!(self, Place::End)
+    }
+
+    /// The place behind these bytes. The search stops at the end of the head.
+    pub(crate) fn behind(self, bytes: &[u8]) -> Place
+        ensures { result ≡ fold next_place self bytes.now }
+    {
+        let mut place = self;
+        for byte in bytes {
+            place = place.next(*byte);
+            if let Place::End = place {
+                return Place::End;
+            }
+        }
+        place
+    }
+}

@@ -1,0 +1,7 @@
+use Rattle.std.proofs.Common.{rules, ap, sym, ◌∙◌, subst, refl, ◌∷◌, [], length, ◌+◌, ◌^◌}
+use Rattle.sc_lock.proofs.lock.Lock.new.Goals as goal
+use Rattle.sc_lock.proofs.Seats.{opens}
+
+pub new-requires : goal.new-requires
+new-requires g c = let same = c.of-origin.ensures in
+    opens _ _ _ _ _ _ _ _ (ap (λ n. 0 ∷ 0 ∷ n ∷ []) (c.entries.ensures ∙ ap (λ x. length (g.K.Kept.journal x)) (sym same))) (search rules) (subst g.K.Kept.sound (sym same) c.requires.sound)

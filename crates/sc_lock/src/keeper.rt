@@ -1,0 +1,87 @@
+//! Who holds the lock and may change the keeper's part.
+ghost use Rattle.std.specs.Prelude.{◌≡◌, ◌⊎◌, ℕ, Some};
+ghost use mathlib.Core.List.{IsPrefix};
+ghost use Rattle.sc_lock.specs.Journal.{places_after, OwnsPlaceOf, MayAppend, GrowsByAtMostOne, IsLongest};
+ghost use Rattle.sc_lock.specs.Tokens.{lock_id, lock_name, IsPassOf, IsFree, seen, own_places, splits_left, IsKeeperOf, IsFreeKeeper, keeper_seen, keeper_places, keeper_part, IsTurnOfKeeper, handed};
+
+use crate::kept::Kept;
+use crate::lock::Lock;
+use crate::pass::Pass;
+use crate::plays::Beside;
+use crate::turn::Turn;
+use crate::view::LockSeat;
+use std::snapshot::Snapshot;
+use std::sync::Wait;
+
+/// The one right to hold a lock and change the value's part. It knows what a pass does, and the part
+/// that it left. It has no bytes.
+#[derive(Drop)]
+pub struct Keeper<K: Kept> {
+    pub(crate) seat: LockSeat<K>,
+}
+
+impl<K: Kept> Lock<K> {
+    /// Waits for the lock and hands out the value, whose part is the one that the keeper left.
+    pub fn hold_keeper<R: Wait>(&self, rt: &R, keeper: &mut Keeper<K>) -> (K, Turn<K>)
+        requires keeper { IsKeeperOf (lock_id self.now) keeper.old }
+        requires free { IsFreeKeeper keeper.old }
+        ensures sound { K.sound result.0 }
+        ensures name { K.name result.0 ≡ lock_name K.name self.now }
+        ensures front { IsPrefix (keeper_seen keeper.old) (K.journal result.0) }
+        ensures owner { OwnsPlaceOf K.owned (keeper_seen keeper.old) (keeper_places keeper.old) → K.journal result.0 ≡ keeper_seen keeper.old }
+        ensures left { keeper_part keeper.old ≡ Some (K.part result.0) }
+        ensures turn { IsTurnOfKeeper K.name keeper.new result.1 }
+        ensures handed { handed result.1 ≡ result.0 }
+        ensures keeper { IsKeeperOf (lock_id self.now) keeper.new }
+        ensures seen { keeper_seen keeper.new ≡ keeper_seen keeper.old }
+        ensures places { keeper_places keeper.new ≡ keeper_places keeper.old }
+        ensures part { keeper_part keeper.new ≡ keeper_part keeper.old }
+    {
+        let ticket = self.draw(&mut keeper.seat);
+        let value = self.wait(rt, &mut keeper.seat, ticket);
+        let turn = Turn {
+            handed: Snapshot::of(&value),
+            seat: Snapshot::of(&keeper.seat),
+        };
+        (value, turn)
+    }
+
+    /// Gives the value back, changed by one step or not at all, and lets the next holder in.
+    pub fn give_keeper(&self, keeper: &mut Keeper<K>, turn: Turn<K>, value: K)
+        requires keeper { IsKeeperOf (lock_id self.now) keeper.old }
+        requires turn { IsTurnOfKeeper K.name keeper.old turn }
+        requires sound { K.sound value }
+        requires step { (value ≡ handed turn) ⊎ K.step (handed turn) value }
+        requires grows { GrowsByAtMostOne (K.journal (handed turn)) (K.journal value) }
+        requires owner { MayAppend K.owned (keeper_places keeper.old) (K.journal (handed turn)) (K.journal value) }
+        ensures keeper { IsKeeperOf (lock_id self.now) keeper.new }
+        ensures free { IsFreeKeeper keeper.new }
+        ensures seen { keeper_seen keeper.new ≡ K.journal value }
+        ensures places { keeper_places keeper.new ≡ places_after (keeper_places keeper.old) (K.journal (handed turn)) (K.journal value) }
+        ensures part { keeper_part keeper.new ≡ Some (K.part value) }
+    {
+        let Turn { handed: _, seat: _ } = turn;
+        let served = self.put_back(&mut keeper.seat, value);
+        self.wake(served);
+    }
+
+    /// Lets a pass and the keeper have seen the same, in six atomic steps. It waits for nobody and
+    /// takes no memory.
+    pub fn meet(&self, pass: &mut Pass<K>, keeper: &mut Keeper<K>)
+        requires pass { IsPassOf (lock_id self.now) pass.old × IsFree pass.old }
+        requires keeper { IsKeeperOf (lock_id self.now) keeper.old × IsFreeKeeper keeper.old }
+        ensures same { keeper_seen keeper.new ≡ seen pass.new }
+        ensures seen { IsLongest (seen pass.old) (keeper_seen keeper.old) (seen pass.new) }
+        ensures pass { IsPassOf (lock_id self.now) pass.new × IsFree pass.new }
+        ensures places { own_places pass.new ≡ own_places pass.old }
+        ensures splits { splits_left pass.new ≡ splits_left pass.old }
+        ensures keeper { IsKeeperOf (lock_id self.now) keeper.new × IsFreeKeeper keeper.new }
+        ensures keeper_places { keeper_places keeper.new ≡ keeper_places keeper.old }
+        ensures part { keeper_part keeper.new ≡ keeper_part keeper.old }
+    {
+        let from_pass = self.table.shared.split_seat::<Beside>(&mut pass.seat);
+        let from_keeper = self.table.shared.split_seat::<Beside>(&mut keeper.seat);
+        self.bring(&mut pass.seat, from_keeper);
+        self.bring(&mut keeper.seat, from_pass);
+    }
+}

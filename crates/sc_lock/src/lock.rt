@@ -1,0 +1,79 @@
+//! The lock, and how it is made.
+ghost use Rattle.std.specs.Prelude.{◌≡◌};
+
+use crate::keeper::Keeper;
+use crate::kept::Kept;
+use crate::pass::Pass;
+use crate::plays::{AllBut, Tickets};
+use crate::view::{LockSeat, View};
+use atomic_table::Table;
+use std::alloc::{AllocError, Global};
+use std::snapshot::Snapshot;
+
+/// A ticket lock round one value, and the value.
+///
+/// Its table has three words, the number of tickets drawn and served, modulo 2^64, and the journal's
+/// length, and one slot, where the value lies while nobody holds it. A hold and its give are four
+/// atomic steps, take no memory and move the value; a thread that waits spins for a short time and
+/// then sleeps until the number served changes. Dropping a lock drops its value once; a value that
+/// is out when the lock is dropped is its holder's.
+#[derive(Drop)]
+pub struct Lock<K: Kept> {
+    pub(crate) table: Table<Option<K>, View<K, K::Entry, K::Part>, Snapshot<K>, Tickets, Global>,
+    ghost counts: { (table.shared.table_id.words ≡ 3) × (table.shared.table_id.slots ≡ 1) },
+}
+
+impl<K: Kept + Drop> Lock<K> {
+    ghost use Rattle.std.specs.Prelude.{◌^◌, [], IfOk, Some};
+    ghost use Rattle.sc_lock.specs.Tokens.{lock_id, lock_name, IsPassOf, IsFree, seen, own_places, splits_left, IsKeeperOf, IsFreeKeeper, keeper_seen, keeper_places, keeper_part};
+
+    /// Puts a value behind a lock of its own, with the first pass and the one keeper.
+    ///
+    /// It is refused for want of memory alone, and the value is dropped then.
+    pub fn new(alloc: Global, value: K) -> Result<(Lock<K>, Pass<K>, Keeper<K>), AllocError>
+        requires sound { K.sound value }
+        ensures name { IfOk result (λ r. lock_name K.name r.0 ≡ K.name value) }
+        ensures pass { IfOk result (λ r. IsPassOf (lock_id r.0) r.1 × IsFree r.1) }
+        ensures seen { IfOk result (λ r. seen r.1 ≡ K.journal value) }
+        ensures places { IfOk result (λ r. own_places r.1 ≡ []) }
+        ensures splits { IfOk result (λ r. splits_left r.1 ≡ 2 ^ 31) }
+        ensures keeper { IfOk result (λ r. IsKeeperOf (lock_id r.0) r.2 × IsFreeKeeper r.2) }
+        ensures keeper_seen { IfOk result (λ r. keeper_seen r.2 ≡ K.journal value) }
+        ensures keeper_places { IfOk result (λ r. keeper_places r.2 ≡ []) }
+        ensures part { IfOk result (λ r. keeper_part r.2 ≡ Some (K.part value)) }
+    {
+        let origin = Snapshot::of(&value);
+        let words = [0, 0, value.entries()];
+        let mut slots = Vec::new(alloc);
+        slots.push(Some(value))?;
+        let Ok((table, seat)) = Table::new(alloc, &words, slots, &origin) else {
+            return Err(AllocError);
+        };
+        let lock = Lock { table };
+        let (pass, keeper) = lock.deal(seat);
+        Ok((lock, pass, keeper))
+    }
+}
+
+impl<K: Kept> Lock<K> {
+    ghost use Rattle.std.specs.Prelude.{◌^◌, [], Some};
+    ghost use Rattle.sc_lock.specs.Views.{starting};
+    ghost use Rattle.sc_lock.specs.Tokens.{origin_of, lock_id, IsPassOf, IsFree, seen, own_places, splits_left, IsKeeperOf, IsFreeKeeper, keeper_seen, keeper_places, keeper_part};
+
+    // Cuts the first seat in two: the keeper's, and the pass's with all splits.
+    fn deal(&self, mut seat: LockSeat<K>) -> (Pass<K>, Keeper<K>)
+        requires lock { seat.table_id ≡ self.now.table.shared.table_id }
+        requires first { seat.me ≡ (starting K.journal K.part (origin_of self.now), []) }
+        ensures pass { IsPassOf (lock_id self.now) result.0 × IsFree result.0 }
+        ensures seen { seen result.0 ≡ K.journal (origin_of self.now) }
+        ensures places { own_places result.0 ≡ [] }
+        ensures splits { splits_left result.0 ≡ 2 ^ 31 }
+        ensures keeper { IsKeeperOf (lock_id self.now) result.1 × IsFreeKeeper result.1 }
+        ensures keeper_seen { keeper_seen result.1 ≡ K.journal (origin_of self.now) }
+        ensures keeper_places { keeper_places result.1 ≡ [] }
+        ensures part { keeper_part result.1 ≡ Some (K.part (origin_of self.now)) }
+    {
+        let plain = self.table.shared.split_seat::<AllBut>(&mut seat);
+        (Pass { seat: plain }, Keeper { seat })
+    }
+}

@@ -1,0 +1,99 @@
+//! Those who hold the lock and leave the keeper's part as it is.
+ghost use Rattle.std.specs.Prelude.{◌≡◌, ◌⊎◌, ℕ, ◌+◌, ◌<◌, [], Some};
+ghost use mathlib.Core.List.{IsPrefix};
+ghost use Rattle.sc_lock.specs.Journal.{Has, Apart, merged, places_after, OwnsPlaceOf, MayAppend, GrowsByAtMostOne, IsLongest};
+ghost use Rattle.sc_lock.specs.Tokens.{lock_id, lock_name, IsPassOf, IsFree, seen, own_places, splits_left, IsTurnOf, handed};
+
+use crate::kept::Kept;
+use crate::lock::Lock;
+use crate::plays::OneOf;
+use crate::turn::Turn;
+use crate::view::LockSeat;
+use std::snapshot::Snapshot;
+use std::sync::Wait;
+
+/// A right to hold one lock. It knows how much of the journal it has seen, the places of its own
+/// entries, and how many passes may be split off. It has no bytes.
+#[derive(Drop)]
+pub struct Pass<K: Kept> {
+    pub(crate) seat: LockSeat<K>,
+}
+
+impl<K: Kept> Lock<K> {
+    /// Waits for the lock and hands out the value.
+    pub fn hold<R: Wait>(&self, rt: &R, pass: &mut Pass<K>) -> (K, Turn<K>)
+        requires pass { IsPassOf (lock_id self.now) pass.old }
+        requires free { IsFree pass.old }
+        ensures sound { K.sound result.0 }
+        ensures name { K.name result.0 ≡ lock_name K.name self.now }
+        ensures front { IsPrefix (seen pass.old) (K.journal result.0) }
+        ensures owner { OwnsPlaceOf K.owned (seen pass.old) (own_places pass.old) → K.journal result.0 ≡ seen pass.old }
+        ensures turn { IsTurnOf K.name pass.new result.1 }
+        ensures handed { handed result.1 ≡ result.0 }
+        ensures pass { IsPassOf (lock_id self.now) pass.new }
+        ensures seen { seen pass.new ≡ seen pass.old }
+        ensures places { own_places pass.new ≡ own_places pass.old }
+        ensures splits { splits_left pass.new ≡ splits_left pass.old }
+    {
+        let ticket = self.draw(&mut pass.seat);
+        let value = self.wait(rt, &mut pass.seat, ticket);
+        let turn = Turn {
+            handed: Snapshot::of(&value),
+            seat: Snapshot::of(&pass.seat),
+        };
+        (value, turn)
+    }
+
+    /// Gives the value back, changed by one step or not at all, and lets the next holder in.
+    pub fn give(&self, pass: &mut Pass<K>, turn: Turn<K>, value: K)
+        requires pass { IsPassOf (lock_id self.now) pass.old }
+        requires turn { IsTurnOf K.name pass.old turn }
+        requires sound { K.sound value }
+        requires step { (value ≡ handed turn) ⊎ K.step (handed turn) value }
+        requires grows { GrowsByAtMostOne (K.journal (handed turn)) (K.journal value) }
+        requires part { K.part value ≡ K.part (handed turn) }
+        requires owner { MayAppend K.owned (own_places pass.old) (K.journal (handed turn)) (K.journal value) }
+        ensures pass { IsPassOf (lock_id self.now) pass.new }
+        ensures free { IsFree pass.new }
+        ensures seen { seen pass.new ≡ K.journal value }
+        ensures places { own_places pass.new ≡ places_after (own_places pass.old) (K.journal (handed turn)) (K.journal value) }
+        ensures splits { splits_left pass.new ≡ splits_left pass.old }
+    {
+        let Turn { handed: _, seat: _ } = turn;
+        let served = self.put_back(&mut pass.seat, value);
+        self.wake(served);
+    }
+
+    /// Splits a pass off, for another thread, in one atomic step. It takes no memory.
+    pub fn split_pass(&self, pass: &mut Pass<K>) -> Pass<K>
+        requires pass { IsPassOf (lock_id self.now) pass.old }
+        requires free { IsFree pass.old }
+        requires left { 0 < splits_left pass.old }
+        ensures pass { IsPassOf (lock_id self.now) pass.new × IsFree pass.new }
+        ensures seen { seen pass.new ≡ seen pass.old }
+        ensures places { own_places pass.new ≡ own_places pass.old }
+        ensures splits { splits_left pass.new + 1 ≡ splits_left pass.old }
+        ensures new { IsPassOf (lock_id self.now) result × IsFree result }
+        ensures new_seen { seen result ≡ seen pass.old }
+        ensures new_places { own_places result ≡ [] }
+        ensures new_splits { splits_left result ≡ 0 }
+    {
+        let seat = self.table.shared.split_seat::<OneOf>(&mut pass.seat);
+        Pass { seat }
+    }
+
+    /// Lets one pass have what two have seen and the entries of both, in two atomic steps. It takes no
+    /// memory.
+    pub fn join_pass(&self, into: &mut Pass<K>, from: Pass<K>)
+        requires pass { IsPassOf (lock_id self.now) into.old × IsFree into.old }
+        requires from { IsPassOf (lock_id self.now) from × IsFree from }
+        ensures pass { IsPassOf (lock_id self.now) into.new × IsFree into.new }
+        ensures seen { IsLongest (seen into.old) (seen from) (seen into.new) }
+        ensures apart { Apart (own_places into.old) (own_places from) }
+        ensures places { own_places into.new ≡ merged (own_places into.old) (own_places from) }
+        ensures splits { splits_left into.new ≡ splits_left into.old + splits_left from + 1 }
+    {
+        let Pass { seat } = from;
+        self.bring(&mut into.seat, seat);
+    }
+}

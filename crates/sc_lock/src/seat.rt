@@ -1,0 +1,153 @@
+//! The lock's steps, each by one seat.
+ghost use Rattle.std.specs.Prelude.{◌≡◌, ℕ, ◌%◌, ◌^◌, ◌<◌, [], ◌∷◌, Some, None, MatchBool};
+ghost use Rattle.sc_lock.specs.declared.view.Stage.TheVariants.{Idle, Waiting, Holding};
+ghost use Rattle.sc_lock.specs.Journal.{Apart, ArePlacesIn, IsLongest, longer, places_after};
+ghost use Rattle.sc_lock.specs.Views.{staged, joined};
+ghost use Rattle.sc_lock.specs.Steps.{Finds, Took, Gives, noted};
+ghost use Rattle.sc_lock.specs.Tokens.{IsIdle, origin_of};
+
+use crate::kept::Kept;
+use crate::lock::Lock;
+use crate::plays::{Draw, Look, Meeting, Note, PassOn, Settle};
+use crate::view::LockSeat;
+use std::hint;
+use std::sync::Wait;
+
+/// The word of the tickets drawn, modulo 2^64.
+pub const NEXT: usize = 0;
+
+/// The word of the tickets served, modulo 2^64.
+pub const SERVED: usize = 1;
+
+/// The word of the journal's length.
+pub const LENGTH: usize = 2;
+
+/// The slot of the value.
+pub const VALUE: usize = 0;
+
+// Looks between which a waiter spins, twice as long each time; after them it sleeps.
+const SPINS: u32 = 7;
+
+// Spins for a time that doubles with each look.
+fn spin(looks: u32)
+    requires { looks < 32 }
+{
+    for _ in 0..1u32 << looks {
+        hint::spin_loop();
+    }
+}
+
+impl<K: Kept> Lock<K> {
+    // Draws a ticket, and answers its remainder modulo 2^64.
+    pub(crate) fn draw(&self, seat: &mut LockSeat<K>) -> u64
+        requires lock { seat.old.table_id ≡ self.now.table.shared.table_id }
+        requires idle { IsIdle seat.old × (0 < seat.old.me.0.weight) }
+        ensures seat { (seat.new.table_id ≡ seat.old.table_id) × (seat.new.id ≡ seat.old.id) }
+        ensures drawn { (t : ℕ) × (result ≡ t % 2 ^ 64) × (seat.new.me ≡ (staged seat.old.me.0 (Waiting t), [])) }
+    {
+        self.table.shared.fetch_add::<Draw>(seat, NEXT, 1)
+    }
+
+    // Whether the ticket is served; where it is, the seat has the value's slot.
+    fn look(&self, seat: &mut LockSeat<K>, ticket: u64) -> bool
+        requires lock { seat.old.table_id ≡ self.now.table.shared.table_id }
+        requires waits { (t : ℕ) × (seat.old.me.0.stage ≡ Waiting t) × (ticket ≡ t % 2 ^ 64) × (seat.old.me.1 ≡ []) }
+        ensures seat { (seat.new.table_id ≡ seat.old.table_id) × (seat.new.id ≡ seat.old.id) }
+        ensures turn { MatchBool result ((x : K) × Took seat.old.me seat.new.me x × Finds K.journal K.sound K.part K.name K.owned seat.old.me.0 x) (seat.new.me ≡ seat.old.me) }
+    {
+        self.table.shared.load::<Look>(seat, SERVED) == ticket
+    }
+
+    // Moves the value out of the slot that the seat has.
+    fn lift(&self, seat: &mut LockSeat<K>) -> K
+        requires lock { seat.old.table_id ≡ self.now.table.shared.table_id }
+        requires holds { (x : K) × (seat.old.me.1 ≡ (0, Some x) ∷ []) }
+        ensures seat { (seat.new.table_id ≡ seat.old.table_id) × (seat.new.id ≡ seat.old.id) }
+        ensures value { (seat.old.me.1 ≡ (0, Some result) ∷ []) × (seat.new.me ≡ (seat.old.me.0, (0, None) ∷ [])) }
+    {
+        self.table.shared.exchange(seat, VALUE, None).unwrap()
+    }
+
+    // Moves the value into the slot that the seat has.
+    fn lay(&self, seat: &mut LockSeat<K>, value: K)
+        requires lock { seat.old.table_id ≡ self.now.table.shared.table_id }
+        requires holds { seat.old.me.1 ≡ (0, None) ∷ [] }
+        ensures seat { (seat.new.table_id ≡ seat.old.table_id) × (seat.new.id ≡ seat.old.id) }
+        ensures value { seat.new.me ≡ (seat.old.me.0, (0, Some value) ∷ []) }
+    {
+        match self.table.shared.exchange(seat, VALUE, Some(value)) {
+            None => {}
+            Some(_) => unreachable!(),
+        }
+    }
+
+    // Sleeps while the ticket isn't served, until the number served changes.
+    fn sleep<R: Wait>(&self, rt: &R, ticket: u64) {
+        let served = self.table.shared.peek(SERVED);
+        if served != ticket {
+            self.table
+                .shared
+                .park(rt, SERVED, (served % (1 << 32)) as u32);
+        }
+    }
+
+    // Waits until the ticket is served, and moves the value out.
+    pub(crate) fn wait<R: Wait>(&self, rt: &R, seat: &mut LockSeat<K>, ticket: u64) -> K
+        requires lock { seat.old.table_id ≡ self.now.table.shared.table_id }
+        requires waits { (t : ℕ) × (seat.old.me.0.stage ≡ Waiting t) × (ticket ≡ t % 2 ^ 64) × (seat.old.me.1 ≡ []) }
+        ensures seat { (seat.new.table_id ≡ seat.old.table_id) × (seat.new.id ≡ seat.old.id) }
+        ensures found { (t : ℕ) × (seat.new.me ≡ (staged seat.old.me.0 (Holding t result), (0, None) ∷ [])) }
+        ensures finds { Finds K.journal K.sound K.part K.name K.owned seat.old.me.0 result }
+    {
+        let mut looks = 0;
+        for _ in rt.forever() {
+            if self.look(seat, ticket) {
+                return self.lift(seat);
+            }
+            if looks < SPINS {
+                spin(looks);
+                looks += 1;
+            } else {
+                self.sleep(rt, ticket);
+            }
+        }
+        unreachable!()
+    }
+
+    // Puts the value back with its journal noted, passes the turn on, and answers the number served
+    // until then.
+    pub(crate) fn put_back(&self, seat: &mut LockSeat<K>, value: K) -> u64
+        requires lock { (seat.old.table_id ≡ self.now.table.shared.table_id) × (seat.old.me.0.origin ≡ Some (origin_of self.now)) }
+        requires named { K.name value ≡ K.name (origin_of self.now) }
+        requires holds { (t : ℕ) × (x : K) × (seat.old.me.0.stage ≡ Holding t x) × (seat.old.me.1 ≡ (0, None) ∷ []) × Gives K.journal K.sound K.part K.name K.owned seat.old.me.0 x value }
+        ensures seat { (seat.new.table_id ≡ seat.old.table_id) × (seat.new.id ≡ seat.old.id) }
+        ensures noted { (t : ℕ) (x : K) → seat.old.me.0.stage ≡ Holding t x → seat.new.me ≡ (staged (noted seat.old.me.0 t (K.journal x) (K.journal value) (K.part value)) Idle, []) }
+        ensures places { (t : ℕ) (x : K) → seat.old.me.0.stage ≡ Holding t x → ArePlacesIn (places_after seat.old.me.0.places (K.journal x) (K.journal value)) (K.journal value) }
+    {
+        let entries = value.entries();
+        self.lay(seat, value);
+        self.table.shared.store::<Note>(seat, LENGTH, entries);
+        self.table.shared.fetch_add::<PassOn>(seat, SERVED, 1)
+    }
+
+    // Wakes those who wait, if a ticket was drawn after the one that was served.
+    pub(crate) fn wake(&self, served: u64) {
+        if self.table.shared.peek(NEXT) != served.wrapping_add(1) {
+            self.table.shared.wake_all(SERVED);
+        }
+    }
+
+    // Lets `into` have what `from` has seen, and its places.
+    pub(crate) fn bring(&self, into: &mut LockSeat<K>, from: LockSeat<K>)
+        requires lock { (into.old.table_id ≡ self.now.table.shared.table_id) × (from.table_id ≡ self.now.table.shared.table_id) }
+        requires idle { IsIdle into.old × IsIdle from }
+        ensures seat { (into.new.table_id ≡ into.old.table_id) × (into.new.id ≡ into.old.id) }
+        ensures view { into.new.me ≡ (staged (joined into.old.me.0 from.me.0) Idle, []) }
+        ensures longest { IsLongest into.old.me.0.seen from.me.0.seen (longer into.old.me.0.seen from.me.0.seen) }
+        ensures apart { Apart into.old.me.0.places from.me.0.places }
+        ensures places { ArePlacesIn into.new.me.0.places into.new.me.0.seen }
+    {
+        self.table.shared.join_seat::<Meeting>(into, from);
+        self.table.shared.load::<Settle>(into, SERVED);
+    }
+}

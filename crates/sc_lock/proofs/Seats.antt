@@ -1,6 +1,6 @@
 -- A new lock meets the rule, and a split and a new seat keep it.
 use mathlib.Core.Option as maybe
-use Rattle.std.proofs.Common.{◌≡◌, ◌≢◌, ◌⊎◌, ℕ, zero, suc, ◌+◌, ◌-◌, List, [], ◌∷◌, ◌++◌, map, length, set, Some, None, sym, refl, ap, ◌∙◌, subst, ⊎_elim, arith}
+use Rattle.std.proofs.Common.{◌≡◌, ◌≢◌, ℕ, zero, suc, ◌+◌, List, [], ◌∷◌, ◌++◌, map, length, set, Some, None, sym, refl, ap, ◌∙◌, subst, ⊎_elim, arith}
 use Rattle.std.specs.Prelude.{Option}
 use Rattle.std.specs.Option.{unwrap_or}
 use Rattle.std.proofs.lemmas.Option.{none-some}
@@ -8,7 +8,7 @@ use Rattle.std.proofs.lemmas.List.Sums.{sum_by_push}
 use mathlib.Core.Option.{some, none, some-injective, some-ne-none}
 use mathlib.Core.List.{IsPrefix}
 use lib.ListN.{get_elem?}
-use Rattle.atomic_table.specs.Table.{State, step, keeps, Splits, Enters, opening}
+use Rattle.atomic_table.specs.Table.{State, step, Splits, Enters, opening}
 use Rattle.atomic_table.proofs.Lists.{at_set, at_snoc, at_longer}
 use Rattle.sc_lock.specs.declared.view.View.{View}
 use Rattle.sc_lock.specs.declared.view.Stage.{Stage}

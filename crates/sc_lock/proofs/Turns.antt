@@ -1,6 +1,6 @@
 -- A draw and a look keep the rule.
 use mathlib.Core.Option as maybe
-use Rattle.std.proofs.Common.{◌≡◌, ◌≢◌, ℕ, ◌+◌, ◌-◌, ◌%◌, ◌^◌, ◌<◌, ◌≤◌, List, [], ◌∷◌, length, get_or, set, Some, None, true, false, sym, refl, ap, ◌∙◌, subst, arith}
+use Rattle.std.proofs.Common.{◌≡◌, ◌≢◌, ℕ, ◌+◌, ◌%◌, ◌^◌, ◌<◌, ◌≤◌, List, [], ◌∷◌, length, get_or, set, Some, None, sym, refl, ap, ◌∙◌, subst, arith}
 use Rattle.std.specs.Prelude.{Option}
 use Rattle.std.proofs.Math.Nat.{mod-add-mod}
 use mathlib.Core.Bool.{false≢true}
@@ -16,7 +16,7 @@ use Rattle.sc_lock.specs.declared.view.View.{View}
 use Rattle.sc_lock.specs.declared.view.Stage.{Stage}
 use Rattle.sc_lock.specs.declared.view.Stage.TheVariants.{Idle, Waiting, Holding, Noted, Joined}
 use Rattle.sc_lock.specs.Rule.{Facts, StageFits, Fits, Lies, Stands, LockRule}
-use Rattle.sc_lock.specs.Views.{staged, ticket, ticket_in, ticket_count, ticket_count_in, has_value, weight_of}
+use Rattle.sc_lock.specs.Views.{staged, ticket_in, ticket_count, ticket_count_in, has_value, weight_of}
 use Rattle.sc_lock.specs.Steps.{draws, looks, Finds}
 use Rattle.sc_lock.proofs.Sums.{sum_by-le, get_elem-inside}
 use Rattle.sc_lock.proofs.Moves.{facts_with, Fits-with, Stands-moved, IsNow-with, Lies-with, ticket-in-range}

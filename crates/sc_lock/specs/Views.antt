@@ -4,7 +4,7 @@ use mathlib.Core.Option as maybe
 use Rattle.sc_lock.specs.declared.view.View.{View}
 use Rattle.sc_lock.specs.declared.view.Stage.{Stage}
 use Rattle.sc_lock.specs.declared.view.Stage.TheVariants.{Idle, Waiting, Holding, Noted, Joined}
-use Rattle.sc_lock.specs.Journal.{longer, merged, places_after}
+use Rattle.sc_lock.specs.Journal.{longer, merged}
 
 module _ {K E P : Type 0} where
   -- the ticket that a seat has

@@ -29,3 +29,6 @@ pub use kept::Kept;
 pub use lock::Lock;
 pub use pass::Pass;
 pub use turn::Turn;
+
+#[cfg(test)]
+mod tests;

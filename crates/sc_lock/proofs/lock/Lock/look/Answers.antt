@@ -1,4 +1,4 @@
-use Rattle.std.proofs.Common.{rules, ap, ◌∙◌, Bool, true, false}
+use Rattle.std.proofs.Common.{rules}
 use Rattle.sc_lock.proofs.lock.Lock.look.Goals as goal
 use Rattle.sc_lock.proofs.Turns.{looks_keeps}
 

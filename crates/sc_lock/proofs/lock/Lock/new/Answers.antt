@@ -1,4 +1,4 @@
-use Rattle.std.proofs.Common.{rules, ap, sym, ◌∙◌, subst, refl, ◌∷◌, [], length, ◌+◌, ◌^◌}
+use Rattle.std.proofs.Common.{rules, ap, sym, ◌∙◌, subst, ◌∷◌, [], length}
 use Rattle.sc_lock.proofs.lock.Lock.new.Goals as goal
 use Rattle.sc_lock.proofs.Seats.{opens}
 

@@ -1,4 +1,4 @@
-use Rattle.std.proofs.Common.{rules, ap, ◌∙◌, ◌∷◌, [], refl, subst}
+use Rattle.std.proofs.Common.{rules, ap, ◌∙◌, [], refl, subst}
 use Rattle.sc_lock.specs.Journal.{ArePlacesIn, places_after}
 use Rattle.sc_lock.specs.Views.{staged}
 use Rattle.sc_lock.specs.Steps.{noted}

@@ -23,12 +23,15 @@ use Rattle.sc_lock.proofs.Journals.{IsPrefix-self, IsPrefix-more, length-IsPrefi
 use Rattle.sc_lock.proofs.Places.{Has-places_after, AscendsFrom-places_after}
 use Rattle.sc_lock.proofs.Moves.{Strangers-tickets, facts_with, Fits-with, Stands-moved}
 
-third_word : (ws : List ℕ) (a b c k : ℕ) → ws ≡ a ∷ b ∷ c ∷ [] → set ws 2 k ≡ a ∷ b ∷ k ∷ []
-third_word ws a b c k e = ap (λ (zs : List ℕ). set zs 2 k) e
+-- a store puts the journal's length into the third word
+words-noted : (ws : List ℕ) (a b c k : ℕ) → ws ≡ a ∷ b ∷ c ∷ [] → set ws 2 k ≡ a ∷ b ∷ k ∷ []
+words-noted ws a b c k e = ap (λ (zs : List ℕ). set zs 2 k) e
 
-second_word : (ws : List ℕ) (a b c : ℕ) → ws ≡ a ∷ (b % 2 ^ 64) ∷ c ∷ [] → set ws 1 ((get_or ws 1 0 + 1) % 2 ^ 64) ≡ a ∷ ((b + 1) % 2 ^ 64) ∷ c ∷ []
-second_word ws a b c e = ap (λ (zs : List ℕ). set zs 1 ((get_or zs 1 0 + 1) % 2 ^ 64)) e ∙ ap (λ (z : ℕ). a ∷ z ∷ c ∷ []) (mod-add-mod b (2 ^ 64) 1)
+-- an addition passes the second word on to the next ticket
+words-served : (ws : List ℕ) (a b c : ℕ) → ws ≡ a ∷ (b % 2 ^ 64) ∷ c ∷ [] → set ws 1 ((get_or ws 1 0 + 1) % 2 ^ 64) ≡ a ∷ ((b + 1) % 2 ^ 64) ∷ c ∷ []
+words-served ws a b c e = ap (λ (zs : List ℕ). set zs 1 ((get_or zs 1 0 + 1) % 2 ^ 64)) e ∙ ap (λ (z : ℕ). a ∷ z ∷ c ∷ []) (mod-add-mod b (2 ^ 64) 1)
 
+-- a seat that has a part after a note had one, and has the noted one
 part_stays : {P : Type 0} (o : Option P) (p q : P) → part_after o p ≡ Some q → ((z : P) × (o ≡ Some z)) × (q ≡ p)
 part_stays None p q e = absurd (none-some q e)
 part_stays (Some z) p q e = ((z, refl), ap (λ o. unwrap_or o p) (sym e))
@@ -110,7 +113,7 @@ module _ {K E P N : Type 0} (journal : K → List E) (sound : K → Type 0) (par
         tt,
         (
           n',
-          (Stands-moved journal sound part name owned origin) n n' s id v w (set s.words 2 new) s.homes r at (third_word s.words _ _ _ new r.words ∙ ap (λ (k : ℕ). (n.drawn % 2 ^ 64) ∷ (n.served % 2 ^ 64) ∷ k ∷ []) is)
+          (Stands-moved journal sound part name owned origin) n n' s id v w (set s.words 2 new) s.homes r at (words-noted s.words _ _ _ new r.words ∙ ap (λ (k : ℕ). (n.drawn % 2 ^ 64) ∷ (n.served % 2 ^ 64) ∷ k ∷ []) is)
               (r.homes ∙ ap (λ (h : maybe.Option (Option K)). h ∷ []) place.2) refl (ap (λ (z : ℕ). n.drawn + n.served + z) (ap ticket_count_in st) ∙ omega arith)
               (λ i u other e f. record {
                 origin_is = f.origin_is;
@@ -167,7 +170,7 @@ module _ {K E P N : Type 0} (journal : K → List E) (sound : K → Type 0) (par
         tt,
         (
           n',
-          (Stands-moved journal sound part name owned origin) n n' s id v w (set s.words 1 ((get_or s.words 1 0 + 1) % 2 ^ 64)) (set s.homes 0 (maybe.some (Some y))) r at (second_word s.words _ n.served _ r.words)
+          (Stands-moved journal sound part name owned origin) n n' s id v w (set s.words 1 ((get_or s.words 1 0 + 1) % 2 ^ 64)) (set s.homes 0 (maybe.some (Some y))) r at (words-served s.words _ n.served _ r.words)
               (ap (λ (hs : List (maybe.Option (Option K))). set hs 0 (maybe.some (Some y))) r.homes) refl (ap (λ (z : ℕ). n.drawn + n.served + z) (ap ticket_count_in st) ∙ omega arith)
               (λ i u other e f. (Fits-with journal sound part name owned origin) n n.drawn (n.served + 1) (maybe.some (Some y)) i u (passed_place n v u (Some y) (r.pairs id i v u (λ q. other (sym q)) at e) mine_at u.stage refl) f)
               record {

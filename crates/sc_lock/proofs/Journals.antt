@@ -8,16 +8,18 @@ use mathlib.Core.List.{IsPrefix, head-eq_of_cons-eq, tail-eq_of_cons-eq}
 use native.Mathlib.Decide.{dec_le}
 use Rattle.sc_lock.specs.Journal.{Alike, longer, IsLongest}
 
+-- a list begins with itself
 pub IsPrefix-self : {A : Type 0} (xs : List A) → IsPrefix xs xs
 IsPrefix-self xs = ([], append-nil xs)
 
+-- what begins a list begins it also when it grows
 pub IsPrefix-more : {A : Type 0} (xs ys zs : List A) → IsPrefix xs ys → IsPrefix xs (ys ++ zs)
 IsPrefix-more {A = A} xs ys zs p = (p.0 ++ zs, sym (append_assoc xs p.0 zs) ∙ ap (λ (l : List A). l ++ zs) p.1)
 
 pub length-IsPrefix : {A : Type 0} (xs ys : List A) → IsPrefix xs ys → length xs ≤ length ys
 length-IsPrefix xs ys p = let e : length (xs ++ p.0) ≡ length ys = ap length p.1 in omega (arith, length-append xs p.0)
 
--- of two beginnings of one list, the one that is no longer begins the other
+-- a list that is followed by nothing is the whole
 append-empty : {A : Type 0} (xs ys r : List A) → xs ++ r ≡ ys → length r ≡ 0 → xs ≡ ys
 append-empty xs ys [] e h = sym (append-nil xs) ∙ e
 append-empty xs ys (x ∷ r) e h = absurd (omega arith)
@@ -26,6 +28,7 @@ take-length-append : {A : Type 0} (xs ys : List A) → take (length xs) (xs ++ y
 take-length-append [] ys = refl
 take-length-append (x ∷ xs) ys = λ k. x ∷ take-length-append xs ys k
 
+-- of two beginnings of one list, the one that is no longer begins the other
 pub IsPrefix-shorter : {A : Type 0} (xs ys l : List A) → IsPrefix xs l → IsPrefix ys l → length xs ≤ length ys → IsPrefix xs ys
 IsPrefix-shorter [] ys l p q h = (ys, refl)
 IsPrefix-shorter (x ∷ xs) [] l p q h = absurd (omega arith)
@@ -34,6 +37,7 @@ IsPrefix-shorter {A = A} (x ∷ xs) (y ∷ ys) (z ∷ l) p q h =
     let t = IsPrefix-shorter xs ys l (p.0, tail-eq_of_cons-eq p.1) (q.0, tail-eq_of_cons-eq q.1) (omega arith) in
     let e : x ≡ y = head-eq_of_cons-eq p.1 ∙ sym (head-eq_of_cons-eq q.1) in (t.0, λ k. e k ∷ t.1 k)
 
+-- a beginning as long as the list is the list
 pub IsPrefix-whole : {A : Type 0} (xs ys : List A) → IsPrefix xs ys → length ys ≤ length xs → xs ≡ ys
 IsPrefix-whole xs ys p h = append-empty xs ys p.0 p.1 (let e : length (xs ++ p.0) ≡ length ys = ap length p.1 in omega (arith, length-append xs p.0))
 
@@ -48,6 +52,7 @@ pub longer-length-if : {E : Type 0} (b : Bool) (xs ys : List E) → ltb (length 
 longer-length-if true xs ys is = let l = ltb-true (length xs) (length ys) is in (omega arith, omega arith)
 longer-length-if false xs ys is = let l = ltb-false (length xs) (length ys) is in (omega arith, l)
 
+-- of two beginnings of one list, one begins the other
 pub Alike-prefixes : {E : Type 0} (xs ys l : List E) → IsPrefix xs l → IsPrefix ys l → Alike xs ys
 Alike-prefixes xs ys l p q = dite (dec_le (length xs) (length ys)) (λ h. inl (IsPrefix-shorter xs ys l p q h)) (λ h. let k = lt_of_not-le h in inr (IsPrefix-shorter ys xs l q p (omega arith)))
 
@@ -58,6 +63,7 @@ IsLongest-longer-if false xs ys is (inr p) = record { one_of = inl refl; this = 
 IsLongest-longer-if false xs ys is (inl p) = let l = ltb-false (length xs) (length ys) is in
     record { one_of = inl refl; this = IsPrefix-self xs; that = subst (λ (z : List _). IsPrefix z xs) (IsPrefix-whole xs ys p l) (IsPrefix-self xs) }
 
+-- where one list begins the other, the longer begins with both
 pub IsLongest-longer : {E : Type 0} (xs ys : List E) → Alike xs ys → IsLongest xs ys (longer xs ys)
 IsLongest-longer xs ys a = IsLongest-longer-if (ltb (length xs) (length ys)) xs ys refl a
 

@@ -16,6 +16,7 @@ use Rattle.sc_lock.specs.Views.{ticket, ticket_in, ticket_count, has_value, weig
 use Rattle.sc_lock.proofs.Sums.{sum_by-set-at}
 
 module _ {K E P : Type 0} where
+  -- whichever comes first
   pub Strangers-sym : (v w : View K E P) → Strangers v w → Strangers w v
   Strangers-sym v w s = record { apart = λ p a b. s.apart p b a; tickets = λ t a b. s.tickets t b a }
 
@@ -50,6 +51,7 @@ module _ {K E P N : Type 0} (journal : K → List E) (sound : K → Type 0) (par
   abbrev At : F → Stage K E P → Type 0
   At = StageFits journal sound part name owned origin
 
+  -- a seat whose stage still fits does
   pub Fits-with : (n : F) (d s : ℕ) (h : maybe.Option (Option K)) (i : ℕ) (u : V) → (At n u.stage → At (facts_with n d s h) u.stage) → Fit n i u → Fit (facts_with n d s h) i u
   Fits-with n d s h i u placed f = record {
     origin_is = f.origin_is;
@@ -84,6 +86,7 @@ module _ {K E P N : Type 0} (journal : K → List E) (sound : K → Type 0) (par
     value = lies;
   }
 
+  -- whether a value is the present one hangs on the journal and the part alone
   pub IsNow-with : (n : F) (d s : ℕ) (h : maybe.Option (Option K)) (x : K) → IsNow journal sound part name owned origin n x → IsNow journal sound part name owned origin (facts_with n d s h) x
   IsNow-with n d s h x is = record { journal_is = is.journal_is; part_is = is.part_is; name_is = is.name_is }
 

@@ -22,6 +22,7 @@ Has-placed [] p q (inl e) = inr e
 Has-placed [] p q (inr h) = absurd h
 Has-placed (x ∷ xs) p q h = Has-placed-if (ltb p x) x p q xs (Has-placed xs p q) h
 
+-- a place of two merged lists is in one of them
 pub Has-merged : (xs ys : List ℕ) (q : ℕ) → Has (merged xs ys) q → Has xs q ⊎ Has ys q
 Has-merged xs [] q h = inl h
 Has-merged xs (y ∷ ys) q h = ⊎_elim (λ a. ⊎_elim inl (λ b. inr (inr b)) (Has-merged xs ys q a)) (λ e. inr (inl e)) (Has-placed (merged xs ys) y q h)
@@ -47,6 +48,7 @@ AscendsFrom-lower : (low high : ℕ) (xs : List ℕ) → low ≤ high → Ascend
 AscendsFrom-lower low high [] le r = tt
 AscendsFrom-lower low high (x ∷ xs) le r = let a = r.0 in (omega arith, r.1)
 
+-- ascending lists with no common place merge into one that ascends
 pub AscendsFrom-merged : (xs ys : List ℕ) → AscendsFrom 0 xs → AscendsFrom 0 ys → Apart xs ys → AscendsFrom 0 (merged xs ys)
 AscendsFrom-merged xs [] r t apart = r
 AscendsFrom-merged xs (y ∷ ys) r t apart = AscendsFrom-placed 0 (merged xs ys) y (AscendsFrom-merged xs ys r (AscendsFrom-lower 0 (y + 1) ys (omega arith) t.1) (λ p a b. apart p a (inr b))) (omega arith)
@@ -56,6 +58,7 @@ Has-places_after-if : {E : Type 0} (mine : List ℕ) (old new : List E) (q : ℕ
 Has-places_after-if mine old new q true is h = ⊎_elim inl (λ e. inr (e, ltb-true (length old) (length new) is)) (Has-snoc mine (length old) q h)
 Has-places_after-if mine old new q false is h = inl h
 
+-- a place after a give was one before, or is the new entry's
 pub Has-places_after : {E : Type 0} (mine : List ℕ) (old new : List E) (q : ℕ) → Has (places_after mine old new) q → Has mine q ⊎ ((length old ≡ q) × (length old < length new))
 Has-places_after mine old new q h = Has-places_after-if mine old new q (ltb (length old) (length new)) refl h
 
@@ -63,5 +66,6 @@ AscendsFrom-places_after-if : {E : Type 0} (mine : List ℕ) (old : List E) (b :
 AscendsFrom-places_after-if mine old true r under = AscendsFrom-snoc 0 mine (length old) r (omega arith) under
 AscendsFrom-places_after-if mine old false r under = r
 
+-- places below the journal's end still ascend with the new entry's
 pub AscendsFrom-places_after : {E : Type 0} (mine : List ℕ) (old new : List E) → AscendsFrom 0 mine → ((q : ℕ) → Has mine q → q < length old) → AscendsFrom 0 (places_after mine old new)
 AscendsFrom-places_after mine old new r under = AscendsFrom-places_after-if mine old (ltb (length old) (length new)) r under

@@ -54,6 +54,7 @@ module _ {K E P N : Type 0} (journal : K → List E) (sound : K → Type 0) (par
   Lies-longer n views z (maybe.some None) l = l
   Lies-longer n views z maybe.none l = (l.0, l.1, at_longer views (z ∷ []) l.0 l.1 l.2, l.3, l.4)
 
+  -- a new seat that has seen a front of the journal fits
   pub Fits-fresh : (n : F) (i : ℕ) (v z : V) → IsPrefix z.seen n.entries → ((x : K) → z.origin ≡ Some x → name x ≡ name origin) → z.places ≡ [] → z.part ≡ None → z.stage ≡ Idle → Fit n i z
   Fits-fresh n i v z front origin_is m p st = record {
     origin_is = origin_is;

@@ -21,8 +21,9 @@ use Rattle.sc_lock.specs.Steps.{draws, looks, Finds}
 use Rattle.sc_lock.proofs.Sums.{sum_by-le, get_elem-inside}
 use Rattle.sc_lock.proofs.Moves.{facts_with, Fits-with, Stands-moved, IsNow-with, Lies-with, ticket-in-range}
 
-first_word : (ws : List ℕ) (a b c : ℕ) → ws ≡ (a % 2 ^ 64) ∷ b ∷ c ∷ [] → set ws 0 ((get_or ws 0 0 + 1) % 2 ^ 64) ≡ ((a + 1) % 2 ^ 64) ∷ b ∷ c ∷ []
-first_word ws a b c e = ap (λ (zs : List ℕ). set zs 0 ((get_or zs 0 0 + 1) % 2 ^ 64)) e ∙ ap (λ (z : ℕ). z ∷ b ∷ c ∷ []) (mod-add-mod a (2 ^ 64) 1)
+-- an addition passes the first word on to the next ticket
+words-drawn : (ws : List ℕ) (a b c : ℕ) → ws ≡ (a % 2 ^ 64) ∷ b ∷ c ∷ [] → set ws 0 ((get_or ws 0 0 + 1) % 2 ^ 64) ≡ ((a + 1) % 2 ^ 64) ∷ b ∷ c ∷ []
+words-drawn ws a b c e = ap (λ (zs : List ℕ). set zs 0 ((get_or zs 0 0 + 1) % 2 ^ 64)) e ∙ ap (λ (z : ℕ). z ∷ b ∷ c ∷ []) (mod-add-mod a (2 ^ 64) 1)
 
 module _ {K E P N : Type 0} (journal : K → List E) (sound : K → Type 0) (part : K → P) (name : K → N) (owned : List E → Option ℕ) (origin : K) where
   abbrev V : Type 0
@@ -63,7 +64,7 @@ module _ {K E P N : Type 0} (journal : K → List E) (sound : K → Type 0) (par
         tt,
         (
           n',
-          (Stands-moved journal sound part name owned origin) n n' s id v w (set s.words 0 ((get_or s.words 0 0 + 1) % 2 ^ 64)) s.homes r at (first_word s.words n.drawn (n.served % 2 ^ 64) (length n.entries) r.words) r.homes refl
+          (Stands-moved journal sound part name owned origin) n n' s id v w (set s.words 0 ((get_or s.words 0 0 + 1) % 2 ^ 64)) s.homes r at (words-drawn s.words n.drawn (n.served % 2 ^ 64) (length n.entries) r.words) r.homes refl
               (omega arith)
               (λ i u other e f. (Fits-with journal sound part name owned origin) n (n.drawn + 1) n.served n.home i u (drawn_place n u.stage) f)
               record {

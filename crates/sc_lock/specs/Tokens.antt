@@ -52,7 +52,7 @@ module _ {K E P : Type 0} where
   abbrev pub IsFree : Pass K E P → Type 0
   IsFree pass = IsIdle pass.seat
 
-  -- it is a pass of this lock
+  -- it is a pass of this lock: it may draw tickets, and has no part
   pub record IsPassOf (lock : LockId K) (pass : Pass K E P) : Type 0 where
     pub of_lock : seat_lock pass.seat ≡ lock
     pub own : ArePlacesIn (own_places pass) (seen pass)
@@ -75,7 +75,7 @@ module _ {K E P : Type 0} where
   abbrev pub IsFreeKeeper : Keeper K E P → Type 0
   IsFreeKeeper keeper = IsIdle keeper.seat
 
-  -- it is the keeper of this lock
+  -- it is the keeper of this lock: it may draw tickets, and has a part
   pub record IsKeeperOf (lock : LockId K) (keeper : Keeper K E P) : Type 0 where
     pub of_lock : seat_lock keeper.seat ≡ lock
     pub own : ArePlacesIn (keeper_places keeper) (keeper_seen keeper)

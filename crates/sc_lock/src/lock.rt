@@ -13,9 +13,9 @@ use std::snapshot::Snapshot;
 /// A ticket lock round one value, and the value.
 ///
 /// Its table has three words, the number of tickets drawn and served, modulo 2^64, and the journal's
-/// length, and one slot, where the value lies while nobody holds it. A hold and its give are four
-/// atomic steps, take no memory and move the value; a thread that waits spins for a short time and
-/// then sleeps until the number served changes. Dropping a lock drops its value once; a value that
+/// length, and one slot, where the value lies while nobody holds it. A hold and its give by a lone
+/// thread are five atomic steps, take no memory and move the value; a thread that waits spins for a
+/// short time and then sleeps until the number served changes. Dropping a lock drops its value once; a value that
 /// is out when the lock is dropped is its holder's.
 #[derive(Drop)]
 pub struct Lock<K: Kept> {

@@ -1,0 +1,5 @@
+pub mod Json
+pub mod Members
+pub mod Items
+pub mod Texts
+pub mod NoFloats

@@ -1,0 +1,3 @@
+pub mod Asking
+pub mod Documents
+pub mod Replying

@@ -137,16 +137,16 @@ fn bodies_that_are_no_json(rt: HostRuntime) -> Result<(), Fail> {
             "{body}"
         );
     }
-    let alloc = rt.alloc();
-    assert!(rt; update(alloc, b"[\"\xff\"]")?.as_str() == "bad JSON");
-    assert!(rt; update(alloc, b"[\"\xc3\"]")?.as_str() == "bad JSON");
-    assert!(rt; update(alloc, b"[\"\xed\xa0\x80\"]")?.as_str() == "bad JSON");
-    let nested = repeated(alloc, "", "[", 128, "")?;
-    let nested = repeated(alloc, nested.as_str(), "]", 128, "")?;
-    assert!(rt; update(alloc, nested.as_bytes())?.as_str() == "bad JSON");
-    let nested = repeated(alloc, "", "[", 127, "")?;
-    let nested = repeated(alloc, nested.as_str(), "]", 127, "")?;
-    assert!(rt; update(alloc, nested.as_bytes())?.as_str() == "not built");
+    Ok(())
+}
+
+#[test]
+fn bodies_that_are_no_text(rt: HostRuntime) -> Result<(), Fail> {
+    // a byte that stands in no text, a cut character, a surrogate
+    let cases: [&[u8]; 3] = [b"[\"\xff\"]", b"[\"\xc3\"]", b"[\"\xed\xa0\x80\"]"];
+    for body in cases {
+        assert!(rt; update(rt.alloc(), body)?.as_str() == "bad JSON");
+    }
     Ok(())
 }
 
@@ -215,68 +215,123 @@ fn bodies_that_are_json(rt: HostRuntime) -> Result<(), Fail> {
 
 #[test]
 fn limits_of_bodies(rt: HostRuntime) -> Result<(), Fail> {
-    let alloc = rt.alloc();
-    let id = repeated(alloc, "", "i", 512, "")?;
-    let body = repeated(alloc, r#"[{"id":""#, "i", 512, r#""}]"#)?;
-    let want = repeated(alloc, "add ", id.as_str(), 1, "")?;
-    assert!(rt; update(alloc, body.as_bytes())?.as_str() == want.as_str());
-    let body = repeated(alloc, r#"[{"id":""#, "i", 513, r#""}]"#)?;
-    assert!(rt; update(alloc, body.as_bytes())?.as_str() == "not built");
-    // two bytes a character
-    let body = repeated(alloc, r#"[{"id":""#, "\u{e9}", 257, r#""}]"#)?;
-    assert!(rt; update(alloc, body.as_bytes())?.as_str() == "not built");
-    let body = repeated(alloc, r#"[{"id":"a",""#, "n", 254, r#"_s":"x"}]"#)?;
-    let want = repeated(alloc, "add a ", "n", 254, "_s=x")?;
-    assert!(rt; update(alloc, body.as_bytes())?.as_str() == want.as_str());
-    let body = repeated(alloc, r#"[{"id":"a",""#, "n", 255, r#"_s":"x"}]"#)?;
-    assert!(rt; update(alloc, body.as_bytes())?.as_str() == "not built");
-    let body = repeated(alloc, "[", r#"{"id":"a"},"#, 4095, r#"{"id":"b"}]"#)?;
-    let want = repeated(alloc, "add", " a", 4095, " b")?;
-    assert!(rt; update(alloc, body.as_bytes())?.as_str() == want.as_str());
-    let body = repeated(alloc, "[", r#"{"id":"a"},"#, 4096, r#"{"id":"b"}]"#)?;
-    assert!(rt; update(alloc, body.as_bytes())?.as_str() == "not built");
-    let body = repeated(alloc, "[", "{},", 4095, "{}]")?;
-    assert!(rt; update(alloc, body.as_bytes())?.as_str() == "no id");
+    // the body, and how its answer begins and how long it is
+    let cases = [
+        ("", "[", 127, "", "bad JSON", 8),
+        (r#"[{"id":""#, "i", 512, r#""}]"#, "add iii", 516),
+        (r#"[{"id":""#, "i", 513, r#""}]"#, "not built", 9),
+        (r#"[{"id":""#, "\u{e9}", 256, r#""}]"#, "add \u{e9}", 516),
+        (r#"[{"id":""#, "\u{e9}", 257, r#""}]"#, "not built", 9),
+        (
+            r#"[{"id":"a",""#,
+            "n",
+            254,
+            r#"_s":"x"}]"#,
+            "add a nnn",
+            264,
+        ),
+        (r#"[{"id":"a",""#, "n", 255, r#"_s":"x"}]"#, "not built", 9),
+        (
+            "[",
+            r#"{"id":"a"},"#,
+            4095,
+            r#"{"id":"b"}]"#,
+            "add a a",
+            8195,
+        ),
+        (
+            "[",
+            r#"{"id":"a"},"#,
+            4096,
+            r#"{"id":"b"}]"#,
+            "not built",
+            9,
+        ),
+        ("[", "{},", 4095, "{}]", "no id", 5),
+        ("[", "{},", 4096, "{}]", "not built", 9),
+    ];
+    for (front, part, count, back, want, length) in cases {
+        let body = repeated(rt.alloc(), front, part, count, back)?;
+        let answer = update(rt.alloc(), body.as_bytes())?;
+        assert!(rt; answer.as_str().starts_with(want), "{count} of {part}");
+        assert_eq!(rt; answer.len(), length, "{count} of {part}");
+    }
     Ok(())
 }
 
 #[test]
-fn heads_of_updates(rt: HostRuntime) -> Result<(), Fail> {
-    let alloc = rt.alloc();
-    let cases: [(&[(&str, &str)], &str); 9] = [
-        (&[], "add a"),
-        (&[("versions", "true")], "add with versions a"),
-        (&[("versions", "false")], "add a"),
-        (&[("versions", "")], "add a"),
-        (&[("versions", "TRUE")], "add a"),
-        (
-            &[("versions", "true"), ("versions", "false")],
-            "add with versions a",
-        ),
-        (&[("versions", "false"), ("versions", "true")], "add a"),
-        (&[("commit", "true")], "not built"),
-        (&[("versions", "true"), ("commit", "true")], "not built"),
-    ];
-    for (params, want) in cases {
-        let request = request(alloc, Method::Post, UPDATE, params, br#"[{"id":"a"}]"#)?;
+fn depths(rt: HostRuntime) -> Result<(), Fail> {
+    for (depth, want) in [(127, "not built"), (128, "bad JSON")] {
+        let open = repeated(rt.alloc(), "", "[", depth, "")?;
+        let body = repeated(rt.alloc(), open.as_str(), "]", depth, "")?;
         assert!(rt;
-            shown(alloc, &asked(alloc, &request)?)?.as_str() == want,
-            "{params:?}"
+            update(rt.alloc(), body.as_bytes())?.as_str() == want,
+            "{depth}"
         );
     }
-    let mut coded = request(alloc, Method::Post, UPDATE, &[], b"[]")?;
-    coded.encoded = true;
-    assert!(rt; shown(alloc, &asked(alloc, &coded)?)?.as_str() == "not built");
-    let mut endless = request(alloc, Method::Post, UPDATE, &[], b"[]")?;
-    endless.lengthless = true;
-    assert!(rt; shown(alloc, &asked(alloc, &endless)?)?.as_str() == "not built");
-    // what refuses the request goes before what its body is
-    let broken = request(alloc, Method::Post, UPDATE, &[("commit", "true")], b"{")?;
-    assert!(rt; shown(alloc, &asked(alloc, &broken)?)?.as_str() == "not built");
-    assert!(rt; update(alloc, b"")?.as_str() == "not built");
-    for method in [Method::Get, Method::Other] {
-        let request = request(alloc, method, UPDATE, &[], b"[]")?;
-        assert!(rt; shown(alloc, &asked(alloc, &request)?)?.as_str() == "not built");
+    Ok(())
+}
+
+#[test]
+fn parameters_of_updates(rt: HostRuntime) -> Result<(), Fail> {
+    let cases: [(&[(&str, &str)], &[u8], &str); 10] = [
+        (&[], br#"[{"id":"a"}]"#, "add a"),
+        (
+            &[("versions", "true")],
+            br#"[{"id":"a"}]"#,
+            "add with versions a",
+        ),
+        (&[("versions", "false")], br#"[{"id":"a"}]"#, "add a"),
+        (&[("versions", "")], br#"[{"id":"a"}]"#, "add a"),
+        (&[("versions", "TRUE")], br#"[{"id":"a"}]"#, "add a"),
+        (
+            &[("versions", "true"), ("versions", "false")],
+            br#"[{"id":"a"}]"#,
+            "add with versions a",
+        ),
+        (
+            &[("versions", "false"), ("versions", "true")],
+            br#"[{"id":"a"}]"#,
+            "add a",
+        ),
+        (&[("commit", "true")], br#"[{"id":"a"}]"#, "not built"),
+        (
+            &[("versions", "true"), ("commit", "true")],
+            br#"[{"id":"a"}]"#,
+            "not built",
+        ),
+        // what refuses the request goes before what its body is
+        (&[("commit", "true")], b"{", "not built"),
+    ];
+    for (params, body, want) in cases {
+        let request = request(rt.alloc(), Method::Post, UPDATE, params, body)?;
+        let answer = shown(rt.alloc(), &asked(rt.alloc(), &request)?)?;
+        assert!(rt; answer.as_str() == want, "{params:?}");
+    }
+    Ok(())
+}
+
+#[test]
+fn heads(rt: HostRuntime) -> Result<(), Fail> {
+    // the method, the path and the body, whether it is coded and whether it has no length
+    let cases = [
+        (Method::Post, UPDATE, "[]", false, false, "add"),
+        (Method::Post, UPDATE, "", false, false, "not built"),
+        (Method::Post, UPDATE, "[]", true, false, "not built"),
+        (Method::Post, UPDATE, "[]", false, true, "not built"),
+        (Method::Post, UPDATE, "{", true, false, "not built"),
+        (Method::Get, UPDATE, "[]", false, false, "not built"),
+        (Method::Other, UPDATE, "[]", false, false, "not built"),
+        (Method::Get, GET, "", false, true, "not built"),
+        (Method::Post, GET, "", false, false, "not built"),
+        (Method::Other, GET, "", false, false, "not built"),
+    ];
+    for (method, path, body, encoded, lengthless, want) in cases {
+        let mut request = request(rt.alloc(), method, path, &[], body.as_bytes())?;
+        request.encoded = encoded;
+        request.lengthless = lengthless;
+        let answer = shown(rt.alloc(), &asked(rt.alloc(), &request)?)?;
+        assert!(rt; answer.as_str() == want, "{path} {body}");
     }
     Ok(())
 }
@@ -338,21 +393,31 @@ fn gets(rt: HostRuntime) -> Result<(), Fail> {
 }
 
 #[test]
+fn ids_of_gets(rt: HostRuntime) -> Result<(), Fail> {
+    for (length, want, shown_length) in [(512, "get iii", 516), (513, "not built", 9)] {
+        let id = repeated(rt.alloc(), "", "i", length, "")?;
+        let request = request(rt.alloc(), Method::Get, GET, &[("id", id.as_str())], b"")?;
+        let answer = shown(rt.alloc(), &asked(rt.alloc(), &request)?)?;
+        assert!(rt; answer.as_str().starts_with(want), "{length}");
+        assert_eq!(rt; answer.len(), shown_length, "{length}");
+    }
+    Ok(())
+}
+
+#[test]
 fn heads_of_gets(rt: HostRuntime) -> Result<(), Fail> {
-    let alloc = rt.alloc();
-    let id = repeated(alloc, "", "i", 512, "")?;
-    let longest = request(alloc, Method::Get, GET, &[("id", id.as_str())], b"")?;
-    let want = repeated(alloc, "get ", "i", 512, "")?;
-    assert!(rt; shown(alloc, &asked(alloc, &longest)?)?.as_str() == want.as_str());
-    let id = repeated(alloc, "", "i", 513, "")?;
-    let too_long = request(alloc, Method::Get, GET, &[("id", id.as_str())], b"")?;
-    assert!(rt; shown(alloc, &asked(alloc, &too_long)?)?.as_str() == "not built");
-    let mut coded = request(alloc, Method::Get, GET, &[("id", "a")], b"what is dropped")?;
-    coded.encoded = true;
-    assert!(rt; shown(alloc, &asked(alloc, &coded)?)?.as_str() == "get a");
-    for method in [Method::Post, Method::Other] {
-        let request = request(alloc, method, GET, &[("id", "a")], b"")?;
-        assert!(rt; shown(alloc, &asked(alloc, &request)?)?.as_str() == "not built");
+    // a body is dropped, whatever it is
+    let cases = [
+        (Method::Get, "", false, "get a"),
+        (Method::Get, "{", true, "get a"),
+        (Method::Post, "", false, "not built"),
+        (Method::Other, "", false, "not built"),
+    ];
+    for (method, body, encoded, want) in cases {
+        let mut request = request(rt.alloc(), method, GET, &[("id", "a")], body.as_bytes())?;
+        request.encoded = encoded;
+        let answer = shown(rt.alloc(), &asked(rt.alloc(), &request)?)?;
+        assert!(rt; answer.as_str() == want, "{body}");
     }
     Ok(())
 }

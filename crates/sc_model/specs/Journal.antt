@@ -1,5 +1,5 @@
 -- A journal is the list of what was written to a bucket, oldest first.
-use Rattle.std.specs.Prelude.{ℕ, ◌-◌, ◌==◌, Bool, false, not, ◌&&◌, List, length, count_by, filter, slice_get, Option, Some, None}
+use Rattle.std.specs.Prelude.{ℕ, ◌-◌, ◌==◌, Bool, false, not, ◌&&◌, List, length, filter, slice_get, Option, Some, None}
 use Rattle.std.specs.List.{filter_map, list_any, enumerate_from}
 use Rattle.std.specs.Option.{is_some}
 use Rattle.std.specs.Str.{bytes_eq}
@@ -48,4 +48,4 @@ is_unsettled journal (place, one) = is_some (write_of one) && not (is_settled jo
 
 -- how many entries the journal has still to get: one for each write that is not settled
 abbrev pub owed : List Entry → ℕ
-owed journal = count_by (is_unsettled journal) (enumerate_from 0 journal)
+owed journal = length (filter (is_unsettled journal) (enumerate_from 0 journal))

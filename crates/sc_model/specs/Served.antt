@@ -57,3 +57,14 @@ pub record CarriesReplies (end : End) (exchanges : List Exchange) (last : Last) 
   pub requests : IfSome old_unread (λ bytes. IfSome new_unread (λ more. IsReadFrom bytes more exchanges last))
   pub replies : IfSome old_written (λ old. IfSome new_written (λ new. IsWritten end exchanges last old new))
   pub end_is : HasEnd end exchanges last
+
+-- What one connection promises. `old` and `new` are the journals as they were seen before and behind it, of which some
+-- entries are its own; `stops` are the places that it kept.
+pub record IsServed {C : Type 0} (gives : C → ℕ → C → Type 0) (limit : ℕ) (old new : Journals) (old_own new_own : ℕ → List ℕ) (old_clock new_clock : C) (old_unread new_unread old_written new_written : Option (List ℕ)) (stops : List Stop) (end : End) : Type 0 where
+  pub exchanges : List Exchange
+  pub last : Last
+  pub moments : List ℕ
+  pub journals : ExtendsJournals old new old_own new_own stops
+  pub answers : AnswersRequests limit new stops moments exchanges last
+  pub given : GivesMoments gives old_clock moments new_clock
+  pub carries : CarriesReplies end exchanges last old_unread new_unread old_written new_written

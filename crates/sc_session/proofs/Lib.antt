@@ -3,3 +3,12 @@ pub mod Members
 pub mod Items
 pub mod Texts
 pub mod NoFloats
+pub mod TableLaws
+pub mod StepLaws
+pub mod BatchLaws
+pub mod BatchSteps
+pub mod AnswerLaws
+pub mod OpenLaws
+pub mod ServeLaws
+pub mod EndLaws
+pub mod MessageEnds

@@ -1,3 +1,10 @@
 pub mod Asking
 pub mod Documents
 pub mod Replying
+pub mod Table
+pub mod Kept
+pub mod Steps
+pub mod Batch
+pub mod Answering
+pub mod Serving
+pub mod Ends

@@ -1,12 +1,28 @@
-//! What a request asks for, and the texts of the answers.
+//! One connection: its requests are read, each is answered over a table and its journal, and the
+//! answers are written.
 //!
-//! `asked::read::asked` tells a request by its path, its parameters and its body, and `reply` has
-//! the bodies of the answers: `update`, `document`, and those of `fixed`, which take no memory. All
-//! of it stands on values alone, and does no input and no output.
+//! It stands on the reader and the writer of `sc_http`, on the traits of `sc_io` and on the
+//! definitions of `sc_model`. The layer above uses the clause `connection` of `serve`: every answer
+//! is that of the journal at the places that the trail keeps, and the bytes written are the texts of
+//! the answers to the requests that the bytes read are.
 #![tactic(auto)]
 
+// What a request asks for, and the bodies of its answers.
 mod asked;
 mod reply;
 
+// The table, and what a connection keeps of it.
+mod plain;
+mod trail;
+
+// Orders, one request, one connection.
+mod answer;
+mod batch;
+mod connection;
+
 pub use asked::{Asked, Order};
+pub use connection::serve;
+pub use plain::{AddFault, Plain};
 pub use reply::Ack;
+pub use sc_model::{End, Stop};
+pub use trail::Trail;

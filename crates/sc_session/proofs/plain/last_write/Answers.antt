@@ -1,0 +1,30 @@
+use Rattle.std.proofs.Common.{◌-◌, [], ◌∷◌, arith, sym, ap, ◌∙◌, cond}
+use Rattle.std.specs.Arc.{arc_value}
+use Rattle.std.specs.Str.{bytes_eq}
+use Rattle.sc_record.specs.declared.write.Write.{Write}
+use Rattle.sc_model.specs.Journal.{writes_of}
+use Rattle.sc_model.proofs.JournalLaws.{last_write_at, last_write_before}
+use Rattle.sc_session.proofs.plain.last_write.Goals as goal
+
+pub returns-then-eq : goal.returns-then-eq
+returns-then-eq c =
+    sym (last_write_at c.args.journal.now c.loop-end.end (c.loop-end.end - 1) c.index-journal-end.result _ c.in-Write.cell c.args.id.now (omega arith) c.loop-end.invariant.within c.index-journal-end.is c.in-Write.is
+    (ap (λ t. bytes_eq t c.args.id.now) (sym (c.as_str.ensures.value ∙ ap (λ (w : Write). w.id) c.deref.ensures)) ∙ sym c.eq.ensures ∙ c.if-eq.true))
+    ∙ c.loop-end.invariant.same
+
+pub loop-end-preserved-else-eq : goal.loop-end-preserved-else-eq
+loop-end-preserved-else-eq c = record {
+  within = omega arith;
+  same = last_write_before c.args.journal.now c.loop-end.end (c.loop-end.end - 1) c.index-journal-end.result _ c.args.id.now (omega arith) c.loop-end.invariant.within c.index-journal-end.is
+      (ap (λ one. writes_of (one ∷ []) c.args.id.now) c.in-Write.is
+      ∙ ap (λ b. cond b (arc_value c.in-Write.cell ∷ []) []) (ap (λ t. bytes_eq t c.args.id.now) (sym (c.as_str.ensures.value ∙ ap (λ (w : Write). w.id) c.deref.ensures)) ∙ sym c.eq.ensures ∙ c.if-eq.false))
+      ∙ c.loop-end.invariant.same;
+}
+
+pub loop-end-preserved : goal.loop-end-preserved
+loop-end-preserved c = record {
+  within = omega arith;
+  same = last_write_before c.args.journal.now c.loop-end.end (c.loop-end.end - 1) c.index-journal-end.result _ c.args.id.now (omega arith) c.loop-end.invariant.within c.index-journal-end.is
+      (ap (λ one. writes_of (one ∷ []) c.args.id.now) c.in_default.is)
+      ∙ c.loop-end.invariant.same;
+}

@@ -1,0 +1,148 @@
+ghost use Rattle.std.specs.Prelude.{◌≡◌, ◌≢◌, ◌+◌, ◌*◌, ◌<◌, ◌≤◌, [], length, true, ◌||◌, if◌then◌else◌, IfSome, IsSome};
+ghost use Rattle.std.specs.Cow.{cow_str_bytes};
+ghost use Rattle.sc_model.specs.Connection.{end_of, last_text, request_limit, stop_limit};
+ghost use Rattle.sc_model.specs.Legal.{IsLegal};
+ghost use Rattle.sc_model.specs.Replies as replies;
+ghost use Rattle.sc_model.specs.Served.{IsServed};
+ghost use Rattle.sc_session.specs.Ends.{last_of};
+ghost use Rattle.sc_session.specs.Serving.{EndsWriting, Exchanges, Replies};
+ghost use Rattle.sc_session.specs.Answering.{reply_of};
+ghost use Rattle.sc_session.specs.Table.{journals, own_places};
+
+use crate::answer::{Reply, answer};
+use crate::plain::Plain;
+use crate::reply::fixed;
+use crate::trail::Trail;
+use sc_http::{Incoming, MessageEnd, Reader, write_reply};
+use sc_io::{Clock, Sink, Source};
+use sc_model::End;
+use std::alloc::Global;
+
+/// Serves one connection: reads its requests, answers each over the table and writes the answers, up
+/// to its end. The trail keeps the places at which it read and wrote.
+pub fn serve<C: Clock, S: Source, W: Sink>(
+    alloc: Global,
+    table: &mut Plain,
+    clock: &mut C,
+    source: &mut S,
+    sink: &mut W,
+    trail: &mut Trail,
+) -> End
+    requires { trail.old ≡ record { stops = []; requests = 0 } }
+    ensures connection { IsServed C.gives table.old.limit (journals table.old.journal) (journals table.new.journal)
+        (own_places table.old.journal) (own_places table.new.journal) clock.old clock.new
+        (S.rest source.old) (S.rest source.new) (W.written sink.old) (W.written sink.new) trail.new.stops result }
+    ensures limit { table.new.limit ≡ table.old.limit }
+    ensures read_fault { result ≡ End.ReadFault → S.faults source.old < S.faults source.new }
+    ensures write_fault { result ≡ End.WriteFault → W.faults sink.old < W.faults sink.new }
+{
+    let _ = table.entries();
+    let mut reader = match Reader::new(alloc) {
+        Ok(reader) => reader,
+        Err(_) => return end_with(sink, MessageEnd::Memory),
+    };
+    loop {
+        match reader.next_message(alloc, source) {
+            Ok(request) => {
+                if let Some(end) = exchange(alloc, table, clock, sink, trail, &request) {
+                    return end;
+                }
+            }
+            Err(end) => return end_with(sink, end),
+        }
+    }
+}
+
+/// Answers one request. Tells the connection's end where it ends behind the reply.
+fn exchange<C: Clock, W: Sink>(
+    alloc: Global,
+    table: &mut Plain,
+    clock: &mut C,
+    sink: &mut W,
+    trail: &mut Trail,
+    request: &Incoming,
+) -> Option<End>
+    requires requests { trail.old.requests < request_limit }
+    requires stops { length trail.old.stops < stop_limit }
+    ensures exchange { Exchanges C.gives table.old.limit request.now table.old.journal table.new.journal clock.old clock.new trail.old trail.new
+        (W.written sink.old) (W.written sink.new) result }
+    ensures legal { IsLegal table.new.journal }
+    ensures limit { table.new.limit ≡ table.old.limit }
+    ensures cause { result ≡ Some End.WriteFault → W.faults sink.old < W.faults sink.new }
+    ensures no_read_fault { result ≢ Some End.ReadFault }
+    ensures no_fall { W.faults sink.old ≤ W.faults sink.new }
+{
+    let reply = answer(alloc, table, clock, trail, request);
+    trail.count_request();
+    let memory = reply.is_out_of_memory();
+    let _ = table.entries();
+    let close = closes(memory, request.close, trail.is_full());
+    respond(sink, &reply, close, end_behind(memory, request.close))
+}
+
+/// Whether a connection is closed behind a reply.
+fn closes(memory: bool, close: bool, full: bool) -> bool
+    ensures { result ≡ (memory || close || full) }
+{
+    memory || close || full
+}
+
+/// How a connection ends behind a reply that closes it.
+fn end_behind(memory: bool, close: bool) -> End
+    ensures { result ≡ (if memory then End.Memory else (if close then End.Closed else End.Limit)) }
+{
+    if memory {
+        End::Memory
+    } else if close {
+        End::Closed
+    } else {
+        End::Limit
+    }
+}
+
+/// Writes a reply. Tells the connection's end where it ends behind it.
+fn respond<W: Sink>(sink: &mut W, reply: &Reply, close: bool, end: End) -> Option<End>
+    requires status { IsSome (replies.reason_of reply.now.status) }
+    requires no_fault { (end ≢ End.WriteFault) × (end ≢ End.ReadFault) }
+    ensures replies { Replies result end (reply_of reply.now) close (W.written sink.old) (W.written sink.new) }
+    ensures cause { result ≡ Some End.WriteFault → W.faults sink.old < W.faults sink.new }
+    ensures no_read_fault { result ≢ Some End.ReadFault }
+    ensures no_fall { W.faults sink.old ≤ W.faults sink.new }
+{
+    match write_reply(sink, reply.status, reply.body.as_str().as_bytes(), close) {
+        Err(_) => Some(End::WriteFault),
+        Ok(()) if close => Some(end),
+        Ok(()) => None,
+    }
+}
+
+/// Ends a connection of which no request more is read, with the reply that says why, where there is one.
+fn end_with<W: Sink>(sink: &mut W, end: MessageEnd) -> End
+    ensures ends { EndsWriting result (end_of (last_of end)) (last_text [] (last_of end)) (W.written sink.old) (W.written sink.new) }
+    ensures cause { result ≡ End.WriteFault → W.faults sink.old < W.faults sink.new }
+    ensures no_fall { W.faults sink.old ≤ W.faults sink.new }
+{
+    match end {
+        MessageEnd::Done => End::Done,
+        MessageEnd::Cut => End::Cut,
+        MessageEnd::ReadFault => End::ReadFault,
+        MessageEnd::BadHead => last_reply(sink, 400, fixed::bad_head_body(), End::BadHead),
+        MessageEnd::TooLarge => last_reply(sink, 413, fixed::too_large_body(), End::TooLarge),
+        MessageEnd::NotBuilt => last_reply(sink, 501, fixed::not_built_body(), End::BadHead),
+        MessageEnd::Memory => last_reply(sink, 503, fixed::memory_body(), End::Memory),
+    }
+}
+
+/// Writes the last reply of a connection, which then ends so.
+fn last_reply<W: Sink>(sink: &mut W, status: u16, body: &str, end: End) -> End
+    requires status { IsSome (replies.reason_of status) }
+    requires end { end ≢ End.WriteFault }
+    ensures ends { EndsWriting result end (replies.text_of (record { status = status; body = body.now }) true) (W.written sink.old) (W.written sink.new) }
+    ensures cause { result ≡ End.WriteFault → W.faults sink.old < W.faults sink.new }
+    ensures no_fall { W.faults sink.old ≤ W.faults sink.new }
+{
+    match write_reply(sink, status, body.as_bytes(), true) {
+        Ok(()) => end,
+        Err(_) => End::WriteFault,
+    }
+}

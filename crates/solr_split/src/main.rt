@@ -6,6 +6,8 @@
 #![tactic(auto)]
 
 mod run;
+#[cfg(test)]
+mod tests;
 mod words;
 
 pub use run::run;

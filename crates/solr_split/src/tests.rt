@@ -226,16 +226,31 @@ fn the_clock_is_that_of_the_words_or_the_one_handed_in(rt: HostRuntime) -> Resul
 fn each_read_and_each_write_that_fails_ends_the_run(rt: HostRuntime) -> Result<(), Fail> {
     let asked = ["script", "--clock", "1000"];
     let (whole, _) = script(rt.alloc(), &[ADD, GET], 7)?;
-    for call in 0..20 {
+    // 165 bytes in pieces of seven, and the read that finds their end
+    for call in 0..30 {
         let (written, status) = ran(rt.alloc(), &asked, &[ADD, GET], 7, &[call], &[])?;
+        let expected = if call < 25 { 4 } else { 0 };
         assert!(rt; whole.as_slice().starts_with(written.as_slice()), "{call}");
-        assert!(rt; status == 4, "{call}: {status}");
+        assert!(rt; status == expected, "{call}: {status}");
     }
-    for call in 0..2 {
+    // a head and a body for each answer
+    for call in 0..8 {
         let (written, status) = ran(rt.alloc(), &asked, &[ADD, GET], 7, &[], &[call])?;
+        let expected = if call < 4 { 5 } else { 0 };
         assert!(rt; whole.as_slice().starts_with(written.as_slice()), "{call}");
-        assert!(rt; status == 5, "{call}: {status}");
+        assert!(rt; status == expected, "{call}: {status}");
     }
+    Ok(())
+}
+
+#[test]
+fn a_connection_takes_a_thousand_requests(rt: HostRuntime) -> Result<(), Fail> {
+    let last =
+        "HTTP/1.1 200 OK\r\nContent-Type: application/json;charset=utf-8\r\nContent-Length: 12\r\nConnection: close\r\n\r\n{\"doc\":null}";
+    let (written, status) = script(rt.alloc(), &[GET_MISSING; 1001], 65_536)?;
+    assert!(rt; written.as_slice().len() == 999 * MISSING.len() + last.len());
+    assert!(rt; written.as_slice().ends_with(last.as_bytes()));
+    assert!(rt; status == 0);
     Ok(())
 }
 

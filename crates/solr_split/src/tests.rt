@@ -2,9 +2,12 @@ ghost use Rattle.std.specs.Prelude.{◌<◌};
 
 use crate::run;
 use sc_io::{Fixed, MemSink, MemSource};
+use sc_model::End;
 use sc_record::List;
+use sc_session::{Plain, Trail, serve};
 use std::alloc::{AllocError, Global};
 use std::process::Abort;
+use std::str;
 use std::test::Fail;
 
 const ADD: &str =
@@ -311,5 +314,52 @@ fn a_body_that_is_no_array_of_documents_is_refused(rt: HostRuntime) -> Result<()
     for (request, answer) in cases {
         expect(&rt, rt.alloc(), &[request, ADD], &[answer, ADDED], 0)?;
     }
+    Ok(())
+}
+
+#[test]
+fn an_update_of_a_full_journal_is_refused(rt: HostRuntime) -> Result<(), Fail> {
+    // sixteen entries are eight documents; the update that finds no room shows what it added before
+    let update =
+        "POST /solr/docs/update?versions=true HTTP/1.1\r\nHost: a\r\nContent-Length: 45\r\n\r\n[{\"id\":\"a\"},{\"id\":\"b\"},{\"id\":\"c\"},{\"id\":\"d\"}]";
+    let last =
+        "POST /solr/docs/update?versions=true HTTP/1.1\r\nHost: a\r\nContent-Length: 12\r\n\r\n[{\"id\":\"e\"}]";
+    let mut bytes = Vec::new(rt.alloc());
+    for piece in [update, last, update, update] {
+        bytes.extend_from_slice(piece.as_bytes())?;
+    }
+    let mut source = MemSource::new(List::from_vec(bytes), 7, list(rt.alloc(), &[])?);
+    let mut sink = MemSink::new(rt.alloc(), list(rt.alloc(), &[])?);
+    let mut table = Plain::new(rt.alloc(), 16)?;
+    let mut trail = Trail::new(rt.alloc())?;
+    let end = serve(
+        rt.alloc(),
+        &mut table,
+        &mut Fixed { moment: 1000 },
+        &mut source,
+        &mut sink,
+        &mut trail,
+    );
+    assert!(rt; end == End::Done);
+    assert!(rt; table.entries() == 16);
+    // two stops for each of the eight documents, and one for each of the two that found no room
+    assert!(rt; trail.stops().len() == 18);
+    let text = str::from_utf8(sink.bytes.as_slice())?;
+    assert!(rt;
+        text.contains("HTTP/1.1 507 Insufficient Storage\r\n"),
+        "{text}"
+    );
+    assert!(rt;
+        text.contains(
+            "\r\n\r\n{\"adds\":[\"a\",1048576005,\"b\",1048576006,\"c\",1048576007],\"error\":{\"code\":507,\"msg\":\"update log is full\"},\"responseHeader\":{\"QTime\":0,\"status\":507}}HTTP/1.1 507"
+        ),
+        "{text}"
+    );
+    assert!(rt;
+        text.ends_with(
+            "\r\n\r\n{\"error\":{\"code\":507,\"msg\":\"update log is full\"},\"responseHeader\":{\"QTime\":0,\"status\":507}}"
+        ),
+        "{text}"
+    );
     Ok(())
 }

@@ -1,4 +1,5 @@
-//! What the collection keeps and hands on: ids, documents of typed fields, versioned writes, and the entries of a journal.
+//! What the collection keeps and hands on: ids, documents of typed fields, versioned writes, the
+//! entries of a journal, and the names of slices and cores.
 //!
 //! It may stand on `std` and `thiserror` alone, and does no input and no output. The layers above
 //! read a `Doc` as its fields with `IsDocument`, tell a field's kind by `kind_of`, show a write's
@@ -24,6 +25,9 @@ mod write;
 // The numbers that order the writes.
 mod version;
 
+// The parts of the collection that a split changes.
+mod slice;
+
 // What a journal is made of.
 mod entry;
 
@@ -32,6 +36,7 @@ pub use entry::Entry;
 pub use id::{Id, IdFault, MAX_ID_LENGTH};
 pub use kind::{MAX_NAME_LENGTH, kind_of};
 pub use list::List;
+pub use slice::{CoreId, SliceId, SubSlice};
 pub use text::Text;
 pub use value::{Kind, Value};
 pub use version::{found, next_version};

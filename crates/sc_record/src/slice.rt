@@ -1,0 +1,30 @@
+ghost use Rattle.std.specs.Prelude.{◌<◌, ◌≤ℤ◌};
+
+use crate::text::Text;
+
+/// Names a slice of the collection. Ids are counted up, and one that was given to a slice is not given to a later one.
+#[derive(Clone, Copy, Debug, PartialEq, Eq)]
+pub struct SliceId(pub u32);
+
+/// Names a core: a replica of a slice, counted from 1. Replica 1 leads.
+#[derive(Clone, Copy, Debug, PartialEq, Eq)]
+pub struct CoreId {
+    pub slice: SliceId,
+    pub replica: u8,
+    pub ghost counted: { 0 < replica },
+}
+
+/// A slice that a split makes out of a part of its parent: the hashes from `min` to `max`, both included, on as many
+/// replicas as the parent has. `node` is that of replica 1; nodes are counted from 1.
+#[derive(Debug, Drop)]
+pub struct SubSlice {
+    pub id: SliceId,
+    pub name: Text,
+    pub min: i32,
+    pub max: i32,
+    pub replicas: u8,
+    pub node: u32,
+    pub ghost ordered: { min ≤ℤ max },
+    pub ghost replicated: { 0 < replicas },
+    pub ghost placed: { 0 < node },
+}

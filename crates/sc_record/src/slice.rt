@@ -2,7 +2,7 @@ ghost use Rattle.std.specs.Prelude.{◌<◌, ◌≤ℤ◌};
 
 use crate::text::Text;
 
-/// Names a slice of the collection. Ids are counted up, and one that was given to a slice is not given to a later one.
+/// Names a slice of the collection. Ids are counted up, and that of a slice that was ever active is given to no other.
 #[derive(Clone, Copy, Debug, PartialEq, Eq)]
 pub struct SliceId(pub u32);
 

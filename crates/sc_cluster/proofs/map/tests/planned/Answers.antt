@@ -1,0 +1,10 @@
+use Rattle.std.proofs.Common.{map, sym, subst}
+use Rattle.sc_hash.specs.declared.range.Range.{Range}
+use Rattle.sc_cluster.specs.Tiles.{bounds, Tiles}
+use Rattle.sc_cluster.proofs.map.tests.planned.Goals as goal
+
+pub plan-requires-clause-parent : goal.plan-requires-clause-parent
+plan-requires-clause-parent g c =
+    let found = c.in_ok-parent.ensures in
+    let tile = subst (λ (range : Range). Tiles (map bounds c.in_ok-ranges.ranges) range.min range.max) (sym found.3) c.in_ok-ranges.ensures.tiles in
+    (found.0, record { there = found.1; named = found.2; active = found.4; tile = tile })

@@ -1,0 +1,7 @@
+pub mod Cut
+pub mod Tiles
+pub mod Slices
+pub mod Map
+pub mod Plans
+pub mod Changes
+pub mod Histories

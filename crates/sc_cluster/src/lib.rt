@@ -1,0 +1,33 @@
+//! Which slices the collection has, which hashes each of them has, and how a split changes them. It stands on
+//! `sc_hash` and `sc_record`, and does no input and no output.
+//! The layers above cut a range by `cut`, find the slice that leads a hash by `ClusterMap::leads`, and change a map by
+//! `begin`, `recovering`, `switched`, `failed` and `dropped`, each of which is one step of `after`, the definition
+//! that the entries of a journal go by too. Whatever was done to it, a map is what `IsMap` says: its active slices
+//! share out all hashes, and at most one of them is being split.
+#![tactic(auto)]
+
+// A range and its parts.
+mod parts;
+
+// A slice, and what it and its cores are called.
+mod name;
+mod slice;
+
+// The slices of a new collection, those that a split is to make, and the map of all.
+mod first;
+mod map;
+mod plan;
+mod state;
+
+// What follows from the definitions.
+mod laws;
+
+pub use laws::changes_keep_a_map;
+pub use map::ClusterMap;
+pub use name::core_name;
+pub use parts::{CutFault, cut};
+pub use plan::SplitPlan;
+pub use slice::{Slice, State};
+
+#[cfg(test)]
+mod tests;

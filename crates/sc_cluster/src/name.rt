@@ -1,0 +1,29 @@
+//! What slices and cores are called.
+
+ghost use Rattle.std.specs.Prelude.{◌≡◌, IfOk};
+ghost use Rattle.sc_cluster.specs.Slices.{first_name, sub_name, core_name};
+
+use sc_record::Text;
+use std::alloc::{AllocError, Global};
+
+/// The name of slice i, from 1, of a new collection: `shard1`.
+pub(crate) fn first_name(alloc: Global, i: u32) -> Result<Text, AllocError>
+    ensures { IfOk result (λ name. name ≡ first_name i) }
+{
+    Ok(Text::from_string(format!(in alloc; "shard{i}")?))
+}
+
+/// The name of a slice's sub i, from 0: `shard1_0`.
+pub(crate) fn sub_name(alloc: Global, parent: &str, i: usize) -> Result<Text, AllocError>
+    ensures { IfOk result (λ name. name ≡ sub_name parent.now i) }
+{
+    Ok(Text::from_string(format!(in alloc; "{parent}_{i}")?))
+}
+
+/// The name of the core that is a slice's replica, counted from 1, as Solr names the cores of the collection `docs`:
+/// `docs_shard1_replica_n1`.
+pub fn core_name(alloc: Global, slice: &str, replica: u8) -> Result<Text, AllocError>
+    ensures { IfOk result (λ name. name ≡ core_name slice.now replica) }
+{
+    Ok(Text::from_string(format!(in alloc; "docs_{slice}_replica_n{replica}")?))
+}

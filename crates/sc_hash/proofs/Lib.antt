@@ -1,3 +1,4 @@
 pub mod Cuts
+pub mod Written
 pub mod Words
 pub mod Ranges

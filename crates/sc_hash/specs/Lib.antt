@@ -1,2 +1,3 @@
 pub mod Hash
+pub mod Hasher
 pub mod Range

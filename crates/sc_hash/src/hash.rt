@@ -5,7 +5,7 @@ ghost use Rattle.sc_hash.specs.Hash.{word_mix, after_word, after_text, final_mix
 
 // What a word adds to the hash.
 #[tactic(auto, unfolding(crate::specs::Hash::word_mix))]
-fn word_mix(word: u32) -> u32
+pub(crate) fn word_mix(word: u32) -> u32
     ensures { result ≡ word_mix word }
 {
     word.wrapping_mul(0xcc9e_2d51)
@@ -14,7 +14,7 @@ fn word_mix(word: u32) -> u32
 }
 
 #[tactic(auto, unfolding(crate::specs::Hash::after_word))]
-fn after_word(hash: u32, word: u32) -> u32
+pub(crate) fn after_word(hash: u32, word: u32) -> u32
     ensures { result ≡ after_word hash word }
 {
     (hash ^ word_mix(word))
@@ -38,7 +38,7 @@ fn after_rest(hash: u32, rest: &[u8]) -> u32
 }
 
 #[tactic(auto, unfolding(crate::specs::Hash::final_mix))]
-fn final_mix(mut hash: u32) -> u32
+pub(crate) fn final_mix(mut hash: u32) -> u32
     ensures { result ≡ final_mix hash }
 {
     hash ^= hash >> 16;

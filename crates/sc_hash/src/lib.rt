@@ -5,10 +5,12 @@
 #![tactic(auto)]
 
 mod hash;
+mod hasher;
 mod range;
 mod text;
 
 pub use hash::murmur3;
+pub use hasher::Hasher;
 pub use range::Range;
 pub use text::{parse_range, range_text};
 

@@ -1,0 +1,112 @@
+-- What a hasher keeps of a text, when one more byte comes and when the text is over.
+use Rattle.std.proofs.Common.{◌≡◌, ◌≢◌, ℕ, zero, suc, ◌+◌, ◌*◌, ◌/◌, ◌%◌, ◌^◌, ◌<◌, List, [], ◌∷◌, ◌++◌, length, take, drop, refl, sym, ap, ◌∙◌, arith, bit_xor, length-append, append_assoc, subst, ◌≤◌, lit<}
+use Rattle.std.proofs.lemmas.List.{take-append-le, drop-append-le, take-append-drop, take_all, length-take-le, length-drop}
+use Rattle.std.proofs.Math.ListN.{drop_of_length-le}
+use Rattle.std.proofs.Math.Nat.{pow-le-pow_right}
+use Rattle.std.proofs.lemmas.Nat.{mul-add-lt, pow-add}
+use Rattle.std.specs.Int.{w32, from_le_bytes}
+use Rattle.std.specs.Int.Bits.{xor_zero_r}
+use Rattle.sc_hash.specs.Hash.{word_mix, after_word, after_text}
+use Rattle.sc_hash.specs.Hasher.{word_bytes}
+
+-- whole words are read before what follows them
+after_text-append : (n hash : ℕ) (words text : List ℕ) → length words ≡ 4 * n → after_text hash (words ++ text) ≡ after_text (after_text hash words) text
+unfolding after_text
+after_text-append zero hash [] text e = refl
+after_text-append zero hash (a ∷ words) text e = absurd (omega arith)
+after_text-append (suc n) hash [] text e = absurd (omega arith)
+after_text-append (suc n) hash (a ∷ []) text e = absurd (omega arith)
+after_text-append (suc n) hash (a ∷ b ∷ []) text e = absurd (omega arith)
+after_text-append (suc n) hash (a ∷ b ∷ c ∷ []) text e = absurd (omega arith)
+after_text-append (suc n) hash (a ∷ b ∷ c ∷ d ∷ words) text e = after_text-append n (after_word hash (from_le_bytes w32 (a ∷ b ∷ c ∷ d ∷ []))) words text (omega arith)
+
+-- a text by its whole words and what waits behind them
+length-words : (text : List ℕ) → length (take (word_bytes text) text) ≡ 4 * (length text / 4)
+length-words text = length-take-le (word_bytes text) text (omega arith) ∙ omega arith
+
+length-waiting : (text : List ℕ) → length (drop (word_bytes text) text) ≡ length text % 4
+length-waiting text = omega (arith, length-drop (word_bytes text) text)
+
+after_text-words : (hash : ℕ) (text more : List ℕ) → after_text hash (text ++ more) ≡ after_text (after_text hash (take (word_bytes text) text)) (drop (word_bytes text) text ++ more)
+after_text-words hash text more =
+    let words = take (word_bytes text) text in
+    let waiting = drop (word_bytes text) text in
+    ap (λ t. after_text hash (t ++ more)) (sym (take-append-drop (word_bytes text) text))
+    ∙ ap (after_text hash) (append_assoc words waiting more)
+    ∙ after_text-append (length text / 4) hash words (waiting ++ more) (length-words text)
+
+-- the number of a few bytes with one more behind them
+from_le_bytes-push : (bytes : List ℕ) (byte : ℕ) → length bytes < 4 → from_le_bytes w32 (bytes ++ byte ∷ []) ≡ from_le_bytes w32 bytes + byte * 2 ^ (8 * length bytes)
+from_le_bytes-push [] byte h = omega arith
+from_le_bytes-push (a ∷ []) byte h = omega arith
+from_le_bytes-push (a ∷ b ∷ []) byte h = omega arith
+from_le_bytes-push (a ∷ b ∷ c ∷ []) byte h = omega arith
+from_le_bytes-push (a ∷ b ∷ c ∷ d ∷ bytes) byte h = absurd (omega arith)
+
+-- the word of the bytes that wait, with one more byte above them
+pub waiting-push : (word byte place : ℕ) (text : List ℕ) → word ≡ from_le_bytes w32 (drop (word_bytes text) text) → place ≡ length text % 4 → word + byte * 2 ^ (8 * place) ≡ from_le_bytes w32 (drop (word_bytes text) text ++ byte ∷ [])
+waiting-push word byte place text e at =
+    let waiting = drop (word_bytes text) text in
+    ap (λ n. n + byte * 2 ^ (8 * place)) e
+    ∙ ap (λ n. from_le_bytes w32 waiting + byte * 2 ^ (8 * n)) (at ∙ sym (length-waiting text))
+    ∙ sym (from_le_bytes-push waiting byte (omega (arith, length-waiting text)))
+
+-- a byte above a word
+pub push_below : (word byte place : ℕ) → byte < 2 ^ 8 → word < 2 ^ (8 * place) → byte * 2 ^ (8 * place) + word < 2 ^ (8 * (place + 1))
+push_below word byte place p q =
+    let all : 8 + 8 * place ≡ 8 * (place + 1) = omega arith in
+    subst (λ n. byte * 2 ^ (8 * place) + word < 2 ^ n) all (omega (arith, mul-add-lt byte (2 ^ (8 * place)) word (2 ^ 8) p q, pow-add 2 8 (8 * place)))
+
+pub push_fits : (place : ℕ) → place < 4 → 2 ^ (8 * (place + 1)) ≤ 2 ^ 32
+push_fits place h = let most : 8 * (place + 1) ≤ 32 = omega arith in pow-le-pow_right (lit< tt) most
+
+-- one more byte that fills no word waits behind the others
+module _ (text : List ℕ) (byte : ℕ) (open_word : length text % 4 ≢ 3) where
+  same_bytes : word_bytes (text ++ byte ∷ []) ≡ word_bytes text
+  same_bytes = omega (arith, length-append text (byte ∷ []))
+
+  pub words-push_waits : take (word_bytes (text ++ byte ∷ [])) (text ++ byte ∷ []) ≡ take (word_bytes text) text
+  words-push_waits = ap (λ n. take n (text ++ byte ∷ [])) same_bytes ∙ take-append-le (word_bytes text) text (byte ∷ []) (omega arith)
+
+  pub waiting-push_waits : drop (word_bytes (text ++ byte ∷ [])) (text ++ byte ∷ []) ≡ drop (word_bytes text) text ++ byte ∷ []
+  waiting-push_waits = ap (λ n. drop n (text ++ byte ∷ [])) same_bytes ∙ drop-append-le (word_bytes text) text (byte ∷ []) (omega arith)
+
+-- three bytes and one more are a word
+after_text-one_word : (hash byte : ℕ) (waiting : List ℕ) → length waiting ≡ 3 → after_text hash (waiting ++ byte ∷ []) ≡ after_word hash (from_le_bytes w32 (waiting ++ byte ∷ []))
+unfolding after_text
+after_text-one_word hash byte [] h = absurd (omega arith)
+after_text-one_word hash byte (a ∷ []) h = absurd (omega arith)
+after_text-one_word hash byte (a ∷ b ∷ []) h = absurd (omega arith)
+after_text-one_word hash byte (a ∷ b ∷ c ∷ []) h = refl
+after_text-one_word hash byte (a ∷ b ∷ c ∷ d ∷ waiting) h = absurd (omega arith)
+
+-- one that fills a word leaves nothing waiting
+module _ (text : List ℕ) (byte : ℕ) (full_word : length text % 4 ≡ 3) where
+  all_bytes : length (text ++ byte ∷ []) ≡ word_bytes (text ++ byte ∷ [])
+  all_bytes = omega (arith, length-append text (byte ∷ []))
+
+  pub waiting-push_fills : drop (word_bytes (text ++ byte ∷ [])) (text ++ byte ∷ []) ≡ []
+  waiting-push_fills = drop_of_length-le (text ++ byte ∷ []) (omega (arith, all_bytes))
+
+  pub words-push_fills : (seed : ℕ) → after_text seed (take (word_bytes (text ++ byte ∷ [])) (text ++ byte ∷ [])) ≡ after_word (after_text seed (take (word_bytes text) text)) (from_le_bytes w32 (drop (word_bytes text) text ++ byte ∷ []))
+  words-push_fills seed =
+      ap (after_text seed) (take_all _ (text ++ byte ∷ []) (omega (arith, all_bytes)))
+      ∙ after_text-words seed text (byte ∷ [])
+      ∙ after_text-one_word _ byte (drop (word_bytes text) text) (length-waiting text ∙ full_word)
+
+-- the bytes that wait are mixed in as a word with zeros above them
+after_rest : (hash : ℕ) (rest : List ℕ) → length rest < 4 → bit_xor hash (word_mix (from_le_bytes w32 rest)) ≡ after_text hash rest
+unfolding after_text word_mix
+after_rest hash [] h = xor_zero_r hash
+after_rest hash (a ∷ []) h = refl
+after_rest hash (a ∷ b ∷ []) h = refl
+after_rest hash (a ∷ b ∷ c ∷ []) h = refl
+after_rest hash (a ∷ b ∷ c ∷ d ∷ rest) h = absurd (omega arith)
+
+pub after_text-waiting : (hash : ℕ) (text : List ℕ) → bit_xor (after_text hash (take (word_bytes text) text)) (word_mix (from_le_bytes w32 (drop (word_bytes text) text))) ≡ after_text hash text
+after_text-waiting hash text =
+    let words = take (word_bytes text) text in
+    let waiting = drop (word_bytes text) text in
+    after_rest (after_text hash words) waiting (omega (arith, length-waiting text))
+    ∙ sym (after_text-append (length text / 4) hash words waiting (length-words text))
+    ∙ ap (after_text hash) (take-append-drop (word_bytes text) text)

@@ -1,0 +1,63 @@
+//! MurmurHash3 x86_32 of bytes that come one by one.
+
+ghost use Rattle.std.specs.Prelude.{◌≡◌, ℕ, ◌+◌, ◌*◌, ◌%◌, ◌^◌, ◌<◌, List, [], ◌∷◌, ◌++◌, length};
+
+use crate::hash::{after_word, final_mix, word_mix};
+
+/// What is known of the bytes that were written: the hash after their whole words of four, the word of the
+/// at most three bytes that wait behind these, and how many bytes there were.
+#[derive(Clone, Copy)]
+pub struct Hasher {
+    hash: u32,
+    word: u32,
+    length: u32,
+    ghost waiting: { word < 2 ^ (8 * (length % 4)) },
+}
+
+// A word with one more byte above the others that it has.
+fn with_byte(word: u32, place: u32, byte: u8) -> u32
+    requires place { place < 4 }
+    requires below { word < 2 ^ (8 * place) }
+    ensures value { result ≡ word + byte * 2 ^ (8 * place) }
+    ensures below { result < 2 ^ (8 * (place + 1)) }
+{
+    word | u32::from(byte) << (8 * place)
+}
+
+impl Hasher {
+    ghost use Rattle.sc_hash.specs.Hash.{murmur3};
+    ghost use Rattle.sc_hash.specs.Hasher.{HasRead};
+
+    pub fn new(seed: u32) -> Hasher
+        ensures { HasRead result seed [] }
+    {
+        Hasher {
+            hash: seed,
+            word: 0,
+            length: 0,
+        }
+    }
+
+    pub fn write(&mut self, byte: u8)
+        ensures { (seed : ℕ) (text : List ℕ) → HasRead self.old seed text
+            → HasRead self.new seed (text ++ byte ∷ []) }
+    {
+        let place = self.length % 4;
+        let word = with_byte(self.word, place, byte);
+        self.length = self.length.wrapping_add(1);
+        if place == 3 {
+            self.hash = after_word(self.hash, word);
+            self.word = 0;
+        } else {
+            self.word = word;
+        }
+    }
+
+    /// The hash of what was written so far; more can be written behind it.
+    pub fn finish(&self) -> u32
+        ensures { (seed : ℕ) (text : List ℕ) → HasRead self.now seed text → length text < 2 ^ 32
+            → result ≡ murmur3 text seed }
+    {
+        final_mix(self.hash ^ word_mix(self.word) ^ self.length)
+    }
+}

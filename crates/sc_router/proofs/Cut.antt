@@ -1,12 +1,12 @@
 -- Laws on a text cut at a byte, and on the parts of an id.
-use Rattle.std.proofs.Common.{◌≡◌, ◌≢◌, ℕ, suc, ◌+◌, ◌-◌, ◌<◌, ◌≤◌, Bool, true, false, cond, eqb, ltb, List, [], ◌∷◌, ◌++◌, length, get_or, take, drop, refl, sym, ap, subst, ◌∙◌, arith}
-use Rattle.std.specs.Prelude.{Some, None, position, count_by, nat_eq, not, ◌&&◌}
+use Rattle.std.proofs.Common.{◌≡◌, ◌≢◌, ℕ, suc, ◌+◌, ◌-◌, ◌<◌, ◌≤◌, Bool, true, false, cond, eqb, ltb, List, [], ◌∷◌, ◌++◌, length, get_or, take, drop, refl, sym, ap, subst, ◌∙◌, arith, ◌⊎◌, inl, inr, append_assoc}
+use Rattle.std.specs.Prelude.{count_by, nat_eq, not, ◌&&◌}
 use Rattle.std.specs.List.{after_first, position_or_len, ends_with}
-use Rattle.std.proofs.lemmas.Bool.{false≢true}
+use Rattle.std.proofs.lemmas.Bool.{false≢true, cases_lt}
 use Rattle.std.proofs.lemmas.List.Sums.{sum_by-cons, sum_by-append, get_or-le-sum_by, fails_before_first, passes_at_first, split_at_first}
 use Rattle.std.proofs.lemmas.Bool.Decides.{Decides-eqb, nat_tests}
 use Rattle.std.proofs.lemmas.Slice.Eq.{ends_is}
-use Rattle.std.proofs.lemmas.List.{get_or-take, length-take}
+use Rattle.std.proofs.lemmas.List.{get_or-take, length-take, take_all, drop_more, take-append-drop}
 use Rattle.sc_hash.proofs.Cuts.{Lacks, same_cut}
 use Rattle.sc_router.specs.Parts.{before, after, occurrences, parts}
 
@@ -25,22 +25,6 @@ count-found p (x ∷ xs) h = sum_by-cons (λ y. cond (p y) 1 0) x xs ∙ by (p x
   by : (t : Bool) → cond (not t) (1 + position_or_len p xs) 0 < suc (length xs) → (position_or_len p xs < length xs → count_by p xs ≡ 1 + count_by p (after_first p xs)) → cond t 1 0 + count_by p xs ≡ 1 + count_by p (drop (cond (not t) (1 + position_or_len p xs) 0 + 1) (x ∷ xs))
   by true k rest = refl
   by false k rest = let n = position_or_len p xs in let e : (1 + n) + 1 ≡ suc (n + 1) = omega arith in rw e (omega (arith, rest (omega arith)))
-
--- what `position` says
-pub place-None : {X : Type 0} (p : X → Bool) (xs : List X) → position p xs ≡ None → count_by p xs ≡ 0
-place-None p xs h = count-none p xs (by (ltb (position_or_len p xs) (length xs)) refl h) where
-  by : (t : Bool) → ltb (position_or_len p xs) (length xs) ≡ t → cond t (Some (position_or_len p xs)) None ≡ None → length xs ≤ position_or_len p xs
-  by true e k = absurd (cc)
-  by false e k = grind (arith, nat_tests)
-
-pub place-Some : {X : Type 0} (p : X → Bool) (xs : List X) (i : ℕ) → position p xs ≡ Some i → (position_or_len p xs ≡ i) × (i < length xs)
-place-Some p xs i h = by (ltb (position_or_len p xs) (length xs)) refl h where
-  by : (t : Bool) → ltb (position_or_len p xs) (length xs) ≡ t → cond t (Some (position_or_len p xs)) None ≡ Some i → (position_or_len p xs ≡ i) × (i < length xs)
-  by true e k = let same : position_or_len p xs ≡ i = cc in let below : position_or_len p xs < length xs = grind (arith, nat_tests) in (same, omega arith)
-  by false e k = absurd (cc)
-
-pub occurrences-found : (mark i : ℕ) (text : List ℕ) → position_or_len (λ b. eqb b mark) text ≡ i → i < length text → occurrences mark text ≡ 1 + occurrences mark (after mark text)
-occurrences-found mark i text e lt = count-found (λ b. eqb b mark) text (omega arith)
 
 -- where no byte is counted there is none, and where none stands before the first
 Lacks-none : (mark : ℕ) (text : List ℕ) → occurrences mark text ≡ 0 → Lacks mark text
@@ -76,8 +60,73 @@ cut-before mark text h =
     let at : get_or text (position_or_len p text) 0 ≡ mark = (Decides-eqb _ mark).0 (passes_at_first p text 0 below) in
     split_at_first p text 0 below ∙ ap (λ b. before mark text ++ b ∷ after mark text) at
 
+-- a text has one mark more than what stands after its first
+pub occurrences-after : (mark : ℕ) (text : List ℕ) → 0 < occurrences mark text → occurrences mark text ≡ 1 + occurrences mark (after mark text)
+occurrences-after mark text h = count-found (λ b. eqb b mark) text (found-below mark text h)
+
+-- the first mark stands behind what is before it
+pub before-lt : (mark : ℕ) (text : List ℕ) → 0 < occurrences mark text → length (before mark text) < length text
+before-lt mark text h = omega (arith, length-take (position_or_len (λ b. eqb b mark) text) text, found-below mark text h)
+
+pub after-place : (mark at : ℕ) (text : List ℕ) → 0 < occurrences mark text → at ≡ length (before mark text) → drop (at + 1) text ≡ after mark text
+after-place mark at text h e =
+    let same : at ≡ position_or_len (λ b. eqb b mark) text = omega (arith, length-take (position_or_len (λ b. eqb b mark) text) text, found-below mark text h) in
+    ap (λ n. drop (n + 1) text) same
+
+-- a text without a mark is all before the first
+pub before-none : (mark : ℕ) (text : List ℕ) → occurrences mark text ≡ 0 → before mark text ≡ text
+before-none mark text h = by (cases_lt (position_or_len (λ b. eqb b mark) text) (length text)) where
+  by : (position_or_len (λ b. eqb b mark) text < length text) ⊎ (length text ≤ position_or_len (λ b. eqb b mark) text) → before mark text ≡ text
+  by (inl below) = absurd (omega (arith, count-found (λ b. eqb b mark) text below))
+  by (inr far) = take_all (position_or_len (λ b. eqb b mark) text) text far
+
+-- what is joined by a mark has it, and is cut there where the first text has none
+pub found-joined : (mark : ℕ) (xs ys : List ℕ) → 0 < occurrences mark (xs ++ mark ∷ ys)
+found-joined mark xs ys =
+    let one : eqb mark mark ≡ true = (Decides-eqb mark mark).1 refl in
+    let here : occurrences mark (mark ∷ ys) ≡ 1 + occurrences mark ys = sum_by-cons (λ b. cond (eqb b mark) 1 0) mark ys ∙ ap (λ t. cond t 1 0 + occurrences mark ys) one in
+    omega (arith, sum_by-append (λ b. cond (eqb b mark) 1 0) xs (mark ∷ ys), here)
+
+cut-joined : (mark : ℕ) (xs ys : List ℕ) → Lacks mark xs → (before mark (xs ++ mark ∷ ys) ≡ xs) × (after mark (xs ++ mark ∷ ys) ≡ ys)
+cut-joined mark xs ys none =
+    let text = xs ++ mark ∷ ys in
+    let some = found-joined mark xs ys in
+    let same = same_cut mark xs ys (before mark text) (after mark text) none (Lacks-before mark text some) (cut-before mark text some) in
+    (sym same.0, sym same.1)
+
+-- a text is cut at a mark before which it has none
+pub cut-at : (mark i : ℕ) (text : List ℕ) → i < length text → get_or text i 0 ≡ mark → occurrences mark (take i text) ≡ 0 → (before mark text ≡ take i text) × (after mark text ≡ drop (i + 1) text)
+cut-at mark i text lt at none =
+    let parts : take i text ++ mark ∷ drop (i + 1) text ≡ text = ap (λ b. take i text ++ b ∷ drop (i + 1) text) (sym at) ∙ ap (λ rest. take i text ++ rest) (sym (drop_more text i 0 lt)) ∙ take-append-drop i text in
+    let Cut : List ℕ → Type 0 = λ t. (before mark t ≡ take i text) × (after mark t ≡ drop (i + 1) text) in
+    subst Cut parts (cut-joined mark (take i text) (drop (i + 1) text) (Lacks-none mark (take i text) none))
+
+pub found-at : (mark i : ℕ) (text : List ℕ) → i < length text → get_or text i 0 ≡ mark → 0 < occurrences mark text
+found-at mark i text lt at =
+    let f : ℕ → ℕ = λ b. cond (eqb b mark) 1 0 in
+    let one : f (get_or text i 0) ≡ 1 = ap (λ t. cond t 1 0) ((Decides-eqb (get_or text i 0) mark).1 at) in
+    omega (arith, one, get_or-le-sum_by f text i 0 lt)
+
+-- one more byte behind a text
+pub occurrences-push_other : (mark byte : ℕ) (text : List ℕ) → byte ≢ mark → occurrences mark (text ++ byte ∷ []) ≡ occurrences mark text
+occurrences-push_other mark byte text other =
+    let not_one : eqb byte mark ≡ false = grind (arith, nat_tests) in
+    sum_by-append (λ b. cond (eqb b mark) 1 0) text (byte ∷ []) ∙ ap (λ t. occurrences mark text + (0 + cond t 1 0)) not_one ∙ omega arith
+
+pub occurrences-push_le : (mark byte : ℕ) (text : List ℕ) → occurrences mark text ≤ occurrences mark (text ++ byte ∷ [])
+occurrences-push_le mark byte text = omega (arith, sum_by-append (λ b. cond (eqb b mark) 1 0) text (byte ∷ []))
+
+pub before-push_first : (mark : ℕ) (text : List ℕ) → occurrences mark text ≡ 0 → before mark (text ++ mark ∷ []) ≡ text
+before-push_first mark text none = (cut-joined mark text [] (Lacks-none mark text none)).0
+
+pub before-push : (mark byte : ℕ) (text : List ℕ) → 0 < occurrences mark text → before mark (text ++ byte ∷ []) ≡ before mark text
+before-push mark byte text some =
+    ap (λ t. before mark (t ++ byte ∷ [])) (cut-before mark text some)
+    ∙ ap (before mark) (append_assoc (before mark text) (mark ∷ after mark text) (byte ∷ []))
+    ∙ (cut-joined mark (before mark text) (after mark text ++ byte ∷ []) (Lacks-before mark text some)).0
+
 -- a text of one byte that has a mark is the mark
-lone_mark : (mark : ℕ) (text : List ℕ) → 0 < occurrences mark text → length text ≡ 1 → text ≡ mark ∷ []
+pub lone_mark : (mark : ℕ) (text : List ℕ) → 0 < occurrences mark text → length text ≡ 1 → text ≡ mark ∷ []
 lone_mark mark [] h l = absurd (omega arith)
 lone_mark mark (b ∷ []) h l = ap (λ c. c ∷ []) (by (eqb b mark) refl h) where
   by : (t : Bool) → eqb b mark ≡ t → 0 < 0 + cond t 1 0 → b ≡ mark

@@ -1,4 +1,5 @@
 pub mod Cut
+pub mod Slashes
 pub mod Count
 pub mod Sum
 pub mod Block

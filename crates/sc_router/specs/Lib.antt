@@ -1,3 +1,3 @@
 pub mod Parts
 pub mod Route
-pub mod Shown
+pub mod Slash

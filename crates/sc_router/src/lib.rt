@@ -4,7 +4,7 @@
 //! name the definitions of these names at the list of the id's bytes.
 #![tactic(auto)]
 
-mod parts;
+mod part;
 mod route;
 mod share;
 

@@ -7,7 +7,7 @@ ghost use Rattle.sc_hash.specs.Range.{IsWithin};
 ghost use Rattle.sc_router.specs.Parts.{parts, shares, open_bits};
 ghost use Rattle.sc_router.specs.Route.{share_bits, route_bits, route_hash, plain_hash, bucket_of, IsBucketCount, least_under, greatest_under, HasFixedBits, IsUnder, IsOpenRoute};
 
-use crate::parts::{Parts, parts_of};
+use crate::part::{Part, first_part};
 use crate::share::{joined, key_and_count};
 use sc_hash::{Range, murmur3};
 
@@ -26,55 +26,57 @@ fn free_of(last: &[u8], given: u32) -> u32
 }
 
 // The routing of an id of two parts.
-fn routing_of_two(first: &[u8], last: &[u8]) -> Routing
-    requires first { length first.now < 2 ^ 32 }
-    requires last { length last.now < 2 ^ 32 }
-    ensures bits { result.bits ≡ sum_by share_bits (shares (first.now ∷ last.now ∷ [])) }
-    ensures free { result.free ≡ open_bits (first.now ∷ last.now ∷ []) }
+fn routing_of_two(first: &Part, last: &Part) -> Routing
+    ensures bits { result.bits ≡ sum_by share_bits (shares (first.now.text.now ∷ last.now.text.now ∷ [])) }
+    ensures free { result.free ≡ open_bits (first.now.text.now ∷ last.now.text.now ∷ []) }
     ensures most { result.free ≤ 32 }
 {
     let (key, count) = key_and_count(first, 16);
     let rest = 32 - count;
     Routing {
-        bits: joined(murmur3(key, 0), murmur3(last, 0), rest),
-        free: free_of(last, rest),
+        bits: joined(key, last.hash, rest),
+        free: free_of(last.text, rest),
     }
 }
 
 // The routing of an id of three parts, of which the second gives at most what the first leaves.
-fn routing_of_three(first: &[u8], second: &[u8], last: &[u8]) -> Routing
-    requires first { length first.now < 2 ^ 32 }
-    requires second { length second.now < 2 ^ 32 }
-    requires last { length last.now < 2 ^ 32 }
-    ensures bits { result.bits ≡ sum_by share_bits (shares (first.now ∷ second.now ∷ last.now ∷ [])) }
-    ensures free { result.free ≡ open_bits (first.now ∷ second.now ∷ last.now ∷ []) }
+fn routing_of_three(first: &Part, second: &Part, last: &[u8]) -> Routing
+    requires { length last.now < 2 ^ 32 }
+    ensures bits { result.bits
+        ≡ sum_by share_bits (shares (first.now.text.now ∷ second.now.text.now ∷ last.now ∷ [])) }
+    ensures free { result.free ≡ open_bits (first.now.text.now ∷ second.now.text.now ∷ last.now ∷ []) }
     ensures most { result.free ≤ 32 }
 {
     let (first_key, first_count) = key_and_count(first, 8);
     let (second_key, asked) = key_and_count(second, 8);
     let left = 32 - first_count;
     let rest = left - asked.min(left);
-    let lower = joined(murmur3(second_key, 0), murmur3(last, 0), rest);
+    let lower = joined(second_key, murmur3(last, 0), rest);
     Routing {
-        bits: joined(murmur3(first_key, 0), lower, left),
+        bits: joined(first_key, lower, left),
         free: free_of(last, rest),
     }
 }
 
-// The routing of an id, each of whose parts is hashed once.
+// The routing of an id. A `!!` at its end, without others before it, closes a first part like one `!`.
 fn routing_of(id: &[u8]) -> Routing
     requires { length id.now < 2 ^ 32 }
     ensures bits { result.bits ≡ route_bits id.now }
     ensures free { result.free ≡ open_bits (parts id.now) }
     ensures most { result.free ≤ 32 }
 {
-    match parts_of(id) {
-        Parts::One(key) => Routing {
-            bits: murmur3(key, 0),
+    let (first, others) = first_part(id);
+    let Some(others) = others else {
+        return Routing {
+            bits: first.hash,
             free: 0,
-        },
-        Parts::Two(first, last) => routing_of_two(first, last),
-        Parts::Three(first, second, last) => routing_of_three(first, second, last),
+        };
+    };
+    let (second, rest) = first_part(others);
+    match rest {
+        None => routing_of_two(&first, &second),
+        Some(_) if others.len() == 1 => routing_of_two(&first, &second),
+        Some(last) => routing_of_three(&first, &second, last),
     }
 }
 

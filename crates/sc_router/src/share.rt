@@ -1,9 +1,10 @@
 //! What a part before the last gives to the hash.
 
-ghost use Rattle.std.specs.Prelude.{◌≡◌, ◌≤◌, ◌*◌, ◌+◌, ◌/◌, ◌%◌, ◌^◌, length, IfSome};
+ghost use Rattle.std.specs.Prelude.{◌≡◌, ◌≤◌, ◌*◌, ◌+◌, ◌/◌, ◌%◌, ◌^◌, IfSome};
+ghost use Rattle.sc_hash.specs.Hash.{murmur3};
 ghost use Rattle.sc_router.specs.Parts.{digit_of, stated_count, key_of, bits_of};
 
-use crate::parts::cut_at;
+use crate::part::Part;
 
 // A decimal digit's value.
 fn digit_of(byte: u8) -> Option<u32>
@@ -32,23 +33,22 @@ fn stated_count(text: &[u8]) -> Option<u32>
     }
 }
 
-/// The key of a part, and the bit count that it states or else the other one.
-pub(crate) fn key_and_count(part: &[u8], unstated: u32) -> (&[u8], u32)
+/// The hash of a part's key, and the bit count that the part states or else the other one.
+pub(crate) fn key_and_count(part: &Part, unstated: u32) -> (u32, u32)
     requires { unstated ≤ 32 }
-    ensures key { result.0.now ≡ key_of part.now }
-    ensures count { result.1 ≡ bits_of unstated part.now }
+    ensures key { result.0 ≡ murmur3 (key_of part.now.text.now) 0 }
+    ensures count { result.1 ≡ bits_of unstated part.now.text.now }
     ensures most { result.1 ≤ 32 }
-    ensures length { length result.0.now ≤ length part.now }
 {
-    let Some((key, count)) = cut_at(part, b'/') else {
-        return (part, unstated);
+    let Some(slash) = part.slash else {
+        return (part.hash, unstated);
     };
-    if key.is_empty() {
-        return (part, unstated);
+    if slash.at == 0 {
+        return (part.hash, unstated);
     }
-    match stated_count(count) {
-        Some(count) => (key, count),
-        None => (part, unstated),
+    match stated_count(&part.text[slash.at + 1..]) {
+        Some(count) => (slash.hash, count),
+        None => (part.hash, unstated),
     }
 }
 

@@ -1,5 +1,5 @@
 -- What a hasher keeps of a text, when one more byte comes and when the text is over.
-use Rattle.std.proofs.Common.{◌≡◌, ◌≢◌, ℕ, zero, suc, ◌+◌, ◌*◌, ◌/◌, ◌%◌, ◌^◌, ◌<◌, List, [], ◌∷◌, ◌++◌, length, take, drop, refl, sym, ap, ◌∙◌, arith, bit_xor, length-append, append_assoc, subst, ◌≤◌, lit<}
+use Rattle.std.proofs.Common.{◌≡◌, ◌≢◌, ℕ, zero, suc, ◌+◌, ◌*◌, ◌/◌, ◌%◌, ◌^◌, ◌<◌, List, [], ◌∷◌, ◌++◌, length, get_or, take, drop, refl, sym, ap, ◌∙◌, arith, bit_xor, length-append, append_assoc, subst, ◌≤◌, lit<}
 use Rattle.std.proofs.lemmas.List.{take-append-le, drop-append-le, take-append-drop, take_all, length-take-le, length-drop}
 use Rattle.std.proofs.Math.ListN.{drop_of_length-le}
 use Rattle.std.proofs.Math.Nat.{pow-le-pow_right}
@@ -71,14 +71,15 @@ module _ (text : List ℕ) (byte : ℕ) (open_word : length text % 4 ≢ 3) wher
   pub waiting-push_waits : drop (word_bytes (text ++ byte ∷ [])) (text ++ byte ∷ []) ≡ drop (word_bytes text) text ++ byte ∷ []
   waiting-push_waits = ap (λ n. drop n (text ++ byte ∷ [])) same_bytes ∙ drop-append-le (word_bytes text) text (byte ∷ []) (omega arith)
 
--- three bytes and one more are a word
-after_text-one_word : (hash byte : ℕ) (waiting : List ℕ) → length waiting ≡ 3 → after_text hash (waiting ++ byte ∷ []) ≡ after_word hash (from_le_bytes w32 (waiting ++ byte ∷ []))
+-- four bytes are a word
+after_text-word : (hash : ℕ) (bytes : List ℕ) → length bytes ≡ 4 → after_text hash bytes ≡ after_word hash (from_le_bytes w32 bytes)
 unfolding after_text
-after_text-one_word hash byte [] h = absurd (omega arith)
-after_text-one_word hash byte (a ∷ []) h = absurd (omega arith)
-after_text-one_word hash byte (a ∷ b ∷ []) h = absurd (omega arith)
-after_text-one_word hash byte (a ∷ b ∷ c ∷ []) h = refl
-after_text-one_word hash byte (a ∷ b ∷ c ∷ d ∷ waiting) h = absurd (omega arith)
+after_text-word hash [] h = absurd (omega arith)
+after_text-word hash (a ∷ []) h = absurd (omega arith)
+after_text-word hash (a ∷ b ∷ []) h = absurd (omega arith)
+after_text-word hash (a ∷ b ∷ c ∷ []) h = absurd (omega arith)
+after_text-word hash (a ∷ b ∷ c ∷ d ∷ []) h = refl
+after_text-word hash (a ∷ b ∷ c ∷ d ∷ e ∷ bytes) h = absurd (omega arith)
 
 -- one that fills a word leaves nothing waiting
 module _ (text : List ℕ) (byte : ℕ) (full_word : length text % 4 ≡ 3) where
@@ -92,7 +93,22 @@ module _ (text : List ℕ) (byte : ℕ) (full_word : length text % 4 ≡ 3) wher
   words-push_fills seed =
       ap (after_text seed) (take_all _ (text ++ byte ∷ []) (omega (arith, all_bytes)))
       ∙ after_text-words seed text (byte ∷ [])
-      ∙ after_text-one_word _ byte (drop (word_bytes text) text) (length-waiting text ∙ full_word)
+      ∙ after_text-word _ (drop (word_bytes text) text ++ byte ∷ []) (omega (arith, length-append (drop (word_bytes text) text) (byte ∷ []), length-waiting text, full_word))
+
+-- a whole word behind whole words
+module _ (text bytes : List ℕ) (whole : length text % 4 ≡ 0) (four : length bytes ≡ 4) where
+  word_end : length (text ++ bytes) ≡ word_bytes (text ++ bytes)
+  word_end = omega (arith, length-append text bytes)
+
+  pub waiting-append_word : drop (word_bytes text) text ≡ drop (word_bytes (text ++ bytes)) (text ++ bytes)
+  waiting-append_word = drop_of_length-le text (omega arith) ∙ sym (drop_of_length-le (text ++ bytes) (omega (arith, word_end)))
+
+  pub words-append_word : (seed : ℕ) → after_text seed (take (word_bytes (text ++ bytes)) (text ++ bytes)) ≡ after_word (after_text seed (take (word_bytes text) text)) (from_le_bytes w32 bytes)
+  words-append_word seed =
+      ap (after_text seed) (take_all _ (text ++ bytes) (omega (arith, word_end)))
+      ∙ after_text-words seed text bytes
+      ∙ ap (λ waiting. after_text (after_text seed (take (word_bytes text) text)) (waiting ++ bytes)) (drop_of_length-le text (omega arith))
+      ∙ after_text-word _ bytes four
 
 -- the bytes that wait are mixed in as a word with zeros above them
 after_rest : (hash : ℕ) (rest : List ℕ) → length rest < 4 → bit_xor hash (word_mix (from_le_bytes w32 rest)) ≡ after_text hash rest
@@ -110,3 +126,12 @@ after_text-waiting hash text =
     after_rest (after_text hash words) waiting (omega (arith, length-waiting text))
     ∙ sym (after_text-append (length text / 4) hash words waiting (length-words text))
     ∙ ap (after_text hash) (take-append-drop (word_bytes text) text)
+
+-- four bytes one by one
+pub each_of_four : (bytes : List ℕ) → length bytes ≡ 4 → get_or bytes 0 0 ∷ get_or bytes 1 0 ∷ get_or bytes 2 0 ∷ get_or bytes 3 0 ∷ [] ≡ bytes
+each_of_four [] h = absurd (omega arith)
+each_of_four (a ∷ []) h = absurd (omega arith)
+each_of_four (a ∷ b ∷ []) h = absurd (omega arith)
+each_of_four (a ∷ b ∷ c ∷ []) h = absurd (omega arith)
+each_of_four (a ∷ b ∷ c ∷ d ∷ []) h = refl
+each_of_four (a ∷ b ∷ c ∷ d ∷ e ∷ bytes) h = absurd (omega arith)

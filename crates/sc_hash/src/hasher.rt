@@ -53,6 +53,23 @@ impl Hasher {
         }
     }
 
+    /// Writes four bytes: in one step where no other bytes wait.
+    pub fn write_word(&mut self, bytes: [u8; 4])
+        ensures { (seed : ℕ) (text : List ℕ) → HasRead self.old seed text
+            → HasRead self.new seed (text ++ bytes) }
+    {
+        if self.length % 4 == 0 {
+            self.hash = after_word(self.hash, u32::from_le_bytes(bytes));
+            self.length = self.length.wrapping_add(4);
+        } else {
+            let [a, b, c, d] = bytes;
+            self.write(a);
+            self.write(b);
+            self.write(c);
+            self.write(d);
+        }
+    }
+
     /// The hash of what was written so far; more can be written behind it.
     pub fn finish(&self) -> u32
         ensures { (seed : ℕ) (text : List ℕ) → HasRead self.now seed text → length text < 2 ^ 32

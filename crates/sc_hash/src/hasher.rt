@@ -4,8 +4,8 @@ ghost use Rattle.std.specs.Prelude.{◌≡◌, ℕ, ◌+◌, ◌*◌, ◌%◌, �
 
 use crate::hash::{after_word, final_mix, word_mix};
 
-/// What is known of the bytes that were written: the hash after their whole words of four, the word of the
-/// at most three bytes that wait behind these, and how many bytes there were.
+/// The hash of bytes that are written one by one. It keeps the hash after their whole words of four, the word
+/// of the at most three bytes that wait behind these, and how many bytes there were, as a number of 32 bits.
 #[derive(Clone, Copy)]
 pub struct Hasher {
     hash: u32,

@@ -37,7 +37,7 @@ Lacks-none mark text h i lt e =
       one_le true k le = absurd (omega arith)
       one_le false k le = false≢true k
 
-pub found-below : (mark : ℕ) (text : List ℕ) → 0 < occurrences mark text → position_or_len (λ b. eqb b mark) text < length text
+found-below : (mark : ℕ) (text : List ℕ) → 0 < occurrences mark text → position_or_len (λ b. eqb b mark) text < length text
 found-below mark text h = by (ltb (position_or_len (λ b. eqb b mark) text) (length text)) refl where
   by : (t : Bool) → ltb (position_or_len (λ b. eqb b mark) text) (length text) ≡ t → position_or_len (λ b. eqb b mark) text < length text
   by true e = grind (arith, nat_tests)

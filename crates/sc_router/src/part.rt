@@ -1,4 +1,5 @@
-//! The parts of a composite id, each read once from its front.
+//! The parts of a composite id. Each is hashed once, as it is read from its front: by words of four bytes up to
+//! the first that has `!` or `/`, and from there byte by byte.
 
 ghost use Rattle.std.specs.Prelude.{◌≡◌, ◌≢◌, ◌+◌, ◌<◌, ◌≤◌, ◌^◌, ◌↔◌, length, take, MatchOption, IsTrue, ⊤};
 ghost use Rattle.std.proofs.Props.{props};
@@ -32,7 +33,7 @@ fn is_plain(byte: u8) -> bool
     (byte != b'!') & (byte != b'/')
 }
 
-// Whether no byte of a word is `!` or `/`.
+// Whether no byte of a word is `!` or `/`. All four are tested, without a branch between them.
 fn is_plain_word(word: [u8; 4]) -> bool
     ensures { IsTrue result → (occurrences 33 word ≡ 0) × (occurrences 47 word ≡ 0) }
 {

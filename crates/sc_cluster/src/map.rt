@@ -112,7 +112,7 @@ impl ClusterMap {
     pub fn begin(&mut self, plan: &SplitPlan) -> Result<(), AllocError>
         requires { IsPlan self.old plan.now.parent plan.now.subs }
         ensures ok { OnOk result (self.new ≡ after self.old (Change.Begun plan.now.parent plan.now.subs)) }
-        ensures split { OnOk result (IsSplit self.new plan.now.parent) }
+        ensures split { OnOk result (MayChange self.new (Change.Recovering plan.now.parent)) }
         ensures err { OnErr result (self.new ≡ self.old) }
         ensures map { IsMap self.new }
     {

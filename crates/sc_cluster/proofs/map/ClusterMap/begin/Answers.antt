@@ -1,7 +1,8 @@
 use Rattle.std.proofs.Common.{◌≡◌, ◌++◌, map, OnOk, subst, sym}
 use Rattle.std.proofs.lemmas.Result.{on_ok_weaker}
-use Rattle.sc_cluster.specs.Changes.{Change, MayChange, IsSplit, begun_slice}
+use Rattle.sc_cluster.specs.Changes.{Change, MayChange, begun_slice}
 use Rattle.sc_cluster.proofs.MapAnswers.{IsMap-tried}
+use Rattle.sc_cluster.proofs.Begun.{All-forming_begun}
 use Rattle.sc_cluster.proofs.MapLemmas.{begun_is_split}
 use Rattle.sc_cluster.proofs.map.ClusterMap.begin.Goals as goal
 
@@ -18,8 +19,9 @@ returns-clause-split c =
     let old = c.self.inside.slices.items in
     let ok = subst (λ subs. OnOk c.add_subs.result (c.add_subs.new.slices.items ≡ old ++ map begun_slice subs)) c.as_slice.ensures c.add_subs.ensures.ok in
     let may = subst (λ slices. MayChange slices (Change.Begun plan.parent plan.subs)) (sym c.self.view_is) c.requires in
-    let split = begun_is_split old plan.parent plan.subs c.self.invariant may in
-    on_ok_weaker c.add_subs.result (λ begun. subst (λ slices. IsSplit slices plan.parent) (sym begun) split) ok
+    let next : MayChange (old ++ map begun_slice plan.subs) (Change.Recovering plan.parent) =
+    (begun_is_split old plan.parent plan.subs c.self.invariant may, All-forming_begun old plan.subs may.idle) in
+    on_ok_weaker c.add_subs.result (λ begun. subst (λ slices. MayChange slices (Change.Recovering plan.parent)) (sym begun) next) ok
 
 pub returns-clause-map : goal.returns-clause-map
 returns-clause-map c =

@@ -7,4 +7,6 @@ use Rattle.sc_router.specs.declared.part.Slash.{Slash}
 -- a part has no `/`, or the first one's place and the hash of what stands before it are these
 abbrev pub IsFirstSlash : Option Slash → List ℕ → Type 0
 IsFirstSlash found part =
-    MatchOption found (occurrences 47 part ≡ 0) (λ slash. (0 < occurrences 47 part) × (slash.at ≡ length (before 47 part)) × (slash.hash ≡ murmur3 (before 47 part) 0))
+    let key = before 47 part in
+    MatchOption found (occurrences 47 part ≡ 0)
+    (λ slash. (0 < occurrences 47 part) × (slash.at ≡ length key) × (slash.hash ≡ murmur3 key 0))

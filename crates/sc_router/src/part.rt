@@ -1,5 +1,5 @@
-//! The parts of a composite id. Each is hashed once, as it is read from its front: by words of four bytes up to
-//! the first that has `!` or `/`, and from there byte by byte.
+//! The parts of a composite id. Each is hashed once, as it is read from its front: by words of four bytes up
+//! to the first that has `!` or `/`, and from there byte by byte.
 
 ghost use Rattle.std.specs.Prelude.{◌≡◌, ◌≢◌, ◌+◌, ◌<◌, ◌≤◌, ◌^◌, ◌↔◌, length, take, MatchOption, IsTrue, ⊤};
 ghost use Rattle.std.proofs.Props.{props};

@@ -81,17 +81,6 @@ pub values_none : {X : Type 0} (name : List ℕ) (h : X → List ℕ × List ℕ
     → values_in name (map h xs) ≡ []
 values_none name h xs none = values_in-map name h xs ∙ ap (map (λ x. (h x).1)) (filter_none (λ x. is_named name (h x)) xs none)
 
--- whether a value of a name passes a test, line by line
-pub any_value : {X : Type 0} (name : List ℕ) (p : List ℕ → Bool) (h : X → List ℕ × List ℕ) (xs : List X)
-    → list_any p (values_in name (map h xs)) ≡ list_any (λ x. is_named name (h x) && p (h x).1) xs
-any_value name p h [] = refl
-any_value {X} name p h (x ∷ xs) = by_name (any_value name p h xs) (is_named name (h x)) refl
-  where
-    by_name : list_any p (values_in name (map h xs)) ≡ list_any (λ y. is_named name (h y) && p (h y).1) xs → (b : Bool) → is_named name (h x) ≡ b
-        → list_any p (values_in name (map h (x ∷ xs))) ≡ list_any (λ y. is_named name (h y) && p (h y).1) (x ∷ xs)
-    by_name later true e = rw (e, later) refl
-    by_name later false e = rw (e, later) refl
-
 -- what a first value states, by whether it is a number, it is too great, and others follow
 abbrev stated : Bool → Bool → Bool → ℕ → Result ℕ LengthFault
 stated digits great others number =

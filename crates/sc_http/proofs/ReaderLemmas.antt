@@ -126,14 +126,6 @@ head_unfinished left before (Some bytes) new given none =
     subst (λ (o : Option (List ℕ)). IfSome o (λ more. TookNoMessage (before ++ bytes) more)) (sym given.gives.left)
     (left, whole_is left before given.piece bytes given.gives.more given.whole given.gives.whole, none)
 
--- where no head was read, nothing was given out
-pub head_order : (left before : List ℕ) (old new : Option (List ℕ)) → GivesOut [] left before old new
-    → IfSome old (λ bytes. IfSome new (λ more. IsBehind (before ++ bytes) (left ++ more)))
-head_order left before None new given = tt
-head_order left before (Some bytes) new given =
-    subst (λ (o : Option (List ℕ)). IfSome o (λ more. IsBehind (before ++ bytes) (left ++ more))) (sym given.gives.left)
-    ([], whole_is left before given.piece bytes given.gives.more given.whole given.gives.whole)
-
 -- where no body was read, a front was given out
 pub body_order : (size : ℕ) (left before rest : List ℕ) (old mid new : Option (List ℕ)) → GivesOut [] left before old mid
     → IsBehindGiven rest (drop size left) mid new → IfSome old (λ bytes. IfSome new (λ more. IsBehind (before ++ bytes) (rest ++ more)))

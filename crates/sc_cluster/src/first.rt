@@ -1,6 +1,6 @@
 //! The slices of a new collection.
 
-ghost use Rattle.std.specs.Prelude.{◌≡◌, ◌≤◌, ◌<◌, IfOk};
+ghost use Rattle.std.specs.Prelude.{◌≤◌, ◌<◌, IfOk};
 ghost use Rattle.sc_cluster.specs.Map.{IsFirst, AreFirst};
 
 use crate::name::first_name;

@@ -34,7 +34,6 @@ impl Model for ClusterMap {
 }
 
 impl ClusterMap {
-    ghost use Rattle.sc_record.specs.declared.slice.SubSlice.{SubSlice};
     ghost use Rattle.sc_cluster.specs.declared.slice.Slice.{Slice};
     ghost use Rattle.sc_cluster.specs.Slices.{forming, greatest_id};
     ghost use Rattle.sc_cluster.specs.Map.{IsMap, Leads, AreFirst};

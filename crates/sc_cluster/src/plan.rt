@@ -1,6 +1,6 @@
 //! What a split is to make.
 
-ghost use Rattle.std.specs.Prelude.{◌≡◌, ◌≤◌, ◌<◌, ◌+◌, ◌^◌, ℕ, Some, slice_get, length, map, IfOk, OnOk, OnErr, Contains, ◌++◌, take, vec_len};
+ghost use Rattle.std.specs.Prelude.{◌≡◌, ◌<◌, ◌+◌, ◌^◌, ℕ, Some, slice_get, length, map, IfOk, OnOk, OnErr, ◌++◌, take, vec_len};
 ghost use Rattle.sc_record.specs.declared.slice.SubSlice.{SubSlice};
 ghost use Rattle.sc_cluster.specs.Tiles.{bounds};
 ghost use Rattle.sc_cluster.specs.Slices.{greatest_id};

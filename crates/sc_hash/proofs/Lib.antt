@@ -1,4 +1,4 @@
-pub mod Cuts
-pub mod Written
-pub mod Words
-pub mod Ranges
+pub mod CutLemmas
+pub mod HasherLemmas
+pub mod WordLemmas
+pub mod RangeLemmas

@@ -1,3 +1,4 @@
 pub mod Hash
 pub mod Hasher
 pub mod Range
+pub mod Bounds

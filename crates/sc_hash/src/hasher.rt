@@ -1,17 +1,29 @@
 //! MurmurHash3 x86_32 of bytes that come one by one.
 
-ghost use Rattle.std.specs.Prelude.{◌≡◌, ℕ, ◌+◌, ◌*◌, ◌%◌, ◌^◌, ◌<◌, List, [], ◌∷◌, ◌++◌, length};
+ghost use Rattle.std.specs.Prelude.{◌≡◌, ℕ, ◌+◌, ◌*◌, ◌^◌, ◌<◌, List, [], ◌∷◌, ◌++◌, length};
 
 use crate::hash::{after_word, final_mix, word_mix};
+use std::marker::Model;
 
-/// The hash of bytes that are written one by one. It keeps the hash after their whole words of four, the word
-/// of the at most three bytes that wait behind these, and how many bytes there were, as a number of 32 bits.
-#[derive(Clone, Copy)]
+/// The hash of bytes that are written one by one, which contracts see as its progress in them. It keeps the hash
+/// after their whole words of four, the word of the at most three bytes after these, and how many bytes there
+/// were, as a number of 32 bits.
+#[derive(Drop)]
 pub struct Hasher {
     hash: u32,
     word: u32,
-    length: u32,
-    ghost waiting: { word < 2 ^ (8 * (length % 4)) },
+    count: u32,
+}
+
+impl Model for Hasher {
+    ghost use Rattle.std.specs.Prelude.{◌*◌, ◌%◌, ◌^◌, ◌<◌};
+    ghost use Rattle.sc_hash.specs.Hasher.{Progress};
+
+    ghost Value = { Progress };
+
+    ghost view = { λ a. record { hash = a.hash; word = a.word; count = a.count } };
+
+    ghost invariant = { λ a. a.word < 2 ^ (8 * (a.count % 4)) };
 }
 
 // A word with one more byte above the others that it has.
@@ -26,25 +38,25 @@ fn with_byte(word: u32, place: u32, byte: u8) -> u32
 
 impl Hasher {
     ghost use Rattle.sc_hash.specs.Hash.{murmur3};
-    ghost use Rattle.sc_hash.specs.Hasher.{HasRead};
+    ghost use Rattle.sc_hash.specs.Hasher.{progress};
 
     pub fn new(seed: u32) -> Hasher
-        ensures { HasRead result seed [] }
+        ensures { result ≡ progress seed [] }
     {
         Hasher {
             hash: seed,
             word: 0,
-            length: 0,
+            count: 0,
         }
     }
 
     pub fn write(&mut self, byte: u8)
-        ensures { (seed : ℕ) (text : List ℕ) → HasRead self.old seed text
-            → HasRead self.new seed (text ++ byte ∷ []) }
+        ensures { (seed : ℕ) (text : List ℕ) → self.old ≡ progress seed text
+            → self.new ≡ progress seed (text ++ byte ∷ []) }
     {
-        let place = self.length % 4;
+        let place = self.count % 4;
         let word = with_byte(self.word, place, byte);
-        self.length = self.length.wrapping_add(1);
+        self.count = self.count.wrapping_add(1);
         if place == 3 {
             self.hash = after_word(self.hash, word);
             self.word = 0;
@@ -55,12 +67,12 @@ impl Hasher {
 
     /// Writes four bytes: in one step where no other bytes wait.
     pub fn write_word(&mut self, bytes: [u8; 4])
-        ensures { (seed : ℕ) (text : List ℕ) → HasRead self.old seed text
-            → HasRead self.new seed (text ++ bytes) }
+        ensures { (seed : ℕ) (text : List ℕ) → self.old ≡ progress seed text
+            → self.new ≡ progress seed (text ++ bytes) }
     {
-        if self.length % 4 == 0 {
+        if self.count % 4 == 0 {
             self.hash = after_word(self.hash, u32::from_le_bytes(bytes));
-            self.length = self.length.wrapping_add(4);
+            self.count = self.count.wrapping_add(4);
         } else {
             let [a, b, c, d] = bytes;
             self.write(a);
@@ -70,11 +82,11 @@ impl Hasher {
         }
     }
 
-    /// The hash of what was written so far; more can be written behind it.
+    /// The hash of what was written so far; more can be written after it.
     pub fn finish(&self) -> u32
-        ensures { (seed : ℕ) (text : List ℕ) → HasRead self.now seed text → length text < 2 ^ 32
+        ensures { (seed : ℕ) (text : List ℕ) → self.now ≡ progress seed text → length text < 2 ^ 32
             → result ≡ murmur3 text seed }
     {
-        final_mix(self.hash ^ word_mix(self.word) ^ self.length)
+        final_mix(self.hash ^ word_mix(self.word) ^ self.count)
     }
 }

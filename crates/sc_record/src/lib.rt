@@ -7,7 +7,8 @@
 //! above the clock and at least the moment's.
 #![tactic(auto)]
 
-// Texts and lists.
+// Copies, texts and lists.
+mod copy;
 mod list;
 mod text;
 
@@ -31,6 +32,7 @@ mod slice;
 // What a journal is made of.
 mod entry;
 
+pub use copy::{CloneIn, clone_items};
 pub use document::{Doc, Field};
 pub use entry::Entry;
 pub use id::{Id, IdFault, MAX_ID_LENGTH};

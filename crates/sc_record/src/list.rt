@@ -1,6 +1,7 @@
 ghost use Rattle.std.specs.Prelude.{◌≡◌, ◌↔◌, [], ◌∷◌, ◌++◌, length, IsTrue, OnOk, OnErr};
 ghost use Rattle.std.specs.Slice.Iter.{iter_rest};
 
+use crate::copy::{CloneIn, clone_items};
 use std::alloc::{AllocError, Global};
 use std::marker::Model;
 use std::slice;
@@ -77,6 +78,14 @@ impl<T> List<T> {
         ensures { iter_rest result ≡ self.now }
     {
         self.items.iter()
+    }
+}
+
+impl<T: CloneIn> CloneIn for List<T> {
+    fn clone_in(&self, alloc: Global) -> Result<List<T>, AllocError> {
+        Ok(List {
+            items: clone_items(alloc, self.items.as_slice())?,
+        })
     }
 }
 

@@ -1,6 +1,8 @@
 ghost use Rattle.std.specs.Prelude.{◌<◌, ◌≤ℤ◌};
 
+use crate::copy::CloneIn;
 use crate::text::Text;
+use std::alloc::{AllocError, Global};
 
 /// Names a slice of the collection. Ids are counted up, and that of a slice that was ever active is given to no other.
 #[derive(Clone, Copy, Debug, PartialEq, Eq)]
@@ -27,4 +29,17 @@ pub struct SubSlice {
     pub ghost ordered: { min ≤ℤ max },
     pub ghost replicated: { 0 < replicas },
     pub ghost placed: { 0 < node },
+}
+
+impl CloneIn for SubSlice {
+    fn clone_in(&self, alloc: Global) -> Result<SubSlice, AllocError> {
+        Ok(SubSlice {
+            id: self.id,
+            name: self.name.clone_in(alloc)?,
+            min: self.min,
+            max: self.max,
+            replicas: self.replicas,
+            node: self.node,
+        })
+    }
 }

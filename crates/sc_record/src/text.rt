@@ -5,6 +5,7 @@ ghost use Rattle.std.specs.Cmp.Lexicographic.{slice_cmp, texts_po, texts_ties, n
 ghost use Rattle.std.specs.Ordering.{nat_cmp};
 ghost use Rattle.std.specs.Str.{bytes_eq};
 
+use crate::copy::CloneIn;
 use std::alloc::{AllocError, Global};
 use std::cmp::Ordering;
 use std::marker::Model;
@@ -53,6 +54,12 @@ impl Text {
         ensures { result.now ≡ self.now }
     {
         self.text.as_str()
+    }
+}
+
+impl CloneIn for Text {
+    fn clone_in(&self, alloc: Global) -> Result<Text, AllocError> {
+        Text::new(alloc, self.as_str())
     }
 }
 

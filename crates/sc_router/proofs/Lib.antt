@@ -1,6 +1,6 @@
-pub mod Cut
-pub mod Slashes
-pub mod Count
-pub mod Sum
-pub mod Block
-pub mod Under
+pub mod MarkLemmas
+pub mod SlashLemmas
+pub mod CountLemmas
+pub mod ShareLemmas
+pub mod BlockLemmas
+pub mod OpenRouteLemmas

@@ -4,7 +4,7 @@
 ghost use Rattle.std.specs.Prelude.{◌≡◌, ◌≢◌, ◌+◌, ◌<◌, ◌≤◌, ◌^◌, ◌↔◌, length, take, MatchOption, IsTrue, ⊤};
 ghost use Rattle.std.proofs.Props.{props};
 ghost use Rattle.sc_hash.specs.Hash.{murmur3};
-ghost use Rattle.sc_hash.specs.Hasher.{HasRead};
+ghost use Rattle.sc_hash.specs.Hasher.{progress};
 ghost use Rattle.sc_router.specs.Parts.{before, after, occurrences};
 ghost use Rattle.sc_router.specs.Slash.{IsFirstSlash};
 
@@ -43,7 +43,7 @@ fn is_plain_word(word: [u8; 4]) -> bool
 
 // Reads a text by words up to the first that has `!` or `/`, and says where that is.
 fn read_words(text: &[u8]) -> (Hasher, usize)
-    ensures read { HasRead result.0 0 (take result.1 text.now) }
+    ensures read { result.0 ≡ progress 0 (take result.1 text.now) }
     ensures marks { occurrences 33 (take result.1 text.now) ≡ 0 }
     ensures slashes { occurrences 47 (take result.1 text.now) ≡ 0 }
     ensures within { result.1 ≤ length text.now }

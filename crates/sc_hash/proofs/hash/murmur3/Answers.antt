@@ -2,7 +2,7 @@
 use Rattle.std.proofs.Common.{◌≡◌, ◌*◌, ◌/◌, ◌+◌, length, drop, ap, sym, ◌∙◌, arith, bit_xor}
 use Rattle.std.proofs.lemmas.List.{take_rest}
 use Rattle.sc_hash.specs.Hash.{after_word, after_text, final_mix, murmur3}
-use Rattle.sc_hash.proofs.Words.{after_text-drop}
+use Rattle.sc_hash.proofs.WordLemmas.{after_text-drop}
 use Rattle.sc_hash.proofs.hash.murmur3.Goals as goal
 
 pub loop-i-preserved : goal.loop-i-preserved

@@ -2,7 +2,7 @@
 use Rattle.std.proofs.Common.{◌*◌, ◌%◌, ◌^◌, ◌<◌, bit_or, arith, ap, ◌∙◌}
 use Rattle.std.proofs.Math.Nat.{mod-eq_of_lt}
 use Rattle.std.specs.Int.Bits.{or_shifted_r}
-use Rattle.sc_hash.proofs.Written.{push_below, push_fits}
+use Rattle.sc_hash.proofs.HasherLemmas.{push_below, push_fits}
 use Rattle.sc_hash.proofs.hasher.with_byte.Goals as goal
 
 pub returns-clause-value : goal.returns-clause-value

@@ -1,7 +1,7 @@
 -- A text that std reads as no number is no bound.
 use Rattle.std.proofs.Common.{◌≢◌, get_or, lit<}
 use Rattle.std.proofs.lemmas.Str.Pattern.{starts_char}
-use Rattle.sc_hash.proofs.Ranges.{not_IsBound-refused}
+use Rattle.sc_hash.proofs.RangeLemmas.{not_IsBound-refused}
 use Rattle.sc_hash.proofs.text.parse_bound.Goals as goal
 
 pub returns-in_err-bits : goal.returns-in_err-bits

@@ -2,7 +2,7 @@
 use Rattle.std.proofs.Common.{rules, FitsSigned, w32, lit<, Some, None}
 use Rattle.std.proofs.lemmas.Str.Pattern.{split_parts}
 use Rattle.std.proofs.lemmas.Int.{to_z-of_z}
-use Rattle.sc_hash.proofs.Ranges.{ReadsAs-no_dash, ReadsAs-cut, ReadsAs-new, read_back}
+use Rattle.sc_hash.proofs.RangeLemmas.{ReadsAs-no_dash, ReadsAs-cut, ReadsAs-new, read_back}
 use Rattle.sc_hash.proofs.text.parse_range.Goals as goal
 
 pub returns-in_err-low-clause-read : goal.returns-in_err-low-clause-read

@@ -2,11 +2,11 @@
 use Rattle.std.proofs.Common.{◌≡◌, ◌+◌, ◌∷◌, ◌++◌, [], length, get_or, take, sym, ap, subst, ◌∙◌, arith}
 use Rattle.std.specs.Prelude.{not}
 use Rattle.std.proofs.lemmas.List.{take_rest, take_more, take_all, length-take-le}
-use Rattle.sc_hash.specs.Hasher.{HasRead}
+use Rattle.sc_hash.specs.Hasher.{progress}
 use Rattle.sc_router.specs.Parts.{occurrences}
 use Rattle.sc_router.specs.Slash.{IsFirstSlash}
-use Rattle.sc_router.proofs.Cut.{cut-at, found-at, occurrences-after, before-none, occurrences-push_other}
-use Rattle.sc_router.proofs.Slashes.{IsFirstSlash-other, IsFirstSlash-kept, IsFirstSlash-taken}
+use Rattle.sc_router.proofs.MarkLemmas.{cut-at, found-at, occurrences-after, before-none, occurrences-push_other}
+use Rattle.sc_router.proofs.SlashLemmas.{IsFirstSlash-other, IsFirstSlash-kept, IsFirstSlash-taken}
 use Rattle.sc_router.proofs.part.first_part.Goals as goal
 use Rattle.sc_router.proofs.part.first_part.Goals.{then-byte-eq47+then-is_none, else-byte-eq47, else-byte-eq47-via-then-byte-eq47+else-is_none, else-byte-eq47-via-else-byte-eq47}
 
@@ -32,7 +32,7 @@ loop-i-preserved c =
     let place : length (take i text) ≡ i = length-take-le i text (omega arith) in
     let next : take (i + 1) text ≡ take i text ++ byte ∷ [] = take_more text i 0 c.loop-i-test.true in
     record {
-      read = subst (HasRead c.write.new.self 0) (sym next) (c.write.ensures 0 (take i text) before.read);
+      read = c.write.ensures 0 (take i text) before.read ∙ ap (progress 0) (sym next);
       marks = ap (occurrences 33) next ∙ occurrences-push_other 33 byte (take i text) c.if-byte-eq33.false ∙ before.marks;
       slash = subst (IsFirstSlash c.if-byte-eq47.slash) (sym next) (
           elim c.if-byte-eq47.branch [

@@ -2,7 +2,7 @@
 use Rattle.std.proofs.Common.{ap, sym, ◌∙◌}
 use Rattle.sc_router.specs.Parts.{parts, open_bits}
 use Rattle.sc_router.specs.Route.{route_bits}
-use Rattle.sc_router.proofs.Under.{under_iff, under_ids, least_under-above, greatest_under-above, least_under-all, greatest_under-all, IsWithin-ends}
+use Rattle.sc_router.proofs.OpenRouteLemmas.{under_iff, under_ids, least_under-above, greatest_under-above, least_under-all, greatest_under-all, IsWithin-ends}
 use Rattle.sc_router.proofs.route.key_range.Goals as goal
 
 pub returns-then-free-eq32-clause-least : goal.returns-then-free-eq32-clause-least

@@ -1,6 +1,6 @@
 -- The open bits are all 0 in the first hash, and all 1 in the last.
 use Rattle.std.proofs.Common.{FitsSigned, w32, rules, arith}
-use Rattle.sc_router.proofs.Under.{least_is, greatest_is, ends_ordered}
+use Rattle.sc_router.proofs.OpenRouteLemmas.{least_is, greatest_is, ends_ordered}
 use Rattle.sc_router.proofs.route.range_above.Goals as goal
 
 pub invariant_of-result : goal.invariant_of-result

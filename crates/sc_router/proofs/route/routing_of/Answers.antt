@@ -4,8 +4,8 @@ use Rattle.std.specs.Prelude.{sum_by}
 use Rattle.sc_hash.specs.Hash.{murmur3}
 use Rattle.sc_router.specs.Parts.{before, after, occurrences, parts, shares, open_bits}
 use Rattle.sc_router.specs.Route.{share_bits, route_bits}
-use Rattle.sc_router.proofs.Cut.{before-none, lone_mark, parts-one, parts-two, parts-open, parts-three}
-use Rattle.sc_router.proofs.Sum.{sum-one, open_bits-one}
+use Rattle.sc_router.proofs.MarkLemmas.{before-none, lone_mark, parts-one, parts-two, parts-open, parts-three}
+use Rattle.sc_router.proofs.ShareLemmas.{sum-one, open_bits-one}
 use Rattle.sc_router.proofs.route.routing_of.Goals as goal
 
 -- an id without `!` is its only part

@@ -1,7 +1,7 @@
 -- Each part's bits stand above those of the parts after it.
 use Rattle.std.proofs.Common.{◌+◌, ◌-◌, ◌*◌, ◌/◌, ◌%◌, ◌^◌, ap, ◌∙◌, arith}
 use Rattle.std.specs.Prelude.{min}
-use Rattle.sc_router.proofs.Sum.{sum-three, last_bits-three, open_bits-three}
+use Rattle.sc_router.proofs.ShareLemmas.{sum-three, last_bits-three, open_bits-three}
 use Rattle.sc_router.proofs.route.routing_of_three.Goals as goal
 
 pub returns-clause-bits : goal.returns-clause-bits

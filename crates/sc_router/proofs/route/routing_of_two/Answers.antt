@@ -1,6 +1,6 @@
 -- The first part's bits stand above the last part's.
 use Rattle.std.proofs.Common.{◌∙◌, arith}
-use Rattle.sc_router.proofs.Sum.{sum-two, last_bits-two, open_bits-two}
+use Rattle.sc_router.proofs.ShareLemmas.{sum-two, last_bits-two, open_bits-two}
 use Rattle.sc_router.proofs.route.routing_of_two.Goals as goal
 
 pub returns-clause-bits : goal.returns-clause-bits

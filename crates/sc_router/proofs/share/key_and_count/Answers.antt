@@ -6,8 +6,8 @@ use Rattle.std.specs.Prelude.{Some}
 use Rattle.sc_router.specs.Parts.{stated_count, count_in}
 use Rattle.sc_router.specs.Slash.{IsFirstSlash}
 use Rattle.sc_router.specs.declared.part.Slash.{Slash}
-use Rattle.sc_router.proofs.Count.{count_in-none, key_of-None, key_of-Some, bits_of-None, bits_of-Some}
-use Rattle.sc_router.proofs.Slashes.{IsFirstSlash-lt, count_in-slash, count_in-slash_first}
+use Rattle.sc_router.proofs.CountLemmas.{count_in-none, key_of-None, key_of-Some, bits_of-None, bits_of-Some}
+use Rattle.sc_router.proofs.SlashLemmas.{IsFirstSlash-lt, count_in-slash, count_in-slash_first}
 use Rattle.sc_router.proofs.share.key_and_count.Goals as goal
 
 pub returns-in_default-clause-key : goal.returns-in_default-clause-key

@@ -1,7 +1,7 @@
 -- The cases of the text's length are those of the definition.
 use Rattle.std.proofs.Common.{◌≡◌, ◌+◌, ◌*◌, leb, true, false, sym, ◌∙◌, arith, refl}
 use Rattle.std.proofs.lemmas.Bool.Decides.{nat_tests}
-use Rattle.sc_router.proofs.Count.{stated_count-empty, stated_count-long, stated_count-one, stated_count-two}
+use Rattle.sc_router.proofs.CountLemmas.{stated_count-empty, stated_count-long, stated_count-one, stated_count-two}
 use Rattle.sc_router.proofs.share.stated_count.Goals as goal
 
 pub returns-in-len1-clause-value : goal.returns-in-len1-clause-value

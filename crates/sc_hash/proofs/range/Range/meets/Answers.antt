@@ -1,7 +1,7 @@
 -- The greater of the two first numbers is in both ranges.
 use Rattle.std.proofs.Common.{◌≤ℤ◌, arith}
 use Rattle.std.proofs.lemmas.Int.{ints}
-use Rattle.sc_hash.proofs.Ranges.{Meets-overlap}
+use Rattle.sc_hash.proofs.RangeLemmas.{Meets-overlap}
 use Rattle.sc_hash.proofs.range.Range.meets.Goals as goal
 
 pub returns-then-self-other : goal.returns-then-self-other

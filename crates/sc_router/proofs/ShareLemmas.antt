@@ -60,12 +60,12 @@ unfolding shares
 shares-three a b z = refl
 
 -- ---- what the code computes of two parts and of three
-abbrev last_of : List Share → ℕ
-last_of given = 32 - sum_by (λ share. share.count) (take (length given - 1) given)
+abbrev rest_bits : List Share → ℕ
+rest_bits given = 32 - sum_by (λ share. share.count) (take (length given - 1) given)
 
-last_bits-shares : (id_parts : List (List ℕ)) (given : List Share) → shares id_parts ≡ given → last_bits id_parts ≡ last_of given
+last_bits-shares : (id_parts : List (List ℕ)) (given : List Share) → shares id_parts ≡ given → last_bits id_parts ≡ rest_bits given
 unfolding last_bits fixed_shares
-last_bits-shares id_parts given e = ap last_of e
+last_bits-shares id_parts given e = ap rest_bits e
 
 pub shares-two_is : (a z : List ℕ) (f : ℕ) → f ≡ bits_of 16 a → f ≤ 32 → shares (a ∷ z ∷ []) ≡ two_shares (key_of a) z f
 shares-two_is a z f e le = shares-two a z ∙ ap (two_shares (key_of a) z) (ap (λ n. min n 32) (sym e) ∙ min-eq_left le)
@@ -79,12 +79,12 @@ shares-three_is a b z f s e le k =
 
 pub last_bits-two : (a z : List ℕ) (f : ℕ) → f ≡ bits_of 16 a → f ≤ 32 → 32 - f ≡ last_bits (a ∷ z ∷ [])
 last_bits-two a z f e le =
-    let same : 32 - f ≡ last_of (two_shares (key_of a) z f) = omega arith in
+    let same : 32 - f ≡ rest_bits (two_shares (key_of a) z f) = omega arith in
     same ∙ sym (last_bits-shares (a ∷ z ∷ []) (two_shares (key_of a) z f) (shares-two_is a z f e le))
 
 pub last_bits-three : (a b z : List ℕ) (f s : ℕ) → f ≡ bits_of 8 a → f ≤ 32 → s ≡ min (bits_of 8 b) (32 - f) → 32 - f - s ≡ last_bits (a ∷ b ∷ z ∷ [])
 last_bits-three a b z f s e le k =
-    let same : 32 - f - s ≡ last_of (three_shares (key_of a) (key_of b) z f s) = omega arith in
+    let same : 32 - f - s ≡ rest_bits (three_shares (key_of a) (key_of b) z f s) = omega arith in
     same ∙ sym (last_bits-shares (a ∷ b ∷ z ∷ []) (three_shares (key_of a) (key_of b) z f s) (shares-three_is a b z f s e le k))
 
 pub sum-two : (a z : List ℕ) (f h l : ℕ) → f ≡ bits_of 16 a → f ≤ 32 → h ≡ murmur3 (key_of a) 0 → h < 2 ^ 32 → l ≡ murmur3 z 0 → h / 2 ^ (32 - f) * 2 ^ (32 - f) + l % 2 ^ (32 - f) ≡ sum_by share_bits (shares (a ∷ z ∷ []))
@@ -140,7 +140,7 @@ sum-one a n e fits =
 -- the parts before the last decide all bits but the last part's
 abbrev pub SplitsOff : List Share → Type 0
 SplitsOff given =
-    (sum_by share_bits given / 2 ^ last_of given ≡ sum_by share_bits (take (length given - 1) given) / 2 ^ last_of given)
+    (sum_by share_bits given / 2 ^ rest_bits given ≡ sum_by share_bits (take (length given - 1) given) / 2 ^ rest_bits given)
     × (sum_by share_bits given < 2 ^ 32)
 
 -- upper bits and a rest below them
@@ -160,7 +160,7 @@ SplitsOff-one a =
     let r = kept_bits 0 32 (murmur3 a 0) in
     let small = kept-lowest-lt 32 (murmur3 a 0) in
     let whole : total ≡ r = omega arith in
-    (same_upper total 0 0 32 r (last_of (share a 0 32 ∷ [])) (omega arith) (omega arith, omega arith, small), subst (λ x. x < 2 ^ 32) (sym whole) small)
+    (same_upper total 0 0 32 r (rest_bits (share a 0 32 ∷ [])) (omega arith) (omega arith, omega arith, small), subst (λ x. x < 2 ^ 32) (sym whole) small)
 
 SplitsOff-two : (k z : List ℕ) (f : ℕ) → f ≤ 32 → SplitsOff (two_shares k z f)
 unfolding kept_bits
@@ -173,7 +173,7 @@ SplitsOff-two k z f le =
     let total : sum_by share_bits (two_shares k z f) ≡ x * 2 ^ m + r = omega arith in
     let upper : sum_by share_bits (share k m f ∷ []) ≡ x * 2 ^ m = omega arith in
     let whole : f + m ≡ 32 = omega arith in
-    let rest : last_of (two_shares k z f) ≡ m = omega arith in
+    let rest : rest_bits (two_shares k z f) ≡ m = omega arith in
     (same_upper _ _ x m r _ rest (total, upper, small), subst (λ n. n < 2 ^ 32) (sym total) (subst (λ i. x * 2 ^ m + r < 2 ^ i) whole fits))
 
 SplitsOff-three : (k l z : List ℕ) (f s : ℕ) → f ≤ 32 → s ≤ 32 - f → SplitsOff (three_shares k l z f s)
@@ -195,7 +195,7 @@ SplitsOff-three k l z f s p q =
     let total : sum_by share_bits (three_shares k l z f s) ≡ (x * 2 ^ s + y) * 2 ^ n + r = omega (arith, added, high, joint) in
     let front : sum_by share_bits (share k m f ∷ share l n s ∷ []) ≡ x * 2 ^ m + y * 2 ^ n = omega arith in
     let upper : sum_by share_bits (share k m f ∷ share l n s ∷ []) ≡ (x * 2 ^ s + y) * 2 ^ n = omega (arith, front, high, joint) in
-    let rest : last_of (three_shares k l z f s) ≡ n = omega arith in
+    let rest : rest_bits (three_shares k l z f s) ≡ n = omega arith in
     (same_upper _ _ (x * 2 ^ s + y) n r _ rest (total, upper, small), subst (λ i. i < 2 ^ 32) (sym added) (subst (λ i. x * 2 ^ m + (y * 2 ^ n + r) < 2 ^ i) whole fits))
 
 -- ---- the same of an id

@@ -6,8 +6,8 @@ use Rattle.sc_hash.specs.Hash.{murmur3}
 use Rattle.sc_router.specs.Parts.{stated_count, count_in}
 use Rattle.sc_router.specs.Slash.{IsFirstSlash}
 use Rattle.sc_router.specs.declared.part.Slash.{Slash}
-use Rattle.sc_router.proofs.Count.{count_in-first, count_in-found}
-use Rattle.sc_router.proofs.Cut.{before-lt, after-place, found-joined, occurrences-push_other, occurrences-push_le, before-push_first, before-push}
+use Rattle.sc_router.proofs.CountLemmas.{count_in-first, count_in-found}
+use Rattle.sc_router.proofs.MarkLemmas.{before-lt, after-place, found-joined, occurrences-push_other, occurrences-push_le, before-push_first, before-push}
 
 -- in a part that grows it stays where it is
 IsFirstSlash-behind : (slash : Slash) (byte : ℕ) (part : List ℕ) → IsFirstSlash (Some slash) part → IsFirstSlash (Some slash) (part ++ byte ∷ [])

@@ -10,8 +10,8 @@ use Rattle.std.proofs.Math.Nat.{suc-mul, zero-mod}
 use Rattle.sc_hash.specs.Range.{IsWithin}
 use Rattle.sc_router.specs.Parts.{parts, last_bits, ends_open, open_bits}
 use Rattle.sc_router.specs.Route.{route_bits, route_hash, least_under, greatest_under, HasFixedBits, IsOpenRoute, IsUnder}
-use Rattle.sc_router.proofs.Sum.{route_bits-lt, route_bits-same}
-use Rattle.sc_router.proofs.Block.{within_iff, ordered_at, all_within, all_open}
+use Rattle.sc_router.proofs.ShareLemmas.{route_bits-lt, route_bits-same}
+use Rattle.sc_router.proofs.BlockLemmas.{within_iff, ordered_at, all_within, all_open}
 
 open_bits-le : (id_parts : List (List ℕ)) → open_bits id_parts ≤ 32
 unfolding open_bits last_bits

@@ -7,7 +7,7 @@ use Rattle.std.proofs.lemmas.List.Sums.{sum_by-cons, sum_by-append, get_or-le-su
 use Rattle.std.proofs.lemmas.Bool.Decides.{Decides-eqb, nat_tests}
 use Rattle.std.proofs.lemmas.Slice.Eq.{ends_is}
 use Rattle.std.proofs.lemmas.List.{get_or-take, length-take, take_all, drop_more, take-append-drop}
-use Rattle.sc_hash.proofs.Cuts.{Lacks, same_cut}
+use Rattle.sc_hash.proofs.CutLemmas.{Lacks, same_cut}
 use Rattle.sc_router.specs.Parts.{before, after, occurrences, parts}
 
 -- a list in which no element passes has none that does

@@ -6,8 +6,8 @@ use Rattle.std.proofs.Math.Nat.{pow-le-pow_right}
 use Rattle.std.proofs.lemmas.Nat.{mul-add-lt, pow-add}
 use Rattle.std.specs.Int.{w32, from_le_bytes}
 use Rattle.std.specs.Int.Bits.{xor_zero_r}
-use Rattle.sc_hash.specs.Hash.{word_mix, after_word, after_text}
-use Rattle.sc_hash.specs.Hasher.{word_bytes}
+use Rattle.sc_hash.specs.Hash.{word_mix, after_word, after_text, final_mix, murmur3}
+use Rattle.sc_hash.specs.Hasher.{word_bytes, Progress, progress}
 
 -- whole words are read before what follows them
 after_text-append : (n hash : ℕ) (words text : List ℕ) → length words ≡ 4 * n → after_text hash (words ++ text) ≡ after_text (after_text hash words) text
@@ -44,7 +44,7 @@ from_le_bytes-push (a ∷ b ∷ c ∷ []) byte h = omega arith
 from_le_bytes-push (a ∷ b ∷ c ∷ d ∷ bytes) byte h = absurd (omega arith)
 
 -- the word of the bytes that wait, with one more byte above them
-pub waiting-push : (word byte place : ℕ) (text : List ℕ) → word ≡ from_le_bytes w32 (drop (word_bytes text) text) → place ≡ length text % 4 → word + byte * 2 ^ (8 * place) ≡ from_le_bytes w32 (drop (word_bytes text) text ++ byte ∷ [])
+waiting-push : (word byte place : ℕ) (text : List ℕ) → word ≡ from_le_bytes w32 (drop (word_bytes text) text) → place ≡ length text % 4 → word + byte * 2 ^ (8 * place) ≡ from_le_bytes w32 (drop (word_bytes text) text ++ byte ∷ [])
 waiting-push word byte place text e at =
     let waiting = drop (word_bytes text) text in
     ap (λ n. n + byte * 2 ^ (8 * place)) e
@@ -65,10 +65,10 @@ module _ (text : List ℕ) (byte : ℕ) (open_word : length text % 4 ≢ 3) wher
   same_bytes : word_bytes (text ++ byte ∷ []) ≡ word_bytes text
   same_bytes = omega (arith, length-append text (byte ∷ []))
 
-  pub words-push_waits : take (word_bytes (text ++ byte ∷ [])) (text ++ byte ∷ []) ≡ take (word_bytes text) text
+  words-push_waits : take (word_bytes (text ++ byte ∷ [])) (text ++ byte ∷ []) ≡ take (word_bytes text) text
   words-push_waits = ap (λ n. take n (text ++ byte ∷ [])) same_bytes ∙ take-append-le (word_bytes text) text (byte ∷ []) (omega arith)
 
-  pub waiting-push_waits : drop (word_bytes (text ++ byte ∷ [])) (text ++ byte ∷ []) ≡ drop (word_bytes text) text ++ byte ∷ []
+  waiting-push_waits : drop (word_bytes (text ++ byte ∷ [])) (text ++ byte ∷ []) ≡ drop (word_bytes text) text ++ byte ∷ []
   waiting-push_waits = ap (λ n. drop n (text ++ byte ∷ [])) same_bytes ∙ drop-append-le (word_bytes text) text (byte ∷ []) (omega arith)
 
 -- four bytes are a word
@@ -86,10 +86,10 @@ module _ (text : List ℕ) (byte : ℕ) (full_word : length text % 4 ≡ 3) wher
   all_bytes : length (text ++ byte ∷ []) ≡ word_bytes (text ++ byte ∷ [])
   all_bytes = omega (arith, length-append text (byte ∷ []))
 
-  pub waiting-push_fills : drop (word_bytes (text ++ byte ∷ [])) (text ++ byte ∷ []) ≡ []
+  waiting-push_fills : drop (word_bytes (text ++ byte ∷ [])) (text ++ byte ∷ []) ≡ []
   waiting-push_fills = drop_of_length-le (text ++ byte ∷ []) (omega (arith, all_bytes))
 
-  pub words-push_fills : (seed : ℕ) → after_text seed (take (word_bytes (text ++ byte ∷ [])) (text ++ byte ∷ [])) ≡ after_word (after_text seed (take (word_bytes text) text)) (from_le_bytes w32 (drop (word_bytes text) text ++ byte ∷ []))
+  words-push_fills : (seed : ℕ) → after_text seed (take (word_bytes (text ++ byte ∷ [])) (text ++ byte ∷ [])) ≡ after_word (after_text seed (take (word_bytes text) text)) (from_le_bytes w32 (drop (word_bytes text) text ++ byte ∷ []))
   words-push_fills seed =
       ap (after_text seed) (take_all _ (text ++ byte ∷ []) (omega (arith, all_bytes)))
       ∙ after_text-words seed text (byte ∷ [])
@@ -100,10 +100,10 @@ module _ (text bytes : List ℕ) (whole : length text % 4 ≡ 0) (four : length 
   word_end : length (text ++ bytes) ≡ word_bytes (text ++ bytes)
   word_end = omega (arith, length-append text bytes)
 
-  pub waiting-append_word : drop (word_bytes text) text ≡ drop (word_bytes (text ++ bytes)) (text ++ bytes)
+  waiting-append_word : drop (word_bytes text) text ≡ drop (word_bytes (text ++ bytes)) (text ++ bytes)
   waiting-append_word = drop_of_length-le text (omega arith) ∙ sym (drop_of_length-le (text ++ bytes) (omega (arith, word_end)))
 
-  pub words-append_word : (seed : ℕ) → after_text seed (take (word_bytes (text ++ bytes)) (text ++ bytes)) ≡ after_word (after_text seed (take (word_bytes text) text)) (from_le_bytes w32 bytes)
+  words-append_word : (seed : ℕ) → after_text seed (take (word_bytes (text ++ bytes)) (text ++ bytes)) ≡ after_word (after_text seed (take (word_bytes text) text)) (from_le_bytes w32 bytes)
   words-append_word seed =
       ap (after_text seed) (take_all _ (text ++ bytes) (omega (arith, word_end)))
       ∙ after_text-words seed text bytes
@@ -119,7 +119,7 @@ after_rest hash (a ∷ b ∷ []) h = refl
 after_rest hash (a ∷ b ∷ c ∷ []) h = refl
 after_rest hash (a ∷ b ∷ c ∷ d ∷ rest) h = absurd (omega arith)
 
-pub after_text-waiting : (hash : ℕ) (text : List ℕ) → bit_xor (after_text hash (take (word_bytes text) text)) (word_mix (from_le_bytes w32 (drop (word_bytes text) text))) ≡ after_text hash text
+after_text-waiting : (hash : ℕ) (text : List ℕ) → bit_xor (after_text hash (take (word_bytes text) text)) (word_mix (from_le_bytes w32 (drop (word_bytes text) text))) ≡ after_text hash text
 after_text-waiting hash text =
     let words = take (word_bytes text) text in
     let waiting = drop (word_bytes text) text in
@@ -135,3 +135,83 @@ each_of_four (a ∷ b ∷ []) h = absurd (omega arith)
 each_of_four (a ∷ b ∷ c ∷ []) h = absurd (omega arith)
 each_of_four (a ∷ b ∷ c ∷ d ∷ []) h = refl
 each_of_four (a ∷ b ∷ c ∷ d ∷ e ∷ bytes) h = absurd (omega arith)
+
+-- ---- the progress in a text
+-- a progress by its parts
+abbrev pub progress_of : ℕ → ℕ → ℕ → Progress
+progress_of hash word count = record { hash = hash; word = word; count = count }
+
+same_parts : (a b c d e f : ℕ) → a ≡ d → b ≡ e → c ≡ f → progress_of a b c ≡ progress_of d e f
+same_parts a b c d e f p q r =
+    ap (λ n. progress_of n b c) p ∙ ap (λ n. progress_of d n c) q ∙ ap (progress_of d e) r
+
+-- the parts of the progress in a text
+record HasRead (hash word count seed : ℕ) (text : List ℕ) : Type 0 where
+  hash_is : hash ≡ after_text seed (take (word_bytes text) text)
+  word_is : word ≡ from_le_bytes w32 (drop (word_bytes text) text)
+  count_is : count ≡ length text % 2 ^ 32
+
+has_read : (hash word count seed : ℕ) (text : List ℕ) → progress_of hash word count ≡ progress seed text → HasRead hash word count seed text
+unfolding progress
+has_read hash word count seed text is = record {
+  hash_is = ap (λ (p : Progress). p.hash) is;
+  word_is = ap (λ (p : Progress). p.word) is;
+  count_is = ap (λ (p : Progress). p.count) is;
+}
+
+from_parts : (hash word count seed : ℕ) (text : List ℕ) → HasRead hash word count seed text → progress_of hash word count ≡ progress seed text
+unfolding progress
+from_parts hash word count seed text h = same_parts hash word count _ _ _ h.hash_is h.word_is h.count_is
+
+-- one more byte fills the last word
+pub progress-fills : (hash word count byte seed : ℕ) (text : List ℕ) → progress_of hash word count ≡ progress seed text → count % 4 ≡ 3
+    → progress_of (after_word hash (word + byte * 2 ^ (8 * (count % 4)))) 0 ((count + 1) % 2 ^ 32) ≡ progress seed (text ++ byte ∷ [])
+progress-fills hash word count byte seed text is full_word =
+    let h = has_read hash word count seed text is in
+    let place : count % 4 ≡ length text % 4 = omega (arith, h.count_is) in
+    let full : length text % 4 ≡ 3 = sym place ∙ full_word in
+    from_parts _ _ _ seed (text ++ byte ∷ []) record {
+      hash_is =
+          ap (after_word hash) (waiting-push word byte (count % 4) text h.word_is place)
+          ∙ ap (λ n. after_word n (from_le_bytes w32 (drop (word_bytes text) text ++ byte ∷ []))) h.hash_is
+          ∙ sym (words-push_fills text byte full seed);
+      word_is = sym (ap (from_le_bytes w32) (waiting-push_fills text byte full));
+      count_is = omega (arith, h.count_is, length-append text (byte ∷ []));
+    }
+
+-- or waits after the others
+pub progress-waits : (hash word count byte seed : ℕ) (text : List ℕ) → progress_of hash word count ≡ progress seed text → count % 4 ≢ 3
+    → progress_of hash (word + byte * 2 ^ (8 * (count % 4))) ((count + 1) % 2 ^ 32) ≡ progress seed (text ++ byte ∷ [])
+progress-waits hash word count byte seed text is not_full =
+    let h = has_read hash word count seed text is in
+    let place : count % 4 ≡ length text % 4 = omega (arith, h.count_is) in
+    let open_word : length text % 4 ≢ 3 = λ full. not_full (place ∙ full) in
+    from_parts _ _ _ seed (text ++ byte ∷ []) record {
+      hash_is = h.hash_is ∙ ap (after_text seed) (sym (words-push_waits text byte open_word));
+      word_is = waiting-push word byte (count % 4) text h.word_is place ∙ ap (from_le_bytes w32) (sym (waiting-push_waits text byte open_word));
+      count_is = omega (arith, h.count_is, length-append text (byte ∷ []));
+    }
+
+-- four more bytes after whole words
+pub progress-word : (hash word count seed : ℕ) (text bytes : List ℕ) → progress_of hash word count ≡ progress seed text → count % 4 ≡ 0
+    → length bytes ≡ 4 → progress_of (after_word hash (from_le_bytes w32 bytes)) word ((count + 4) % 2 ^ 32) ≡ progress seed (text ++ bytes)
+progress-word hash word count seed text bytes is none four =
+    let h = has_read hash word count seed text is in
+    let whole : length text % 4 ≡ 0 = omega (arith, h.count_is) in
+    from_parts _ _ _ seed (text ++ bytes) record {
+      hash_is = ap (λ n. after_word n (from_le_bytes w32 bytes)) h.hash_is ∙ sym (words-append_word text bytes whole four seed);
+      word_is = h.word_is ∙ ap (from_le_bytes w32) (waiting-append_word text bytes whole four);
+      count_is = omega (arith, h.count_is, length-append text bytes);
+    }
+
+-- the text's hash
+pub progress-finish : (hash word count seed : ℕ) (text : List ℕ) → progress_of hash word count ≡ progress seed text → length text < 2 ^ 32
+    → final_mix (bit_xor (bit_xor hash (word_mix word)) count) ≡ murmur3 text seed
+unfolding murmur3
+progress-finish hash word count seed text is few =
+    let h = has_read hash word count seed text is in
+    let whole : count ≡ length text = omega (arith, h.count_is) in
+    ap (λ n. final_mix (bit_xor (bit_xor hash (word_mix n)) count)) h.word_is
+    ∙ ap (λ n. final_mix (bit_xor (bit_xor n (word_mix (from_le_bytes w32 (drop (word_bytes text) text)))) count)) h.hash_is
+    ∙ ap (λ n. final_mix (bit_xor n count)) (after_text-waiting seed text)
+    ∙ ap (λ n. final_mix (bit_xor (after_text seed text) n)) whole

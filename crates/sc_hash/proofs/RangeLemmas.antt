@@ -15,7 +15,7 @@ use Rattle.std.proofs.Math.Nat.{le_trans, lt_of_lt_of_le, pow-le-pow_right}
 use Rattle.sc_hash.specs.declared.range.Range.{Range}
 use Rattle.std.specs.Result.{result_ok}
 use Rattle.std.specs.Prelude.{Result, Ok, Err, Option, Some, None, IsSome, IfSome, IsSomeAnd, ◌↔◌}
-use Rattle.sc_hash.proofs.Cuts.{Lacks, Lacks-rest, same_cut}
+use Rattle.sc_hash.proofs.CutLemmas.{Lacks, Lacks-rest, same_cut}
 use Rattle.sc_hash.specs.Range.{Meets, IsBound, bound_of, IsRange, ReadsAs, range_text}
 
 -- two ranges of which none ends before the other begins both have the greater of their first numbers

@@ -7,7 +7,8 @@ use Rattle.std.proofs.lemmas.Bool.{cases_eq, cases_lt, eq-eqb, ne_eqb, le-leb, l
 use Rattle.std.proofs.lemmas.List.Sums.{sum_by_push}
 use Rattle.std.proofs.Math.Nat.{div-le_self, div-mul-le_self, div-le_of_le-mul, mul-div_right, mul-le-mul_right}
 use Rattle.sc_hash.specs.Range.{size_of, IsWithin}
-use Rattle.sc_cluster.specs.Tiles.{Tiles, has, holders}
+use Rattle.sc_hash.specs.Bounds.{contains}
+use Rattle.sc_cluster.specs.Tiles.{Tiles, holders}
 use Rattle.sc_cluster.specs.Cut.{rounded_down, share_start, border, part, first_parts, cut}
 
 -- ---- shares of a size
@@ -149,31 +150,31 @@ abbrev count_of : Bool → ℕ
 count_of t = cond t 1 0
 
 -- a range that ends before it begins has no number
-has-empty : (h a : ℤ) → count_of (has h (a, a -ℤ pos 1)) ≡ 0
-has-empty h a = grind (arith, ints)
+contains-empty : (h a : ℤ) → count_of (contains h (a, a -ℤ pos 1)) ≡ 0
+contains-empty h a = grind (arith, ints)
 
 -- of two ranges side by side one has what the two have together
-has-joined : (h a b c : ℤ) → a ≤ℤ b → b ≤ℤ c → count_of (has h (a, b -ℤ pos 1)) + count_of (has h (b, c -ℤ pos 1)) ≡ count_of (has h (a, c -ℤ pos 1))
-has-joined h a b c p q = grind (arith, ints)
+contains-joined : (h a b c : ℤ) → a ≤ℤ b → b ≤ℤ c → count_of (contains h (a, b -ℤ pos 1)) + count_of (contains h (b, c -ℤ pos 1)) ≡ count_of (contains h (a, c -ℤ pos 1))
+contains-joined h a b c p q = grind (arith, ints)
 
 -- a range that ends right before a border has the numbers up to there, and no other
-has-inside : (h a b c : ℤ) → b ≡ c +ℤ pos 1 → IsWithin a c h → count_of (has h (a, b -ℤ pos 1)) ≡ 1
-has-inside h a b c e p = grind (arith, ints)
+contains-inside : (h a b c : ℤ) → b ≡ c +ℤ pos 1 → IsWithin a c h → count_of (contains h (a, b -ℤ pos 1)) ≡ 1
+contains-inside h a b c e p = grind (arith, ints)
 
-has-outside : (h a b c : ℤ) → b ≡ c +ℤ pos 1 → ¬ IsWithin a c h → count_of (has h (a, b -ℤ pos 1)) ≡ 0
-has-outside h a b c e p = grind (arith, ints)
+contains-outside : (h a b c : ℤ) → b ≡ c +ℤ pos 1 → ¬ IsWithin a c h → count_of (contains h (a, b -ℤ pos 1)) ≡ 0
+contains-outside h a b c e p = grind (arith, ints)
 
 -- the first k parts hold what stands below border k, each once
-holders-first_parts : (min max : ℤ) (n k : ℕ) (h : ℤ) → k ≤ n → pos n ≤ℤ size_of min max → holders h (first_parts min max n k) ≡ count_of (has h (min, border min max n k -ℤ pos 1))
-holders-first_parts min max n zero h le size = rw (border-first min max n 0 refl) (sym (has-empty h min))
+holders-first_parts : (min max : ℤ) (n k : ℕ) (h : ℤ) → k ≤ n → pos n ≤ℤ size_of min max → holders h (first_parts min max n k) ≡ count_of (contains h (min, border min max n k -ℤ pos 1))
+holders-first_parts min max n zero h le size = rw (border-first min max n 0 refl) (sym (contains-empty h min))
 holders-first_parts min max n (suc k) h le size =
     let before = holders-first_parts min max n k h (omega arith) size in
     let low = le-border min max n k (omega arith) size in
     let next = border-lt min max n k (omega arith) size in
-    sum_by_push (λ r. count_of (has h r)) (first_parts min max n k) (part min max n k)
-    ∙ ap (λ m. m + count_of (has h (part min max n k))) before
-    ∙ has-joined h min (border min max n k) (border min max n (k + 1)) low (omega (arith, ints))
-    ∙ ap (λ i. count_of (has h (min, border min max n i -ℤ pos 1))) (add-one k)
+    sum_by_push (λ r. count_of (contains h r)) (first_parts min max n k) (part min max n k)
+    ∙ ap (λ m. m + count_of (contains h (part min max n k))) before
+    ∙ contains-joined h min (border min max n k) (border min max n (k + 1)) low (omega (arith, ints))
+    ∙ ap (λ i. count_of (contains h (min, border min max n i -ℤ pos 1))) (add-one k)
 
 -- the parts of a range that has a number for each of them tile it
 pub cut_tiles : (min max : ℤ) (n : ℕ) → 1 ≤ n → pos n ≤ℤ size_of min max → Tiles (cut min max n) min max
@@ -181,6 +182,6 @@ cut_tiles min max n one size =
     let last = border-last min max n n (omega arith) (omega arith) in
     let all = λ (h : ℤ). holders-first_parts min max n n h (omega arith) size in
     record {
-      inside = λ h within. all h ∙ has-inside h min _ max last within;
-      outside = λ h without. all h ∙ has-outside h min _ max last without;
+      inside = λ h within. all h ∙ contains-inside h min _ max last within;
+      outside = λ h without. all h ∙ contains-outside h min _ max last without;
     }

@@ -32,7 +32,7 @@ find_from_count p (x ∷ xs) some =
     found_cons p x xs (p x) refl (λ fails. find_from_count p xs (omega (arith, sum_by-cons (λ z. cond (p z) 1 0) x xs, ap {B = ℕ} (λ b. cond b 1 0) fails)))
 
 -- an item that passes is counted
-count_by-positive : {X : Type 0} (p : X → Bool) (xs : List X) (x : X) → Contains xs x → p x ≡ true → 1 ≤ count_by p xs
+pub count_by-positive : {X : Type 0} (p : X → Bool) (xs : List X) (x : X) → Contains xs x → p x ≡ true → 1 ≤ count_by p xs
 count_by-positive p xs x here passes =
     omega (arith, get_or-le-sum_by (λ z. cond (p z) 1 0) xs here.0 x here.1, ap {B = ℕ} (λ z. cond (p z) 1 0) here.2, ap {B = ℕ} (λ b. cond b 1 0) passes)
 

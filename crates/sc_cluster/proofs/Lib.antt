@@ -14,6 +14,7 @@ pub mod DigitLemmas
 pub mod NameLemmas
 pub mod MapLemmas
 pub mod HistoryLemmas
-pub mod Begun
-pub mod Leaders
-pub mod MapAnswers
+pub mod BegunLemmas
+pub mod LeaderLemmas
+pub mod MapAnswerLemmas
+pub mod TileTestLemmas

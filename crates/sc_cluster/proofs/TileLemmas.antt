@@ -9,7 +9,9 @@ use Rattle.sc_record.specs.declared.slice.SliceId.{SliceId}
 use Rattle.sc_cluster.specs.declared.slice.State.{State}
 use Rattle.sc_cluster.specs.declared.slice.State.TheVariants as states
 use Rattle.sc_cluster.specs.declared.slice.Slice.{Slice}
-use Rattle.sc_cluster.specs.Tiles.{has, holders, Tiles}
+use Rattle.sc_hash.specs.Bounds.{contains}
+use Rattle.sc_hash.proofs.BoundsLemmas.{contains-Decides}
+use Rattle.sc_cluster.specs.Tiles.{holders, Tiles}
 use Rattle.sc_cluster.specs.Slices.{is_active_state, is_forming_state, is_active, is_forming, forming, slice_bounds, active_ranges}
 use Rattle.sc_cluster.specs.Map.{IsSplitting}
 use Rattle.sc_cluster.specs.Changes.{switched_slice}
@@ -18,23 +20,13 @@ use Rattle.sc_cluster.proofs.OrderLemmas.{at_key, count_by-at_key}
 use Rattle.sc_cluster.proofs.IdLemmas.{id_of}
 use Rattle.sc_cluster.proofs.StateLemmas.{is_other, switched_keeps, is_active-switched}
 
--- a range has the numbers within it
-int_le-Decides : (a b : ℤ) → Decides (int_le a b) (a ≤ℤ b)
-int_le-Decides a b = (λ is. record { le = rw is tt }, λ most. by (int_le a b) most.le) where
-  by : (t : Bool) → T t → t ≡ true
-  by true holds = refl
-  by false holds = absurd holds
-
-pub has-Decides : (h min max : ℤ) → Decides (has h (min, max)) (IsWithin min max h)
-has-Decides h min max = Decides-and (int_le min h) (int_le h max) (int_le-Decides min h) (int_le-Decides h max)
-
 -- how many of the ranges of a tiling have a number
 holders-Tiles : (ranges : List (ℤ × ℤ)) (min max h : ℤ) → Tiles ranges min max
-    → holders h ranges ≡ cond (has h (min, max)) 1 0
-holders-Tiles ranges min max h tiles = by (has h (min, max)) refl where
-  by : (t : Bool) → has h (min, max) ≡ t → holders h ranges ≡ cond t 1 0
-  by true is = tiles.inside h ((has-Decides h min max).0 is)
-  by false is = tiles.outside h (not_from_Decides (has h (min, max)) (has-Decides h min max) is)
+    → holders h ranges ≡ cond (contains h (min, max)) 1 0
+holders-Tiles ranges min max h tiles = by (contains h (min, max)) refl where
+  by : (t : Bool) → contains h (min, max) ≡ t → holders h ranges ≡ cond t 1 0
+  by true is = tiles.inside h ((contains-Decides h min max).0 is)
+  by false is = tiles.outside h (not_from_Decides (contains h (min, max)) (contains-Decides h min max) is)
 
 -- a tiling is one by how many ranges have each number
 Tiles-same : (ranges others : List (ℤ × ℤ)) (min max : ℤ) → ((h : ℤ) → holders h ranges ≡ holders h others)
@@ -46,13 +38,13 @@ Tiles-same ranges others min max same tiles = record {
 
 -- a slice that passes a test and has a number
 abbrev pub with_number : ℤ → (Slice → Bool) → Slice → Bool
-with_number h p slice = p slice && has h (slice_bounds slice)
+with_number h p slice = p slice && contains h (slice_bounds slice)
 
 pub holders-filter : (h : ℤ) (p : Slice → Bool) (slices : List Slice)
     → holders h (map slice_bounds (filter p slices)) ≡ count_by (with_number h p) slices
 holders-filter h p slices =
-    count_by-map slice_bounds (has h) (filter p slices)
-    ∙ count_by-filter (λ slice. has h (slice_bounds slice)) p slices
+    count_by-map slice_bounds (contains h) (filter p slices)
+    ∙ count_by-filter (λ slice. contains h (slice_bounds slice)) p slices
 
 -- 1 for a slice that passes a test
 abbrev count_one : (Slice → Bool) → Slice → ℕ
@@ -65,7 +57,7 @@ switched_balance : (h : ℤ) (parent slice : Slice)
     ≡ count_one (with_number h is_active) slice + count_one (with_number h is_forming) slice
 switched_balance h parent slice =
     rw (is_active-switched parent.id slice, switched_keeps slice_bounds (λ _ _. refl) parent.id slice)
-    (by slice.state (eqb slice.id.0 parent.id.0) (has h (slice_bounds slice))) where
+    (by slice.state (eqb slice.id.0 parent.id.0) (contains h (slice_bounds slice))) where
       by : (state : State) (t u : Bool)
           → cond {A = ℕ} (cond (is_forming_state state) true (cond t false (is_active_state state)) && u) 1 0
           + cond (t && (is_active_state state && u)) 1 0
@@ -87,8 +79,8 @@ holders-switched h slices parent ids splitting =
     leads (with_number h is_forming) (switched_balance h parent) slices in
     let lost = count_by-at_key id_of leads parent slices ids splitting.there in
     let gained = holders-Tiles (map slice_bounds (forming slices)) range.min range.max h splitting.tile in
-    let was : cond {A = ℕ} (leads parent) 1 0 ≡ cond (has h (slice_bounds parent)) 1 0
-    = ap (λ state. cond (is_active_state state && has h (slice_bounds parent)) 1 0) splitting.active in
+    let was : cond {A = ℕ} (leads parent) 1 0 ≡ cond (contains h (slice_bounds parent)) 1 0
+    = ap (λ state. cond (is_active_state state && contains h (slice_bounds parent)) 1 0) splitting.active in
     let after = holders-filter h is_active (map (switched_slice parent.id) slices) in
     let mapped = count_by-map (switched_slice parent.id) leads slices in
     omega (arith, holders-filter h is_active slices, holders-filter h is_forming slices)
@@ -124,7 +116,7 @@ holders-dropped h slices dropped ids there inactive =
     let lost = count_by-at_key id_of leads dropped slices ids there in
     let none = count_by-none {A = Slice} (λ _. false) slices (λ _ _ _. refl) in
     let was : cond {A = ℕ} (leads dropped) 1 0 ≡ 0
-    = ap (λ state. cond (is_active_state state && has h (slice_bounds dropped)) 1 0) inactive in
+    = ap (λ state. cond (is_active_state state && contains h (slice_bounds dropped)) 1 0) inactive in
     let after = holders-filter h is_active (filter (is_other dropped.id) slices) in
     let kept = count_by-filter leads (is_other dropped.id) slices in
     omega (arith, holders-filter h is_active slices)

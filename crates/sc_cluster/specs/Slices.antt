@@ -4,7 +4,7 @@ use Rattle.std.specs.Fmt.{decimal}
 use Rattle.sc_cluster.specs.declared.slice.State.{State}
 use Rattle.sc_cluster.specs.declared.slice.State.TheVariants as states
 use Rattle.sc_cluster.specs.declared.slice.Slice.{Slice}
-use Rattle.sc_cluster.specs.Tiles.{bounds}
+use Rattle.sc_hash.specs.Bounds.{bounds}
 
 -- the state is that of a slice that is searched
 abbrev pub is_active_state : State → Bool

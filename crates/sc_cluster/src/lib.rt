@@ -6,8 +6,9 @@
 //! share out all hashes, and at most one of them is being split.
 #![tactic(auto)]
 
-// A range and its parts.
+// A range and its parts, and whether ranges are the parts of one.
 mod parts;
+mod tile;
 
 // A slice, and what it and its cores are called.
 mod name;
@@ -28,6 +29,7 @@ pub use name::core_name;
 pub use parts::{CutFault, cut};
 pub use plan::SplitPlan;
 pub use slice::{Slice, State};
+pub use tile::tiles;
 
 #[cfg(test)]
 mod tests;

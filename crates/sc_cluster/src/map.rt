@@ -1,7 +1,7 @@
 ghost use Rattle.std.specs.Prelude.{◌≡◌, ◌≤◌, ◌<◌, ◌+◌, ◌^◌, [], length, map, Contains, IfOk, OnOk, OnErr, find, slice_get, ◌&&◌};
 ghost use Rattle.std.specs.Option.{option_map, option_copied};
 ghost use Rattle.std.specs.Str.{bytes_eq};
-ghost use Rattle.sc_cluster.specs.Tiles.{bounds, has};
+ghost use Rattle.sc_hash.specs.Bounds.{bounds, contains};
 
 use crate::first::first_slices;
 use crate::plan::{SplitPlan, add_subs, greatest_id, planned_subs};
@@ -164,14 +164,14 @@ ghost use Rattle.sc_cluster.specs.Slices.{is_active, slice_bounds};
 
 // The slice is active and has the hash.
 fn is_leader(slice: &Slice, h: i32) -> bool
-    ensures { result ≡ (is_active slice.now && has h (slice_bounds slice.now)) }
+    ensures { result ≡ (is_active slice.now && contains h (slice_bounds slice.now)) }
 {
     slice.state.is_active() && slice.range.contains(h)
 }
 
 // The first active slice that has the hash.
 fn leader_of(slices: &[Slice], h: i32) -> Option<&Slice>
-    ensures { option_copied result ≡ find (λ slice. is_active slice && has h (slice_bounds slice)) slices.now }
+    ensures { option_copied result ≡ find (λ slice. is_active slice && contains h (slice_bounds slice)) slices.now }
 {
     slices.iter().find(|slice| is_leader(slice, h))
 }

@@ -2,7 +2,8 @@
 
 ghost use Rattle.std.specs.Prelude.{◌≡◌, ◌≤◌, ◌<◌, ◌-◌, ◌^◌, ◌↔◌, ◌≤ℤ◌, ◌<ℤ◌, pos, negsuc, IfOk, map};
 ghost use Rattle.sc_hash.specs.Range.{IsWithin, size_of};
-ghost use Rattle.sc_cluster.specs.Tiles.{bounds, Tiles};
+ghost use Rattle.sc_hash.specs.Bounds.{bounds};
+ghost use Rattle.sc_cluster.specs.Tiles.{Tiles};
 ghost use Rattle.sc_cluster.specs.Cut.{rounded_down, share_start, border, part, cut};
 
 use sc_hash::Range;

@@ -2,7 +2,7 @@
 
 ghost use Rattle.std.specs.Prelude.{◌≡◌, ◌<◌, ◌+◌, ◌^◌, ℕ, Some, slice_get, length, map, IfOk, OnOk, OnErr, ◌++◌, take, vec_len};
 ghost use Rattle.sc_record.specs.declared.slice.SubSlice.{SubSlice};
-ghost use Rattle.sc_cluster.specs.Tiles.{bounds};
+ghost use Rattle.sc_hash.specs.Bounds.{bounds};
 ghost use Rattle.sc_cluster.specs.Slices.{greatest_id};
 ghost use Rattle.sc_cluster.specs.Plans.{sub_bounds, IsPlanned};
 ghost use Rattle.sc_cluster.specs.Changes.{begun_slice};

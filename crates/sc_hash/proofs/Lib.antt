@@ -1,3 +1,4 @@
+pub mod BoundsLemmas
 pub mod CutLemmas
 pub mod HasherLemmas
 pub mod WordLemmas

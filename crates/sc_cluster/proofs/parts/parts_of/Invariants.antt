@@ -1,5 +1,5 @@
 use Rattle.std.proofs.Common.{◌≡◌, map}
-use Rattle.sc_cluster.specs.Tiles.{bounds}
+use Rattle.sc_hash.specs.Bounds.{bounds}
 use Rattle.sc_cluster.specs.Cut.{first_parts}
 use Rattle.sc_cluster.proofs.parts.parts_of.Given as goal
 

@@ -1,6 +1,6 @@
 use Rattle.std.proofs.Common.{◌≡◌, ◌<◌, ◌∙◌, ap, sym, ◌∷◌, [], ◌++◌, length, map, take, arith}
 use Rattle.std.proofs.lemmas.List.{length-map, map_push, map_more, length-take-le}
-use Rattle.sc_cluster.specs.Tiles.{bounds}
+use Rattle.sc_hash.specs.Bounds.{bounds}
 use Rattle.sc_cluster.specs.Plans.{sub_bounds, IsPlanned}
 use Rattle.sc_cluster.proofs.ItemLemmas.{each_push}
 use Rattle.sc_cluster.proofs.plan.planned_subs.Goals as goal

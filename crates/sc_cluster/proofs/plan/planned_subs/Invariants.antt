@@ -1,6 +1,6 @@
 use Rattle.std.proofs.Common.{◌≡◌, ℕ, Some, slice_get, map, take}
 use Rattle.sc_record.specs.declared.slice.SubSlice.{SubSlice}
-use Rattle.sc_cluster.specs.Tiles.{bounds}
+use Rattle.sc_hash.specs.Bounds.{bounds}
 use Rattle.sc_cluster.specs.Plans.{sub_bounds, IsPlanned}
 use Rattle.sc_cluster.proofs.plan.planned_subs.Given as goal
 

@@ -1,8 +1,8 @@
 use Rattle.std.proofs.Common.{◌≡◌, ◌++◌, map, OnOk, subst, sym}
 use Rattle.std.proofs.lemmas.Result.{on_ok_weaker}
 use Rattle.sc_cluster.specs.Changes.{Change, MayChange, begun_slice}
-use Rattle.sc_cluster.proofs.MapAnswers.{IsMap-tried}
-use Rattle.sc_cluster.proofs.Begun.{All-forming_begun}
+use Rattle.sc_cluster.proofs.MapAnswerLemmas.{IsMap-tried}
+use Rattle.sc_cluster.proofs.BegunLemmas.{All-forming_begun}
 use Rattle.sc_cluster.proofs.MapLemmas.{begun_is_split}
 use Rattle.sc_cluster.proofs.map.ClusterMap.begin.Goals as goal
 

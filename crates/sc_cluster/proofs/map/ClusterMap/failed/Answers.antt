@@ -1,7 +1,7 @@
 use Rattle.std.proofs.Common.{◌∙◌, ap}
 use Rattle.sc_cluster.specs.Slices.{forming}
 use Rattle.sc_cluster.specs.Changes.{Change}
-use Rattle.sc_cluster.proofs.MapAnswers.{IsMap-changed}
+use Rattle.sc_cluster.proofs.MapAnswerLemmas.{IsMap-changed}
 use Rattle.sc_cluster.proofs.MapLemmas.{failed_is_idle}
 use Rattle.sc_cluster.proofs.map.ClusterMap.failed.Goals as goal
 

@@ -3,7 +3,7 @@ use Rattle.std.specs.Option.{option_copied}
 use Rattle.std.proofs.lemmas.Int.{to_z-of_z}
 use Rattle.sc_cluster.specs.declared.slice.Slice.{Slice}
 use Rattle.sc_cluster.specs.Map.{IsMap}
-use Rattle.sc_cluster.proofs.Leaders.{is_leader, found_is_some, found_leads, leads_alone, fits_is_within}
+use Rattle.sc_cluster.proofs.LeaderLemmas.{is_leader, found_is_some, found_leads, leads_alone, fits_is_within}
 use Rattle.sc_cluster.proofs.map.ClusterMap.leads.Goals as goal
 
 pub unwrap-requires : goal.unwrap-requires

@@ -3,9 +3,9 @@ use Rattle.std.proofs.lemmas.List.{length-map}
 use Rattle.sc_record.specs.declared.slice.SubSlice.{SubSlice}
 use Rattle.sc_cluster.specs.Slices.{greatest_id}
 use Rattle.sc_cluster.specs.Map.{IsMap}
-use Rattle.sc_cluster.specs.Tiles.{bounds}
+use Rattle.sc_hash.specs.Bounds.{bounds}
 use Rattle.sc_cluster.specs.Plans.{sub_bounds, MayCut, IsPlanned}
-use Rattle.sc_cluster.proofs.Leaders.{same_from_id}
+use Rattle.sc_cluster.proofs.LeaderLemmas.{same_from_id}
 use Rattle.sc_cluster.proofs.MapLemmas.{planned_is_plan}
 use Rattle.sc_cluster.proofs.map.ClusterMap.plan.Goals as goal
 

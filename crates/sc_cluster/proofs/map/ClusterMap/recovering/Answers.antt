@@ -1,7 +1,7 @@
 use Rattle.std.proofs.Common.{◌∙◌, map, subst, sym, ap, arith}
 use Rattle.sc_cluster.specs.Changes.{Change, IsSplit, recovering_slice}
 use Rattle.sc_cluster.proofs.ItemLemmas.{take-written_map}
-use Rattle.sc_cluster.proofs.MapAnswers.{IsMap-changed}
+use Rattle.sc_cluster.proofs.MapAnswerLemmas.{IsMap-changed}
 use Rattle.sc_cluster.proofs.MapLemmas.{recovering_is_split}
 use Rattle.sc_cluster.proofs.map.ClusterMap.recovering.Goals as goal
 

@@ -2,7 +2,7 @@ use Rattle.std.proofs.Common.{◌∙◌, map, ap, arith}
 use Rattle.sc_cluster.specs.Slices.{forming}
 use Rattle.sc_cluster.specs.Changes.{Change, switched_slice}
 use Rattle.sc_cluster.proofs.ItemLemmas.{take-written_map}
-use Rattle.sc_cluster.proofs.MapAnswers.{IsMap-changed}
+use Rattle.sc_cluster.proofs.MapAnswerLemmas.{IsMap-changed}
 use Rattle.sc_cluster.proofs.MapLemmas.{switched_is_idle}
 use Rattle.sc_cluster.proofs.map.ClusterMap.switched.Goals as goal
 

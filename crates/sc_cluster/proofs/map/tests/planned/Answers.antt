@@ -1,6 +1,7 @@
 use Rattle.std.proofs.Common.{map, sym, subst}
 use Rattle.sc_hash.specs.declared.range.Range.{Range}
-use Rattle.sc_cluster.specs.Tiles.{bounds, Tiles}
+use Rattle.sc_hash.specs.Bounds.{bounds}
+use Rattle.sc_cluster.specs.Tiles.{Tiles}
 use Rattle.sc_cluster.proofs.map.tests.planned.Goals as goal
 
 pub plan-requires-clause-parent : goal.plan-requires-clause-parent

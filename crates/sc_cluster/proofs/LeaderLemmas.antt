@@ -15,7 +15,8 @@ use Rattle.sc_cluster.specs.Map.{least_hash, greatest_hash, IsMap, Leads}
 use Rattle.sc_cluster.proofs.ItemLemmas.{Found, find_from_count, same_from_count}
 use Rattle.sc_cluster.proofs.OrderLemmas.{same_from_rising_key}
 use Rattle.sc_cluster.proofs.IdLemmas.{id_of}
-use Rattle.sc_cluster.proofs.TileLemmas.{with_number, has-Decides, holders-filter}
+use Rattle.sc_hash.proofs.BoundsLemmas.{contains-Decides}
+use Rattle.sc_cluster.proofs.TileLemmas.{with_number, holders-filter}
 
 -- the slice is active and has the hash
 abbrev pub is_leader : ℤ → Slice → Bool
@@ -43,12 +44,12 @@ leads_from_test slices h slice there passes =
     record {
       there = there;
       active = active_from_test slice.state both.0;
-      within = (has-Decides h slice.range.min slice.range.max).0 both.1;
+      within = (contains-Decides h slice.range.min slice.range.max).0 both.1;
     }
 
 -- and one that leads passes
 test_from_leads : (slices : List Slice) (h : ℤ) (slice : Slice) → Leads slices h slice → is_leader h slice ≡ true
-test_from_leads slices h slice leads = rw (leads.active, (has-Decides h slice.range.min slice.range.max).1 leads.within) refl
+test_from_leads slices h slice leads = rw (leads.active, (contains-Decides h slice.range.min slice.range.max).1 leads.within) refl
 
 -- the search for a leader finds one
 leader_is_found : (slices : List Slice) (h : ℤ) → IsMap slices → IsWithin least_hash greatest_hash h

@@ -26,7 +26,7 @@ is_leader h = with_number h is_active
 count_by-is_leader : (slices : List Slice) (h : ℤ) → IsMap slices → IsWithin least_hash greatest_hash h → count_by (is_leader h) slices ≡ 1
 count_by-is_leader slices h is_map within = sym (holders-filter h is_active slices) ∙ is_map.tile.inside h within
 
-active_from_test : (state : State) → is_active_state state ≡ true → state ≡ states.Active
+pub active_from_test : (state : State) → is_active_state state ≡ true → state ≡ states.Active
 active_from_test states.Active test = refl
 active_from_test states.Inactive test = cc
 active_from_test states.Construction test = cc

@@ -18,3 +18,6 @@ pub mod BegunLemmas
 pub mod LeaderLemmas
 pub mod MapAnswerLemmas
 pub mod TileTestLemmas
+pub mod UndoLemmas
+pub mod FindLemmas
+pub mod AllowLemmas

@@ -35,7 +35,7 @@ abbrev name_of : Slice → List ℕ
 name_of slice = slice.name
 
 -- a sub's name is the parent's, an underscore and a decimal
-sub_name-cut : (parent : List ℕ) (i : ℕ) → sub_name parent i ≡ parent ++ underscore ∷ decimal i
+pub sub_name-cut : (parent : List ℕ) (i : ℕ) → sub_name parent i ≡ parent ++ underscore ∷ decimal i
 sub_name-cut parent i = append_assoc parent (codes "_") (decimal i)
 
 -- what begins as the names of a parent's subs extends the parent's name

@@ -1,10 +1,10 @@
 -- What becomes of a map by one change after another.
-use Rattle.std.specs.Prelude.{◌≡◌, ◌<◌, ◌⊎◌, ◌+◌, List, [], ◌∷◌, ⊤, Bool, true, false, count_by, All, Contains}
+use Rattle.std.specs.Prelude.{◌≡◌, ◌<◌, ◌≤◌, ◌⊎◌, ℕ, ◌+◌, IsTrue, length, sum_by, List, [], ◌∷◌, ⊤, Bool, true, false, count_by, All, Contains}
 use Rattle.sc_record.specs.declared.slice.SliceId.{SliceId}
 use Rattle.sc_record.specs.declared.slice.SubSlice.{SubSlice}
 use Rattle.sc_cluster.specs.declared.slice.State.TheVariants as states
 use Rattle.sc_cluster.specs.declared.slice.Slice.{Slice}
-use Rattle.sc_cluster.specs.Slices.{forming}
+use Rattle.sc_cluster.specs.Slices.{forming, greatest_id}
 use Rattle.sc_cluster.specs.Map.{IsMap, IsSplitting}
 use Rattle.sc_cluster.specs.Changes.{Change, after, MayChange}
 
@@ -50,3 +50,24 @@ UsesNoIdAgain = (slices : List Slice) (changes : List Change) (slice : Slice) (p
     → IsMap slices → AreAllowed slices changes → Contains slices slice → slice.state ≡ states.Active
     → MayChange (after_all slices changes) (Change.Begun parent subs)
     → All (λ (sub : SubSlice). slice.id.0 < sub.id.0) subs
+
+-- how many subs a change begins to make
+abbrev pub subs_begun : Change → ℕ
+subs_begun (Change.Begun parent subs) = length subs
+subs_begun _ = 0
+
+-- no id is above the greatest one at first by more than the number of all subs that splits have begun to make
+abbrev pub CountsIdsUp : Type 0
+CountsIdsUp = (slices : List Slice) (changes : List Change) → AreAllowed slices changes
+    → greatest_id (after_all slices changes) ≤ greatest_id slices + sum_by subs_begun changes
+
+-- a split that has begun and failed leaves the slices as they were
+abbrev pub UndoesAFailedSplit : Type 0
+UndoesAFailedSplit = (slices : List Slice) (parent : SliceId) (subs : List SubSlice)
+    → MayChange slices (Change.Begun parent subs)
+    → after_all slices (Change.Begun parent subs ∷ Change.Failed parent ∷ []) ≡ slices
+
+-- what the end of a split leaves is the same whether it went on to recovery or not
+abbrev pub MayLeaveRecoveryOut : Type 0
+MayLeaveRecoveryOut = (slices : List Slice) (parent : SliceId) (end : Change) → IsTrue (ends end)
+    → after_all slices (Change.Recovering parent ∷ end ∷ []) ≡ after slices end

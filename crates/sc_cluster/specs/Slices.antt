@@ -1,5 +1,5 @@
 -- Slices by their state, and their names (Solr Reference Guide, "SolrCloud Shards and Indexing").
-use Rattle.std.specs.Prelude.{ℕ, max, Bool, true, false, List, [], ◌∷◌, ◌++◌, codes, map, filter, ℤ}
+use Rattle.std.specs.Prelude.{ℕ, ◌+◌, ◌-◌, ◌%◌, max, Bool, true, false, List, [], ◌∷◌, ◌++◌, codes, map, filter, ℤ}
 use Rattle.std.specs.Fmt.{decimal}
 use Rattle.sc_cluster.specs.declared.slice.State.{State}
 use Rattle.sc_cluster.specs.declared.slice.State.TheVariants as states
@@ -55,3 +55,7 @@ sub_name parent i = sub_prefix parent ++ decimal i
 -- the name of replica k, from 1, of a slice of the collection `docs`
 abbrev pub core_name : List ℕ → ℕ → List ℕ
 core_name slice k = codes "docs_" ++ slice ++ codes "_replica_n" ++ decimal k
+
+-- the node, from 1, of replica k, from 1, of a slice whose replica 1 is on this node, in a ring of so many nodes
+abbrev pub node_of : ℕ → ℕ → ℕ → ℕ
+node_of node k nodes = ((node - 1) + (k - 1)) % nodes + 1

@@ -18,7 +18,11 @@ mod slice;
 mod first;
 mod map;
 mod plan;
+mod query;
 mod state;
+
+// Which splits may begin.
+mod allow;
 
 // What follows from the definitions.
 mod laws;

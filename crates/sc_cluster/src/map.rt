@@ -1,21 +1,23 @@
-ghost use Rattle.std.specs.Prelude.{◌≡◌, ◌≤◌, ◌<◌, ◌+◌, ◌^◌, [], length, map, Contains, IfOk, OnOk, OnErr, find, slice_get, ◌&&◌};
+ghost use Rattle.std.specs.Prelude.{◌≡◌, ◌≤◌, ◌<◌, ◌+◌, ◌^◌, [], length, map, ◌≢◌, ◌↔◌, All, Contains, IfOk, IsTrue, MatchOption, OnOk, OnErr, find, slice_get, ◌&&◌};
 ghost use Rattle.std.specs.Option.{option_map, option_copied};
 ghost use Rattle.std.specs.Str.{bytes_eq};
 ghost use Rattle.sc_hash.specs.Bounds.{bounds, contains};
 
+use crate::allow::is_plan;
 use crate::first::first_slices;
-use crate::plan::{SplitPlan, add_subs, greatest_id, planned_subs};
+use crate::plan::{SplitPlan, add_subs, planned_subs};
+use crate::query::{greatest_id, is_idle, slice_of};
 use crate::slice::Slice;
 use crate::state::{remove_forming, remove_slice, replace_parent, start_recovery};
 use sc_hash::Range;
-use sc_record::{List, SliceId};
+use sc_record::{CloneIn, List, SliceId, clone_items};
 use std::alloc::{AllocError, Global};
 use std::marker::Model;
 
 /// The slices of a collection, in order of creation, which contracts see as the list of them.
 ///
 /// A split of an active slice is `plan`, `begin`, then `recovering`, then `switched`, or `failed` in place of either.
-/// All calls but `new`, `plan` and `begin` take no memory.
+/// All calls but `new`, `plan`, `begin` and `clone_in` take no memory.
 #[derive(Debug, Drop)]
 pub struct ClusterMap {
     slices: Vec<Slice>,
@@ -41,7 +43,7 @@ impl ClusterMap {
     ghost use Rattle.sc_cluster.specs.Changes.{Change, after, MayChange, IsSplit};
 
     /// The map of a new collection: `shard1`, `shard2` and so on, which share out all hashes evenly and are active.
-    /// Each slice's first replica is on the node behind that of the last replica of the slice before it.
+    /// Each slice's first replica is on the node after that of the last replica of the slice before it.
     pub fn new(
         alloc: Global,
         shards: u32,
@@ -79,7 +81,37 @@ impl ClusterMap {
             .map(|slice| slice.id)
     }
 
-    /// The slice at this place of the list, from 0; None behind its end.
+    /// The slice of this id; None where no slice has it.
+    pub fn by_id(&self, id: SliceId) -> Option<&Slice>
+        ensures slice { MatchOption result (All (λ (slice : Slice). slice.id ≢ id) self.now)
+            (λ slice. Contains self.now slice.now × (slice.now.id ≡ id)) }
+        ensures map { IsMap self.now }
+    {
+        slice_of(&self.slices, id)
+    }
+
+    /// How many slices there are, inactive ones and those that a split is making among them.
+    pub fn len(&self) -> usize
+        ensures { result ≡ length self.now }
+    {
+        self.slices.len()
+    }
+
+    /// The greatest id of the slices. Those of the next subs follow it.
+    pub fn greatest_id(&self) -> u32
+        ensures { result ≡ greatest_id self.now }
+    {
+        greatest_id(&self.slices)
+    }
+
+    /// No split is open.
+    pub fn is_idle(&self) -> bool
+        ensures { IsTrue result ↔ (forming self.now ≡ []) }
+    {
+        is_idle(&self.slices)
+    }
+
+    /// The slice at this place of the list, from 0; None from its end on.
     pub fn get(&self, at: usize) -> Option<&Slice>
         ensures slice { option_copied result ≡ slice_get self.now at }
         ensures map { IsMap self.now }
@@ -102,9 +134,16 @@ impl ClusterMap {
         ensures ranges { IfOk result (λ plan. map sub_bounds plan.subs ≡ map bounds ranges.now) }
         ensures plan { IfOk result (λ plan. IsPlan self.now parent plan.subs) }
     {
-        let slice = slice_of(&self.slices, parent);
+        let slice = slice_of(&self.slices, parent).unwrap();
         let subs = planned_subs(alloc, slice, greatest_id(&self.slices), ranges.as_slice())?;
         Ok(SplitPlan { parent, subs })
+    }
+
+    /// The split of the plan may begin now, whoever made the plan.
+    pub fn allows(&self, plan: &SplitPlan) -> bool
+        ensures { IsTrue result ↔ IsPlan self.now plan.now.parent plan.now.subs }
+    {
+        is_plan(&self.slices, plan)
     }
 
     /// Adds the subs of a split as slices under construction. An error leaves the map as it was.
@@ -118,7 +157,8 @@ impl ClusterMap {
         add_subs(&mut self.slices, plan.subs.as_slice())
     }
 
-    /// Puts the subs of the split of the parent from construction into recovery.
+    /// Puts the subs of the split of the parent from construction into recovery, during which their followers are made.
+    /// A map whose followers are kept elsewhere, as a bucket's, may go from construction to the split's end without it.
     pub fn recovering(&mut self, parent: SliceId)
         requires { MayChange self.old (Change.Recovering parent) }
         ensures change { self.new ≡ after self.old (Change.Recovering parent) }
@@ -159,6 +199,14 @@ impl ClusterMap {
     }
 }
 
+impl CloneIn for ClusterMap {
+    fn clone_in(&self, alloc: Global) -> Result<ClusterMap, AllocError> {
+        Ok(ClusterMap {
+            slices: clone_items(alloc, self.slices.as_slice())?,
+        })
+    }
+}
+
 ghost use Rattle.sc_cluster.specs.declared.slice.Slice.{Slice};
 ghost use Rattle.sc_cluster.specs.Slices.{is_active, slice_bounds};
 
@@ -174,15 +222,6 @@ fn leader_of(slices: &[Slice], h: i32) -> Option<&Slice>
     ensures { option_copied result ≡ find (λ slice. is_active slice && contains h (slice_bounds slice)) slices.now }
 {
     slices.iter().find(|slice| is_leader(slice, h))
-}
-
-// The slice with this id.
-fn slice_of(slices: &[Slice], id: SliceId) -> &Slice
-    requires { (slice : Slice) × Contains slices.now slice × (slice.id ≡ id) }
-    ensures there { Contains slices.now result.now }
-    ensures named { result.now.id ≡ id }
-{
-    slices.iter().find(|slice| slice.id == id).unwrap()
 }
 
 #[cfg(test)]

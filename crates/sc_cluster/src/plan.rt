@@ -3,14 +3,13 @@
 ghost use Rattle.std.specs.Prelude.{◌≡◌, ◌<◌, ◌+◌, ◌^◌, ℕ, Some, slice_get, length, map, IfOk, OnOk, OnErr, ◌++◌, take, vec_len};
 ghost use Rattle.sc_record.specs.declared.slice.SubSlice.{SubSlice};
 ghost use Rattle.sc_hash.specs.Bounds.{bounds};
-ghost use Rattle.sc_cluster.specs.Slices.{greatest_id};
 ghost use Rattle.sc_cluster.specs.Plans.{sub_bounds, IsPlanned};
 ghost use Rattle.sc_cluster.specs.Changes.{begun_slice};
 
 use crate::name::sub_name;
 use crate::slice::{Slice, State};
 use sc_hash::Range;
-use sc_record::{List, SliceId, SubSlice};
+use sc_record::{CloneIn, List, SliceId, SubSlice};
 use std::alloc::{AllocError, Global};
 
 /// A split of a slice: its subs, in the order of their ranges.
@@ -20,15 +19,13 @@ pub struct SplitPlan {
     pub subs: List<SubSlice>,
 }
 
-/// The greatest id of the slices, 0 where there is none.
-pub(crate) fn greatest_id(slices: &[Slice]) -> u32
-    ensures { result ≡ greatest_id slices.now }
-{
-    let mut greatest = 0;
-    for slice in slices {
-        greatest = greatest.max(slice.id.0);
+impl CloneIn for SplitPlan {
+    fn clone_in(&self, alloc: Global) -> Result<SplitPlan, AllocError> {
+        Ok(SplitPlan {
+            parent: self.parent,
+            subs: self.subs.clone_in(alloc)?,
+        })
     }
-    greatest
 }
 
 // Sub i, from 0, of the parent, where the greatest id of all slices is this.
@@ -89,7 +86,7 @@ fn begun_slice(sub: &SubSlice) -> Result<Slice, AllocError>
     })
 }
 
-// Puts the subs behind the slices, as many as there is memory for.
+// Puts the subs after the slices, as many as there is memory for.
 fn push_subs(slices: &mut Vec<Slice>, subs: &[SubSlice]) -> Result<(), AllocError>
     ensures ok { OnOk result (slices.new.items ≡ slices.old.items ++ map begun_slice subs.now) }
     ensures kept { take (vec_len slices.old) slices.new.items ≡ slices.old.items }
@@ -100,7 +97,7 @@ fn push_subs(slices: &mut Vec<Slice>, subs: &[SubSlice]) -> Result<(), AllocErro
     Ok(())
 }
 
-/// Puts the subs behind the slices, all of them or none.
+/// Puts the subs after the slices, all of them or none.
 pub(crate) fn add_subs(slices: &mut Vec<Slice>, subs: &[SubSlice]) -> Result<(), AllocError>
     ensures ok { OnOk result (slices.new.items ≡ slices.old.items ++ map begun_slice subs.now) }
     ensures err { OnErr result (slices.new.items ≡ slices.old.items) }

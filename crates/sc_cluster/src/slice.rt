@@ -1,7 +1,8 @@
 ghost use Rattle.std.specs.Prelude.{◌≡◌, ◌<◌};
 
 use sc_hash::Range;
-use sc_record::{SliceId, Text};
+use sc_record::{CloneIn, SliceId, Text};
+use std::alloc::{AllocError, Global};
 
 /// What a slice is for, after Solr's states of a shard.
 #[derive(Clone, Copy, Debug, PartialEq, Eq)]
@@ -12,7 +13,7 @@ pub enum State {
     Inactive,
     /// A split is making it: it is sent the updates of its hashes, and not searched.
     Construction,
-    /// The same, once its leader has all documents and its followers are made.
+    /// The same, once its leader has all documents. Its followers are made meanwhile.
     Recovery,
 }
 
@@ -34,8 +35,8 @@ impl State {
 }
 
 /// A part of the collection: the documents whose hash is in its range, on so many replicas. Replica 1 leads and is on
-/// `node`; replica k of a cluster of n nodes is on node `((node - 1) + (k - 1)) mod n + 1`. Nodes and replicas are
-/// counted from 1.
+/// `node`, and each further one is on the node after that of the one before it, in a ring. Nodes and replicas are counted
+/// from 1.
 #[derive(Debug, Drop)]
 pub struct Slice {
     pub id: SliceId,
@@ -46,4 +47,34 @@ pub struct Slice {
     pub node: u32,
     pub ghost replicated: { 0 < replicas },
     pub ghost placed: { 0 < node },
+}
+
+impl Slice {
+    ghost use Rattle.std.specs.Prelude.{◌≤◌};
+    ghost use Rattle.sc_cluster.specs.Slices.{node_of};
+
+    /// The node of a replica, in a cluster of so many nodes.
+    pub fn node_of(&self, replica: u8, nodes: u32) -> u32
+        requires replica { 1 ≤ replica }
+        requires nodes { 1 ≤ nodes }
+        ensures node { result ≡ node_of self.now.node replica nodes }
+        ensures least { 1 ≤ result }
+        ensures most { result ≤ nodes }
+    {
+        let steps = u64::from(self.node - 1) + u64::from(replica - 1);
+        (steps % u64::from(nodes)) as u32 + 1
+    }
+}
+
+impl CloneIn for Slice {
+    fn clone_in(&self, alloc: Global) -> Result<Slice, AllocError> {
+        Ok(Slice {
+            id: self.id,
+            name: self.name.clone_in(alloc)?,
+            range: self.range,
+            state: self.state,
+            replicas: self.replicas,
+            node: self.node,
+        })
+    }
 }

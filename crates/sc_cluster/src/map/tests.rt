@@ -8,7 +8,7 @@ ghost use Rattle.sc_cluster.specs.Changes.{Change, MayChange};
 use crate::map::ClusterMap;
 use crate::name::core_name;
 use crate::parts::{CutFault, cut};
-use crate::plan::{SplitPlan, greatest_id};
+use crate::plan::SplitPlan;
 use crate::slice::State;
 use sc_hash::{Range, range_text};
 use sc_record::SliceId;
@@ -52,8 +52,8 @@ fn planned(rt: &impl Abort, alloc: Global, map: &ClusterMap, name: &str) -> Resu
     let (parent, range) = in_state(map, name, State::Active)?;
     let ranges = cut(alloc, &range, 2)?;
     assert!(rt; ranges.len() == 2);
-    assert!(rt; map.slices.len() <= 254);
-    assert!(rt; greatest_id(&map.slices) < 1000);
+    assert!(rt; map.len() <= 254);
+    assert!(rt; map.greatest_id() < 1000);
     Ok(map.plan(alloc, parent, &ranges)?)
 }
 

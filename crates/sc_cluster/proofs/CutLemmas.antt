@@ -30,7 +30,7 @@ pub border-first : (min max : ℤ) (n i : ℕ) → i ≡ 0 → border min max n 
 unfolding border
 border-first min max n i first = rw (eq-eqb i 0 first) refl
 
--- behind the last part the range has ended
+-- after the last part the range has ended
 pub border-last : (min max : ℤ) (n i : ℕ) → i ≢ 0 → n ≤ i → border min max n i ≡ max +ℤ pos 1
 unfolding border
 border-last min max n i later last = rw (ne_eqb i 0 later, le-leb n i last) refl
@@ -126,7 +126,7 @@ le-border min max n (suc i) le size =
     let next = border-lt min max n i (omega arith) size in
     omega (arith, ints)
 
--- no border stands further than right behind the range
+-- no border stands further than right after the range
 border-le : (min max : ℤ) (n i : ℕ) → 1 ≤ n → i ≤ n → pos n ≤ℤ size_of min max → border min max n i ≤ℤ (max +ℤ pos 1)
 border-le min max n i one le size =
     let s = unsigned_abs (size_of min max) in
@@ -137,7 +137,7 @@ border-le min max n i one le size =
       by : (a low high : ℤ) (x s : ℕ) → a ≤ℤ (low +ℤ pos x) → x ≤ s → high ≡ low +ℤ pos s → a ≤ℤ high
       by a low high x s p q r = omega (arith, ints)
 
--- a border is a number of 32 bits or right behind them
+-- a border is a number of 32 bits or right after them
 pub border-bounded : (min max : ℤ) (n i : ℕ) → 1 ≤ n → i ≤ n → pos n ≤ℤ size_of min max → FitsSigned w32 min → FitsSigned w32 max → IsWithin (negsuc (2 ^ 31 - 1)) (pos (2 ^ 31)) (border min max n i)
 border-bounded min max n i one le size low_fits high_fits =
     let low = le-border min max n i le size in

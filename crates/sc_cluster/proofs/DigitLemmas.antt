@@ -13,10 +13,10 @@ abbrev pub HasNoUnderscore : List ℕ → Type 0
 HasNoUnderscore text = All (λ byte. byte ≢ underscore) text
 
 -- a text in which an underscore stands is not without one
-pub underscore_in : (front rest : List ℕ) → ¬ HasNoUnderscore (front ++ underscore ∷ rest)
-underscore_in front rest none =
-    let here = Contains-append_right front (underscore ∷ rest) underscore (0, omega arith, refl) in
-    All-contains (λ byte. byte ≢ underscore) (front ++ underscore ∷ rest) underscore none here refl
+pub underscore_in : (prefix rest : List ℕ) → ¬ HasNoUnderscore (prefix ++ underscore ∷ rest)
+underscore_in prefix rest none =
+    let here = Contains-append_right prefix (underscore ∷ rest) underscore (0, omega arith, refl) in
+    All-contains (λ byte. byte ≢ underscore) (prefix ++ underscore ∷ rest) underscore none here refl
 
 -- a digit is no underscore
 digit_glyph-differs : (n : ℕ) → digit_glyph false (n % 10) ≢ underscore
@@ -44,19 +44,19 @@ abbrev pub Extends : List ℕ → List ℕ → Type 0
 Extends parent name = (rest : List ℕ) × (name ≡ parent ++ underscore ∷ rest)
 
 -- what stands before an underscore stands before the last one, or goes on in what does
-pub cut_at_underscore : (front parent rest last : List ℕ) → HasNoUnderscore last
-    → front ++ underscore ∷ rest ≡ parent ++ underscore ∷ last → (front ≡ parent) ⊎ Extends front parent
+pub cut_at_underscore : (prefix parent rest last : List ℕ) → HasNoUnderscore last
+    → prefix ++ underscore ∷ rest ≡ parent ++ underscore ∷ last → (prefix ≡ parent) ⊎ Extends prefix parent
 cut_at_underscore [] [] rest last none same = inl refl
 cut_at_underscore [] (x ∷ parent) rest last none same =
     let first : x ≡ underscore = cc in
     inr (parent, ap (λ y. y ∷ parent) first)
-cut_at_underscore (y ∷ front) [] rest last none same =
-    let tail : front ++ underscore ∷ rest ≡ last = cc in
-    absurd (underscore_in front rest (rw tail none))
-cut_at_underscore (y ∷ front) (x ∷ parent) rest last none same =
-    let tail : front ++ underscore ∷ rest ≡ parent ++ underscore ∷ last = cc in
-    by (cc) (cut_at_underscore front parent rest last none tail)
+cut_at_underscore (y ∷ prefix) [] rest last none same =
+    let tail : prefix ++ underscore ∷ rest ≡ last = cc in
+    absurd (underscore_in prefix rest (rw tail none))
+cut_at_underscore (y ∷ prefix) (x ∷ parent) rest last none same =
+    let tail : prefix ++ underscore ∷ rest ≡ parent ++ underscore ∷ last = cc in
+    by (cc) (cut_at_underscore prefix parent rest last none tail)
   where
-    by : y ≡ x → (front ≡ parent) ⊎ Extends front parent → (y ∷ front ≡ x ∷ parent) ⊎ Extends (y ∷ front) (x ∷ parent)
+    by : y ≡ x → (prefix ≡ parent) ⊎ Extends prefix parent → (y ∷ prefix ≡ x ∷ parent) ⊎ Extends (y ∷ prefix) (x ∷ parent)
     by first (inl equal) = inl (cc)
     by first (inr (more, is)) = inr (more, (cc))

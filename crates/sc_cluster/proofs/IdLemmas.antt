@@ -28,7 +28,7 @@ greatest_id-bounds (first ∷ slices) =
     (All-weaker (λ slice. id_of slice ≤ greatest) (λ slice. id_of slice ≤ greater) (λ slice most. omega arith)
     slices (greatest_id-bounds slices))
 
--- the ids of slices with those of subs that are counted up behind them
+-- the ids of slices with those of subs that are counted up after them
 sub_ids_above : (subs : List SubSlice) (greatest : ℕ)
     → ((i : ℕ) (sub : SubSlice) → slice_get subs i ≡ Some sub → sub_id sub ≡ greatest + 1 + i)
     → All (λ n. greatest < n) (map sub_id subs)

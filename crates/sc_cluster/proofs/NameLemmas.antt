@@ -51,20 +51,20 @@ prefix_from_Extends : (parent name : List ℕ) → Extends parent name
 prefix_from_Extends parent name (rest, is) =
     (starts_is Decides-eqb name (sub_prefix parent) _ refl).1 rest (is ∙ sym (append_assoc parent (codes "_") rest))
 
--- behind a parent's name and an underscore, a decimal is no text with an underscore
-decimal-alone : (parent name front rest : List ℕ) (i : ℕ) → name ≡ parent ++ underscore ∷ decimal i
-    → name ≢ parent ++ underscore ∷ (front ++ underscore ∷ rest)
-decimal-alone parent name front rest i one other =
-    let longer = underscore ∷ (front ++ underscore ∷ rest) in
+-- after a parent's name and an underscore, a decimal is no text with an underscore
+decimal-alone : (parent name prefix rest : List ℕ) (i : ℕ) → name ≡ parent ++ underscore ∷ decimal i
+    → name ≢ parent ++ underscore ∷ (prefix ++ underscore ∷ rest)
+decimal-alone parent name prefix rest i one other =
+    let longer = underscore ∷ (prefix ++ underscore ∷ rest) in
     let tails = append_cancel_left parent (underscore ∷ decimal i) longer (sym one ∙ other) in
-    let digits : decimal i ≡ front ++ underscore ∷ rest = cc in
-    underscore_in front rest (subst HasNoUnderscore digits (decimal-HasNoUnderscore i))
+    let digits : decimal i ≡ prefix ++ underscore ∷ rest = cc in
+    underscore_in prefix rest (subst HasNoUnderscore digits (decimal-HasNoUnderscore i))
 
 -- what extends a longer name extends the parent's
 extended-append : (parent name rest more : List ℕ) → name ≡ parent ++ underscore ∷ rest
     → name ++ underscore ∷ more ≡ parent ++ underscore ∷ (rest ++ underscore ∷ more)
 extended-append parent name rest more is =
-    ap (λ front. front ++ underscore ∷ more) is ∙ append_assoc parent (underscore ∷ rest) (underscore ∷ more)
+    ap (λ prefix. prefix ++ underscore ∷ more) is ∙ append_assoc parent (underscore ∷ rest) (underscore ∷ more)
 
 -- subs of the same name have parents of the same name
 pub sub_name-injective : (a b : List ℕ) (i j : ℕ) → sub_name a i ≡ sub_name b j → a ≡ b
@@ -77,8 +77,8 @@ sub_name-injective a b i j same =
     by : (a ≡ b) ⊎ Extends a b → a ≡ b
     by (inl equal) = equal
     by (inr (rest, is)) =
-        let behind = cut ∙ extended-append a b rest (decimal j) is in
-        absurd (decimal-alone a (sub_name a i) rest (decimal j) i (sub_name-cut a i) behind)
+        let after_it = cut ∙ extended-append a b rest (decimal j) is in
+        absurd (decimal-alone a (sub_name a i) rest (decimal j) i (sub_name-cut a i) after_it)
 
 -- the slices have different names
 abbrev DifferInName : Slice → Slice → Type 0
@@ -267,11 +267,11 @@ module _ (slices : List Slice) (parent : Slice) (is_map : IsMap slices) (splitti
       → ¬ Extends sub.name slice.name
   forming_alone sub slice there forms here (rest, longer) =
       let (j, sub_is) = named_sub sub there forms in
-      let behind = longer ∙ extended-append parent.name sub.name (decimal j) rest sub_is in
+      let after_it = longer ∙ extended-append parent.name sub.name (decimal j) rest sub_is in
       let active : is_active parent ≡ true = ap is_active_state splitting.active in
-      let formed = forming_from_Extends slices parent slice is_map.apart splitting.there here active (_, behind) in
+      let formed = forming_from_Extends slices parent slice is_map.apart splitting.there here active (_, after_it) in
       let (i, named) = named_sub slice here formed in
-      decimal-alone parent.name slice.name (decimal j) rest i named behind
+      decimal-alone parent.name slice.name (decimal j) rest i named after_it
 
   -- nor that of an active slice other than the parent
   active_alone : (other slice : Slice) → Contains slices other → is_active other ≡ true → other ≢ parent

@@ -113,7 +113,7 @@ pub forming-begun : (slices : List Slice) (subs : List SubSlice) → forming sli
     → forming (slices ++ map begun_slice subs) ≡ map begun_slice subs
 forming-begun slices subs idle =
     filter-append is_forming slices (map begun_slice subs)
-    ∙ ap (λ front. front ++ forming (map begun_slice subs)) idle
+    ∙ ap (λ prefix. prefix ++ forming (map begun_slice subs)) idle
     ∙ filter-all is_forming (map begun_slice subs) (begun_forming subs)
 
 pub forming-recovering : (slices : List Slice)

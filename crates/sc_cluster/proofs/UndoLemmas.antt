@@ -41,24 +41,36 @@ change_greatest slices (Change.Begun parent subs) may =
     (λ i sub at. let counted = (may.cut.2 i sub at).id in let below = slice_get_within subs i sub at in omega arith))))
 change_greatest slices (Change.Recovering parent) may =
     let greatest = greatest_id slices in
-    omega (arith, greatest_id-le (map recovering_slice slices) greatest
-    (All-map (λ slice. id_of slice ≤ greatest) recovering_slice slices
-    (All-weaker (λ slice. id_of slice ≤ greatest) (λ slice. id_of (recovering_slice slice) ≤ greatest)
-    (λ slice le. let kept = recovering_keeps id_of (λ _ _. refl) slice in omega arith) slices (greatest_id-bounds slices))))
+    omega (
+      arith,
+      greatest_id-le (map recovering_slice slices) greatest
+          (All-map (λ slice. id_of slice ≤ greatest) recovering_slice slices
+          (All-weaker (λ slice. id_of slice ≤ greatest) (λ slice. id_of (recovering_slice slice) ≤ greatest)
+          (λ slice le. let kept = recovering_keeps id_of (λ _ _. refl) slice in omega arith) slices (greatest_id-bounds slices))),
+    )
 change_greatest slices (Change.Switched parent) may =
     let greatest = greatest_id slices in
-    omega (arith, greatest_id-le (map (switched_slice parent) slices) greatest
-    (All-map (λ slice. id_of slice ≤ greatest) (switched_slice parent) slices
-    (All-weaker (λ slice. id_of slice ≤ greatest) (λ slice. id_of (switched_slice parent slice) ≤ greatest)
-    (λ slice le. let kept = switched_keeps id_of (λ _ _. refl) parent slice in omega arith) slices (greatest_id-bounds slices))))
+    omega (
+      arith,
+      greatest_id-le (map (switched_slice parent) slices) greatest
+          (All-map (λ slice. id_of slice ≤ greatest) (switched_slice parent) slices
+          (All-weaker (λ slice. id_of slice ≤ greatest) (λ slice. id_of (switched_slice parent slice) ≤ greatest)
+          (λ slice le. let kept = switched_keeps id_of (λ _ _. refl) parent slice in omega arith) slices (greatest_id-bounds slices))),
+    )
 change_greatest slices (Change.Failed parent) may =
     let greatest = greatest_id slices in
-    omega (arith, greatest_id-le (filter is_settled slices) greatest
-    (All-filter is_settled (λ slice. id_of slice ≤ greatest) slices (greatest_id-bounds slices)))
+    omega (
+      arith,
+      greatest_id-le (filter is_settled slices) greatest
+          (All-filter is_settled (λ slice. id_of slice ≤ greatest) slices (greatest_id-bounds slices)),
+    )
 change_greatest slices (Change.Dropped dropped) may =
     let greatest = greatest_id slices in
-    omega (arith, greatest_id-le (filter (is_other dropped) slices) greatest
-    (All-filter (is_other dropped) (λ slice. id_of slice ≤ greatest) slices (greatest_id-bounds slices)))
+    omega (
+      arith,
+      greatest_id-le (filter (is_other dropped) slices) greatest
+          (All-filter (is_other dropped) (λ slice. id_of slice ≤ greatest) slices (greatest_id-bounds slices)),
+    )
 
 pub counts_ids_up : CountsIdsUp
 counts_ids_up slices [] allowed = omega arith
@@ -74,7 +86,7 @@ undoes_a_failed_split slices parent subs may =
     (none_from_filter is_forming slices may.idle)) in
     let new = filter-none is_settled (map begun_slice subs) (All-map (λ slice. is_settled slice ≡ false) begun_slice subs (λ _ _ _. refl)) in
     filter-append is_settled slices (map begun_slice subs)
-    ∙ ap (λ front. front ++ filter is_settled (map begun_slice subs)) old
+    ∙ ap (λ prefix. prefix ++ filter is_settled (map begun_slice subs)) old
     ∙ ap (λ back. slices ++ back) new
     ∙ append-nil slices
 

@@ -1,4 +1,4 @@
-//! Which slices the collection has, which hashes each of them has, and how a split changes them. It stands on
+//! Which slices the collection has, which hashes each of them has, and how a split changes them. It depends on
 //! `sc_hash` and `sc_record`, and does no input and no output.
 //! The layers above cut a range by `cut`, find the slice that leads a hash by `ClusterMap::leads`, and change a map by
 //! `begin`, `recovering`, `switched`, `failed` and `dropped`, each of which is one step of `after`, the definition

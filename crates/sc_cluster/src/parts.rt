@@ -44,7 +44,7 @@ fn share_start(range: Range, n: u32, i: u32) -> i64
     i64::from(range.min) + (u64::from(i) * range.size() / u64::from(n)) as i64
 }
 
-// Where part i of n begins; behind the last, where the range has ended. That may be one above an i32.
+// Where part i of n begins; after the last, where the range has ended. That may be one above an i32.
 fn border(range: Range, n: u32, i: u32) -> i64
     requires least { 1 ≤ n }
     requires part { i ≤ n }

@@ -20,7 +20,7 @@ after_text-append (suc n) hash (a ∷ b ∷ []) text e = absurd (omega arith)
 after_text-append (suc n) hash (a ∷ b ∷ c ∷ []) text e = absurd (omega arith)
 after_text-append (suc n) hash (a ∷ b ∷ c ∷ d ∷ words) text e = after_text-append n (after_word hash (from_le_bytes w32 (a ∷ b ∷ c ∷ d ∷ []))) words text (omega arith)
 
--- a text by its whole words and what waits behind them
+-- a text by its whole words and what waits after them
 length-words : (text : List ℕ) → length (take (word_bytes text) text) ≡ 4 * (length text / 4)
 length-words text = length-take-le (word_bytes text) text (omega arith) ∙ omega arith
 
@@ -35,7 +35,7 @@ after_text-words hash text more =
     ∙ ap (after_text hash) (append_assoc words waiting more)
     ∙ after_text-append (length text / 4) hash words (waiting ++ more) (length-words text)
 
--- the number of a few bytes with one more behind them
+-- the number of a few bytes with one more after them
 from_le_bytes-push : (bytes : List ℕ) (byte : ℕ) → length bytes < 4 → from_le_bytes w32 (bytes ++ byte ∷ []) ≡ from_le_bytes w32 bytes + byte * 2 ^ (8 * length bytes)
 from_le_bytes-push [] byte h = omega arith
 from_le_bytes-push (a ∷ []) byte h = omega arith
@@ -60,7 +60,7 @@ push_below word byte place p q =
 pub push_fits : (place : ℕ) → place < 4 → 2 ^ (8 * (place + 1)) ≤ 2 ^ 32
 push_fits place h = let most : 8 * (place + 1) ≤ 32 = omega arith in pow-le-pow_right (lit< tt) most
 
--- one more byte that fills no word waits behind the others
+-- one more byte that fills no word waits after the others
 module _ (text : List ℕ) (byte : ℕ) (open_word : length text % 4 ≢ 3) where
   same_bytes : word_bytes (text ++ byte ∷ []) ≡ word_bytes text
   same_bytes = omega (arith, length-append text (byte ∷ []))
@@ -95,7 +95,7 @@ module _ (text : List ℕ) (byte : ℕ) (full_word : length text % 4 ≡ 3) wher
       ∙ after_text-words seed text (byte ∷ [])
       ∙ after_text-word _ (drop (word_bytes text) text ++ byte ∷ []) (omega (arith, length-append (drop (word_bytes text) text) (byte ∷ []), length-waiting text, full_word))
 
--- a whole word behind whole words
+-- a whole word after whole words
 module _ (text bytes : List ℕ) (whole : length text % 4 ≡ 0) (four : length bytes ≡ 4) where
   word_end : length (text ++ bytes) ≡ word_bytes (text ++ bytes)
   word_end = omega (arith, length-append text bytes)

@@ -1,3 +1,4 @@
+-- The lemmas of this crate, lowest first.
 pub mod BoundsLemmas
 pub mod CutLemmas
 pub mod HasherLemmas

@@ -1,3 +1,4 @@
+-- The lemmas of this crate, lowest first.
 pub mod FieldLaws
 pub mod FieldSearch
 pub mod VersionLaws

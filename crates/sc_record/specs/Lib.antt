@@ -1,2 +1,3 @@
+-- What the contracts of this crate cite, lowest first.
 pub mod Fields
 pub mod Versions

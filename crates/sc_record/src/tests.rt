@@ -1,7 +1,8 @@
 ghost use Rattle.std.specs.Prelude.{◌≡◌, [], ◌∷◌, IfOk, pos, ◌<ℤ◌};
 
 use crate::{
-    Cell, Doc, Field, Id, IdFault, Kind, List, Text, Value, Write, found, kind_of, next_version,
+    Cell, CloneIn, Doc, Field, Id, IdFault, Kind, List, SliceId, SubSlice, Text, Value, Write,
+    found, kind_of, next_version,
 };
 use std::alloc::{AllocError, Global};
 use std::sync::Arc;
@@ -176,5 +177,34 @@ fn texts_and_ids_are_in_the_order_of_their_bytes(rt: HostRuntime) -> Result<(), 
     let id = least(Id::new(alloc, "a9")?, Id::new(alloc, "a10")?);
     assert_eq!(rt; id.as_str(), "a10");
     assert!(rt; id == id.clone()?);
+    Ok(())
+}
+
+// A copy, by the bound.
+fn copied<T: CloneIn>(alloc: Global, value: &T) -> Result<T, Fail> {
+    Ok(value.clone_in(alloc)?)
+}
+
+#[test]
+fn copies_equal_their_originals(rt: HostRuntime) -> Result<(), Fail> {
+    let alloc = rt.alloc();
+    let mut subs = List::new(alloc);
+    subs.push(SubSlice {
+        id: SliceId(3),
+        name: Text::new(alloc, "shard1_0")?,
+        min: -1,
+        max: 1,
+        replicas: 2,
+        node: 4,
+    })?;
+    let copy = copied(alloc, &subs)?;
+    match copy.as_slice() {
+        [sub] => {
+            assert_eq!(rt; sub.name.as_str(), "shard1_0");
+            assert_eq!(rt; (sub.id, sub.min, sub.max), (SliceId(3), -1, 1));
+            assert_eq!(rt; (sub.replicas, sub.node), (2, 4));
+        }
+        _ => return Err(Fail::from("another number of subs")),
+    }
     Ok(())
 }

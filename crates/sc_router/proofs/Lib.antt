@@ -1,3 +1,4 @@
+-- The lemmas of this crate, lowest first.
 pub mod MarkLemmas
 pub mod SlashLemmas
 pub mod CountLemmas

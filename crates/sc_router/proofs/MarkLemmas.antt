@@ -64,7 +64,7 @@ cut-before mark text h =
 pub occurrences-after : (mark : ℕ) (text : List ℕ) → 0 < occurrences mark text → occurrences mark text ≡ 1 + occurrences mark (after mark text)
 occurrences-after mark text h = count-found (λ b. eqb b mark) text (found-below mark text h)
 
--- the first mark stands behind what is before it
+-- the first mark comes after what is before it
 pub before-lt : (mark : ℕ) (text : List ℕ) → 0 < occurrences mark text → length (before mark text) < length text
 before-lt mark text h = omega (arith, length-take (position_or_len (λ b. eqb b mark) text) text, found-below mark text h)
 
@@ -107,7 +107,7 @@ found-at mark i text lt at =
     let one : f (get_or text i 0) ≡ 1 = ap (λ t. cond t 1 0) ((Decides-eqb (get_or text i 0) mark).1 at) in
     omega (arith, one, get_or-le-sum_by f text i 0 lt)
 
--- one more byte behind a text
+-- one more byte after a text
 pub occurrences-push_other : (mark byte : ℕ) (text : List ℕ) → byte ≢ mark → occurrences mark (text ++ byte ∷ []) ≡ occurrences mark text
 occurrences-push_other mark byte text other =
     let not_one : eqb byte mark ≡ false = grind (arith, nat_tests) in
@@ -138,8 +138,8 @@ lone_mark mark (b ∷ c ∷ text) h l = absurd (omega arith)
 ends_twice : (id : List ℕ) → ends_with nat_eq id (33 ∷ 33 ∷ []) ≡ true → id ≡ take (length id - 2) id ++ 33 ∷ 33 ∷ []
 ends_twice id h = (ends_is Decides-eqb id (33 ∷ 33 ∷ []) (ends_with nat_eq id (33 ∷ 33 ∷ [])) refl).0 h
 
-ends_twice-from : (id front : List ℕ) → id ≡ front ++ 33 ∷ 33 ∷ [] → ends_with nat_eq id (33 ∷ 33 ∷ []) ≡ true
-ends_twice-from id front h = (ends_is Decides-eqb id (33 ∷ 33 ∷ []) (ends_with nat_eq id (33 ∷ 33 ∷ [])) refl).1 front h
+ends_twice-from : (id prefix : List ℕ) → id ≡ prefix ++ 33 ∷ 33 ∷ [] → ends_with nat_eq id (33 ∷ 33 ∷ []) ≡ true
+ends_twice-from id prefix h = (ends_is Decides-eqb id (33 ∷ 33 ∷ []) (ends_with nat_eq id (33 ∷ 33 ∷ [])) refl).1 prefix h
 
 pub parts-one : (id : List ℕ) → occurrences 33 id ≡ 0 → parts id ≡ id ∷ []
 unfolding parts
@@ -165,11 +165,11 @@ not_ends_twice : (id : List ℕ) → 0 < occurrences 33 id → length (after 33 
 not_ends_twice id some several h =
     let both = both_true (eqb (occurrences 33 id) 2) (ends_with nat_eq id (33 ∷ 33 ∷ [])) h in
     let two : occurrences 33 id ≡ 2 = (Decides-eqb (occurrences 33 id) 2).0 both.0 in
-    let front = take (length id - 2) id in
+    let prefix = take (length id - 2) id in
     let ends = ends_twice id both.1 in
-    let counted : occurrences 33 id ≡ occurrences 33 front + 2 = ap (occurrences 33) ends ∙ sum_by-append (λ b. cond (eqb b 33) 1 0) front (33 ∷ 33 ∷ []) in
-    let none : occurrences 33 front ≡ 0 = omega arith in
-    let same = same_cut 33 front (33 ∷ []) (before 33 id) (after 33 id) (Lacks-none 33 front none) (Lacks-before 33 id some) (sym ends ∙ cut-before 33 id some) in
+    let counted : occurrences 33 id ≡ occurrences 33 prefix + 2 = ap (occurrences 33) ends ∙ sum_by-append (λ b. cond (eqb b 33) 1 0) prefix (33 ∷ 33 ∷ []) in
+    let none : occurrences 33 prefix ≡ 0 = omega arith in
+    let same = same_cut 33 prefix (33 ∷ []) (before 33 id) (after 33 id) (Lacks-none 33 prefix none) (Lacks-before 33 id some) (sym ends ∙ cut-before 33 id some) in
     several (sym (ap length same.1))
 
 abbrev AreThree : List ℕ → Bool → Type 0

@@ -193,8 +193,8 @@ SplitsOff-three k l z f s p q =
     let joint : (x * 2 ^ s + y) * 2 ^ n ≡ x * 2 ^ s * 2 ^ n + y * 2 ^ n = add-mul (x * 2 ^ s) y (2 ^ n) in
     let added : sum_by share_bits (three_shares k l z f s) ≡ x * 2 ^ m + (y * 2 ^ n + r) = omega arith in
     let total : sum_by share_bits (three_shares k l z f s) ≡ (x * 2 ^ s + y) * 2 ^ n + r = omega (arith, added, high, joint) in
-    let front : sum_by share_bits (share k m f ∷ share l n s ∷ []) ≡ x * 2 ^ m + y * 2 ^ n = omega arith in
-    let upper : sum_by share_bits (share k m f ∷ share l n s ∷ []) ≡ (x * 2 ^ s + y) * 2 ^ n = omega (arith, front, high, joint) in
+    let prefix : sum_by share_bits (share k m f ∷ share l n s ∷ []) ≡ x * 2 ^ m + y * 2 ^ n = omega arith in
+    let upper : sum_by share_bits (share k m f ∷ share l n s ∷ []) ≡ (x * 2 ^ s + y) * 2 ^ n = omega (arith, prefix, high, joint) in
     let rest : rest_bits (three_shares k l z f s) ≡ n = omega arith in
     (same_upper _ _ (x * 2 ^ s + y) n r _ rest (total, upper, small), subst (λ i. i < 2 ^ 32) (sym added) (subst (λ i. x * 2 ^ m + (y * 2 ^ n + r) < 2 ^ i) whole fits))
 

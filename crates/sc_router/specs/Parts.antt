@@ -82,6 +82,6 @@ ends_open (first ∷ last ∷ []) = length last == 0
 ends_open (first ∷ second ∷ last ∷ []) = length last == 0
 ends_open _ = false
 
--- how many of the lowest bits are left open: those of an empty last part behind other parts, and else none
+-- how many of the lowest bits are left open: those of an empty last part after other parts, and else none
 unfoldable pub open_bits : List (List ℕ) → ℕ
 open_bits id_parts = if ends_open id_parts then last_bits id_parts else 0

@@ -48,7 +48,7 @@ greatest_under route =
 abbrev pub HasFixedBits : List ℕ → ℤ → Type 0
 HasFixedBits route h = cast_unsigned w32 h / 2 ^ open_bits (parts route) ≡ route_bits route / 2 ^ open_bits (parts route)
 
--- the last part of a route is empty behind other parts
+-- the last part of a route is empty after other parts
 abbrev pub IsOpenRoute : List ℕ → Type 0
 IsOpenRoute route = IsTrue (ends_open (parts route))
 

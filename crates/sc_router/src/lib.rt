@@ -1,5 +1,5 @@
 //! Which hash a document's id is routed by, as Solr's compositeId router has it: the id's parts are
-//! separated by `!`, and each gives some bits of its own hash. It stands on `sc_hash`.
+//! separated by `!`, and each gives some bits of its own hash. It depends on `sc_hash`.
 //! The layers above use the contracts of `route_hash`, `plain_hash`, `bucket_of` and `key_range`, which
 //! name the definitions of these names at the list of the id's bytes.
 #![tactic(auto)]

@@ -1,4 +1,4 @@
-//! The parts of a composite id. Each is hashed once, as it is read from its front: by words of four bytes up
+//! The parts of a composite id. Each is hashed once, as it is read from its start: by words of four bytes up
 //! to the first that has `!` or `/`, and from there byte by byte.
 
 ghost use Rattle.std.specs.Prelude.{◌≡◌, ◌≢◌, ◌+◌, ◌<◌, ◌≤◌, ◌^◌, ◌↔◌, length, take, MatchOption, IsTrue, ⊤};
@@ -61,7 +61,7 @@ fn read_words(text: &[u8]) -> (Hasher, usize)
     (hasher, 4 * word_count)
 }
 
-/// The part at the front of a text, up to the first `!` or the end, and what stands behind that `!`.
+/// The part that a text begins with, up to the first `!` or the end, and what comes after that `!`.
 pub(crate) fn first_part(text: &[u8]) -> (Part<'_>, Option<&[u8]>)
     requires { length text.now < 2 ^ 32 }
     ensures part { result.0.text.now ≡ before 33 text.now }

@@ -1,4 +1,4 @@
-ghost use Rattle.std.specs.Prelude.{◌≡◌, [], IfOk, OnOk, Contains};
+ghost use Rattle.std.specs.Prelude.{◌≡◌, ◌<◌, [], IfOk, OnOk, Contains};
 ghost use Rattle.sc_cluster.specs.declared.slice.Slice.{Slice};
 ghost use Rattle.sc_cluster.specs.declared.slice.State.TheVariants as states;
 ghost use Rattle.sc_cluster.specs.Slices.{forming};
@@ -11,7 +11,7 @@ use crate::parts::{CutFault, cut};
 use crate::plan::SplitPlan;
 use crate::slice::State;
 use sc_hash::{Range, range_text};
-use sc_record::SliceId;
+use sc_record::{CloneIn, List, SliceId, SubSlice, Text};
 use std::alloc::Global;
 use std::process::Abort;
 use std::test::Fail;
@@ -29,6 +29,11 @@ fn shown(alloc: Global, map: &ClusterMap) -> Result<String, Fail> {
         text.push_str(line.as_str())?;
     }
     Ok(text)
+}
+
+// A copy, by the bound.
+fn copied<T: CloneIn>(alloc: Global, value: &T) -> Result<T, Fail> {
+    Ok(value.clone_in(alloc)?)
 }
 
 // The id and the range of the slice of this name, which has to be in this state.
@@ -119,6 +124,98 @@ fn a_new_collection_shares_out_all_hashes(rt: HostRuntime) -> Result<(), Fail> {
     }
     assert!(rt; four.get(3).is_some());
     assert!(rt; four.get(4).is_none());
+    assert_eq!(rt; four.len(), 4);
+    assert_eq!(rt; four.greatest_id(), 3);
+    assert!(rt; four.is_idle());
+    let second = four.by_id(SliceId(1)).ok_or("no slice")?;
+    assert_eq!(rt; second.name.as_str(), "shard2");
+    assert!(rt; four.by_id(SliceId(4)).is_none());
+    for (replica, node) in [(1, 3), (2, 1), (3, 2), (4, 3), (255, 2)] {
+        assert_eq!(rt; second.node_of(replica, 3), node, "replica {replica}");
+    }
+    Ok(())
+}
+
+fn shared<T: Send + Sync>(value: &T) -> &T {
+    value
+}
+
+#[test]
+fn a_copy_is_equal_and_goes_to_other_threads(rt: HostRuntime) -> Result<(), Fail> {
+    let alloc = rt.alloc();
+    let map = ClusterMap::new(alloc, 2, 2, 2)?;
+    let copy = copied(alloc, &map)?;
+    assert_eq!(rt;
+        shown(alloc, shared(&copy))?.as_str(),
+        shown(alloc, &map)?.as_str()
+    );
+    let plan = copied(alloc, &planned(&rt, alloc, &map, "shard2")?)?;
+    assert_eq!(rt; plan.parent, SliceId(1));
+    assert_eq!(rt; shared(&plan).subs.len(), 2);
+    assert!(rt; map.allows(&plan) && copy.allows(&plan));
+    let first = map.get(0).ok_or("no slice")?;
+    assert_eq!(rt; copied(alloc, &copied(alloc, first)?.name)?, first.name);
+    Ok(())
+}
+
+// The plan with another first sub.
+fn with_first(
+    alloc: Global,
+    plan: &SplitPlan,
+    name: &str,
+    id: u32,
+    node: u32,
+) -> Result<SplitPlan, Fail>
+    requires { 0 < node }
+{
+    let mut subs = List::new(alloc);
+    for (i, sub) in plan.subs.iter().enumerate() {
+        let sub = copied(alloc, sub)?;
+        if i == 0 {
+            let SubSlice {
+                min,
+                max,
+                replicas,
+                ..
+            } = sub;
+            subs.push(SubSlice {
+                id: SliceId(id),
+                name: Text::new(alloc, name)?,
+                min,
+                max,
+                replicas,
+                node,
+            })?;
+        } else {
+            subs.push(sub)?;
+        }
+    }
+    Ok(SplitPlan {
+        parent: plan.parent,
+        subs,
+    })
+}
+
+#[test]
+fn a_map_allows_no_other_plan(rt: HostRuntime) -> Result<(), Fail> {
+    let alloc = rt.alloc();
+    let mut map = ClusterMap::new(alloc, 2, 1, 1)?;
+    let plan = planned(&rt, alloc, &map, "shard1")?;
+    for (name, id, node, allowed) in [
+        ("shard1_0", 2, 1, true),
+        ("shard1_00", 2, 1, false),
+        ("shard1_1", 2, 1, false),
+        ("shard1", 2, 1, false),
+        ("shard2_0", 2, 1, false),
+        ("shard1_0", 1, 1, false),
+        ("shard1_0", 4, 1, false),
+        ("shard1_0", 2, 2, false),
+    ] {
+        let other = with_first(alloc, &plan, name, id, node)?;
+        assert_eq!(rt; map.allows(&other), allowed, "{name} {id} {node}");
+    }
+    map.begin(&plan)?;
+    assert!(rt; !map.allows(&plan) && !map.is_idle());
     Ok(())
 }
 

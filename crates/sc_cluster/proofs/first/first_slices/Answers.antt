@@ -1,3 +1,4 @@
+-- One more slice is that of the next place.
 use Rattle.std.proofs.Common.{◌∙◌, ap, ◌+◌, length}
 use Rattle.std.proofs.lemmas.List.{length_push}
 use Rattle.sc_cluster.specs.Map.{IsFirst}

@@ -1,3 +1,4 @@
+-- So far each slice is the one of its place.
 use Rattle.std.proofs.Common.{◌≡◌, ℕ, Some, slice_get, length}
 use Rattle.sc_cluster.specs.declared.slice.Slice.{Slice}
 use Rattle.sc_cluster.specs.Map.{IsFirst}

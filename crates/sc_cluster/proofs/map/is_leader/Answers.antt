@@ -1,3 +1,4 @@
+-- The state and the range are tested as the definition does.
 use Rattle.std.proofs.Common.{◌≡◌, true, sym, ◌∙◌}
 use Rattle.std.proofs.lemmas.Bool.Decides.{same_from_decides}
 use Rattle.std.proofs.lemmas.Int.{to_z-of_z}

@@ -15,7 +15,7 @@ returns-in-Some c =
     let cut : c.args.name.now ≡ parent ++ ending =
     sym c.as_bytes.ensures.value
     ∙ strip_prefix_is Decides-eqb c.as_bytes.result.now c.as_bytes-2.result.now (Some c.in-Some.ending) c.in-Some.ensures.cases
-    ∙ ap (λ front. front ++ ending) c.as_bytes-2.ensures.value in
+    ∙ ap (λ prefix. prefix ++ ending) c.as_bytes-2.ensures.value in
     let name = sub_name-cut parent c.args.i in (
       λ passes. cut ∙ ap (λ rest. parent ++ rest) (c.is_sub_ending.ensures.0 passes) ∙ sym name,
       λ is. c.is_sub_ending.ensures.1 (append_cancel_left parent ending (95 ∷ decimal c.args.i) (sym cut ∙ is ∙ name)),
@@ -27,5 +27,5 @@ returns-in-None c =
     let none = strip_prefix_is Decides-eqb c.as_bytes.result.now c.as_bytes-2.result.now None c.in-None.ensures.cases in (
       λ passes. absurd (false≢true passes),
       λ is. absurd (none (95 ∷ decimal c.args.i) (c.as_bytes.ensures.value ∙ is ∙ sub_name-cut parent c.args.i
-          ∙ ap (λ front. front ++ 95 ∷ decimal c.args.i) (sym c.as_bytes-2.ensures.value))),
+          ∙ ap (λ prefix. prefix ++ 95 ∷ decimal c.args.i) (sym c.as_bytes-2.ensures.value))),
     )

@@ -1,4 +1,4 @@
--- Borders ascend, each within the numbers of 32 bits or right behind them.
+-- Borders ascend, each within the numbers of 32 bits or right after them.
 use Rattle.std.proofs.Common.{ℤ, ap₂, arith}
 use Rattle.std.proofs.lemmas.Int.{ints}
 use Rattle.sc_cluster.proofs.CutLemmas.{border-lt}

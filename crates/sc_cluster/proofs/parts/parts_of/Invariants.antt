@@ -1,3 +1,4 @@
+-- So far the parts are the first ones of the cut.
 use Rattle.std.proofs.Common.{◌≡◌, map}
 use Rattle.sc_hash.specs.Bounds.{bounds}
 use Rattle.sc_cluster.specs.Cut.{first_parts}

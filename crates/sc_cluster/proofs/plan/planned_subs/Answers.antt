@@ -1,3 +1,4 @@
+-- One more sub is the planned one of the next place.
 use Rattle.std.proofs.Common.{◌≡◌, ◌<◌, ◌∙◌, ap, sym, ◌∷◌, [], ◌++◌, length, map, take, arith}
 use Rattle.std.proofs.lemmas.List.{length-map, map_push, map_more, length-take-le}
 use Rattle.sc_hash.specs.Bounds.{bounds}

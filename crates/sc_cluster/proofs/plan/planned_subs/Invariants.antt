@@ -1,3 +1,4 @@
+-- So far each sub is the planned one and has its range.
 use Rattle.std.proofs.Common.{◌≡◌, ℕ, Some, slice_get, map, take}
 use Rattle.sc_record.specs.declared.slice.SubSlice.{SubSlice}
 use Rattle.sc_hash.specs.Bounds.{bounds}

@@ -1,3 +1,4 @@
+-- After the slices come those of the subs so far.
 use Rattle.std.proofs.Common.{◌≡◌, ◌++◌, map, take}
 use Rattle.sc_cluster.specs.Changes.{begun_slice}
 use Rattle.sc_cluster.proofs.plan.push_subs.Given as goal

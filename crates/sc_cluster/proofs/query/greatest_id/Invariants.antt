@@ -1,3 +1,4 @@
+-- The greatest id so far and that of the rest give the greatest of all.
 use Rattle.std.proofs.Common.{◌≡◌, max, drop}
 use Rattle.sc_cluster.specs.Slices.{greatest_id}
 use Rattle.sc_cluster.proofs.query.greatest_id.Given as goal

@@ -1,3 +1,4 @@
+-- What is kept is what the filter keeps.
 use Rattle.std.proofs.Common.{not, rules}
 use Rattle.std.proofs.lemmas.Fn.{filter_same}
 use Rattle.sc_cluster.specs.declared.slice.Slice.{Slice}

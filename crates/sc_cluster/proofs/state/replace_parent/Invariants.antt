@@ -1,3 +1,4 @@
+-- The slices so far are switched, and the others are as they were.
 use Rattle.std.proofs.Common.{◌≡◌, ◌++◌, map, take, drop}
 use Rattle.sc_cluster.specs.Changes.{switched_slice}
 use Rattle.sc_cluster.proofs.state.replace_parent.Given as goal

@@ -1,3 +1,4 @@
+-- One more slice is in recovery.
 use Rattle.std.proofs.Common.{◌∙◌, sym, ap, set, arith}
 use Rattle.std.proofs.lemmas.List.Edits.{map_over_more}
 use Rattle.sc_cluster.specs.Changes.{recovering_slice}

@@ -1,3 +1,4 @@
+-- The slices so far are in recovery, and the others are as they were.
 use Rattle.std.proofs.Common.{◌≡◌, ◌++◌, map, take, drop}
 use Rattle.sc_cluster.specs.Changes.{recovering_slice}
 use Rattle.sc_cluster.proofs.state.start_recovery.Given as goal

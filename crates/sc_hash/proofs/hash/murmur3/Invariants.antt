@@ -1,3 +1,4 @@
+-- The hash so far and the rest of the bytes give the hash of them all.
 use Rattle.std.proofs.Common.{◌≡◌, ◌*◌, drop}
 use Rattle.sc_hash.specs.Hash.{after_text}
 use Rattle.sc_hash.proofs.hash.murmur3.Given as goal

@@ -1,4 +1,4 @@
--- What a part states is found behind its first `/`.
+-- What a part states is found after its first `/`.
 use Rattle.std.proofs.Common.{◌≡◌, ◌≢◌, ◌+◌, ◌-◌, length, take, drop, sym, ap, ◌∙◌, arith, ℕ, List}
 use Rattle.std.proofs.lemmas.List.{take_rest}
 use Rattle.sc_hash.specs.Hash.{murmur3}
@@ -39,7 +39,7 @@ slice_bounds-stated_count-count c =
 pub slice_bounds-stated_count-start : goal.slice_bounds-stated_count-start
 slice_bounds-stated_count-start c = slice_bounds-stated_count-count c
 
--- the slice behind the `/` is what the part states its count by
+-- the slice after the `/` is what the part states its count by
 stated : (slash : Slash) (part : List ℕ) → IsFirstSlash (Some slash) part → slash.at ≢ 0 → count_in part ≡ stated_count (take (length part - (slash.at + 1)) (drop (slash.at + 1) part))
 stated slash part first later = count_in-slash slash part first later ∙ ap stated_count (sym (take_rest part (slash.at + 1)))
 

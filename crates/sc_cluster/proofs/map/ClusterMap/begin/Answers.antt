@@ -1,3 +1,4 @@
+-- A begin is one step of `after`, or leaves the map.
 use Rattle.std.proofs.Common.{◌≡◌, ◌++◌, map, OnOk, subst, sym}
 use Rattle.std.proofs.lemmas.Result.{on_ok_weaker}
 use Rattle.sc_cluster.specs.Changes.{Change, MayChange, begun_slice}

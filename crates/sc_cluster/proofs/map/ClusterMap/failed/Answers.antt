@@ -1,3 +1,4 @@
+-- A failure is one step of `after`.
 use Rattle.std.proofs.Common.{◌∙◌, ap}
 use Rattle.sc_cluster.specs.Slices.{forming}
 use Rattle.sc_cluster.specs.Changes.{Change}

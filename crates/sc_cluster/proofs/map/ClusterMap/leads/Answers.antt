@@ -1,3 +1,4 @@
+-- The search finds the one slice that leads.
 use Rattle.std.proofs.Common.{◌≡◌, ◌∙◌, ap, sym, find, subst, refl}
 use Rattle.std.specs.Option.{option_copied}
 use Rattle.std.proofs.lemmas.Int.{to_z-of_z}

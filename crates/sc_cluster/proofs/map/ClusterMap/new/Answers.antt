@@ -1,3 +1,4 @@
+-- The first slices are a map.
 use Rattle.sc_cluster.proofs.MapLemmas.{first_is_map, first_is_idle}
 use Rattle.sc_cluster.proofs.map.ClusterMap.new.Goals as goal
 

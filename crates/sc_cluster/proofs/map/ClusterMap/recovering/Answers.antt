@@ -1,3 +1,4 @@
+-- A recovery is one step of `after`.
 use Rattle.std.proofs.Common.{◌∙◌, map, subst, sym, ap, arith}
 use Rattle.sc_cluster.specs.Changes.{Change, IsSplit, recovering_slice}
 use Rattle.sc_cluster.proofs.ItemLemmas.{take-written_map}

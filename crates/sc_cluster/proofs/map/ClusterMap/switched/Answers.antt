@@ -1,3 +1,4 @@
+-- A switch is one step of `after`.
 use Rattle.std.proofs.Common.{◌∙◌, map, ap, arith}
 use Rattle.sc_cluster.specs.Slices.{forming}
 use Rattle.sc_cluster.specs.Changes.{Change, switched_slice}

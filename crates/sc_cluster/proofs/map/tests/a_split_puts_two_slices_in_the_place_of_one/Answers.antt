@@ -1,3 +1,4 @@
+-- The slice that is dropped is inactive, and no split is open.
 use Rattle.sc_cluster.proofs.map.tests.a_split_puts_two_slices_in_the_place_of_one.Goals as goal
 
 pub dropped-requires : goal.dropped-requires

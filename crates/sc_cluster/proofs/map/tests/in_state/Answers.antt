@@ -1,3 +1,4 @@
+-- The slice that is found is one of the map and has the state.
 use denote.Enum.Bare.{same_true}
 use Rattle.std.proofs.Common.{◌∙◌, Contains, refl, sym, subst, rules, arith}
 use Rattle.sc_cluster.specs.contracts.slice.State.{the_type}

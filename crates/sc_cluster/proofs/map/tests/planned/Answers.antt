@@ -1,3 +1,4 @@
+-- The parts of a cut tile the range of the slice that is to be split.
 use Rattle.std.proofs.Common.{map, sym, subst}
 use Rattle.sc_hash.specs.declared.range.Range.{Range}
 use Rattle.sc_hash.specs.Bounds.{bounds}

@@ -1,9 +1,9 @@
 //! The lock's steps, each by one seat.
 ghost use Rattle.std.specs.Prelude.{◌≡◌, ℕ, ◌%◌, ◌^◌, ◌<◌, [], ◌∷◌, Some, None, MatchBool};
 ghost use Rattle.sc_lock.specs.declared.view.Stage.TheVariants.{Idle, Waiting, Holding};
-ghost use Rattle.sc_lock.specs.Journal.{Apart, ArePlacesIn, IsLongest, longer, places_after};
-ghost use Rattle.sc_lock.specs.Views.{staged, joined};
-ghost use Rattle.sc_lock.specs.Steps.{Finds, Took, Gives, noted};
+ghost use Rattle.sc_lock.specs.Journal.{AreDisjoint, ArePlacesIn, IsLongest, longer, places_after};
+ghost use Rattle.sc_lock.specs.Views.{with_stage, joined};
+ghost use Rattle.sc_lock.specs.Steps.{IsHandedOut, HasTaken, MayGiveBack, noted};
 ghost use Rattle.sc_lock.specs.Tokens.{IsIdle, origin_of};
 
 use crate::kept::Kept;
@@ -43,7 +43,7 @@ impl<K: Kept> Lock<K> {
         requires lock { seat.old.table_id ≡ self.now.table.shared.table_id }
         requires idle { IsIdle seat.old × (0 < seat.old.me.0.weight) }
         ensures seat { (seat.new.table_id ≡ seat.old.table_id) × (seat.new.id ≡ seat.old.id) }
-        ensures drawn { (t : ℕ) × (result ≡ t % 2 ^ 64) × (seat.new.me ≡ (staged seat.old.me.0 (Waiting t), [])) }
+        ensures drawn { (t : ℕ) × (result ≡ t % 2 ^ 64) × (seat.new.me ≡ (with_stage seat.old.me.0 (Waiting t), [])) }
     {
         self.table.shared.fetch_add::<Draw>(seat, NEXT, 1)
     }
@@ -53,7 +53,7 @@ impl<K: Kept> Lock<K> {
         requires lock { seat.old.table_id ≡ self.now.table.shared.table_id }
         requires waits { (t : ℕ) × (seat.old.me.0.stage ≡ Waiting t) × (ticket ≡ t % 2 ^ 64) × (seat.old.me.1 ≡ []) }
         ensures seat { (seat.new.table_id ≡ seat.old.table_id) × (seat.new.id ≡ seat.old.id) }
-        ensures turn { MatchBool result ((x : K) × Took seat.old.me seat.new.me x × Finds K.journal K.sound K.part K.name K.owned seat.old.me.0 x) (seat.new.me ≡ seat.old.me) }
+        ensures turn { MatchBool result ((x : K) × HasTaken seat.old.me seat.new.me x × IsHandedOut K.Kept seat.old.me.0 x) (seat.new.me ≡ seat.old.me) }
     {
         self.table.shared.load::<Look>(seat, SERVED) == ticket
     }
@@ -96,8 +96,8 @@ impl<K: Kept> Lock<K> {
         requires lock { seat.old.table_id ≡ self.now.table.shared.table_id }
         requires waits { (t : ℕ) × (seat.old.me.0.stage ≡ Waiting t) × (ticket ≡ t % 2 ^ 64) × (seat.old.me.1 ≡ []) }
         ensures seat { (seat.new.table_id ≡ seat.old.table_id) × (seat.new.id ≡ seat.old.id) }
-        ensures found { (t : ℕ) × (seat.new.me ≡ (staged seat.old.me.0 (Holding t result), (0, None) ∷ [])) }
-        ensures finds { Finds K.journal K.sound K.part K.name K.owned seat.old.me.0 result }
+        ensures found { (t : ℕ) × (seat.new.me ≡ (with_stage seat.old.me.0 (Holding t result), (0, None) ∷ [])) }
+        ensures finds { IsHandedOut K.Kept seat.old.me.0 result }
     {
         let mut looks = 0;
         for _ in rt.forever() {
@@ -119,9 +119,9 @@ impl<K: Kept> Lock<K> {
     pub(crate) fn put_back(&self, seat: &mut LockSeat<K>, value: K) -> u64
         requires lock { (seat.old.table_id ≡ self.now.table.shared.table_id) × (seat.old.me.0.origin ≡ Some (origin_of self.now)) }
         requires named { K.name value ≡ K.name (origin_of self.now) }
-        requires holds { (t : ℕ) × (x : K) × (seat.old.me.0.stage ≡ Holding t x) × (seat.old.me.1 ≡ (0, None) ∷ []) × Gives K.journal K.sound K.part K.name K.owned seat.old.me.0 x value }
+        requires holds { (t : ℕ) × (x : K) × (seat.old.me.0.stage ≡ Holding t x) × (seat.old.me.1 ≡ (0, None) ∷ []) × MayGiveBack K.Kept seat.old.me.0 x value }
         ensures seat { (seat.new.table_id ≡ seat.old.table_id) × (seat.new.id ≡ seat.old.id) }
-        ensures noted { (t : ℕ) (x : K) → seat.old.me.0.stage ≡ Holding t x → seat.new.me ≡ (staged (noted seat.old.me.0 t (K.journal x) (K.journal value) (K.part value)) Idle, []) }
+        ensures noted { (t : ℕ) (x : K) → seat.old.me.0.stage ≡ Holding t x → seat.new.me ≡ (with_stage (noted K.Kept seat.old.me.0 t x value) Idle, []) }
         ensures places { (t : ℕ) (x : K) → seat.old.me.0.stage ≡ Holding t x → ArePlacesIn (places_after seat.old.me.0.places (K.journal x) (K.journal value)) (K.journal value) }
     {
         let entries = value.entries();
@@ -142,9 +142,9 @@ impl<K: Kept> Lock<K> {
         requires lock { (into.old.table_id ≡ self.now.table.shared.table_id) × (from.table_id ≡ self.now.table.shared.table_id) }
         requires idle { IsIdle into.old × IsIdle from }
         ensures seat { (into.new.table_id ≡ into.old.table_id) × (into.new.id ≡ into.old.id) }
-        ensures view { into.new.me ≡ (staged (joined into.old.me.0 from.me.0) Idle, []) }
+        ensures view { into.new.me ≡ (with_stage (joined into.old.me.0 from.me.0) Idle, []) }
         ensures longest { IsLongest into.old.me.0.seen from.me.0.seen (longer into.old.me.0.seen from.me.0.seen) }
-        ensures apart { Apart into.old.me.0.places from.me.0.places }
+        ensures disjoint { AreDisjoint into.old.me.0.places from.me.0.places }
         ensures places { ArePlacesIn into.new.me.0.places into.new.me.0.seen }
     {
         self.table.shared.join_seat::<Meeting>(into, from);

@@ -1,3 +1,4 @@
+-- `lift`: the slot that the seat has may be read.
 use Rattle.std.proofs.Common.{rules, ap, sym, ◌∙◌, Some, ◌∷◌}
 use Rattle.atomic_table.specs.Table.{rest}
 use Rattle.sc_lock.proofs.lock.Lock.lift.Goals as goal

@@ -1,14 +1,15 @@
+-- `meet`: the two splits keep the invariant, and both have then seen the same.
 use Rattle.std.proofs.Common.{rules, ap, sym, ◌∙◌, subst}
 use Rattle.sc_lock.specs.Journal.{IsLongest, longer}
 use Rattle.sc_lock.proofs.lock.Lock.meet.Goals as goal
-use Rattle.sc_lock.proofs.Journals.{IsLongest-same}
-use Rattle.sc_lock.proofs.Seats.{beside_keeps}
+use Rattle.sc_lock.proofs.PrefixLemmas.{IsLongest-same}
+use Rattle.sc_lock.proofs.SeatLemmas.{beside_keeps}
 
 pub split_seat-from_pass-requires : goal.split_seat-from_pass-requires
-split_seat-from_pass-requires g c = (search rules, search rules, beside_keeps _ _ _ _ _ _ _ _ c.requires.pass.1.0)
+split_seat-from_pass-requires g c = (search rules, search rules, beside_keeps _ _ _ _ c.requires.pass.1.0)
 
 pub split_seat-from_keeper-requires : goal.split_seat-from_keeper-requires
-split_seat-from_keeper-requires g c = (search rules, search rules, beside_keeps _ _ _ _ _ _ _ _ c.requires.keeper.1.0)
+split_seat-from_keeper-requires g c = (search rules, search rules, beside_keeps _ _ _ _ c.requires.keeper.1.0)
 
 pub returns-clause-same : goal.returns-clause-same
 returns-clause-same g c =

@@ -1,3 +1,4 @@
+-- `wait`: its loop leaves the seat as it is until the ticket is served.
 use Rattle.std.proofs.Common.{◌≡◌, ◌≤◌}
 use Rattle.sc_lock.proofs.lock.Lock.wait.Given as goal
 

@@ -36,11 +36,8 @@ Contains-inserted-if : (b : Bool) (x p q : ℕ) (xs : List ℕ) → (Contains (i
     → Contains (cond b (p ∷ x ∷ xs) (x ∷ inserted xs p)) q → Contains (x ∷ xs) q ⊎ (p ≡ q)
 Contains-inserted-if true x p q xs rec h = ⊎_elim inr inl (Contains-cases p q (x ∷ xs) h)
 Contains-inserted-if false x p q xs rec h =
-    ⊎_elim (λ e. inl (Contains-cases-at-first e)) (λ a. ⊎_elim (λ b. inl (Contains-later x q xs b)) inr (rec a))
+    ⊎_elim (λ e. inl (0, omega arith, e)) (λ a. ⊎_elim (λ b. inl (Contains-later x q xs b)) inr (rec a))
     (Contains-cases x q (inserted xs p) h)
-  where
-    Contains-cases-at-first : x ≡ q → Contains (x ∷ xs) q
-    Contains-cases-at-first e = (0, omega arith, e)
 
 Contains-inserted : (xs : List ℕ) (p q : ℕ) → Contains (inserted xs p) q → Contains xs q ⊎ (p ≡ q)
 Contains-inserted [] p q h = ⊎_elim inr inl (Contains-cases p q [] h)
@@ -50,8 +47,8 @@ Contains-inserted (x ∷ xs) p q h = Contains-inserted-if (ltb p x) x p q xs (Co
 pub Contains-merged : (xs ys : List ℕ) (q : ℕ) → Contains (merged xs ys) q → Contains xs q ⊎ Contains ys q
 Contains-merged xs [] q h = inl h
 Contains-merged xs (y ∷ ys) q h =
-    ⊎_elim (λ a. ⊎_elim inl (λ b. inr (Contains-later y q ys b)) (Contains-merged xs ys q a)) (λ e. inr (0, omega arith, e))
-    (Contains-inserted (merged xs ys) y q h)
+    ⊎_elim (λ a. ⊎_elim inl (λ b. inr (Contains-later y q ys b)) (Contains-merged xs ys q a))
+    (λ e. inr (0, omega arith, e)) (Contains-inserted (merged xs ys) y q h)
 
 IsStrictlyIncreasing-none : IsStrictlyIncreasing []
 IsStrictlyIncreasing-none k within = absurd (omega arith)

@@ -38,7 +38,8 @@ module _ {K E P : Type 0} where
       → (i j : ℕ) (u x : View K E P) → i ≢ j → get_elem? (views ++ z ∷ []) i ≡ some u
       → get_elem? (views ++ z ∷ []) j ≡ some x → SeatsAreDisjoint u x
   pairs-blank views z empty idle pairs i j u x ne ei ej = ⊎_elim
-      (λ ti. ⊎_elim (λ tj. pairs i j u x ne ti tj) (λ tj. subst (SeatsAreDisjoint u) tj (blank u)) (at_snoc views z x j ej))
+      (λ ti.
+      ⊎_elim (λ tj. pairs i j u x ne ti tj) (λ tj. subst (SeatsAreDisjoint u) tj (blank u)) (at_snoc views z x j ej))
       (λ ti. subst (λ (y : View K E P). SeatsAreDisjoint y x) ti (SeatsAreDisjoint-sym x z (blank x)))
       (at_snoc views z u i ei)
     where
@@ -132,6 +133,7 @@ module _ {K E P : Type 0} (kept : Kept K E P) (origin : K) where
       → Splits (LockInvariant kept origin) id v v (split_off 0 v)
   beside_keeps id v idle = split_keeps id v v.weight 0 idle (omega arith)
 
+  -- the only seat meets what the first one meets
   first-each : (n : LockState K E P) (v : View K E P) → SeatInvariant kept origin n 0 v → (i : ℕ) (u : View K E P)
       → get_elem? (v ∷ []) i ≡ some u → SeatInvariant kept origin n i u
   first-each n v f zero u e = subst (SeatInvariant kept origin n 0) (some-injective v u e) f

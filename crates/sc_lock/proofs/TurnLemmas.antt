@@ -10,7 +10,7 @@ use mathlib.Core.List.{IsPrefix}
 use native.Mathlib.Decide.{ℕ_discrete}
 use lib.ListN.{get_elem?}
 use lib.Seq.{set-get_or}
-use Rattle.atomic_table.specs.Table.{Act, step, keeps, takes, stepped, Allows, Valid, carried_after}
+use Rattle.atomic_table.specs.Table.{Act, Step, step, keeps, takes, stepped, Allows, Valid, carried_after}
 use Rattle.atomic_table.proofs.Lists.{set_here, set_again, one_turn}
 use Rattle.sc_lock.specs.declared.kept.Kept.{Ghosts as Kept}
 use Rattle.sc_lock.specs.declared.view.View.{View}
@@ -46,8 +46,10 @@ module _ {K E P : Type 0} (kept : Kept K E P) (origin : K) where
   StageInvariant-drawn n (Noted q j x) p = (HasTurn-drawn n q p.0, p.1, p.2)
   StageInvariant-drawn n (Joined a b c d) p = p
 
+  -- a draw keeps the invariant
   pub draw_keeps : (slots id : ℕ) (me : SeatState K E P) → me.0.stage ≡ Idle → 0 < me.0.weight
-      → Allows (LockInvariant kept origin) slots id me 0 (λ n. (n + 1) % 2 ^ 64) (AfterDraw (step slots 0 1 0 none) me)
+      → Allows (LockInvariant kept origin) slots id me 0 (λ n. (n + 1) % 2 ^ 64)
+      (AfterDraw (step slots 0 1 0 none) me)
   draw_keeps slots id me idle heavy s inv long at small =
       let n : LockState K E P = inv.0 in
       let r : TableInvariant kept origin n s = inv.1 in
@@ -174,35 +176,39 @@ module _ {K E P : Type 0} (kept : Kept K E P) (origin : K) where
         (x, (λ k. (w, (0, Some x) ∷ empty k)), is-handed-out n id v x fit l.0 l.1),
       )
 
+  -- what a look shows that finds the seat's ticket served
+  look-shows-hit : (st : Step (Option K)) (before after : SeatState K E P) (t r : ℕ) → before.0.stage ≡ Waiting t
+      → r ≡ t % 2 ^ 64 → Got before t after → AfterLook kept st before r after
+  look-shows-hit st before after t r is e got q at =
+      let same : t ≡ q = some-injective t q (ap ticket_in (sym is ∙ at)) in (
+        λ _. subst (λ (z : ℕ). Got before z after) same got,
+        λ ne. absurd (ne (e ∙ ap (λ (z : ℕ). z % 2 ^ 64) same)),
+      )
+
+  -- what a look shows that finds another ticket served
+  look-shows-miss : (st : Step (Option K)) (before : SeatState K E P) (t r : ℕ) → before.0.stage ≡ Waiting t
+      → r ≢ t % 2 ^ 64 → AfterLook kept st before r before
+  look-shows-miss st before t r is ne q at =
+      let same : q ≡ t = some-injective q t (ap ticket_in (sym at ∙ is)) in
+      (λ e. absurd (ne (e ∙ ap (λ (z : ℕ). z % 2 ^ 64) same)), λ _. refl)
+
+  -- a look keeps the invariant
   pub look_keeps : (slots id : ℕ) (me : SeatState K E P) (t : ℕ) → me.0.stage ≡ Waiting t → me.1 ≡ []
       → Allows (LockInvariant kept origin) slots id me 1 (λ n. n) (AfterLook kept (step slots 1 0 0 none) me)
   look_keeps slots id me t st empty s inv long at small =
       let n : LockState K E P = inv.0 in
       let r : TableInvariant kept origin n s = inv.1 in
+      let word : ℕ = get_or s.words 1 0 in
       let place : StageInvariant kept origin n (Waiting t) =
       subst (StageInvariant kept origin n) st (r.each id me.0 at).stage in
       let below = place.1 in
       let from = place.0 in
-      let found : get_or s.words 1 0 ≡ n.served % 2 ^ 64 = ap (λ (ws : List ℕ). get_or ws 1 0) r.words in
-      let same : (q : ℕ) → me.0.stage ≡ Waiting q → t ≡ q = λ q e. some-injective t q (ap ticket_in (sym st ∙ e)) in
-      dite (ℕ_discrete (get_or s.words 1 0) (t % 2 ^ 64))
-      (λ e.
       let few = tickets-few n s r in
+      let found : word ≡ n.served % 2 ^ 64 = ap (λ (ws : List ℕ). get_or ws 1 0) r.words in
+      dite (ℕ_discrete word (t % 2 ^ 64))
+      (λ e.
       let now : t ≡ n.served = sym (one_turn n.served t (2 ^ 64) from (omega arith) (sym found ∙ e)) in
-      let a = hit slots id me t s n r at st empty now n.at_rest refl r.value in (
-        a.0,
-        a.1,
-        a.2,
-        a.3,
-        λ q is. (
-          λ _. subst (λ (z : ℕ). Got me z (a.0, carried_after me.1 a.1)) (same q is) a.4,
-          λ ne. absurd (ne (e ∙ ap (λ (z : ℕ). z % 2 ^ 64) (same q is))),
-        ),
-      ))
-      (λ ne. (
-        me.0,
-        keeps,
-        tt,
-        (n, miss n s id me.0 r at),
-        λ q is. (λ e. absurd (ne (e ∙ ap (λ (z : ℕ). z % 2 ^ 64) (sym (same q is)))), λ _. refl),
-      ))
+      let a = hit slots id me t s n r at st empty now n.at_rest refl r.value in
+      let after : SeatState K E P = (a.0, carried_after me.1 a.1) in
+      (a.0, a.1, a.2, a.3, look-shows-hit (step slots 1 0 0 none) me after t word st e a.4))
+      (λ ne. (me.0, keeps, tt, (n, miss n s id me.0 r at), look-shows-miss (step slots 1 0 0 none) me t word st ne))

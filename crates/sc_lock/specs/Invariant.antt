@@ -74,7 +74,8 @@ module _ {K E P : Type 0} (kept : Kept K E P) (origin : K) where
       × (ticket v ≡ maybe.some n.served) × (has_value v.stage ≡ true)
 
   -- The invariant of the table: its words are the tickets drawn and served, modulo 2^64, and the journal's length. As
-  -- many tickets are out as seats have one, and no seat weighs less than its ticket, so at most 2^31 + 2 are out at once.
+  -- many tickets are out as seats have one, and no seat weighs less than its ticket. So at most 2^31 + 2 tickets are
+  -- out at once: the keeper's, the first pass's, and one for each of the 2^31 passes that may be split off.
   pub record TableInvariant (n : LockState K E P) (s : TableState K E P) : Type 0 where
     pub words : s.words ≡ (n.drawn % 2 ^ 64) ∷ (n.served % 2 ^ 64) ∷ length n.entries ∷ []
     pub slots : s.homes ≡ n.at_rest ∷ []

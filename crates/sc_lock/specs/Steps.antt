@@ -17,6 +17,10 @@ module _ {K E P : Type 0} where
   abbrev pub holding : View K E P → K → SeatState K E P
   holding v x = (v, (0, Some x) ∷ [])
 
+  -- the seat has a ticket, of which this is the remainder modulo 2^64, and no slot
+  abbrev pub IsWaitingFor : ℕ → SeatState K E P → Type 0
+  IsWaitingFor remainder seat = (t : ℕ) × (seat.0.stage ≡ Waiting t) × (remainder ≡ t % 2 ^ 64) × (seat.1 ≡ [])
+
   -- the seat took the value x, at its ticket
   abbrev pub HasTaken : SeatState K E P → SeatState K E P → K → Type 0
   HasTaken before after x =
@@ -60,6 +64,11 @@ module _ {K E P : Type 0} (kept : Kept K E P) where
     pub grows : GrowsByAtMostOne (journal x) (journal y)
     pub allowed : MayAppend owned v.places (journal x) (journal y)
     pub part_is : v.part ≡ None → part y ≡ part x
+
+  -- the seat holds the lock with an empty slot, and y may be given back in place of what was handed out
+  abbrev pub MayPutBack : SeatState K E P → K → Type 0
+  MayPutBack seat y =
+      (t : ℕ) × (x : K) × (seat.0.stage ≡ Holding t x) × (seat.1 ≡ (0, None) ∷ []) × MayGiveBack seat.0 x y
 
   -- a look: where the ticket is served the seat takes the value, else nothing changes
   abbrev pub AfterLook : Step (Option K) → SeatState K E P → ℕ → SeatState K E P → Type 0

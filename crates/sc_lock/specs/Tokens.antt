@@ -32,6 +32,14 @@ module _ {K E P : Type 0} where
   abbrev pub lock_name : {N : Type 0} → (K → N) → Lock K E P → N
   lock_name name lock = name (origin_of lock)
 
+  -- the seat is one of the lock's table
+  abbrev pub IsOfTable : Lock K E P → SeatToken K E P → Type 0
+  IsOfTable lock seat = seat.table_id ≡ lock.table.shared.table_id
+
+  -- the seat after a step is the one that was before
+  abbrev pub IsSameSeat : SeatToken K E P → SeatToken K E P → Type 0
+  IsSameSeat before after = (after.table_id ≡ before.table_id) × (after.id ≡ before.id)
+
   -- the lock that a seat is of
   abbrev pub seat_lock : SeatToken K E P → LockId K
   seat_lock seat = (seat.table_id, seat.me.0.origin)

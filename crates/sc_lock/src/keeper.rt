@@ -27,7 +27,8 @@ impl<K: Kept> Lock<K> {
         ensures sound { K.sound result.0 }
         ensures name { K.name result.0 ≡ lock_name K.name self.now }
         ensures seen_is_prefix { IsPrefix (keeper_seen keeper.old) (K.journal result.0) }
-        ensures owner { OwnsPlaceOf K.owned (keeper_seen keeper.old) (keeper_places keeper.old) → K.journal result.0 ≡ keeper_seen keeper.old }
+        ensures owner { OwnsPlaceOf K.owned (keeper_seen keeper.old) (keeper_places keeper.old)
+            → K.journal result.0 ≡ keeper_seen keeper.old }
         ensures left { keeper_part keeper.old ≡ Some (K.part result.0) }
         ensures turn { IsTurnOfKeeper K.name keeper.new result.1 }
         ensures handed { handed result.1 ≡ result.0 }
@@ -50,7 +51,8 @@ impl<K: Kept> Lock<K> {
         ensures keeper { IsKeeperOf (lock_id self.now) keeper.new }
         ensures free { IsFreeKeeper keeper.new }
         ensures seen { keeper_seen keeper.new ≡ K.journal value }
-        ensures places { keeper_places keeper.new ≡ places_after (keeper_places keeper.old) (K.journal (handed turn)) (K.journal value) }
+        ensures places { keeper_places keeper.new
+            ≡ places_after (keeper_places keeper.old) (K.journal (handed turn)) (K.journal value) }
         ensures part { keeper_part keeper.new ≡ Some (K.part value) }
     {
         self.give_back(&mut keeper.seat, turn, value);

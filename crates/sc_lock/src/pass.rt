@@ -49,7 +49,8 @@ impl<K: Kept> Lock<K> {
         ensures pass { IsPassOf (lock_id self.now) pass.new }
         ensures free { IsFree pass.new }
         ensures seen { seen pass.new ≡ K.journal value }
-        ensures places { own_places pass.new ≡ places_after (own_places pass.old) (K.journal (handed turn)) (K.journal value) }
+        ensures places { own_places pass.new
+            ≡ places_after (own_places pass.old) (K.journal (handed turn)) (K.journal value) }
         ensures splits { splits_left pass.new ≡ splits_left pass.old }
     {
         self.give_back(&mut pass.seat, turn, value);

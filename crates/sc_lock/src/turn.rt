@@ -26,7 +26,8 @@ impl<K: Kept> Lock<K> {
         ensures sound { K.sound result.0 }
         ensures name { K.name result.0 ≡ lock_name K.name self.now }
         ensures seen_is_prefix { IsPrefix (seat_seen seat.old) (K.journal result.0) }
-        ensures owner { OwnsPlaceOf K.owned (seat_seen seat.old) (seat_places seat.old) → K.journal result.0 ≡ seat_seen seat.old }
+        ensures owner { OwnsPlaceOf K.owned (seat_seen seat.old) (seat_places seat.old)
+            → K.journal result.0 ≡ seat_seen seat.old }
         ensures left { (p : K.Part) → seat_part seat.old ≡ Some p → K.part result.0 ≡ p }
         ensures turn { IsTurnAt K.name seat.new result.1 }
         ensures handed { handed result.1 ≡ result.0 }
@@ -57,7 +58,8 @@ impl<K: Kept> Lock<K> {
         ensures seat { IsSeatOf (lock_id self.now) seat.new }
         ensures idle { IsIdle seat.new }
         ensures seen { seat_seen seat.new ≡ K.journal value }
-        ensures places { seat_places seat.new ≡ places_after (seat_places seat.old) (K.journal (handed turn)) (K.journal value) }
+        ensures places { seat_places seat.new
+            ≡ places_after (seat_places seat.old) (K.journal (handed turn)) (K.journal value) }
         ensures part { seat_part seat.new ≡ part_after (seat_part seat.old) (K.part value) }
         ensures weight { seat_weight seat.new ≡ seat_weight seat.old }
     {

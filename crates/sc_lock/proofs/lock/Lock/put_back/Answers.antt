@@ -11,14 +11,16 @@ pub store-requires : goal.store-requires
 store-requires g c =
     let holds = c.requires.holds in
     let laid = c.lay.ensures.value in
-    let keeps = note_allowed _ _ _ _ _ _ holds.0 holds.1 c.args.value _ laid holds.2 c.entries-entries.ensures holds.4 in
+    let long = c.entries-entries.ensures in
+    let keeps = note_allowed _ _ _ _ _ _ holds.0 holds.1 c.args.value _ laid holds.2 long holds.4 in
     (search rules, search rules, keeps)
 
 pub fetch_add-requires : goal.fetch_add-requires
 fetch_add-requires g c =
     let holds = c.requires.holds in
     let laid = c.lay.ensures.value in
-    let shown = c.store.ensures.2 holds.0 holds.1 c.args.value (ap (λ z. z.0.stage) laid ∙ holds.2) (ap (λ z. z.1) laid) in
+    let stage = ap (λ z. z.0.stage) laid ∙ holds.2 in
+    let shown = c.store.ensures.2 holds.0 holds.1 c.args.value stage (ap (λ z. z.1) laid) in
     let now = shown.0 ∙ (λ k. (noted g.K.Kept (laid k).0 holds.0 holds.1 c.args.value, (laid k).1)) in
     let keeps =
     pass_on_allowed _ _ _ _ _ _ holds.0 _ _ c.args.value now refl holds.4.sound_is refl refl c.requires.named in

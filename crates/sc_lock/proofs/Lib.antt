@@ -1,8 +1,9 @@
-pub mod Sums
-pub mod Journals
-pub mod Places
-pub mod Moves
-pub mod Turns
-pub mod Gives
-pub mod Seats
-pub mod Joins
+-- The lemmas, from plain lists up to the steps that keep the invariant.
+pub mod SumLemmas
+pub mod PrefixLemmas
+pub mod PlaceLemmas
+pub mod InvariantLemmas
+pub mod TurnLemmas
+pub mod GiveLemmas
+pub mod SeatLemmas
+pub mod JoinLemmas

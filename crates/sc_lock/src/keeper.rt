@@ -10,7 +10,6 @@ use crate::pass::Pass;
 use crate::plays::Beside;
 use crate::turn::Turn;
 use crate::view::LockSeat;
-use std::snapshot::Snapshot;
 use std::sync::Wait;
 
 /// The one right to hold a lock and change the value's part. It knows what a pass does, and the part
@@ -27,8 +26,9 @@ impl<K: Kept> Lock<K> {
         requires free { IsFreeKeeper keeper.old }
         ensures sound { K.sound result.0 }
         ensures name { K.name result.0 ≡ lock_name K.name self.now }
-        ensures front { IsPrefix (keeper_seen keeper.old) (K.journal result.0) }
-        ensures owner { OwnsPlaceOf K.owned (keeper_seen keeper.old) (keeper_places keeper.old) → K.journal result.0 ≡ keeper_seen keeper.old }
+        ensures seen_is_prefix { IsPrefix (keeper_seen keeper.old) (K.journal result.0) }
+        ensures owner { OwnsPlaceOf K.owned (keeper_seen keeper.old) (keeper_places keeper.old)
+            → K.journal result.0 ≡ keeper_seen keeper.old }
         ensures left { keeper_part keeper.old ≡ Some (K.part result.0) }
         ensures turn { IsTurnOfKeeper K.name keeper.new result.1 }
         ensures handed { handed result.1 ≡ result.0 }
@@ -37,13 +37,7 @@ impl<K: Kept> Lock<K> {
         ensures places { keeper_places keeper.new ≡ keeper_places keeper.old }
         ensures part { keeper_part keeper.new ≡ keeper_part keeper.old }
     {
-        let ticket = self.draw(&mut keeper.seat);
-        let value = self.wait(rt, &mut keeper.seat, ticket);
-        let turn = Turn {
-            handed: Snapshot::of(&value),
-            seat: Snapshot::of(&keeper.seat),
-        };
-        (value, turn)
+        self.take_turn(rt, &mut keeper.seat)
     }
 
     /// Gives the value back, changed by one step or not at all, and lets the next holder in.
@@ -57,12 +51,11 @@ impl<K: Kept> Lock<K> {
         ensures keeper { IsKeeperOf (lock_id self.now) keeper.new }
         ensures free { IsFreeKeeper keeper.new }
         ensures seen { keeper_seen keeper.new ≡ K.journal value }
-        ensures places { keeper_places keeper.new ≡ places_after (keeper_places keeper.old) (K.journal (handed turn)) (K.journal value) }
+        ensures places { keeper_places keeper.new
+            ≡ places_after (keeper_places keeper.old) (K.journal (handed turn)) (K.journal value) }
         ensures part { keeper_part keeper.new ≡ Some (K.part value) }
     {
-        let Turn { handed: _, seat: _ } = turn;
-        let served = self.put_back(&mut keeper.seat, value);
-        self.wake(served);
+        self.give_back(&mut keeper.seat, turn, value);
     }
 
     /// Lets a pass and the keeper have seen the same, in six atomic steps. It waits for nobody and

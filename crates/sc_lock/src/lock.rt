@@ -57,13 +57,13 @@ impl<K: Kept + Drop> Lock<K> {
 
 impl<K: Kept> Lock<K> {
     ghost use Rattle.std.specs.Prelude.{◌^◌, [], Some};
-    ghost use Rattle.sc_lock.specs.Views.{starting};
-    ghost use Rattle.sc_lock.specs.Tokens.{origin_of, lock_id, IsPassOf, IsFree, seen, own_places, splits_left, IsKeeperOf, IsFreeKeeper, keeper_seen, keeper_places, keeper_part};
+    ghost use Rattle.sc_lock.specs.Views.{first_view};
+    ghost use Rattle.sc_lock.specs.Tokens.{origin_of, lock_id, IsOfTable, IsPassOf, IsFree, seen, own_places, splits_left, IsKeeperOf, IsFreeKeeper, keeper_seen, keeper_places, keeper_part};
 
     // Cuts the first seat in two: the keeper's, and the pass's with all splits.
     fn deal(&self, mut seat: LockSeat<K>) -> (Pass<K>, Keeper<K>)
-        requires lock { seat.table_id ≡ self.now.table.shared.table_id }
-        requires first { seat.me ≡ (starting K.journal K.part (origin_of self.now), []) }
+        requires lock { IsOfTable self.now seat }
+        requires first { seat.me ≡ (first_view K.Kept (origin_of self.now), []) }
         ensures pass { IsPassOf (lock_id self.now) result.0 × IsFree result.0 }
         ensures seen { seen result.0 ≡ K.journal (origin_of self.now) }
         ensures places { own_places result.0 ≡ [] }

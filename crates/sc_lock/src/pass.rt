@@ -1,7 +1,7 @@
 //! Those who hold the lock and leave the keeper's part as it is.
 ghost use Rattle.std.specs.Prelude.{◌≡◌, ◌⊎◌, ℕ, ◌+◌, ◌<◌, [], Some};
 ghost use mathlib.Core.List.{IsPrefix};
-ghost use Rattle.sc_lock.specs.Journal.{Has, Apart, merged, places_after, OwnsPlaceOf, MayAppend, GrowsByAtMostOne, IsLongest};
+ghost use Rattle.sc_lock.specs.Journal.{AreDisjoint, merged, places_after, OwnsPlaceOf, MayAppend, GrowsByAtMostOne, IsLongest};
 ghost use Rattle.sc_lock.specs.Tokens.{lock_id, lock_name, IsPassOf, IsFree, seen, own_places, splits_left, IsTurnOf, handed};
 
 use crate::kept::Kept;
@@ -9,7 +9,6 @@ use crate::lock::Lock;
 use crate::plays::OneOf;
 use crate::turn::Turn;
 use crate::view::LockSeat;
-use std::snapshot::Snapshot;
 use std::sync::Wait;
 
 /// A right to hold one lock. It knows how much of the journal it has seen, the places of its own
@@ -26,7 +25,7 @@ impl<K: Kept> Lock<K> {
         requires free { IsFree pass.old }
         ensures sound { K.sound result.0 }
         ensures name { K.name result.0 ≡ lock_name K.name self.now }
-        ensures front { IsPrefix (seen pass.old) (K.journal result.0) }
+        ensures seen_is_prefix { IsPrefix (seen pass.old) (K.journal result.0) }
         ensures owner { OwnsPlaceOf K.owned (seen pass.old) (own_places pass.old) → K.journal result.0 ≡ seen pass.old }
         ensures turn { IsTurnOf K.name pass.new result.1 }
         ensures handed { handed result.1 ≡ result.0 }
@@ -35,13 +34,7 @@ impl<K: Kept> Lock<K> {
         ensures places { own_places pass.new ≡ own_places pass.old }
         ensures splits { splits_left pass.new ≡ splits_left pass.old }
     {
-        let ticket = self.draw(&mut pass.seat);
-        let value = self.wait(rt, &mut pass.seat, ticket);
-        let turn = Turn {
-            handed: Snapshot::of(&value),
-            seat: Snapshot::of(&pass.seat),
-        };
-        (value, turn)
+        self.take_turn(rt, &mut pass.seat)
     }
 
     /// Gives the value back, changed by one step or not at all, and lets the next holder in.
@@ -56,12 +49,11 @@ impl<K: Kept> Lock<K> {
         ensures pass { IsPassOf (lock_id self.now) pass.new }
         ensures free { IsFree pass.new }
         ensures seen { seen pass.new ≡ K.journal value }
-        ensures places { own_places pass.new ≡ places_after (own_places pass.old) (K.journal (handed turn)) (K.journal value) }
+        ensures places { own_places pass.new
+            ≡ places_after (own_places pass.old) (K.journal (handed turn)) (K.journal value) }
         ensures splits { splits_left pass.new ≡ splits_left pass.old }
     {
-        let Turn { handed: _, seat: _ } = turn;
-        let served = self.put_back(&mut pass.seat, value);
-        self.wake(served);
+        self.give_back(&mut pass.seat, turn, value);
     }
 
     /// Splits a pass off, for another thread, in one atomic step. It takes no memory.
@@ -89,7 +81,7 @@ impl<K: Kept> Lock<K> {
         requires from { IsPassOf (lock_id self.now) from × IsFree from }
         ensures pass { IsPassOf (lock_id self.now) into.new × IsFree into.new }
         ensures seen { IsLongest (seen into.old) (seen from) (seen into.new) }
-        ensures apart { Apart (own_places into.old) (own_places from) }
+        ensures disjoint { AreDisjoint (own_places into.old) (own_places from) }
         ensures places { own_places into.new ≡ merged (own_places into.old) (own_places from) }
         ensures splits { splits_left into.new ≡ splits_left into.old + splits_left from + 1 }
     {

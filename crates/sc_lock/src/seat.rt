@@ -1,10 +1,10 @@
 //! The lock's steps, each by one seat.
 ghost use Rattle.std.specs.Prelude.{◌≡◌, ℕ, ◌%◌, ◌^◌, ◌<◌, [], ◌∷◌, Some, None, MatchBool};
 ghost use Rattle.sc_lock.specs.declared.view.Stage.TheVariants.{Idle, Waiting, Holding};
-ghost use Rattle.sc_lock.specs.Journal.{Apart, ArePlacesIn, IsLongest, longer, places_after};
-ghost use Rattle.sc_lock.specs.Views.{staged, joined};
-ghost use Rattle.sc_lock.specs.Steps.{Finds, Took, Gives, noted};
-ghost use Rattle.sc_lock.specs.Tokens.{IsIdle, origin_of};
+ghost use Rattle.sc_lock.specs.Journal.{AreDisjoint, ArePlacesIn, IsLongest, longer, places_after};
+ghost use Rattle.sc_lock.specs.Views.{with_stage, joined};
+ghost use Rattle.sc_lock.specs.Steps.{IsWaitingFor, HasTaken, IsHandedOut, MayPutBack, noted};
+ghost use Rattle.sc_lock.specs.Tokens.{IsIdle, IsOfTable, IsSameSeat, origin_of};
 
 use crate::kept::Kept;
 use crate::lock::Lock;
@@ -40,29 +40,31 @@ fn spin(looks: u32)
 impl<K: Kept> Lock<K> {
     // Draws a ticket, and answers its remainder modulo 2^64.
     pub(crate) fn draw(&self, seat: &mut LockSeat<K>) -> u64
-        requires lock { seat.old.table_id ≡ self.now.table.shared.table_id }
+        requires lock { IsOfTable self.now seat.old }
         requires idle { IsIdle seat.old × (0 < seat.old.me.0.weight) }
-        ensures seat { (seat.new.table_id ≡ seat.old.table_id) × (seat.new.id ≡ seat.old.id) }
-        ensures drawn { (t : ℕ) × (result ≡ t % 2 ^ 64) × (seat.new.me ≡ (staged seat.old.me.0 (Waiting t), [])) }
+        ensures seat { IsSameSeat seat.old seat.new }
+        ensures drawn { (t : ℕ) × (result ≡ t % 2 ^ 64) × (seat.new.me ≡ (with_stage seat.old.me.0 (Waiting t), [])) }
     {
         self.table.shared.fetch_add::<Draw>(seat, NEXT, 1)
     }
 
     // Whether the ticket is served; where it is, the seat has the value's slot.
     fn look(&self, seat: &mut LockSeat<K>, ticket: u64) -> bool
-        requires lock { seat.old.table_id ≡ self.now.table.shared.table_id }
-        requires waits { (t : ℕ) × (seat.old.me.0.stage ≡ Waiting t) × (ticket ≡ t % 2 ^ 64) × (seat.old.me.1 ≡ []) }
-        ensures seat { (seat.new.table_id ≡ seat.old.table_id) × (seat.new.id ≡ seat.old.id) }
-        ensures turn { MatchBool result ((x : K) × Took seat.old.me seat.new.me x × Finds K.journal K.sound K.part K.name K.owned seat.old.me.0 x) (seat.new.me ≡ seat.old.me) }
+        requires lock { IsOfTable self.now seat.old }
+        requires waits { IsWaitingFor ticket seat.old.me }
+        ensures seat { IsSameSeat seat.old seat.new }
+        ensures turn { MatchBool result
+            ((x : K) × HasTaken seat.old.me seat.new.me x × IsHandedOut K.Kept seat.old.me.0 x)
+            (seat.new.me ≡ seat.old.me) }
     {
         self.table.shared.load::<Look>(seat, SERVED) == ticket
     }
 
     // Moves the value out of the slot that the seat has.
     fn lift(&self, seat: &mut LockSeat<K>) -> K
-        requires lock { seat.old.table_id ≡ self.now.table.shared.table_id }
+        requires lock { IsOfTable self.now seat.old }
         requires holds { (x : K) × (seat.old.me.1 ≡ (0, Some x) ∷ []) }
-        ensures seat { (seat.new.table_id ≡ seat.old.table_id) × (seat.new.id ≡ seat.old.id) }
+        ensures seat { IsSameSeat seat.old seat.new }
         ensures value { (seat.old.me.1 ≡ (0, Some result) ∷ []) × (seat.new.me ≡ (seat.old.me.0, (0, None) ∷ [])) }
     {
         self.table.shared.exchange(seat, VALUE, None).unwrap()
@@ -70,9 +72,9 @@ impl<K: Kept> Lock<K> {
 
     // Moves the value into the slot that the seat has.
     fn lay(&self, seat: &mut LockSeat<K>, value: K)
-        requires lock { seat.old.table_id ≡ self.now.table.shared.table_id }
+        requires lock { IsOfTable self.now seat.old }
         requires holds { seat.old.me.1 ≡ (0, None) ∷ [] }
-        ensures seat { (seat.new.table_id ≡ seat.old.table_id) × (seat.new.id ≡ seat.old.id) }
+        ensures seat { IsSameSeat seat.old seat.new }
         ensures value { seat.new.me ≡ (seat.old.me.0, (0, Some value) ∷ []) }
     {
         match self.table.shared.exchange(seat, VALUE, Some(value)) {
@@ -93,11 +95,11 @@ impl<K: Kept> Lock<K> {
 
     // Waits until the ticket is served, and moves the value out.
     pub(crate) fn wait<R: Wait>(&self, rt: &R, seat: &mut LockSeat<K>, ticket: u64) -> K
-        requires lock { seat.old.table_id ≡ self.now.table.shared.table_id }
-        requires waits { (t : ℕ) × (seat.old.me.0.stage ≡ Waiting t) × (ticket ≡ t % 2 ^ 64) × (seat.old.me.1 ≡ []) }
-        ensures seat { (seat.new.table_id ≡ seat.old.table_id) × (seat.new.id ≡ seat.old.id) }
-        ensures found { (t : ℕ) × (seat.new.me ≡ (staged seat.old.me.0 (Holding t result), (0, None) ∷ [])) }
-        ensures finds { Finds K.journal K.sound K.part K.name K.owned seat.old.me.0 result }
+        requires lock { IsOfTable self.now seat.old }
+        requires waits { IsWaitingFor ticket seat.old.me }
+        ensures seat { IsSameSeat seat.old seat.new }
+        ensures found { (t : ℕ) × (seat.new.me ≡ (with_stage seat.old.me.0 (Holding t result), (0, None) ∷ [])) }
+        ensures finds { IsHandedOut K.Kept seat.old.me.0 result }
     {
         let mut looks = 0;
         for _ in rt.forever() {
@@ -117,12 +119,14 @@ impl<K: Kept> Lock<K> {
     // Puts the value back with its journal noted, passes the turn on, and answers the number served
     // until then.
     pub(crate) fn put_back(&self, seat: &mut LockSeat<K>, value: K) -> u64
-        requires lock { (seat.old.table_id ≡ self.now.table.shared.table_id) × (seat.old.me.0.origin ≡ Some (origin_of self.now)) }
+        requires lock { IsOfTable self.now seat.old × (seat.old.me.0.origin ≡ Some (origin_of self.now)) }
         requires named { K.name value ≡ K.name (origin_of self.now) }
-        requires holds { (t : ℕ) × (x : K) × (seat.old.me.0.stage ≡ Holding t x) × (seat.old.me.1 ≡ (0, None) ∷ []) × Gives K.journal K.sound K.part K.name K.owned seat.old.me.0 x value }
-        ensures seat { (seat.new.table_id ≡ seat.old.table_id) × (seat.new.id ≡ seat.old.id) }
-        ensures noted { (t : ℕ) (x : K) → seat.old.me.0.stage ≡ Holding t x → seat.new.me ≡ (staged (noted seat.old.me.0 t (K.journal x) (K.journal value) (K.part value)) Idle, []) }
-        ensures places { (t : ℕ) (x : K) → seat.old.me.0.stage ≡ Holding t x → ArePlacesIn (places_after seat.old.me.0.places (K.journal x) (K.journal value)) (K.journal value) }
+        requires holds { MayPutBack K.Kept seat.old.me value }
+        ensures seat { IsSameSeat seat.old seat.new }
+        ensures noted { (t : ℕ) (x : K) → seat.old.me.0.stage ≡ Holding t x
+            → seat.new.me ≡ (with_stage (noted K.Kept seat.old.me.0 t x value) Idle, []) }
+        ensures places { (t : ℕ) (x : K) → seat.old.me.0.stage ≡ Holding t x
+            → ArePlacesIn (places_after seat.old.me.0.places (K.journal x) (K.journal value)) (K.journal value) }
     {
         let entries = value.entries();
         self.lay(seat, value);
@@ -139,12 +143,12 @@ impl<K: Kept> Lock<K> {
 
     // Lets `into` have what `from` has seen, and its places.
     pub(crate) fn bring(&self, into: &mut LockSeat<K>, from: LockSeat<K>)
-        requires lock { (into.old.table_id ≡ self.now.table.shared.table_id) × (from.table_id ≡ self.now.table.shared.table_id) }
+        requires lock { IsOfTable self.now into.old × IsOfTable self.now from }
         requires idle { IsIdle into.old × IsIdle from }
-        ensures seat { (into.new.table_id ≡ into.old.table_id) × (into.new.id ≡ into.old.id) }
-        ensures view { into.new.me ≡ (staged (joined into.old.me.0 from.me.0) Idle, []) }
+        ensures seat { IsSameSeat into.old into.new }
+        ensures view { into.new.me ≡ (with_stage (joined into.old.me.0 from.me.0) Idle, []) }
         ensures longest { IsLongest into.old.me.0.seen from.me.0.seen (longer into.old.me.0.seen from.me.0.seen) }
-        ensures apart { Apart into.old.me.0.places from.me.0.places }
+        ensures disjoint { AreDisjoint into.old.me.0.places from.me.0.places }
         ensures places { ArePlacesIn into.new.me.0.places into.new.me.0.seen }
     {
         self.table.shared.join_seat::<Meeting>(into, from);

@@ -4,11 +4,14 @@ ghost use Rattle.sc_lock.specs.Journal.{GrowsByAtMostOne};
 ghost use Rattle.std.specs.Thread.{IsSync};
 ghost use Rattle.sc_lock.specs.Tokens.{lock_id, IsPassOf, IsFree, IsKeeperOf, IsFreeKeeper, keeper_part};
 
+use crate::seat::{NEXT, SERVED};
 use crate::{Badge, Keeper, Kept, Lock, Pass, Turn};
 use std::alloc::AllocError;
 use std::sync::Wait;
+use std::sync::atomic::{AtomicBool, Ordering};
 use std::thread;
 use std::thread::Threads;
+use std::time::{Clock, Duration};
 
 // A list of numbers, and a mark that the keeper sets.
 #[derive(Drop)]
@@ -208,6 +211,62 @@ fn mark_found<R: Wait>(rt: &R, lock: &Lock<Numbers>, keeper: &mut Keeper<Numbers
     mark
 }
 
+// Sleeps until the test holds, ten seconds at most, and answers whether it does.
+fn sleep_until<R: Clock, F: Fn() -> bool>(rt: &R, test: F) -> bool
+    requires { F.IsAlwaysCallable test }
+{
+    for _ in 0..1000u64 {
+        if test() {
+            return true;
+        }
+        thread::sleep(rt, Duration::from_millis(10));
+    }
+    false
+}
+
+// Where two threads have come.
+#[derive(Drop)]
+struct Marks {
+    keeper_holds: AtomicBool,
+    pass_held: AtomicBool,
+}
+
+// One hold, once the keeper holds.
+fn hold_after_keeper<R: Clock + Wait>(
+    rt: &R,
+    lock: &Lock<Numbers>,
+    mut pass: Pass<Numbers>,
+    marks: &Marks,
+)
+    requires { IsPassOf (lock_id lock.now) pass × IsFree pass }
+{
+    sleep_until(rt, || marks.keeper_holds.load(Ordering::SeqCst));
+    let (numbers, turn) = lock.hold(rt, &mut pass);
+    marks.pass_held.store(true, Ordering::SeqCst);
+    lock.give(&mut pass, turn, numbers);
+}
+
+// The keeper holds, gives back once the pass sleeps for its turn, and answers whether the pass then
+// got it. At the end the pass is woken all the same, so that the test ends.
+fn give_to_waiter<R: Clock + Wait>(
+    rt: &R,
+    lock: &Lock<Numbers>,
+    mut keeper: Keeper<Numbers>,
+    marks: &Marks,
+) -> bool
+    requires { IsKeeperOf (lock_id lock.now) keeper × IsFreeKeeper keeper }
+{
+    let (numbers, turn) = lock.hold_keeper(rt, &mut keeper);
+    marks.keeper_holds.store(true, Ordering::SeqCst);
+    let drawn = sleep_until(rt, || lock.table.shared.peek(NEXT) == 2);
+    thread::sleep(rt, Duration::from_millis(200));
+    let early = marks.pass_held.load(Ordering::SeqCst);
+    lock.give_keeper(&mut keeper, turn, numbers);
+    let woken = sleep_until(rt, || marks.pass_held.load(Ordering::SeqCst));
+    lock.table.shared.wake_all(SERVED);
+    drawn && !early && woken
+}
+
 fn sends<T: Send>(_: &T) {}
 
 fn shares<T: Sync>(_: &T) {}
@@ -246,6 +305,26 @@ fn two_threads_add_a_hundred_each(rt: HostRuntime) -> Result<(), AllocError> {
     cross(&lock, &pass, &keeper, &turn, &badge);
     assert_eq!(rt; numbers.entries(), 200);
     lock.give(&mut pass, turn, numbers);
+    Ok(())
+}
+
+#[test]
+fn a_keeper_that_gives_back_wakes_a_pass(rt: HostRuntime) -> Result<(), AllocError> {
+    let numbers = Numbers {
+        list: Vec::new(rt.alloc()),
+        mark: 0,
+    };
+    let (lock, pass, keeper) = Lock::new(rt.alloc(), numbers)?;
+    let marks = Marks {
+        keeper_holds: AtomicBool::new(false),
+        pass_held: AtomicBool::new(false),
+    };
+    let (woken, ()) = thread::join(
+        &rt,
+        || give_to_waiter(&rt, &lock, keeper, &marks),
+        || hold_after_keeper(&rt, &lock, pass, &marks),
+    );
+    assert!(rt; woken);
     Ok(())
 }
 

@@ -1,3 +1,4 @@
+-- `append_all`: its loop leaves the pass free.
 use Rattle.sc_lock.specs.Tokens.{IsPassOf, IsFree, lock_id}
 use Rattle.sc_lock.proofs.tests.append_all.Given as goal
 

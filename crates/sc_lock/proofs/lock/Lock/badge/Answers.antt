@@ -1,6 +1,7 @@
+-- `badge`: the seat that comes keeps the invariant.
 use Rattle.std.proofs.Common.{rules}
 use Rattle.sc_lock.proofs.lock.Lock.badge.Goals as goal
-use Rattle.sc_lock.proofs.Seats.{visits_keeps}
+use Rattle.sc_lock.proofs.SeatLemmas.{visit_keeps}
 
 pub load_new_seat-seat-requires : goal.load_new_seat-seat-requires
-load_new_seat-seat-requires g c = (search rules, visits_keeps _ _ _ _ _ _ _)
+load_new_seat-seat-requires g c = (search rules, visit_keeps _ _ _)

@@ -1,6 +1,8 @@
+-- `draw`: the ticket that is drawn keeps the invariant.
 use Rattle.std.proofs.Common.{rules}
 use Rattle.sc_lock.proofs.lock.Lock.draw.Goals as goal
-use Rattle.sc_lock.proofs.Turns.{draws_keeps}
+use Rattle.sc_lock.proofs.TurnLemmas.{draw_keeps}
 
 pub fetch_add-requires : goal.fetch_add-requires
-fetch_add-requires g c = (search rules, search rules, draws_keeps _ _ _ _ _ _ _ _ _ c.requires.idle.0.0 c.requires.idle.1)
+fetch_add-requires g c = let idle = c.requires.idle in
+    (search rules, search rules, draw_keeps _ _ _ _ _ idle.0.0 idle.1)

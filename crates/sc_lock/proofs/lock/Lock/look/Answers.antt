@@ -1,6 +1,8 @@
+-- `look`: the look, which takes the value where the ticket is served, keeps the invariant.
 use Rattle.std.proofs.Common.{rules}
 use Rattle.sc_lock.proofs.lock.Lock.look.Goals as goal
-use Rattle.sc_lock.proofs.Turns.{looks_keeps}
+use Rattle.sc_lock.proofs.TurnLemmas.{look_keeps}
 
 pub load-requires : goal.load-requires
-load-requires g c = let w = c.requires.waits in (search rules, search rules, looks_keeps _ _ _ _ _ _ _ _ _ w.0 w.1 w.3)
+load-requires g c = let waits = c.requires.waits in
+    (search rules, search rules, look_keeps _ _ _ _ _ waits.0 waits.1 waits.3)

@@ -12,13 +12,12 @@ mod lexeme;
 mod parser;
 mod query;
 mod reader;
-mod word;
 
 pub use fault::QueryFault;
 pub use laws::{one_answer, parentheses};
 pub use parser::parse;
 pub use query::{Query, and};
-pub use word::Word;
+pub use sc_record::Text as Word;
 
 #[cfg(test)]
 mod tests;

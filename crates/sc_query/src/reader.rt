@@ -10,7 +10,7 @@ ghost use Rattle.sc_query.specs.Reading.{step, operand_step, operator_step, fini
 use crate::fault::QueryFault;
 use crate::lexeme::{self, Lexeme};
 use crate::query::{self, Query};
-use crate::word::Word;
+use sc_record::Text as Word;
 use std::alloc::{AllocError, Global};
 
 /// How many parentheses and NOTs may be open at once.
@@ -107,8 +107,8 @@ fn with_operand(
 fn leaf(alloc: Global, field: &str, value: &str, at: u32) -> Result<Query, AllocError>
     ensures { IfOk result (λ query. tree_of query ≡ Tree.Leaf field.now (plain value.now) at) }
 {
-    let field = Word::from(String::from_str(alloc, field)?);
-    let value = Word::from(lexeme::plain(alloc, value)?);
+    let field = Word::new(alloc, field)?;
+    let value = Word::from_string(lexeme::plain(alloc, value)?);
     Ok(Query::Leaf { field, value, at })
 }
 

@@ -1,3 +1,4 @@
 pub mod Filing
+pub mod Fresh
 pub mod Index
 pub mod Live

@@ -55,7 +55,7 @@ impl<E> Log<E> {
         self.entries.len()
     }
 
-    /// Makes room for at least `n` more entries. An error is want of memory.
+    /// Makes room for at least `n` more entries. An error means out of memory.
     pub fn reserve(&mut self, n: usize) -> Result<(), AllocError>
         ensures ok { OnOk result (self.new ≡ record self.old { spare = max self.old.spare n }) }
         ensures err { OnErr result (self.new ≡ self.old) }

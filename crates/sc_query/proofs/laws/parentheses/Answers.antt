@@ -1,4 +1,4 @@
-use Rattle.sc_query.proofs.Enclosed.{enclosed}
+use Rattle.sc_query.proofs.EnclosedLemmas.{enclosed}
 use Rattle.sc_query.proofs.laws.parentheses.Goals as goal
 
 pub returns : goal.returns

@@ -1,6 +1,6 @@
 use Rattle.std.proofs.Common.{◌<◌, length, drop, sym, arith}
 use Rattle.std.proofs.lemmas.List.{length-drop}
-use Rattle.sc_query.proofs.Cuts.{opens_value-short}
+use Rattle.sc_query.proofs.CutsLemmas.{opens_value-short}
 use Rattle.sc_query.proofs.lexeme.opens_value.Goals as goal
 use Rattle.sc_query.proofs.lexeme.opens_value.Goals.{then-bytes-lt2-via-then-bytes-lt2, then-bytes-lt2-via-else-bytes-lt2+then-at-bytes}
 

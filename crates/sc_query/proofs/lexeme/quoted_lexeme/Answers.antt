@@ -1,7 +1,7 @@
 use Rattle.std.proofs.Common.{◌≡◌, ℕ, List, length, sym, ap, subst, ◌∙◌, false-eqb}
 use Rattle.std.specs.Str.{IsCharBoundary}
 use Rattle.sc_query.specs.Tokens.{Token, up_to, plain, ends_quoted}
-use Rattle.sc_query.proofs.Cuts.{front_is, up_to-boundary, quoted_ascii, quoted_leaf-whole}
+use Rattle.sc_query.proofs.CutsLemmas.{front_is, up_to-boundary, quoted_ascii, quoted_leaf-whole}
 use Rattle.sc_query.proofs.lexeme.quoted_lexeme.Goals as goal
 
 pub range-value-requires-clause-end_boundary : goal.range-value-requires-clause-end_boundary

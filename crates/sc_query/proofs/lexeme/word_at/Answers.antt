@@ -1,7 +1,7 @@
 use Rattle.std.proofs.Common.{◌≡◌, ℕ, ◌+◌, List, length, drop, true, false, sym, ap, subst, ◌∙◌}
 use Rattle.std.specs.Str.{IsCharBoundary}
 use Rattle.sc_query.specs.Tokens.{up_to, ends_field, ends_run, ends_quoted, opens_quoted, quoted_leaf, run_token}
-use Rattle.sc_query.proofs.Cuts.{front_is, up_to-boundary, field_ascii, run_ascii, quoted-boundary, word_at-quoted, word_at-run}
+use Rattle.sc_query.proofs.CutsLemmas.{front_is, up_to-boundary, field_ascii, run_ascii, quoted-boundary, word_at-quoted, word_at-run}
 use Rattle.sc_query.proofs.lexeme.word_at.Goals as goal
 
 pub range-field-requires-clause-end_boundary : goal.range-field-requires-clause-end_boundary

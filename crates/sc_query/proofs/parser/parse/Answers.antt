@@ -5,7 +5,7 @@ use Rattle.sc_query.specs.declared.fault.QueryFault.TheVariants.{At, Memory}
 use Rattle.sc_query.specs.Tree.{Tree, tree_of}
 use Rattle.sc_query.specs.Grammar.{HasTree, HasFault}
 use Rattle.sc_query.specs.Reading.{Gives, reading}
-use Rattle.sc_query.proofs.Outcome.{tree_read, tree_found, fault_read, fault_found, too_long_fault}
+use Rattle.sc_query.proofs.OutcomeLemmas.{tree_read, tree_found, fault_read, fault_found, too_long_fault}
 use Rattle.sc_query.proofs.parser.parse.Goals as goal
 
 gives_tree : (r : Result Query QueryFault) (text : List ℕ) → length text ≤ 4096 → Gives tree_of r (reading text) → IfOk r (λ query. HasTree text (tree_of query))

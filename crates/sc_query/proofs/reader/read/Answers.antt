@@ -8,8 +8,8 @@ use Rattle.sc_query.specs.declared.fault.QueryFault.TheVariants.{At, Memory}
 use Rattle.sc_query.specs.Tokens.{Token, Placed, placed, is_space, token_at, tokens_from}
 use Rattle.sc_query.specs.Tree.{Tree, tree_of}
 use Rattle.sc_query.specs.Reading.{Reader, Gives, Fails, reader_of, run, step, finish, reading}
-use Rattle.sc_query.proofs.Cuts.{space_ascii}
-use Rattle.sc_query.proofs.Tokens.{rest_cut, tokens-space, tokens-token, tokens-end, run-step, run-stop, run-end}
+use Rattle.sc_query.proofs.CutsLemmas.{space_ascii}
+use Rattle.sc_query.proofs.TokensLemmas.{rest_cut, tokens-space, tokens-token, tokens-end, run-step, run-stop, run-end}
 use Rattle.sc_query.proofs.reader.read.Goals as goal
 
 -- the fault of a step is that of the whole

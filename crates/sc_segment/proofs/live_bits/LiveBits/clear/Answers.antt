@@ -1,7 +1,7 @@
 use Rattle.std.proofs.Common.{◌≤◌, ◌*◌, ◌/◌, ◌%◌, ◌^◌, length, set, false, ap, ◌∙◌, arith, bit_and, w64}
 use Rattle.std.proofs.lemmas.List.{get_or_default}
 use Rattle.std.specs.Int.{bit_not}
-use Rattle.sc_segment.proofs.Bits.{length-live_rows, place_within, live_rows-set}
+use Rattle.sc_segment.proofs.BitsLemmas.{length-live_rows, place_within, live_rows-set}
 use Rattle.sc_segment.specs.Live.{live_rows}
 use Rattle.sc_segment.proofs.live_bits.LiveBits.clear.Goals as goal
 

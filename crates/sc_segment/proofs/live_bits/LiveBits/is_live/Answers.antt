@@ -1,7 +1,7 @@
 use Rattle.std.proofs.Common.{◌<◌, ◌/◌, ◌%◌, ◌^◌, ◌==◌, length, Some, sym, ap, ◌∙◌, arith, bit_and}
 use Rattle.std.proofs.lemmas.List.{get_or_default}
 use Rattle.std.specs.List.{slice_get}
-use Rattle.sc_segment.proofs.Bits.{length-live_rows, place_within, slice_get-live_rows}
+use Rattle.sc_segment.proofs.BitsLemmas.{length-live_rows, place_within, slice_get-live_rows}
 use Rattle.sc_segment.proofs.live_bits.LiveBits.is_live.Goals as goal
 
 pub index-word-requires : goal.index-word-requires

@@ -7,8 +7,8 @@ use Rattle.std.specs.Str.{bytes_eq}
 use Rattle.sc_query.specs.Tokens.{Token, Placed, placed, up_to, plain, is_cut_short, is_space, ends_run, ends_field, ends_quoted, opens_quoted, opens_value, quoted_leaf, run_token, word_at, token_at, tokens_from, tokens}
 use Rattle.sc_query.specs.Tree.{Tree, moved}
 use Rattle.sc_query.specs.Grammar.{Rule, Reads, IsQueryWithin, HasTree}
-use Rattle.sc_query.proofs.Bytes.{cut-cons, up_to-stop}
-use Rattle.sc_query.proofs.Cuts.{up_to-stops, none_true, quoted_front, quoted_leaf-whole, word_at-quoted, word_at-run}
+use Rattle.sc_query.proofs.BytesLemmas.{cut-cons, up_to-stop}
+use Rattle.sc_query.proofs.CutsLemmas.{up_to-stops, none_true, quoted_front, quoted_leaf-whole, word_at-quoted, word_at-run}
 
 -- a token a place further on
 abbrev further : Placed → Placed

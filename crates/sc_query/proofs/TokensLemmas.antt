@@ -6,7 +6,7 @@ use Rattle.std.proofs.lemmas.Str.{IsCharBoundary-after_ascii, IsCharBoundary-end
 use Rattle.std.specs.Str.{IsCharBoundary, IsUtf8}
 use Rattle.sc_query.specs.Tokens.{Token, Placed, placed, up_to, plain, is_space, ends_run, ends_field, ends_quoted, opens_quoted, quoted_leaf, run_token, word_at, token_at, tokens_from}
 use Rattle.sc_query.specs.Reading.{Reader, step, finish, goes_on, run}
-use Rattle.sc_query.proofs.Cuts.{up_to-stops, up_to-boundary, quoted_ascii, run_ascii, quoted-boundary, none_true}
+use Rattle.sc_query.proofs.CutsLemmas.{up_to-stops, up_to-boundary, quoted_ascii, run_ascii, quoted-boundary, none_true}
 
 -- what belongs to an earlier token is passed over
 tokens_from-inside : (k at : ℕ) (text : List ℕ) → k ≤ length text → tokens_from k at text ≡ tokens_from 0 (at + k) (drop k text)

@@ -1,0 +1,5 @@
+use Rattle.sc_query.proofs.WorkLemmas.{work_left}
+use Rattle.sc_query.proofs.query.Query.drop.Given as goal
+
+abbrev pub decreases-loop-self : goal.decreases-loop-self
+decreases-loop-self l = work_left l.self l.later

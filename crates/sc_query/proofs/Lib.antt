@@ -1,3 +1,4 @@
+-- The lemmas of the query language, the lowest first.
 pub mod WorkLemmas
 pub mod BytesLemmas
 pub mod PlainLemmas

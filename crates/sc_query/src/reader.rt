@@ -165,21 +165,9 @@ fn negate(outer: Vec<Level>, level: Level, at: u32) -> Result<State, QueryFault>
     if level.negations >= level.room {
         return Err(QueryFault::At { at });
     }
-    let Level {
-        either,
-        both,
-        room,
-        negations,
-    } = level;
-    Ok(State::Awaits {
-        outer,
-        level: Level {
-            either,
-            both,
-            room,
-            negations: negations + 1,
-        },
-    })
+    let mut level = level;
+    level.negations += 1;
+    Ok(State::Awaits { outer, level })
 }
 
 // A token after an operand.

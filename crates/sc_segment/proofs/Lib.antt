@@ -1,3 +1,4 @@
+-- The lemmas of posting lists and live rows.
 pub mod AddingLemmas
 pub mod BitsLemmas
 pub mod BoundsLemmas

@@ -89,7 +89,7 @@ impl<E> Log<E> {
     /// Takes the oldest entry out, in constant time.
     pub fn next(&mut self) -> Option<E>
         requires { self.old.mode ≡ Mode.Replaying }
-        ensures front { self.old.entries ≡ option_to_list result ++ self.new.entries }
+        ensures oldest { self.old.entries ≡ option_to_list result ++ self.new.entries }
         ensures empty { IsNone result ↔ (self.old.entries ≡ []) }
         ensures others { self.new ≡ record self.old { entries = self.new.entries } }
     {

@@ -1,3 +1,4 @@
+-- A part has as many bytes as the loop passes.
 use Rattle.std.proofs.Common.{◌≡◌, ℕ, ◌+◌, Bool, List, length, get_or, drop, false, ap, sym, ◌∙◌, inl, inr, arith}
 use Rattle.sc_query.specs.Reading.{ends_of}
 use Rattle.sc_query.specs.Tokens.{up_to}

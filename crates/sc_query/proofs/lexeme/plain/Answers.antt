@@ -1,3 +1,4 @@
+-- The text that is written is what the value stands for.
 use Rattle.std.proofs.Common.{◌++◌, ◌-◌, take, drop, string_bytes, sym, ap, ◌∙◌, inl, inr, arith, rules}
 use Rattle.std.proofs.lemmas.Str.{IsCharBoundary-start, IsCharBoundary-after_ascii}
 use Rattle.sc_query.proofs.PlainLemmas.{piece_written, piece_longer, piece_last}

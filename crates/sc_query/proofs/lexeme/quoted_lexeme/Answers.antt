@@ -1,3 +1,4 @@
+-- The token of a quoted leaf is that of the definition, and the value is cut between characters.
 use Rattle.std.proofs.Common.{◌≡◌, ℕ, List, length, sym, ap, subst, ◌∙◌, false-eqb}
 use Rattle.std.specs.Str.{IsCharBoundary}
 use Rattle.sc_query.specs.Tokens.{Token, up_to, plain, ends_quoted}

@@ -1,3 +1,4 @@
+-- The value of a leaf begins between characters.
 use Rattle.std.proofs.Common.{◌≡◌, ◌+◌, length, drop, true, sym, ap, ◌∙◌, subst}
 use Rattle.std.proofs.Math.Seq.{take-length}
 use Rattle.std.specs.Str.{IsCharBoundary}

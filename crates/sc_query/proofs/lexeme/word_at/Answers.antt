@@ -1,3 +1,4 @@
+-- The token at a place is that of the definition, and its parts are cut between characters.
 use Rattle.std.proofs.Common.{◌≡◌, ℕ, ◌+◌, List, length, drop, true, false, sym, ap, subst, ◌∙◌}
 use Rattle.std.specs.Str.{IsCharBoundary}
 use Rattle.sc_query.specs.Tokens.{up_to, ends_field, ends_run, ends_quoted, opens_quoted, quoted_leaf, run_token}

@@ -1,3 +1,4 @@
+-- The loop reads the tokens of the text one by one.
 use Rattle.std.proofs.Common.{◌≡◌, ℕ, ◌-◌, ◌<◌, Result, Ok, List, ◌∷◌, length, get_or, drop, true, false, refl, sym, ap, subst, ◌∙◌, arith, false-eqb}
 use Rattle.std.proofs.lemmas.Bool.{eqb-true}
 use Rattle.std.proofs.lemmas.Result.{err_from_is_err_and}

@@ -1,3 +1,4 @@
+-- The rest is read as the whole is.
 use denote.Shadow.{shadow}
 use denote.Text.{Utf8}
 use Rattle.std.proofs.Common.{◌≡◌, ◌-◌, ◌≤◌, length}

@@ -1,3 +1,4 @@
+-- A row is filed in its key's list and in no other.
 use Rattle.std.proofs.Common.{◌≤◌, All, Some, refl, sym, ap, ◌∙◌}
 use Rattle.std.proofs.lemmas.Map.Entries.{All-lookup}
 use Rattle.std.proofs.lemmas.Map.Steps.{set_value_same}

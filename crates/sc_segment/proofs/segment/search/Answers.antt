@@ -1,3 +1,4 @@
+-- A comparison leaves half of the entries.
 use Rattle.std.proofs.Common.{◌+◌, ◌-◌, ◌^◌, ◌/◌, [], length, refl, sym, ap, ◌∙◌, arith, unwrap_or}
 use Rattle.std.proofs.lemmas.Map.Entries.{lookup_at_gap}
 use Rattle.std.proofs.lemmas.Option.{slice_get_read}

@@ -1,3 +1,4 @@
+-- The loop that drops a query ends.
 use Rattle.sc_query.proofs.WorkLemmas.{work_left}
 use Rattle.sc_query.proofs.query.Query.drop.Given as goal
 

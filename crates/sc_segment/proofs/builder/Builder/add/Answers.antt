@@ -1,3 +1,4 @@
+-- One pair more is in the index.
 use Rattle.std.proofs.Common.{ap}
 use Rattle.sc_segment.proofs.AddingLemmas.{IsIndexOf-push}
 use Rattle.sc_segment.proofs.BoundsLemmas.{FilesRow-alike}

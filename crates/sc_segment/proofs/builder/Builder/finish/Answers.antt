@@ -1,3 +1,4 @@
+-- The entries of the map are the index.
 use Rattle.std.proofs.Common.{◌≡◌, rules}
 use Rattle.std.specs.Map.{keys_of}
 use Rattle.sc_segment.proofs.BoundsLemmas.{IsStrictlySortedBy-alike}

@@ -1,3 +1,4 @@
+-- Words of ones make all rows live.
 use Rattle.std.proofs.Common.{◌≤◌, ◌*◌, ap, ◌∙◌, arith}
 use Rattle.sc_segment.proofs.BitsLemmas.{live_rows-ones}
 use Rattle.sc_segment.specs.Live.{live_rows}

@@ -1,3 +1,4 @@
+-- A row at the end of the list keeps it ascending.
 use Rattle.std.proofs.Common.{◌++◌, ◌∷◌, [], ◌∙◌, sym, arith}
 use Rattle.std.proofs.lemmas.Grind.{common_steps}
 use Rattle.std.specs.List.Sorted.{IsStrictlyIncreasing}

@@ -1,3 +1,4 @@
+-- The rows that a search finds are those that were added with the key.
 use Rattle.std.proofs.Common.{ap, ◌∙◌, unwrap_or, []}
 use Rattle.sc_segment.proofs.AddingLemmas.{unwrap_or-non_empty}
 use Rattle.sc_segment.proofs.MembersLemmas.{Contains-rows_with}

@@ -1,4 +1,5 @@
 -- The lemmas of the query language, the lowest first.
+pub mod Runs
 pub mod WorkLemmas
 pub mod BytesLemmas
 pub mod PlainLemmas

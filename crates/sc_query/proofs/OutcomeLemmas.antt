@@ -4,7 +4,7 @@ use Rattle.std.proofs.lemmas.Bool.{cases_lt}
 use Rattle.sc_query.specs.Tokens.{tokens}
 use Rattle.sc_query.specs.Tree.{Tree}
 use Rattle.sc_query.specs.Grammar.{HasTree, HasFault, StopsAt, EndsEarly}
-use Rattle.sc_query.specs.Reading.{reading}
+use Rattle.sc_query.proofs.Runs.{reading}
 use Rattle.sc_query.proofs.SoundLemmas.{sound}
 use Rattle.sc_query.proofs.CompleteLemmas.{complete}
 use Rattle.sc_query.proofs.FaultsLemmas.{fault_sound, stops_complete, ends_complete}

@@ -1,11 +1,13 @@
 //! A query is read one token at a time, without recursion: what is open stands in a vector of levels, one for each parenthesis.
 
-ghost use Rattle.std.specs.Prelude.{◌≡◌, ℕ, ◌+◌, ◌-◌, ◌≤◌, ◌∷◌, length, IfOk, option_map};
+ghost use Rattle.std.specs.Prelude.{◌≡◌, ℕ, ◌+◌, ◌-◌, ◌≤◌, ◌∷◌, length, IfOk, Err, option_map};
 ghost use Rattle.sc_query.specs.Tokens.{plain};
 ghost use Rattle.sc_query.specs.Tree.{Tree, tree_of};
+ghost use Rattle.sc_query.specs.Grammar.{HasTree, HasFault};
+ghost use Rattle.sc_query.specs.declared.fault.QueryFault.TheVariants.{At};
 ghost use Rattle.sc_query.specs.Reading.{Reader, Gives, reader_of, outer_of, before_of, token_of};
 ghost use Rattle.sc_query.specs.Reading.{empty, opened, closed, negated, and_with, or_with, with_operand};
-ghost use Rattle.sc_query.specs.Reading.{step, operand_step, operator_step, finish, reading};
+ghost use Rattle.sc_query.specs.Reading.{step, operand_step, operator_step, finish};
 
 use crate::fault::QueryFault;
 use crate::lexeme::{self, Lexeme};
@@ -262,7 +264,8 @@ fn finish(alloc: Global, state: State, end: u32) -> Result<Query, QueryFault>
 /// Reads a whole text of at most 4,096 bytes.
 pub fn read(alloc: Global, text: &str) -> Result<Query, QueryFault>
     requires { length text.now ≤ 4096 }
-    ensures { Gives tree_of result (reading text.now) }
+    ensures tree { IfOk result (λ query. HasTree text.now (tree_of query)) }
+    ensures fault { (at : ℕ) → result ≡ Err (At at) → HasFault text.now at }
 {
     let mut state = State::Awaits {
         outer: Vec::new(alloc),

@@ -232,7 +232,12 @@ fn length_is_limited(rt: HostRuntime) -> Result<(), Fail> {
     for (link, count, last, fault) in [
         ("*:* AND ", 511, "a:123456", None),
         ("NOT a:\"b\"OR ", 341, "a:12", None),
-        ("*:* AND ", 511, "a:1234567", Some(QueryFault::At { at: 4096 })),
+        (
+            "*:* AND ",
+            511,
+            "a:1234567",
+            Some(QueryFault::At { at: 4096 }),
+        ),
         (") AND OR ", 455, "ab", Some(QueryFault::At { at: 4096 })),
     ] {
         let text = repeated(rt.alloc(), link, count, last, "")?;

@@ -20,7 +20,8 @@ pub enum Query {
 }
 
 // A loop goes down the left sides. What is to the right of them waits in one box: the box of each left side that is entered
-// takes its right side and what waited before. So no depth takes stack, no step takes memory, and no box is moved twice.
+// takes its right side and what waited before. So no depth takes stack, and no step memory. Each query is looked at once, and
+// each AND or OR that waits once more.
 impl Drop for Query {
     fn drop(mut self) {
         let mut later: Option<Box<Query>> = None;

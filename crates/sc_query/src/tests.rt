@@ -33,7 +33,7 @@ fn answer(alloc: Global, text: &str) -> Result<String, AllocError> {
     match parse(alloc, text) {
         Ok(query) => shown(alloc, &query),
         Err(QueryFault::At { at }) => format!(in alloc; "fault {at}"),
-        Err(QueryFault::Memory) => Err(AllocError),
+        Err(QueryFault::Memory) => String::from_str(alloc, "out of memory"),
     }
 }
 

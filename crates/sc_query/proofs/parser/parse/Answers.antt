@@ -1,5 +1,5 @@
 -- What is read is what the grammar says of the text.
-use Rattle.std.proofs.Common.{◌≡◌, ℕ, ◌≤◌, ◌⊎◌, inl, inr, Result, Ok, Err, IfOk, IsOkAnd, List, length, refl, sym, ap, subst, ◌∙◌, arith}
+use Rattle.std.proofs.Common.{◌≡◌, ℕ, ◌⊎◌, inl, inr, Result, Ok, Err, IfOk, IsOkAnd, List, refl, sym, ap, subst, arith}
 use Rattle.sc_query.specs.declared.query.Query.{Query}
 use Rattle.sc_query.specs.declared.fault.QueryFault.{QueryFault}
 use Rattle.sc_query.specs.declared.fault.QueryFault.TheVariants.{At, Memory}

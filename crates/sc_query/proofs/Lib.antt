@@ -1,9 +1,12 @@
-pub mod Sound
-pub mod Complete
-pub mod Faults
-pub mod Outcome
-pub mod Bytes
-pub mod Plain
-pub mod Cuts
-pub mod Tokens
-pub mod Enclosed
+-- The lemmas of the query language, the lowest first.
+pub mod Runs
+pub mod WorkLemmas
+pub mod BytesLemmas
+pub mod PlainLemmas
+pub mod CutsLemmas
+pub mod TokensLemmas
+pub mod SoundLemmas
+pub mod CompleteLemmas
+pub mod FaultsLemmas
+pub mod OutcomeLemmas
+pub mod EnclosedLemmas

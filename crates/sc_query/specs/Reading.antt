@@ -1,6 +1,6 @@
--- What the private functions do that read a query, a token at a time. No public contract cites this file, and a reader of
--- the contracts may leave it out: proofs/Outcome.antt shows that what it gives is what specs/Grammar.antt says.
-use Rattle.std.specs.Prelude.{◌≡◌, ℕ, Bool, suc, zero, ◌+◌, ◌-◌, nat_lt, Option, Some, None, Result, Ok, Err, if◌then◌else◌, List, [], ◌∷◌, length, map, reverse, option_map}
+-- What each private step of the reader does: the contracts of private functions alone cite this file, and a reader of the
+-- public ones may leave it out.
+use Rattle.std.specs.Prelude.{◌≡◌, ℕ, Bool, suc, zero, ◌+◌, ◌-◌, nat_lt, Option, Some, None, Result, Ok, Err, if◌then◌else◌, List, [], ◌∷◌, map, reverse, option_map}
 use Rattle.sc_query.specs.declared.fault.QueryFault.{QueryFault}
 use Rattle.sc_query.specs.declared.fault.QueryFault.TheVariants.{At, Memory}
 use Rattle.sc_query.specs.declared.lexeme.Lexeme.{Lexeme}
@@ -10,7 +10,7 @@ use Rattle.sc_query.specs.declared.lexeme.Part.TheVariants.{Field, Run, Quoted}
 use Rattle.sc_query.specs.declared.reader.Level.{Level}
 use Rattle.sc_query.specs.declared.reader.State.{State}
 use Rattle.sc_query.specs.declared.reader.State.TheVariants.{Awaits, After}
-use Rattle.sc_query.specs.Tokens.{Token, Placed, plain, ends_field, ends_run, ends_quoted, tokens}
+use Rattle.sc_query.specs.Tokens.{Token, plain, ends_field, ends_run, ends_quoted}
 use Rattle.sc_query.specs.Tree.{Tree, tree_of}
 
 -- the token that a lexeme is
@@ -116,20 +116,7 @@ finish (Operand outer before) end = Err end
 finish (Operator [] either room t) end = Ok (or_with either t)
 finish (Operator (before ∷ outer) either room t) end = Err end
 
-abbrev pub goes_on : Result Reader ℕ → (Reader → Result Tree ℕ) → Result Tree ℕ
-goes_on (Ok reader) next = next reader
-goes_on (Err at) next = Err at
-
--- the tokens are read one by one, to the text's end or the first fault
-unfoldable pub run : ℕ → Reader → List Placed → Result Tree ℕ
-run end reader [] = finish reader end
-run end reader (p ∷ ps) = goes_on (step reader p.token p.at) (λ next. run end next ps)
-
--- a whole text
-abbrev pub reading : List ℕ → Result Tree ℕ
-reading text = run (length text) (Operand [] (empty 32)) (tokens text)
-
--- What a function returned is what reading gives, unless memory ran out.
+-- what a step returned is what it gives here, unless memory ran out
 abbrev pub Fails : {B : Type 0} → QueryFault → Result B ℕ → Type 0
 Fails Memory expected = Unit {0}
 Fails (At at) expected = expected ≡ Err at

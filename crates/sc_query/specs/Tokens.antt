@@ -62,7 +62,7 @@ opens_value [] = false
 opens_value (c ∷ []) = false
 opens_value (c ∷ d ∷ rest) = c == 58
 
--- A leaf whose value is quoted, and how many bytes it takes. The text begins behind the quote, and `inside` is what
+-- A leaf whose value is quoted, and how many bytes it takes. The text begins after the quote, and `inside` is what
 -- comes before the next. It is broken where it has no field, the quote stays open or nothing is inside.
 abbrev pub quoted_leaf : (field inside text : List ℕ) → Token × ℕ
 quoted_leaf field inside text =

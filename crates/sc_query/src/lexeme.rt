@@ -109,20 +109,14 @@ pub fn plain(alloc: Global, value: &str) -> Result<String, AllocError>
 fn opens_quoted(bytes: &[u8], at: usize) -> bool
     ensures { result ≡ opens_quoted (drop at bytes.now) }
 {
-    if bytes.len() < 2 || at > bytes.len() - 2 {
-        return false;
-    }
-    bytes[at] == b':' && bytes[at + 1] == b'"'
+    matches!(bytes.get(at..), Some([b':', b'"', ..]))
 }
 
 // A colon and at least one byte more stand at the place.
 fn opens_value(bytes: &[u8], at: usize) -> bool
     ensures { result ≡ opens_value (drop at bytes.now) }
 {
-    if bytes.len() < 2 || at > bytes.len() - 2 {
-        return false;
-    }
-    bytes[at] == b':'
+    matches!(bytes.get(at..), Some([b':', _, ..]))
 }
 
 // The token of a run of bytes outside quotes, which begins with the field.

@@ -2,7 +2,7 @@
 //! or refused with the place of its fault. The grammar is this project's own: `specs/Tokens.antt` says what a text's
 //! tokens are, and `specs/Grammar.antt` which of them are a query, and where the fault of the others lies.
 //!
-//! The crate stands on std and `thiserror` alone, and knows no field and no document. The layer above uses the contract
+//! The crate depends on std, `sc_record` and `thiserror` alone, and knows no field and no document. The layer above uses the contract
 //! of [`parse`], which says of each text which tree it has or where its fault is, and that of [`and`].
 #![tactic(auto)]
 
@@ -12,13 +12,12 @@ mod lexeme;
 mod parser;
 mod query;
 mod reader;
-mod word;
 
 pub use fault::QueryFault;
 pub use laws::{one_answer, parentheses};
 pub use parser::parse;
 pub use query::{Query, and};
-pub use word::Word;
+pub use sc_record::Text as Word;
 
 #[cfg(test)]
 mod tests;

@@ -22,7 +22,7 @@ pub fn parse(alloc: Global, text: &str) -> Result<Query, QueryFault>
     // A fault is where the definition has it.
     ensures fault { (at : ℕ) → result ≡ Err (At at) → HasFault text.now at }
 
-    // Every query of the grammar is read, and every fault is told, unless memory runs out.
+    // Every query of the grammar is read, and every fault is reported, unless memory runs out.
     ensures reads { (t : Tree) → HasTree text.now t →
         (result ≡ Err Memory) ⊎ IsOkAnd result (λ query. tree_of query ≡ t) }
     ensures refuses { (at : ℕ) → HasFault text.now at →

@@ -1,8 +1,9 @@
 ghost use Rattle.std.specs.Prelude.{◌≡◌, IfOk};
 ghost use Rattle.sc_query.specs.Tree.{Tree, tree_of};
 
-use crate::word::Word;
+use sc_record::Text as Word;
 use std::alloc::{AllocError, Global};
+use std::mem;
 
 /// A query: which live documents it finds.
 pub enum Query {
@@ -18,31 +19,43 @@ pub enum Query {
     Or(Box<Query>, Box<Query>),
 }
 
-// A chain of ANDs or ORs is as deep as it is long on its left side, which a loop takes down.
+// A loop goes down the left sides. What is to the right of them waits in one box: the box of each left side that is entered
+// takes its right side and what waited before. So no depth takes stack, and no step memory. Each query is looked at once, and
+// each AND or OR that waits once more.
 impl Drop for Query {
     fn drop(mut self) {
+        let mut later: Option<Box<Query>> = None;
         loop {
             match self {
-                Query::All => return,
+                Query::All => {}
                 Query::Leaf {
-                    field,
-                    value,
+                    field: _,
+                    value: _,
                     at: _,
-                } => {
-                    drop(field);
-                    drop(value);
-                    return;
+                } => {}
+                Query::Not(operand) => {
+                    self = Box::into_inner(operand);
+                    continue;
                 }
-                Query::Not(inner) => self = Box::into_inner(inner),
-                Query::And(left, right) => {
-                    drop(right);
-                    self = Box::into_inner(left);
-                }
-                Query::Or(left, right) => {
-                    drop(right);
-                    self = Box::into_inner(left);
+                Query::And(mut left, right) | Query::Or(mut left, right) => {
+                    match later {
+                        None => {
+                            self = Box::into_inner(left);
+                            later = Some(right);
+                        }
+                        Some(after) => {
+                            self = mem::replace(&mut *left, Query::And(right, after));
+                            later = Some(left);
+                        }
+                    }
+                    continue;
                 }
             }
+            match later {
+                None => return,
+                Some(next) => self = Box::into_inner(next),
+            }
+            later = None;
         }
     }
 }

@@ -1,16 +1,18 @@
 //! A query is read one token at a time, without recursion: what is open stands in a vector of levels, one for each parenthesis.
 
-ghost use Rattle.std.specs.Prelude.{◌≡◌, ℕ, ◌+◌, ◌-◌, ◌≤◌, ◌∷◌, length, IfOk, option_map};
+ghost use Rattle.std.specs.Prelude.{◌≡◌, ℕ, ◌+◌, ◌-◌, ◌≤◌, ◌∷◌, length, IfOk, Err, option_map};
 ghost use Rattle.sc_query.specs.Tokens.{plain};
 ghost use Rattle.sc_query.specs.Tree.{Tree, tree_of};
+ghost use Rattle.sc_query.specs.Grammar.{HasTree, HasFault};
+ghost use Rattle.sc_query.specs.declared.fault.QueryFault.TheVariants.{At};
 ghost use Rattle.sc_query.specs.Reading.{Reader, Gives, reader_of, outer_of, before_of, token_of};
 ghost use Rattle.sc_query.specs.Reading.{empty, opened, closed, negated, and_with, or_with, with_operand};
-ghost use Rattle.sc_query.specs.Reading.{step, operand_step, operator_step, finish, reading};
+ghost use Rattle.sc_query.specs.Reading.{step, operand_step, operator_step, finish};
 
 use crate::fault::QueryFault;
 use crate::lexeme::{self, Lexeme};
 use crate::query::{self, Query};
-use crate::word::Word;
+use sc_record::Text as Word;
 use std::alloc::{AllocError, Global};
 
 /// How many parentheses and NOTs may be open at once.
@@ -107,8 +109,8 @@ fn with_operand(
 fn leaf(alloc: Global, field: &str, value: &str, at: u32) -> Result<Query, AllocError>
     ensures { IfOk result (λ query. tree_of query ≡ Tree.Leaf field.now (plain value.now) at) }
 {
-    let field = Word::from(String::from_str(alloc, field)?);
-    let value = Word::from(lexeme::plain(alloc, value)?);
+    let field = Word::new(alloc, field)?;
+    let value = Word::from_string(lexeme::plain(alloc, value)?);
     Ok(Query::Leaf { field, value, at })
 }
 
@@ -165,21 +167,9 @@ fn negate(outer: Vec<Level>, level: Level, at: u32) -> Result<State, QueryFault>
     if level.negations >= level.room {
         return Err(QueryFault::At { at });
     }
-    let Level {
-        either,
-        both,
-        room,
-        negations,
-    } = level;
-    Ok(State::Awaits {
-        outer,
-        level: Level {
-            either,
-            both,
-            room,
-            negations: negations + 1,
-        },
-    })
+    let mut level = level;
+    level.negations += 1;
+    Ok(State::Awaits { outer, level })
 }
 
 // A token after an operand.
@@ -274,7 +264,8 @@ fn finish(alloc: Global, state: State, end: u32) -> Result<Query, QueryFault>
 /// Reads a whole text of at most 4,096 bytes.
 pub fn read(alloc: Global, text: &str) -> Result<Query, QueryFault>
     requires { length text.now ≤ 4096 }
-    ensures { Gives tree_of result (reading text.now) }
+    ensures tree { IfOk result (λ query. HasTree text.now (tree_of query)) }
+    ensures fault { (at : ℕ) → result ≡ Err (At at) → HasFault text.now at }
 {
     let mut state = State::Awaits {
         outer: Vec::new(alloc),

@@ -1,5 +1,7 @@
 use crate::{Query, QueryFault, and, parse};
 use std::alloc::{AllocError, Global};
+use std::marker::{Send, Sync};
+use std::test::Fail;
 
 // A query as a text: `*`, `field=value@place`, `!q`, `(p & q)` and `(p | q)`.
 fn shown(alloc: Global, query: &Query) -> Result<String, AllocError> {
@@ -31,157 +33,157 @@ fn answer(alloc: Global, text: &str) -> Result<String, AllocError> {
     match parse(alloc, text) {
         Ok(query) => shown(alloc, &query),
         Err(QueryFault::At { at }) => format!(in alloc; "fault {at}"),
-        Err(QueryFault::Memory) => Err(AllocError),
+        Err(QueryFault::Memory) => String::from_str(alloc, "out of memory"),
     }
 }
 
-const WORDS: [(&str, &str); 50] = [
-    // Leaves.
-    ("a:b", "a=b@0"),
-    ("  a:b  ", "a=b@2"),
-    ("\t\r\na:b\n", "a=b@3"),
-    ("a:b:c", "a=b:c@0"),
-    ("a::", "a=:@0"),
-    ("title_t:rust", "title_t=rust@0"),
-    ("AND:x", "AND=x@0"),
-    ("a:AND", "a=AND@0"),
-    ("a:*:*", "a=*:*@0"),
-    ("*:x", "*=x@0"),
-    ("*:*x", "*=*x@0"),
-    ("*:\\*", "*=*@0"),
-    ("*:\"*\"", "*=*@0"),
-    ("größe_s:süß", "größe_s=süß@0"),
-    // Backslashes.
-    ("a:\\ ", "a= @0"),
-    ("a:b\\ c", "a=b c@0"),
-    ("a:\\(b\\)", "a=(b)@0"),
-    ("a:\\\"b", "a=\"b@0"),
-    ("a:\\\\", "a=\\@0"),
-    ("a:\\AND", "a=AND@0"),
-    ("a:\\ß\\ü", "a=ßü@0"),
-    ("a:b\"c", "a=b\"c@0"),
-    // Quoted values.
-    ("a:\"b c\"", "a=b c@0"),
-    ("a:\"(b) AND c\"", "a=(b) AND c@0"),
-    ("a:\"b\\\"c\"", "a=b\"c@0"),
-    ("a:\"\\\\\"", "a=\\@0"),
-    ("a:\"\\b\"", "a=b@0"),
-    ("a:\" \"", "a= @0"),
-    ("a:\"ü\"AND b:\"\\ö\"", "(a=ü@0 & b=ö@10)"),
-    // What is no token.
-    ("", "fault 0"),
-    ("   ", "fault 3"),
-    ("a", "fault 0"),
-    ("a:", "fault 0"),
-    (":b", "fault 0"),
-    (":", "fault 0"),
-    ("a:(b)", "fault 0"),
-    ("\"", "fault 0"),
-    ("*:*\\", "fault 0"),
-    ("*\\:*", "fault 0"),
-    ("and", "fault 0"),
-    ("\\AND", "fault 0"),
-    ("\"a b\"", "fault 0"),
-    ("\"a\":b", "fault 0"),
-    ("a\\b:c", "fault 0"),
-    ("a\\:b:c", "fault 0"),
-    ("a:\"\"", "fault 0"),
-    ("a:\"b", "fault 0"),
-    ("a:\"b\\\"", "fault 0"),
-    ("a:b\\", "fault 0"),
-    ("  a:\\", "fault 2"),
-];
+// Texts, and after a `~` what each is read as. A row ends with a semicolon and a line feed.
+const LEAVES: &str = "\
+a:b~a=b@0;\n\
+\x20 a:b  ~a=b@2;\n\
+\t\r\na:b\n~a=b@3;\n\
+a:b:c~a=b:c@0;\n\
+a::~a=:@0;\n\
+title_t:rust~title_t=rust@0;\n\
+AND:x~AND=x@0;\n\
+a:AND~a=AND@0;\n\
+a:*:*~a=*:*@0;\n\
+*:x~*=x@0;\n\
+*:*x~*=*x@0;\n\
+*:\\*~*=*@0;\n\
+*:\"*\"~*=*@0;\n\
+größe_s:süß~größe_s=süß@0";
 
-const SENTENCES: [(&str, &str); 61] = [
-    ("*:*", "*"),
-    ("(*:*)", "*"),
-    (" ( *:* ) ", "*"),
-    ("a:1 AND b:2", "(a=1@0 & b=2@8)"),
-    ("a:1 OR b:2", "(a=1@0 | b=2@7)"),
-    ("NOT a:1", "!a=1@4"),
-    ("NOT NOT a:1", "!!a=1@8"),
-    (
-        "title_t:rust AND NOT lang_s:c",
-        "(title_t=rust@0 & !lang_s=c@21)",
-    ),
-    // AND binds tighter than OR, and both group to the left.
-    ("a:1 OR b:2 AND c:3", "(a=1@0 | (b=2@7 & c=3@15))"),
-    ("a:1 AND b:2 OR c:3", "((a=1@0 & b=2@8) | c=3@15)"),
-    ("a:1 OR b:2 OR c:3", "((a=1@0 | b=2@7) | c=3@14)"),
-    ("a:1 AND b:2 AND c:3", "((a=1@0 & b=2@8) & c=3@16)"),
-    (
-        "a:1 OR b:2 AND c:3 OR d:4",
-        "((a=1@0 | (b=2@7 & c=3@15)) | d=4@22)",
-    ),
-    (
-        "a:1 AND b:2 OR c:3 AND d:4",
-        "((a=1@0 & b=2@8) | (c=3@15 & d=4@23))",
-    ),
-    ("NOT a:1 AND b:2", "(!a=1@4 & b=2@12)"),
-    ("NOT a:1 OR b:2", "(!a=1@4 | b=2@11)"),
-    (
-        "a:1 OR NOT b:2 AND NOT c:3",
-        "(a=1@0 | (!b=2@11 & !c=3@23))",
-    ),
-    // Parentheses.
-    ("(a:1 OR b:2) AND c:3", "((a=1@1 | b=2@8) & c=3@17)"),
-    ("a:1 AND (b:2 OR c:3)", "(a=1@0 & (b=2@9 | c=3@16))"),
-    ("a:1 AND (b:2 AND c:3)", "(a=1@0 & (b=2@9 & c=3@17))"),
-    ("a:1 OR (b:2 OR c:3)", "(a=1@0 | (b=2@8 | c=3@15))"),
-    ("NOT (a:1 OR b:2)", "!(a=1@5 | b=2@12)"),
-    ("NOT(a:1)AND(b:2)", "(!a=1@4 & b=2@12)"),
-    ("((a:1))OR((NOT((b:2))))", "(a=1@2 | !b=2@16)"),
-    ("(NOT *:* AND a:1) OR b:2", "((!* & a=1@13) | b=2@21)"),
-    ("a:\"x\"AND b:\"y\"", "(a=x@0 & b=y@9)"),
-    ("a:\"x\"(", "fault 5"),
-    // What can't follow.
-    ("title_t:rust lang_s:c", "fault 13"),
-    ("a:1 b:2", "fault 4"),
-    ("a:1 (b:2)", "fault 4"),
-    ("(a:1) b:2", "fault 6"),
-    ("(a:1)(b:2)", "fault 5"),
-    ("a:1 NOT b:2", "fault 4"),
-    ("a:1 *:*", "fault 4"),
-    ("a:\"1\"b:2", "fault 5"),
-    ("a:\"1\"b", "fault 5"),
-    ("AND", "fault 0"),
-    ("OR a:1", "fault 0"),
-    ("a:1 AND", "fault 7"),
-    ("a:1 OR  ", "fault 8"),
-    ("a:1 AND OR b:2", "fault 8"),
-    ("a:1 AND AND b:2", "fault 8"),
-    ("NOT", "fault 3"),
-    ("NOT AND a:1", "fault 4"),
-    ("NOT )", "fault 4"),
-    ("(", "fault 1"),
-    (")", "fault 0"),
-    ("()", "fault 1"),
-    ("( )", "fault 2"),
-    ("(a:1", "fault 4"),
-    ("a:1)", "fault 3"),
-    ("(a:1))", "fault 5"),
-    ("((a:1)", "fault 6"),
-    ("(a:1 AND)", "fault 8"),
-    ("(a:1 OR) b:2", "fault 7"),
-    ("a:1 x AND \"", "fault 4"),
-    ("a:1 AND x:\"", "fault 8"),
-    ("a:1 b:2 AND", "fault 4"),
-    ("a:1 AND\\ b:2", "fault 4"),
-    ("a:1\tAND\r\nb:2", "(a=1@0 & b=2@9)"),
-    ("😀:\\😀 OR a:1", "(😀=😀@0 | a=1@14)"),
-];
+const BACKSLASHES: &str = "\
+a:\\ ~a= @0;\n\
+a:b\\ c~a=b c@0;\n\
+a:\\(b\\)~a=(b)@0;\n\
+a:\\\"b~a=\"b@0;\n\
+a:\\\\~a=\\@0;\n\
+a:\\AND~a=AND@0;\n\
+a:\\ß\\ü~a=ßü@0;\n\
+a:b\"c~a=b\"c@0";
+
+const QUOTED: &str = "\
+a:\"b c\"~a=b c@0;\n\
+a:\"(b) AND c\"~a=(b) AND c@0;\n\
+a:\"b\\\"c\"~a=b\"c@0;\n\
+a:\"\\\\\"~a=\\@0;\n\
+a:\"\\b\"~a=b@0;\n\
+a:\" \"~a= @0;\n\
+a:\"ü\"AND b:\"\\ö\"~(a=ü@0 & b=ö@10)";
+
+// Texts whose first token is none of the language.
+const NO_TOKENS: &str = "\
+~fault 0;\n\
+\x20  ~fault 3;\n\
+a~fault 0;\n\
+a:~fault 0;\n\
+:b~fault 0;\n\
+:~fault 0;\n\
+a:(b)~fault 0;\n\
+\"~fault 0;\n\
+*:*\\~fault 0;\n\
+*\\:*~fault 0;\n\
+and~fault 0;\n\
+\\AND~fault 0;\n\
+\"a b\"~fault 0;\n\
+\"a\":b~fault 0;\n\
+a\\b:c~fault 0;\n\
+a\\:b:c~fault 0;\n\
+a:\"\"~fault 0;\n\
+a:\"b~fault 0;\n\
+a:\"b\\\"~fault 0;\n\
+a:b\\~fault 0;\n\
+\x20 a:\\~fault 2";
+
+// AND binds tighter than OR, and both group to the left.
+const OPERATORS: &str = "\
+*:*~*;\n\
+(*:*)~*;\n\
+\x20( *:* ) ~*;\n\
+a:1 AND b:2~(a=1@0 & b=2@8);\n\
+a:1 OR b:2~(a=1@0 | b=2@7);\n\
+NOT a:1~!a=1@4;\n\
+NOT NOT a:1~!!a=1@8;\n\
+title_t:rust AND NOT lang_s:c~(title_t=rust@0 & !lang_s=c@21);\n\
+a:1 OR b:2 AND c:3~(a=1@0 | (b=2@7 & c=3@15));\n\
+a:1 AND b:2 OR c:3~((a=1@0 & b=2@8) | c=3@15);\n\
+a:1 OR b:2 OR c:3~((a=1@0 | b=2@7) | c=3@14);\n\
+a:1 AND b:2 AND c:3~((a=1@0 & b=2@8) & c=3@16);\n\
+a:1 OR b:2 AND c:3 OR d:4~((a=1@0 | (b=2@7 & c=3@15)) | d=4@22);\n\
+a:1 AND b:2 OR c:3 AND d:4~((a=1@0 & b=2@8) | (c=3@15 & d=4@23));\n\
+NOT a:1 AND b:2~(!a=1@4 & b=2@12);\n\
+NOT a:1 OR b:2~(!a=1@4 | b=2@11);\n\
+a:1 OR NOT b:2 AND NOT c:3~(a=1@0 | (!b=2@11 & !c=3@23))";
+
+const PARENTHESES: &str = "\
+(a:1 OR b:2) AND c:3~((a=1@1 | b=2@8) & c=3@17);\n\
+a:1 AND (b:2 OR c:3)~(a=1@0 & (b=2@9 | c=3@16));\n\
+a:1 AND (b:2 AND c:3)~(a=1@0 & (b=2@9 & c=3@17));\n\
+a:1 OR (b:2 OR c:3)~(a=1@0 | (b=2@8 | c=3@15));\n\
+NOT (a:1 OR b:2)~!(a=1@5 | b=2@12);\n\
+NOT(a:1)AND(b:2)~(!a=1@4 & b=2@12);\n\
+((a:1))OR((NOT((b:2))))~(a=1@2 | !b=2@16);\n\
+(NOT *:* AND a:1) OR b:2~((!* & a=1@13) | b=2@21);\n\
+a:\"x\"AND b:\"y\"~(a=x@0 & b=y@9);\n\
+a:\"x\"(~fault 5";
+
+// Tokens that can't follow those before them.
+const FAULTS: &str = "\
+title_t:rust lang_s:c~fault 13;\n\
+a:1 b:2~fault 4;\n\
+a:1 (b:2)~fault 4;\n\
+(a:1) b:2~fault 6;\n\
+(a:1)(b:2)~fault 5;\n\
+a:1 NOT b:2~fault 4;\n\
+a:1 *:*~fault 4;\n\
+a:\"1\"b:2~fault 5;\n\
+a:\"1\"b~fault 5;\n\
+AND~fault 0;\n\
+OR a:1~fault 0;\n\
+a:1 AND~fault 7;\n\
+a:1 OR  ~fault 8;\n\
+a:1 AND OR b:2~fault 8;\n\
+a:1 AND AND b:2~fault 8;\n\
+NOT~fault 3;\n\
+NOT AND a:1~fault 4;\n\
+NOT )~fault 4;\n\
+(~fault 1;\n\
+)~fault 0;\n\
+()~fault 1;\n\
+( )~fault 2;\n\
+(a:1~fault 4;\n\
+a:1)~fault 3;\n\
+(a:1))~fault 5;\n\
+((a:1)~fault 6;\n\
+(a:1 AND)~fault 8;\n\
+(a:1 OR) b:2~fault 7;\n\
+a:1 x AND \"~fault 4;\n\
+a:1 AND x:\"~fault 8;\n\
+a:1 b:2 AND~fault 4;\n\
+a:1 AND\\ b:2~fault 4;\n\
+a:1\tAND\r\nb:2~(a=1@0 & b=2@9);\n\
+😀:\\😀 OR a:1~(😀=😀@0 | a=1@14)";
 
 #[test]
-fn texts_have_their_trees_and_faults(rt: HostRuntime) {
-    let alloc = rt.alloc();
-    for (text, want) in WORDS {
-        let found = answer(alloc, text).unwrap_or(String::new(alloc));
-        assert_eq!(&rt; found.as_str(), want, "at {text}");
+fn texts_have_their_trees_and_faults(rt: HostRuntime) -> Result<(), Fail> {
+    for table in [
+        LEAVES,
+        BACKSLASHES,
+        QUOTED,
+        NO_TOKENS,
+        OPERATORS,
+        PARENTHESES,
+        FAULTS,
+    ] {
+        for row in table.split(";\n") {
+            let (text, want) = row.split_once('~').ok_or("no answer")?;
+            let found = answer(rt.alloc(), text)?;
+            assert_eq!(rt; found.as_str(), want, "at {text}");
+        }
     }
-    for (text, want) in SENTENCES {
-        let found = answer(alloc, text).unwrap_or(String::new(alloc));
-        assert_eq!(&rt; found.as_str(), want, "at {text}");
-    }
+    Ok(())
 }
 
 // A text of `before` so many times, `middle`, and `after` so many times.
@@ -205,8 +207,7 @@ fn repeated(
 
 // 32 may be open at once, and the fault is at the one that makes 33. What is closed doesn't count.
 #[test]
-fn depth_is_limited(rt: HostRuntime) {
-    let alloc = rt.alloc();
+fn depth_is_limited(rt: HostRuntime) -> Result<(), Fail> {
     for (before, count, middle, after, want) in [
         ("(", 32, "a:b", ")", "a=b@32"),
         ("(", 33, "a:b", ")", "fault 32"),
@@ -218,39 +219,32 @@ fn depth_is_limited(rt: HostRuntime) {
         ("(", 32, "(", "", "fault 32"),
         ("(", 33, "", "", "fault 32"),
     ] {
-        let text = repeated(alloc, before, count, middle, after).unwrap_or(String::new(alloc));
-        let found = answer(alloc, text.as_str()).unwrap_or(String::new(alloc));
-        assert_eq!(&rt; found.as_str(), want, "at {text}");
+        let text = repeated(rt.alloc(), before, count, middle, after)?;
+        let found = answer(rt.alloc(), text.as_str())?;
+        assert_eq!(rt; found.as_str(), want, "at {text}");
     }
+    Ok(())
 }
 
-fn is_read(alloc: Global, text: &str) -> bool {
-    parse(alloc, text).is_ok()
-}
-
-// Chains in a text of 4,096 bytes are read and dropped, however long they are. A byte more is a fault at 4096, whatever stands before.
+// A text of 4,096 bytes is read, and a byte more is a fault at 4096, whatever stands before.
 #[test]
-fn length_is_limited(rt: HostRuntime) {
-    let alloc = rt.alloc();
+fn length_is_limited(rt: HostRuntime) -> Result<(), Fail> {
     for (link, count, last, fault) in [
-        ("*:* AND ", 511, "a:123456", false),
-        ("*:* OR ", 584, "a:123456", false),
-        ("(*:*)OR ", 511, "a:123456", false),
-        ("NOT a:\"b\"OR ", 341, "a:12", false),
-        ("*:* AND ", 511, "a:1234567", true),
-        (") AND OR ", 455, "ab", true),
+        ("*:* AND ", 511, "a:123456", None),
+        ("NOT a:\"b\"OR ", 341, "a:12", None),
+        (
+            "*:* AND ",
+            511,
+            "a:1234567",
+            Some(QueryFault::At { at: 4096 }),
+        ),
+        (") AND OR ", 455, "ab", Some(QueryFault::At { at: 4096 })),
     ] {
-        let text = repeated(alloc, link, count, last, "").unwrap_or(String::new(alloc));
-        let length = text.len();
-        match parse(alloc, text.as_str()) {
-            Ok(_) => assert!(&rt; !fault && length == 4096, "{link}{last} of {length} bytes"),
-            Err(found) => assert_eq!(&rt;
-                (fault, found),
-                (true, QueryFault::At { at: 4096 }),
-                "{link}{last} of {length} bytes"
-            ),
-        }
+        let text = repeated(rt.alloc(), link, count, last, "")?;
+        let found = parse(rt.alloc(), text.as_str()).err();
+        assert_eq!(rt; found, fault, "{link}{last} of {} bytes", text.len());
     }
+    Ok(())
 }
 
 fn both(alloc: Global, left: &str, right: &str) -> Result<String, AllocError> {
@@ -261,8 +255,56 @@ fn both(alloc: Global, left: &str, right: &str) -> Result<String, AllocError> {
 }
 
 #[test]
-fn queries_are_joined_by_and(rt: HostRuntime) {
-    let alloc = rt.alloc();
-    let found = both(alloc, "a:1 OR b:2", "c:3 AND d:4").unwrap_or(String::new(alloc));
-    assert_eq!(&rt; found.as_str(), "((a=1@0 | b=2@7) & (c=3@0 & d=4@8))");
+fn queries_are_joined_by_and(rt: HostRuntime) -> Result<(), Fail> {
+    let found = both(rt.alloc(), "a:1 OR b:2", "c:3 AND d:4")?;
+    assert_eq!(rt; found.as_str(), "((a=1@0 | b=2@7) & (c=3@0 & d=4@8))");
+    Ok(())
 }
+
+// How many operators stand below one another in a tree that is dropped.
+const DEEP: u32 = 3_000_000;
+
+fn deep_to_the_left(alloc: Global) -> Result<Query, AllocError> {
+    let mut query = Query::All;
+    for _ in 0..DEEP {
+        query = and(alloc, query, Query::All)?;
+    }
+    Ok(query)
+}
+
+fn deep_to_the_right(alloc: Global) -> Result<Query, AllocError> {
+    let mut query = Query::All;
+    for _ in 0..DEEP {
+        query = and(alloc, Query::All, query)?;
+    }
+    Ok(query)
+}
+
+// A NOT over every AND, whose sides take turns.
+fn deep_in_turns(alloc: Global) -> Result<Query, AllocError> {
+    let mut query = Query::All;
+    for _ in 0..DEEP / 4 {
+        query = Query::Not(Box::new(alloc, query)?);
+        query = and(alloc, Query::All, query)?;
+        query = Query::Not(Box::new(alloc, query)?);
+        query = and(alloc, query, Query::All)?;
+    }
+    Ok(query)
+}
+
+#[test]
+fn no_depth_takes_stack(rt: HostRuntime) -> Result<(), Fail> {
+    drop(deep_to_the_left(rt.alloc())?);
+    drop(deep_to_the_right(rt.alloc())?);
+    drop(deep_in_turns(rt.alloc())?);
+    Ok(())
+}
+
+// Threads may share what a connection reads.
+#[test]
+fn may_be_shared() {
+    assert_shared::<Query>();
+    assert_shared::<QueryFault>();
+}
+
+fn assert_shared<T: Send + Sync>() {}

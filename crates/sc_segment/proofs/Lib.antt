@@ -1,6 +1,7 @@
-pub mod Adding
-pub mod Bits
-pub mod Bounds
-pub mod Members
-pub mod Rows
-pub mod Search
+-- The lemmas of posting lists and live rows.
+pub mod AddingLemmas
+pub mod BitsLemmas
+pub mod BoundsLemmas
+pub mod MembersLemmas
+pub mod RowsLemmas
+pub mod SearchLemmas

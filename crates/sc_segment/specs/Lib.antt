@@ -1,3 +1,5 @@
+-- The definitions of posting lists and live rows.
 pub mod Filing
+pub mod Fresh
 pub mod Index
 pub mod Live

@@ -45,7 +45,7 @@ impl<K: Key + Ord + Drop> Builder<K> {
     }
 
     /// Adds a row with one of its keys. The same key may be added again for the same row, and counts once.
-    /// An error is want of memory.
+    /// An error means out of memory.
     pub fn add(&mut self, row: u32, key: K) -> Result<(), AllocError>
         requires { self.old.last_row ≤ row }
         ensures ok { OnOk result ((added : List (ℕ × K)) → IsIndexOf K.order added self.old.index → IsIndexOf K.order (added ++ (row, key) ∷ []) self.new.index) }
@@ -57,7 +57,7 @@ impl<K: Key + Ord + Drop> Builder<K> {
         Ok(())
     }
 
-    /// The segment of what was added. No row is copied. An error is want of memory, and the builder is then gone.
+    /// The segment of what was added. No row is copied. An error means out of memory, and the builder is then gone.
     pub fn finish(self) -> Result<Segment<K>, AllocError>
         ensures { IfOk result (λ segment. segment ≡ self.index) }
     {

@@ -17,7 +17,7 @@ pub trait Key: Sized {
         ensures answer { result ≡ order self.now other.now }
         ensures counted { steps.new ≡ steps.old + 1 };
 
-    /// One more key that compares equal. An error is want of memory.
+    /// One more key that compares equal. An error means out of memory.
     fn share(&self) -> Result<Self, AllocError>
         ensures { IfOk result (λ shared. order self.now shared ≡ Equal) };
 

@@ -1,7 +1,7 @@
 //! Posting lists: which rows have a key, found by a search among the keys that counts its comparisons.
 //!
 //! A `Builder` takes pairs of a row and a key, and becomes a `Segment`, which gives the rows of a key. A
-//! `LiveBits` tells which rows are live. The crate stands on std alone. Contracts see a builder's index and
+//! `LiveBits` says which rows are live. The crate depends on std alone. Contracts see a builder's index and
 //! a segment as the list of the distinct keys with their rows, and a layer above says by `IsIndexOf` which
 //! pairs it has added: `Segment::postings` then gives a filter of these pairs, and `Steps` bounds the number
 //! of comparisons.

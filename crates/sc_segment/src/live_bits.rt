@@ -22,7 +22,7 @@ impl Model for LiveBits {
 }
 
 impl LiveBits {
-    /// All rows live. An error is want of memory.
+    /// All rows live. An error means out of memory.
     pub fn new(alloc: Global, rows: u32) -> Result<Self, AllocError>
         ensures { IfOk result (λ live. live ≡ replicate rows true) }
     {

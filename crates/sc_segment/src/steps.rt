@@ -1,4 +1,5 @@
-ghost use Rattle.std.specs.Prelude.{◌≡◌, ◌+◌, ◌<◌};
+ghost use Rattle.std.specs.Prelude.{◌≡◌, ◌+◌};
+ghost use Rattle.sc_segment.specs.Fresh.{IsFresh};
 
 use std::marker::Model;
 use std::sync::ledger::{Blank, Book, Ledger, Share};
@@ -27,9 +28,7 @@ impl<L: Ledger> Steps<L> {
     /// A count at 0 on a blank ledger, which the caller makes by `Blank::new(1)` and names by its call at
     /// `std::marker::Brand`.
     pub fn new(blank: Blank) -> Self
-        requires name { blank.name ≡ L.name }
-        requires parts { blank.parts ≡ L.parts }
-        requires whole { 0 < blank.parts }
+        requires { IsFresh blank L.name L.parts }
         ensures { result ≡ 0 }
     {
         let (book, share) = blank.open();

@@ -1,5 +1,5 @@
-ghost use Rattle.std.specs.Prelude.{◌≡◌, ◌<◌};
 ghost use Rattle.std.specs.Ordering.{nat_cmp};
+ghost use Rattle.sc_segment.specs.Fresh.{IsFresh};
 ghost use Rattle.std.proofs.lemmas.Cmp.{on_total, nat_cmp_total};
 
 use crate::{Builder, Key, LiveBits, Segment, Steps};
@@ -74,9 +74,7 @@ fn assert_rows<L: Ledger>(
 }
 
 fn finds<L: Ledger>(rt: &impl Abort, alloc: Global, blank: Blank) -> Result<(), Fail>
-    requires name { blank.name ≡ L.name }
-    requires parts { blank.parts ≡ L.parts }
-    requires whole { 0 < blank.parts }
+    requires { IsFresh blank L.name L.parts }
 {
     let mut steps = Steps::<L>::new(blank);
     let compared = Cell::new(0);
@@ -125,9 +123,7 @@ fn finds_the_rows_of_each_key(rt: HostRuntime) -> Result<(), Fail> {
 
 // The even numbers below 2,000 as keys, each of one row, in no order: 7 * 143 is 1 more than 1,000.
 fn finds_among_many<L: Ledger>(rt: &impl Abort, alloc: Global, blank: Blank) -> Result<(), Fail>
-    requires name { blank.name ≡ L.name }
-    requires parts { blank.parts ≡ L.parts }
-    requires whole { 0 < blank.parts }
+    requires { IsFresh blank L.name L.parts }
 {
     let mut steps = Steps::<L>::new(blank);
     let compared = Cell::new(0);

@@ -1,1 +1,2 @@
+-- The definitions of the update log.
 pub mod LogState

@@ -1,7 +1,7 @@
 //! The update log of one core: what it is sent while it cannot apply it yet.
 //!
 //! A core that is being built keeps its updates here in the order in which they come, and later applies
-//! them from the front. The crate stands on std alone and never looks into an entry: entries are moved in
+//! them, the oldest first. The crate depends on std alone and never looks into an entry: entries are moved in
 //! and moved out, and none is copied. A layer above speaks of a `Log<E>` as the record `LogState E`: a
 //! list of entries, a mode, and the number of entries for which there is room.
 #![tactic(auto)]

@@ -55,7 +55,7 @@ impl<E> Log<E> {
         self.entries.len()
     }
 
-    /// Makes room for at least `n` more entries. An error is want of memory.
+    /// Makes room for at least `n` more entries. An error means out of memory.
     pub fn reserve(&mut self, n: usize) -> Result<(), AllocError>
         ensures ok { OnOk result (self.new ≡ record self.old { spare = max self.old.spare n }) }
         ensures err { OnErr result (self.new ≡ self.old) }
@@ -89,7 +89,7 @@ impl<E> Log<E> {
     /// Takes the oldest entry out, in constant time.
     pub fn next(&mut self) -> Option<E>
         requires { self.old.mode ≡ Mode.Replaying }
-        ensures front { self.old.entries ≡ option_to_list result ++ self.new.entries }
+        ensures oldest { self.old.entries ≡ option_to_list result ++ self.new.entries }
         ensures empty { IsNone result ↔ (self.old.entries ≡ []) }
         ensures others { self.new ≡ record self.old { entries = self.new.entries } }
     {

@@ -1,4 +1,5 @@
 use crate::{Log, Mode};
+use std::marker::{Send, Sync};
 use std::test::Fail;
 
 // With ample memory room is made, and what was put in comes out in the same order.
@@ -21,3 +22,11 @@ fn replays_in_order(rt: HostRuntime) -> Result<(), Fail> {
     assert_eq!(rt; log.len(), 0);
     Ok(())
 }
+
+// A core's log goes from thread to thread.
+#[test]
+fn may_be_shared() {
+    assert_shared::<Log<u8>>();
+}
+
+fn assert_shared<T: Send + Sync>() {}

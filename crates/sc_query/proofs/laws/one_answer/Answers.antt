@@ -1,4 +1,5 @@
-use Rattle.sc_query.proofs.Outcome.{one_tree, one_fault, not_both, some_outcome}
+-- Each text has exactly one answer.
+use Rattle.sc_query.proofs.OutcomeLemmas.{one_tree, one_fault, not_both, some_outcome}
 use Rattle.sc_query.proofs.laws.one_answer.Goals as goal
 
 pub returns : goal.returns

@@ -1,4 +1,5 @@
-use Rattle.sc_query.proofs.Enclosed.{enclosed}
+-- Parentheses round a query keep its tree.
+use Rattle.sc_query.proofs.EnclosedLemmas.{enclosed}
 use Rattle.sc_query.proofs.laws.parentheses.Goals as goal
 
 pub returns : goal.returns

@@ -1,5 +1,6 @@
+-- A byte, or a backslash with the byte after it, changes nothing of whether a run is cut short.
 use Rattle.std.proofs.Common.{◌<◌, ◌+◌, length, sym, ◌∙◌, arith}
-use Rattle.sc_query.proofs.Bytes.{cut-one, cut-escape}
+use Rattle.sc_query.proofs.BytesLemmas.{cut-one, cut-escape}
 use Rattle.sc_query.proofs.lexeme.is_cut_short.Goals as goal
 
 pub loop-at-preserved-then-bytes-at-eq92 : goal.loop-at-preserved-then-bytes-at-eq92

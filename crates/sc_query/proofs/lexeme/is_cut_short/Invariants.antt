@@ -1,3 +1,4 @@
+-- Whether the rest is cut short says whether the whole is.
 use Rattle.std.proofs.Common.{◌≡◌, ◌-◌, ◌≤◌, length, drop}
 use Rattle.sc_query.specs.Tokens.{is_cut_short}
 use Rattle.sc_query.proofs.lexeme.is_cut_short.Given as goal

@@ -1,7 +1,8 @@
+-- A part has as many bytes as the loop passes.
 use Rattle.std.proofs.Common.{◌≡◌, ℕ, ◌+◌, Bool, List, length, get_or, drop, false, ap, sym, ◌∙◌, inl, inr, arith}
 use Rattle.sc_query.specs.Reading.{ends_of}
 use Rattle.sc_query.specs.Tokens.{up_to}
-use Rattle.sc_query.proofs.Bytes.{up_to-one, up_to-escape, up_to-none}
+use Rattle.sc_query.proofs.BytesLemmas.{up_to-one, up_to-escape, up_to-none}
 use Rattle.sc_query.proofs.lexeme.len_up_to.Goals as goal
 use Rattle.sc_query.proofs.lexeme.len_up_to.Goals.{then-bytes-at-eq92+then-at-bytes, else-bytes-at-eq92, else-bytes-at-eq92-via-then-bytes-at-eq92+else-at-bytes, else-bytes-at-eq92-via-else-bytes-at-eq92}
 

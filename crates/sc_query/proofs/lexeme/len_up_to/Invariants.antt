@@ -1,3 +1,4 @@
+-- How far a part was passed, and what is left of it.
 use Rattle.std.proofs.Common.{◌≡◌, ◌+◌, ◌-◌, ◌≤◌, length, drop}
 use Rattle.sc_query.specs.Tokens.{up_to}
 use Rattle.sc_query.specs.Reading.{ends_of}

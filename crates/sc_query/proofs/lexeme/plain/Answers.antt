@@ -1,6 +1,7 @@
+-- The text that is written is what the value stands for.
 use Rattle.std.proofs.Common.{◌++◌, ◌-◌, take, drop, string_bytes, sym, ap, ◌∙◌, inl, inr, arith, rules}
 use Rattle.std.proofs.lemmas.Str.{IsCharBoundary-start, IsCharBoundary-after_ascii}
-use Rattle.sc_query.proofs.Plain.{piece_written, piece_longer, piece_last}
+use Rattle.sc_query.proofs.PlainLemmas.{piece_written, piece_longer, piece_last}
 use Rattle.sc_query.specs.Tokens.{plain}
 use Rattle.sc_query.proofs.lexeme.plain.Goals as goal
 use Rattle.sc_query.proofs.lexeme.plain.Goals.{else-bytes-at-eq92-via-then-bytes-at-eq92+else-at-bytes, else-bytes-at-eq92-via-else-bytes-at-eq92}

@@ -1,8 +1,9 @@
+-- The value of a leaf begins between characters.
 use Rattle.std.proofs.Common.{◌≡◌, ◌+◌, length, drop, true, sym, ap, ◌∙◌, subst}
 use Rattle.std.proofs.Math.Seq.{take-length}
 use Rattle.std.specs.Str.{IsCharBoundary}
 use Rattle.sc_query.specs.Tokens.{opens_value}
-use Rattle.sc_query.proofs.Cuts.{value-boundary}
+use Rattle.sc_query.proofs.CutsLemmas.{value-boundary}
 use Rattle.sc_query.proofs.lexeme.run_lexeme.Goals as goal
 
 pub range_from-value-requires : goal.range_from-value-requires

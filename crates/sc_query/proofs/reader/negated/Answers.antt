@@ -1,3 +1,4 @@
+-- One NOT more is one fewer to come.
 use Rattle.std.proofs.Common.{◌≡◌, ℕ, suc, ◌+◌, ◌-◌, ap, ◌∙◌, arith}
 use Rattle.sc_query.specs.Tree.{Tree, tree_of}
 use Rattle.sc_query.specs.declared.query.Query.{Query}

@@ -1,3 +1,4 @@
+-- Which NOTs are still to come.
 use Rattle.std.proofs.Common.{◌≡◌, ◌-◌}
 use Rattle.sc_query.specs.Tree.{tree_of}
 use Rattle.sc_query.specs.Reading.{negated}

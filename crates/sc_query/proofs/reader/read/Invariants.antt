@@ -1,8 +1,10 @@
+-- The rest is read as the whole is.
 use denote.Shadow.{shadow}
 use denote.Text.{Utf8}
 use Rattle.std.proofs.Common.{◌≡◌, ◌-◌, ◌≤◌, length}
 use Rattle.sc_query.specs.Tokens.{tokens_from}
-use Rattle.sc_query.specs.Reading.{reader_of, run, reading}
+use Rattle.sc_query.specs.Reading.{reader_of}
+use Rattle.sc_query.proofs.Runs.{run, reading}
 use Rattle.sc_query.proofs.reader.read.Given as goal
 
 -- from here on the rest is read as the whole is from its start

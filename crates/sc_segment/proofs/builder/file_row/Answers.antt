@@ -1,9 +1,10 @@
+-- A row is filed in its key's list and in no other.
 use Rattle.std.proofs.Common.{◌≤◌, All, Some, refl, sym, ap, ◌∙◌}
 use Rattle.std.proofs.lemmas.Map.Entries.{All-lookup}
 use Rattle.std.proofs.lemmas.Map.Steps.{set_value_same}
 use Rattle.std.specs.BTreeMap.{is_at}
 use Rattle.std.specs.Option.{IsSome}
-use Rattle.sc_segment.proofs.Bounds.{FilesRow-written, FilesRow-inserted, OnOk_then, OnErr_then}
+use Rattle.sc_segment.proofs.BoundsLemmas.{FilesRow-written, FilesRow-inserted, OnOk_then, OnErr_then}
 use Rattle.sc_segment.proofs.builder.file_row.Goals as goal
 
 pub add-requires : goal.add-requires

@@ -1,7 +1,8 @@
+-- A comparison leaves half of the entries.
 use Rattle.std.proofs.Common.{◌+◌, ◌-◌, ◌^◌, ◌/◌, [], length, refl, sym, ap, ◌∙◌, arith, unwrap_or}
 use Rattle.std.proofs.lemmas.Map.Entries.{lookup_at_gap}
 use Rattle.std.proofs.lemmas.Option.{slice_get_read}
-use Rattle.sc_segment.proofs.Search.{less_from, greater_up_to, lookup-equal, pow-step, halved_more, bound_more}
+use Rattle.sc_segment.proofs.SearchLemmas.{less_from, greater_up_to, lookup-equal, pow-step, halved_more, bound_more}
 use Rattle.sc_segment.proofs.segment.search.Goals as goal
 
 pub halving-preserved-in-Less : goal.halving-preserved-in-Less

@@ -1,3 +1,4 @@
+-- Where the key can still stand, and how many comparisons there were.
 use Rattle.std.proofs.Common.{◌≡◌, ℕ, ◌+◌, ◌-◌, ◌*◌, ◌^◌, ◌≤◌, ◌<◌, length, slice_get, Some}
 use Rattle.std.specs.declared.cmp.Ordering.TheVariants.{Less, Greater}
 use Rattle.sc_segment.proofs.segment.search.Given as goal

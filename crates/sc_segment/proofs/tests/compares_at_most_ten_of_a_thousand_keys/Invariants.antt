@@ -1,3 +1,4 @@
+-- The ledger of the test is its blank one.
 use Rattle.sc_segment.proofs.tests.compares_at_most_ten_of_a_thousand_keys.Given as goal
 
 abbrev pub ghosts-finds_among_many : goal.ghosts-finds_among_many

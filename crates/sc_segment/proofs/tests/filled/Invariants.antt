@@ -1,3 +1,4 @@
+-- The test's rows come in order.
 use Rattle.std.proofs.Common.{◌≡◌}
 use Rattle.sc_segment.proofs.tests.filled.Given as goal
 

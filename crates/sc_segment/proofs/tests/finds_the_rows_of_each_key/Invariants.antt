@@ -1,3 +1,4 @@
+-- The ledger of the test is its blank one.
 use Rattle.sc_segment.proofs.tests.finds_the_rows_of_each_key.Given as goal
 
 abbrev pub ghosts-finds : goal.ghosts-finds

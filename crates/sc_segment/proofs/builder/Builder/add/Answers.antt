@@ -1,6 +1,7 @@
+-- One pair more is in the index.
 use Rattle.std.proofs.Common.{ap}
-use Rattle.sc_segment.proofs.Adding.{IsIndexOf-push}
-use Rattle.sc_segment.proofs.Bounds.{FilesRow-alike}
+use Rattle.sc_segment.proofs.AddingLemmas.{IsIndexOf-push}
+use Rattle.sc_segment.proofs.BoundsLemmas.{FilesRow-alike}
 use Rattle.sc_segment.proofs.builder.Builder.add.Goals as goal
 
 pub returns-clause-ok : goal.returns-clause-ok

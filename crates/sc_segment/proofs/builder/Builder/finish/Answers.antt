@@ -1,6 +1,7 @@
+-- The entries of the map are the index.
 use Rattle.std.proofs.Common.{◌≡◌, rules}
 use Rattle.std.specs.Map.{keys_of}
-use Rattle.sc_segment.proofs.Bounds.{IsStrictlySortedBy-alike}
+use Rattle.sc_segment.proofs.BoundsLemmas.{IsStrictlySortedBy-alike}
 use Rattle.sc_segment.proofs.builder.Builder.finish.Goals as goal
 
 pub new-requires : goal.new-requires

@@ -1,5 +1,6 @@
+-- Words of ones make all rows live.
 use Rattle.std.proofs.Common.{◌≤◌, ◌*◌, ap, ◌∙◌, arith}
-use Rattle.sc_segment.proofs.Bits.{live_rows-ones}
+use Rattle.sc_segment.proofs.BitsLemmas.{live_rows-ones}
 use Rattle.sc_segment.specs.Live.{live_rows}
 use Rattle.sc_segment.proofs.live_bits.LiveBits.new.Goals as goal
 

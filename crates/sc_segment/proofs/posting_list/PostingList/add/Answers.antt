@@ -1,7 +1,8 @@
+-- A row at the end of the list keeps it ascending.
 use Rattle.std.proofs.Common.{◌++◌, ◌∷◌, [], ◌∙◌, sym, arith}
 use Rattle.std.proofs.lemmas.Grind.{common_steps}
 use Rattle.std.specs.List.Sorted.{IsStrictlyIncreasing}
-use Rattle.sc_segment.proofs.Rows.{dedup-increasing, dedup-again, row_from_equal}
+use Rattle.sc_segment.proofs.RowsLemmas.{dedup-increasing, dedup-again, row_from_equal}
 use Rattle.sc_segment.proofs.posting_list.PostingList.add.Goals as goal
 
 pub returns-in_ok-push-clause-ok : goal.returns-in_ok-push-clause-ok

@@ -1,6 +1,7 @@
+-- The rows that a search finds are those that were added with the key.
 use Rattle.std.proofs.Common.{ap, ◌∙◌, unwrap_or, []}
-use Rattle.sc_segment.proofs.Adding.{unwrap_or-non_empty}
-use Rattle.sc_segment.proofs.Members.{Contains-rows_with}
+use Rattle.sc_segment.proofs.AddingLemmas.{unwrap_or-non_empty}
+use Rattle.sc_segment.proofs.MembersLemmas.{Contains-rows_with}
 use Rattle.sc_segment.proofs.segment.Segment.postings.Goals as goal
 
 pub returns-clause-rows : goal.returns-clause-rows

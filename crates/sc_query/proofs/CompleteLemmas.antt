@@ -4,7 +4,8 @@ use Rattle.std.proofs.lemmas.Bool.{lt-ltb}
 use Rattle.sc_query.specs.Tokens.{Placed}
 use Rattle.sc_query.specs.Tree.{Tree}
 use Rattle.sc_query.specs.Grammar.{Rule, Reads, IsQuery}
-use Rattle.sc_query.specs.Reading.{Before, Reader, negated, and_with, or_with, empty, with_operand, opened, goes_on, run}
+use Rattle.sc_query.specs.Reading.{Before, Reader, negated, and_with, or_with, empty, with_operand, opened}
+use Rattle.sc_query.proofs.Runs.{goes_on, run}
 
 -- after the tokens that a rule reads the reader has its tree
 abbrev Complete : Rule → ℕ → List Placed → Tree → List Placed → Type 0

@@ -8,7 +8,7 @@ use Rattle.std.specs.Cmp.{IsTotalOrder, IsEquivalence}
 use Rattle.std.specs.declared.cmp.Ordering.{Ordering}
 use Rattle.std.specs.List.{dedup, dedup_from, list_any}
 use Rattle.std.specs.Ordering.{is_eq, eq_by_cmp}
-use Rattle.sc_segment.proofs.Rows.{same}
+use Rattle.sc_segment.proofs.RowsLemmas.{same}
 use Rattle.sc_segment.specs.Filing.{FilesRow}
 use Rattle.sc_segment.specs.Index.{IsIndexOf, rows_with, distinct_keys, non_empty}
 

@@ -4,7 +4,8 @@ use Rattle.std.proofs.lemmas.Bool.{ltb-true}
 use Rattle.sc_query.specs.Tokens.{Token, Placed, placed}
 use Rattle.sc_query.specs.Tree.{Tree}
 use Rattle.sc_query.specs.Grammar.{Rule, Reads, IsQuery}
-use Rattle.sc_query.specs.Reading.{Before, Reader, negated, and_with, or_with, empty, with_operand, closed, operand_step, operator_step, step, finish, goes_on, run}
+use Rattle.sc_query.specs.Reading.{Before, Reader, negated, and_with, or_with, empty, with_operand, closed, operand_step, operator_step, step, finish}
+use Rattle.sc_query.proofs.Runs.{goes_on, run}
 
 -- what stands before an OR, if there is one
 abbrev pub EitherRead : Option Tree → ℕ → List Placed → List Placed → Type 0

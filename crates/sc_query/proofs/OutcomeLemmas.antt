@@ -4,10 +4,10 @@ use Rattle.std.proofs.lemmas.Bool.{cases_lt}
 use Rattle.sc_query.specs.Tokens.{tokens}
 use Rattle.sc_query.specs.Tree.{Tree}
 use Rattle.sc_query.specs.Grammar.{HasTree, HasFault, StopsAt, EndsEarly}
-use Rattle.sc_query.specs.Reading.{reading}
-use Rattle.sc_query.proofs.Sound.{sound}
-use Rattle.sc_query.proofs.Complete.{complete}
-use Rattle.sc_query.proofs.Faults.{fault_sound, stops_complete, ends_complete}
+use Rattle.sc_query.proofs.Runs.{reading}
+use Rattle.sc_query.proofs.SoundLemmas.{sound}
+use Rattle.sc_query.proofs.CompleteLemmas.{complete}
+use Rattle.sc_query.proofs.FaultsLemmas.{fault_sound, stops_complete, ends_complete}
 
 pub tree_read : (text : List ℕ) (t : Tree) → HasTree text t → reading text ≡ Ok t
 tree_read text t h = complete (length text) (tokens text) t h.query

@@ -4,9 +4,10 @@ use Rattle.std.proofs.lemmas.List.{append-nil}
 use Rattle.sc_query.specs.Tokens.{Token, Placed, placed}
 use Rattle.sc_query.specs.Tree.{Tree}
 use Rattle.sc_query.specs.Grammar.{BeginsQuery, StopsAt, EndsEarly}
-use Rattle.sc_query.specs.Reading.{Before, Reader, negated, and_with, or_with, empty, closed, operand_step, operator_step, step, finish, goes_on, run}
-use Rattle.sc_query.proofs.Sound.{sound}
-use Rattle.sc_query.proofs.Complete.{complete}
+use Rattle.sc_query.specs.Reading.{Before, Reader, negated, and_with, or_with, empty, closed, operand_step, operator_step, step, finish}
+use Rattle.sc_query.proofs.Runs.{goes_on, run}
+use Rattle.sc_query.proofs.SoundLemmas.{sound}
+use Rattle.sc_query.proofs.CompleteLemmas.{complete}
 
 abbrev pub start : Reader
 start = Reader.Operand [] (empty 32)

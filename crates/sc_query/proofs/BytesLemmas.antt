@@ -4,7 +4,7 @@ use Rattle.std.proofs.lemmas.Bool.{ne_eqb}
 use Rattle.std.proofs.lemmas.List.{drop_more, drop_all}
 use Rattle.sc_query.specs.Tokens.{up_to, plain, is_cut_short}
 
--- the byte at a place and the byte after it stand at the front of what is left
+-- the byte at a place and the byte after it begin what is left
 pub drop_two : (bs : List ℕ) (i : ℕ) → i + 1 < length bs → drop i bs ≡ get_or bs i 0 ∷ get_or bs (i + 1) 0 ∷ drop (i + 2) bs
 drop_two bs i l =
     let next : i + 1 + 1 ≡ i + 2 = omega arith in

@@ -2,7 +2,7 @@
 use Rattle.std.proofs.Common.{◌≡◌, ℕ, ◌+◌, ◌-◌, ◌<◌, ◌≤◌, List, [], ◌∷◌, ◌++◌, length, get_or, take, drop, sym, ap, ◌∙◌, arith, append_assoc}
 use Rattle.std.proofs.lemmas.List.{drop_more, drop_all, take_more, take_rest, get_or-drop, length-drop, append-nil}
 use Rattle.sc_query.specs.Tokens.{plain}
-use Rattle.sc_query.proofs.Bytes.{StandsAlone, plain-one, plain-escape}
+use Rattle.sc_query.proofs.BytesLemmas.{StandsAlone, plain-one, plain-escape}
 
 -- a piece is written, and the byte that the backslash stands for begins the next
 pub piece_written : (old new piece bs : List ℕ) (at : ℕ) → new ≡ old ++ piece → at + 1 < length bs → get_or bs at 0 ≡ 92 → old ++ (piece ++ plain (drop at bs)) ≡ plain bs → new ++ (take (at + 2 - (at + 1)) (drop (at + 1) bs) ++ plain (drop (at + 2) bs)) ≡ plain bs

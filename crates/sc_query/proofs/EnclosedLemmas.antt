@@ -7,8 +7,8 @@ use Rattle.std.specs.Str.{bytes_eq}
 use Rattle.sc_query.specs.Tokens.{Token, Placed, placed, up_to, plain, is_cut_short, is_space, ends_run, ends_field, ends_quoted, opens_quoted, opens_value, quoted_leaf, run_token, word_at, token_at, tokens_from, tokens}
 use Rattle.sc_query.specs.Tree.{Tree, moved}
 use Rattle.sc_query.specs.Grammar.{Rule, Reads, IsQueryWithin, HasTree}
-use Rattle.sc_query.proofs.Bytes.{cut-cons, up_to-stop}
-use Rattle.sc_query.proofs.Cuts.{up_to-stops, none_true, quoted_front, quoted_leaf-whole, word_at-quoted, word_at-run}
+use Rattle.sc_query.proofs.BytesLemmas.{cut-cons, up_to-stop}
+use Rattle.sc_query.proofs.CutsLemmas.{up_to-stops, none_true, quoted_start, quoted_leaf-whole, word_at-quoted, word_at-run}
 
 -- a token a place further on
 abbrev further : Placed → Placed
@@ -70,7 +70,7 @@ true_or_false false = inr refl
 no_both : (b : Bool) → b ≡ true → b ≡ false → ⊥
 no_both b h k = let no : true ≡ false = sym h ∙ k in cc
 
--- A parenthesis behind the text ends what the text's end ended, but for a backslash at the end.
+-- A parenthesis after the text ends what the text's end ended, but for a backslash at the end.
 up_to-before : (ends : ℕ → Bool) (bs : List ℕ) → ends 41 ≡ true → is_cut_short (up_to ends bs) ≡ false → up_to ends (bs ++ 41 ∷ []) ≡ up_to ends bs
 up_to-before ends [] e h = up_to-stop ends 41 [] e
 up_to-before ends (c ∷ []) e h = go (ends c) (eqb c 92) refl h
@@ -188,7 +188,7 @@ quoted-before field text o l h = go (length field == 0 || length inside == lengt
     there = word_at-quoted field (text ++ 41 ∷ []) (ap opens_quoted (drop-append-le (length field) text (41 ∷ []) l) ∙ (opens_quoted-before (drop (length field) text) ∙ o))
 
     within : length field + 2 ≤ length text
-    within = omega (arith, (quoted_front (drop (length field) text) o).0, length-drop (length field) text)
+    within = omega (arith, (quoted_start (drop (length field) text) o).0, length-drop (length field) text)
 
     longer : drop (length field + 2) (text ++ 41 ∷ []) ≡ value ++ 41 ∷ []
     longer = drop-append-le (length field + 2) text (41 ∷ []) within
@@ -197,9 +197,9 @@ quoted-before field text o l h = go (length field == 0 || length inside == lengt
     go true e = absurd (h (ap (λ (x : Token × ℕ). x.0) (here ∙ ap (λ (y : Bool). cond {A = Token × ℕ} y (Token.Broken, length field + 2 + length value) (Token.Leaf field (plain inside), length field + 3 + length inside)) e)))
     go false e =
         let parts = none_true (length field == 0 || length inside == length value) (length inside == 0) e in
-        let front = none_true (length field == 0) (length inside == length value) parts.0 in
-        let named : length field ≢ 0 = eqb-false (length field) 0 front.0 in
-        let closed : length inside ≢ length value = eqb-false (length inside) (length value) front.1 in
+        let start = none_true (length field == 0) (length inside == length value) parts.0 in
+        let named : length field ≢ 0 = eqb-false (length field) 0 start.0 in
+        let closed : length inside ≢ length value = eqb-false (length inside) (length value) start.1 in
         let some : length inside ≢ 0 = eqb-false (length inside) 0 parts.1 in
         let shorter : length inside < length value = omega (arith, (up_to-stops ends_quoted value).0, closed) in
         let same : up_to ends_quoted (value ++ 41 ∷ []) ≡ inside = up_to-closed ends_quoted value (41 ∷ []) shorter in
@@ -236,7 +236,7 @@ token-before c rest h = go (eqb c 40) (eqb c 41) h
     go false true k = (refl, omega arith)
     go false false k = word-before (c ∷ rest) k
 
--- the tokens of a text with a parenthesis behind it
+-- the tokens of a text with a parenthesis after it
 tokens-before : (inside at : ℕ) (text : List ℕ) → inside ≤ length text → AreWhole (tokens_from inside at text) → tokens_from inside at (text ++ 41 ∷ []) ≡ tokens_from inside at text ++ placed (at + length text) Token.Close ∷ []
 unfolding tokens_from
 tokens-before zero at [] l h = ap (λ (n : ℕ). placed n Token.Close ∷ []) (let same : at ≡ at + 0 = omega arith in same)

@@ -5,8 +5,9 @@ use Rattle.std.proofs.lemmas.List.{length-drop, get_or-drop}
 use Rattle.std.proofs.lemmas.Str.{IsCharBoundary-after_ascii, IsCharBoundary-end}
 use Rattle.std.specs.Str.{IsCharBoundary, IsUtf8}
 use Rattle.sc_query.specs.Tokens.{Token, Placed, placed, up_to, plain, is_space, ends_run, ends_field, ends_quoted, opens_quoted, quoted_leaf, run_token, word_at, token_at, tokens_from}
-use Rattle.sc_query.specs.Reading.{Reader, step, finish, goes_on, run}
-use Rattle.sc_query.proofs.Cuts.{up_to-stops, up_to-boundary, quoted_ascii, run_ascii, quoted-boundary, none_true}
+use Rattle.sc_query.specs.Reading.{Reader, step, finish}
+use Rattle.sc_query.proofs.Runs.{goes_on, run}
+use Rattle.sc_query.proofs.CutsLemmas.{up_to-stops, up_to-boundary, quoted_ascii, run_ascii, quoted-boundary, none_true}
 
 -- what belongs to an earlier token is passed over
 tokens_from-inside : (k at : ℕ) (text : List ℕ) → k ≤ length text → tokens_from k at text ≡ tokens_from 0 (at + k) (drop k text)
@@ -85,7 +86,7 @@ word_cut field c rest u h = go (opens_quoted (drop (length field) (c ∷ rest)))
     go true e = quoted_cut field (c ∷ rest) u e
     go false e = (not_empty c rest h, up_to-boundary ends_run run_ascii (c ∷ rest))
 
--- the token at the front takes some of the text, which may be cut after it
+-- the first token takes some of the text, which may be cut after it
 pub token_cut : (c : ℕ) (rest : List ℕ) → IsUtf8 (c ∷ rest) → is_space c ≡ false → Cuts (c ∷ rest) (token_at (c ∷ rest)).1
 token_cut c rest u s = go (eqb c 40) (eqb c 41) refl refl
   where

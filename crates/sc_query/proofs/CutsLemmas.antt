@@ -7,22 +7,22 @@ use Rattle.std.proofs.lemmas.Str.{IsCharBoundary-after_ascii}
 use Rattle.std.specs.Str.{IsCharBoundary, IsUtf8}
 use Rattle.sc_query.specs.Tokens.{Token, up_to, plain, is_space, ends_run, ends_field, ends_quoted, opens_quoted, opens_value, quoted_leaf, run_token, word_at}
 
--- what comes before the end is a front of the text
-pub up_to-front : (ends : ℕ → Bool) (bs : List ℕ) → take (length (up_to ends bs)) bs ≡ up_to ends bs
-up_to-front ends [] = refl
-up_to-front ends (c ∷ []) = go (ends c)
+-- what comes before the end is a prefix of the text
+pub up_to-prefix : (ends : ℕ → Bool) (bs : List ℕ) → take (length (up_to ends bs)) bs ≡ up_to ends bs
+up_to-prefix ends [] = refl
+up_to-prefix ends (c ∷ []) = go (ends c)
   where
     go : (b : Bool) → take (length (cond b [] (c ∷ []))) (c ∷ []) ≡ cond b [] (c ∷ [])
     go true = refl
     go false = refl
-up_to-front ends (c ∷ d ∷ rest) = go (ends c) (eqb c 92) (up_to-front ends rest) (up_to-front ends (d ∷ rest))
+up_to-prefix ends (c ∷ d ∷ rest) = go (ends c) (eqb c 92) (up_to-prefix ends rest) (up_to-prefix ends (d ∷ rest))
   where
     go : (b e : Bool) → take (length (up_to ends rest)) rest ≡ up_to ends rest → take (length (up_to ends (d ∷ rest))) (d ∷ rest) ≡ up_to ends (d ∷ rest) → take (length (cond b [] (cond e (c ∷ d ∷ up_to ends rest) (c ∷ up_to ends (d ∷ rest))))) (c ∷ d ∷ rest) ≡ cond b [] (cond e (c ∷ d ∷ up_to ends rest) (c ∷ up_to ends (d ∷ rest)))
     go true e h k = refl
     go false true h k = ap (λ (xs : List ℕ). c ∷ d ∷ xs) h
     go false false h k = ap (λ (xs : List ℕ). c ∷ xs) k
 
--- behind it the text ends, or stands what ends it
+-- after it the text ends, or stands what ends it
 abbrev pub StopsWell : (ends : ℕ → Bool) (bs run : List ℕ) → Type 0
 StopsWell ends bs run = (length run ≤ length bs) × (length run < length bs → ends (get_or bs (length run) 0) ≡ true)
 
@@ -73,46 +73,36 @@ up_to-boundary ends ascii bs =
     let stops = up_to-stops ends bs in
     (stops.0, λ l h. absurd (omega (arith, h, ascii (get_or bs (length (up_to ends bs)) 0) (stops.1 l))))
 
-pub opens_quoted-short : (xs : List ℕ) → length xs < 2 → opens_quoted xs ≡ false
-opens_quoted-short [] l = refl
-opens_quoted-short (c ∷ []) l = refl
-opens_quoted-short (c ∷ d ∷ rest) l = absurd (omega (arith, l))
-
-pub opens_value-short : (xs : List ℕ) → length xs < 2 → opens_value xs ≡ false
-opens_value-short [] l = refl
-opens_value-short (c ∷ []) l = refl
-opens_value-short (c ∷ d ∷ rest) l = absurd (omega (arith, l))
-
 both_true : (a b : Bool) → (a && b) ≡ true → (a ≡ true) × (b ≡ true)
 both_true true b h = (refl, h)
 both_true false b h = (h, absurd (let no : false ≡ true = h in cc))
 
-pub quoted_front : (xs : List ℕ) → opens_quoted xs ≡ true → (1 < length xs) × (get_or xs 0 0 ≡ 58) × (get_or xs 1 0 ≡ 34)
-quoted_front [] h = absurd (let no : false ≡ true = h in cc)
-quoted_front (c ∷ []) h = absurd (let no : false ≡ true = h in cc)
-quoted_front (c ∷ d ∷ rest) h = let both = both_true (eqb c 58) (eqb d 34) h in (omega arith, eqb-true c 58 both.0, eqb-true d 34 both.1)
+pub quoted_start : (xs : List ℕ) → opens_quoted xs ≡ true → (1 < length xs) × (get_or xs 0 0 ≡ 58) × (get_or xs 1 0 ≡ 34)
+quoted_start [] h = absurd (let no : false ≡ true = h in cc)
+quoted_start (c ∷ []) h = absurd (let no : false ≡ true = h in cc)
+quoted_start (c ∷ d ∷ rest) h = let both = both_true (eqb c 58) (eqb d 34) h in (omega arith, eqb-true c 58 both.0, eqb-true d 34 both.1)
 
-value_front : (xs : List ℕ) → opens_value xs ≡ true → (1 < length xs) × (get_or xs 0 0 ≡ 58)
-value_front [] h = absurd (let no : false ≡ true = h in cc)
-value_front (c ∷ []) h = absurd (let no : false ≡ true = h in cc)
-value_front (c ∷ d ∷ rest) h = (omega arith, eqb-true c 58 h)
+value_start : (xs : List ℕ) → opens_value xs ≡ true → (1 < length xs) × (get_or xs 0 0 ≡ 58)
+value_start [] h = absurd (let no : false ≡ true = h in cc)
+value_start (c ∷ []) h = absurd (let no : false ≡ true = h in cc)
+value_start (c ∷ d ∷ rest) h = (omega arith, eqb-true c 58 h)
 
--- behind a colon and a quote a text may be cut
+-- after a colon and a quote a text may be cut
 pub quoted-boundary : (bs : List ℕ) (i : ℕ) → IsUtf8 bs → opens_quoted (drop i bs) ≡ true → (i + 2 ≤ length bs) × IsCharBoundary bs (i + 2)
 quoted-boundary bs i u h =
-    let front = quoted_front (drop i bs) h in
-    let inside : i + 1 < length bs = omega (arith, front.0, length-drop i bs) in
-    let quote : get_or bs (i + 1) 0 ≡ 34 = sym (get_or-drop i bs 1 0) ∙ front.2 in
+    let start = quoted_start (drop i bs) h in
+    let inside : i + 1 < length bs = omega (arith, start.0, length-drop i bs) in
+    let quote : get_or bs (i + 1) 0 ≡ 34 = sym (get_or-drop i bs 1 0) ∙ start.2 in
     let place : i + 1 + 1 ≡ i + 2 = omega arith in
     (omega (arith, inside), subst (λ (n : ℕ). IsCharBoundary bs n) place (IsCharBoundary-after_ascii bs (i + 1) u inside (omega (arith, quote))))
 
--- behind the colon of a value a text may be cut
+-- after the colon of a value a text may be cut
 pub value-boundary : (bs : List ℕ) (i : ℕ) → IsUtf8 bs → opens_value (drop i bs) ≡ true → (i + 1 ≤ length bs) × IsCharBoundary bs (i + 1)
 value-boundary bs i u h =
-    let front = value_front (drop i bs) h in
-    let inside : i < length bs = omega (arith, front.0, length-drop i bs) in
+    let start = value_start (drop i bs) h in
+    let inside : i < length bs = omega (arith, start.0, length-drop i bs) in
     let place : i + 0 ≡ i = omega arith in
-    let colon : get_or bs i 0 ≡ 58 = ap (λ (n : ℕ). get_or bs n 0) (sym place) ∙ (sym (get_or-drop i bs 0 0) ∙ front.1) in
+    let colon : get_or bs i 0 ≡ 58 = ap (λ (n : ℕ). get_or bs n 0) (sym place) ∙ (sym (get_or-drop i bs 0 0) ∙ start.1) in
     (omega (arith, inside), IsCharBoundary-after_ascii bs i u inside (omega (arith, colon)))
 
 -- a quoted value that is closed and not empty
@@ -124,11 +114,11 @@ quoted_leaf-whole field inside text f o e =
     ∙ (ap (λ (b : Bool). cond (b || eqb (length inside) 0) broken whole) (ne_eqb (length inside) (length text) o)
     ∙ ap (λ (b : Bool). cond b broken whole) (ne_eqb (length inside) 0 e))
 
--- the front of a text that was cut where a part ends
-pub front_is : (ends : ℕ → Bool) (bs xs : List ℕ) (n : ℕ) → n ≡ length (up_to ends bs) → xs ≡ slice_range bs 0 n → xs ≡ up_to ends bs
-front_is ends bs xs n e h =
+-- the prefix of a text that was cut where a part ends
+pub prefix_is : (ends : ℕ → Bool) (bs xs : List ℕ) (n : ℕ) → n ≡ length (up_to ends bs) → xs ≡ slice_range bs 0 n → xs ≡ up_to ends bs
+prefix_is ends bs xs n e h =
     let whole : n - 0 ≡ length (up_to ends bs) = omega (arith, e) in
-    h ∙ (ap (λ (m : ℕ). take m bs) whole ∙ up_to-front ends bs)
+    h ∙ (ap (λ (m : ℕ). take m bs) whole ∙ up_to-prefix ends bs)
 
 pub word_at-quoted : (field text : List ℕ) → opens_quoted (drop (length field) text) ≡ true → word_at field text ≡ quoted_leaf field (up_to ends_quoted (drop (length field + 2) text)) (drop (length field + 2) text)
 word_at-quoted field text h = ap (λ (b : Bool). cond b (quoted_leaf field (up_to ends_quoted (drop (length field + 2) text)) (drop (length field + 2) text)) (run_token field (up_to ends_run text), length (up_to ends_run text))) h

@@ -27,6 +27,12 @@ slice_get-live_rows rows words row below =
     slice_get-get_or (live_rows rows words) row false (rw (length-live_rows rows words) below)
     ∙ ap Some (get_or-live_rows rows words row false below ∙ ap (λ b. b == 1) (sym (shr_and_one (slice_index words (row / 64)) (row % 64))))
 
+-- a row below the length of what stands for the words is one of theirs
+pub row_within : (rows row : ℕ) (words : List ℕ) (live : List Bool) → live_rows rows words ≡ live → row < length live → row < rows
+row_within rows row words live same below =
+    let all : length live ≡ rows = ap length (sym same) ∙ length-live_rows rows words in
+    omega (arith, all, below)
+
 pub live_rows-ones : (rows count : ℕ) → rows ≤ 64 * count → live_rows rows (replicate count (2 ^ 64 - 1)) ≡ replicate rows true
 live_rows-ones rows count enough =
     sym (fill_by_all (is_set (replicate count (2 ^ 64 - 1))) (replicate rows true) rows false (length-replicate rows true)

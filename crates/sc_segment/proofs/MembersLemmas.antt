@@ -4,7 +4,7 @@ use Rattle.std.proofs.lemmas.List.Kept.{Contains-dedup_nat, Contains-from_dedup}
 use Rattle.std.specs.declared.cmp.Ordering.{Ordering}
 use Rattle.std.specs.declared.cmp.Ordering.TheVariants.{Less, Equal, Greater}
 use Rattle.std.specs.Ordering.{is_eq}
-use Rattle.sc_segment.proofs.Rows.{same}
+use Rattle.sc_segment.proofs.RowsLemmas.{same}
 use Rattle.sc_segment.specs.Index.{rows_with, WasAddedWith}
 
 Contains-cases : (x : ℕ) (xs : List ℕ) (row : ℕ) → Contains (x ∷ xs) row → (x ≡ row) ⊎ Contains xs row

@@ -1,4 +1,5 @@
-use Rattle.sc_http.proofs.reply.+push_decimal.Given as goal
+-- The number gets smaller.
+use Rattle.sc_http.proofs.reply.+put_decimal.Given as goal
 
-abbrev pub decreases-push_decimal : goal.decreases-push_decimal
-decreases-push_decimal l = l.number
+abbrev pub decreases-put_decimal : goal.decreases-put_decimal
+decreases-put_decimal l = l.number

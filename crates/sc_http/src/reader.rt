@@ -45,8 +45,9 @@ impl Reader {
     }
 
     /// The next request: its head, within 65,536 bytes and 128 header lines, and the body whose length the head states,
-    /// at most 16,777,216 bytes (RFC 9112, sections 2 to 6). Empty lines before it belong to it.
-    /// Behind an error the connection is at its end: what was taken of a request that is not whole may be gone.
+    /// at most 16,777,216 bytes (RFC 9112, sections 2 to 6). Empty lines before it belong to it. A request that has
+    /// come is given out without another read. After an error the connection is at its end: what was taken of a request
+    /// that is not whole may be gone.
     pub fn next_message<S: Source>(
         &mut self,
         alloc: Global,
@@ -54,14 +55,18 @@ impl Reader {
     ) -> Result<Incoming, MessageEnd>
         ensures message { IfOk result (λ request. IfSome (S.rest source.old) (λ bytes. IfSome (S.rest source.new)
             (λ more. ReadsMessage (self.old ++ bytes) request (self.new ++ more)))) }
+        ensures needed { OnOk result ((source.new ≡ source.old)
+            ⊎ ReadsWhile (λ before. HasNoMessage (self.old ++ before)) (S.rest source.old) (S.rest source.new)) }
+        ensures bounded { length self.new ≤ max (length self.old) reader_limit }
         ensures ends { IfErr result (λ end. IfSome (ending_of end) (λ ending. IfSome (S.rest source.old)
             (λ bytes. EndsSo (self.old ++ bytes) ending))) }
         ensures fault { result ≡ Err MessageEnd.ReadFault → S.faults source.old < S.faults source.new }
+        ensures steady { result ≢ Err MessageEnd.ReadFault → S.faults source.new ≡ S.faults source.old }
         ensures unfinished { result ≡ Err MessageEnd.ReadFault → IfSome (S.rest source.old) (λ bytes. IfSome (S.rest source.new)
-            (λ more. TookNoMessage (self.old ++ bytes) more)) }
+            (λ more. HasNoMessageBefore more (self.old ++ bytes))) }
         ensures order { OnErr result (IfSome (S.rest source.old) (λ bytes. IfSome (S.rest source.new)
-            (λ more. IsBehind (self.old ++ bytes) (self.new ++ more)))) }
-        ensures told { IsSome (S.rest source.old) → IsSome (S.rest source.new) }
+            (λ more. IsSuffix (self.new ++ more) (self.old ++ bytes)))) }
+        ensures reports { IsSome (S.rest source.old) → IsSome (S.rest source.new) }
         ensures no_fall { S.faults source.old ≤ S.faults source.new }
     {
         let head = read_head(alloc, &mut self.buffer, source)?;

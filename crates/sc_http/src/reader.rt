@@ -1,7 +1,8 @@
-ghost use Rattle.std.specs.Prelude.{◌≡◌, ◌≢◌, ◌<◌, ◌≤◌, [], ◌++◌, length, fold, IfOk, OnOk, IfErr, IfSome, OnErr, Err, IsSome};
+ghost use Rattle.std.specs.Prelude.{◌≡◌, ◌≢◌, ◌<◌, ◌≤◌, ◌⊎◌, [], ◌++◌, length, max, fold, IfOk, OnOk, IfErr, IfSome, OnErr, Err, IsSome};
 ghost use Rattle.sc_model.specs.Messages.{ReadsMessage, HasNoMessage, EndsSo};
 ghost use Rattle.sc_http.specs.Ends.{ending_of};
-ghost use Rattle.sc_http.specs.Stream.{GivesOut, HasEnded, IsBehind, TookNoMessage};
+ghost use mathlib.Core.List.{IsSuffix};
+ghost use Rattle.sc_http.specs.Stream.{KeepsBytes, HasEnded, HasNoMessageBefore, ReadsWhile, reader_limit};
 ghost use Rattle.sc_http.specs.HeadEnd.{next_place, IsJudged};
 ghost use Rattle.sc_http.specs.Lines.{IsHeadOf};
 ghost use Rattle.sc_model.specs.Heads.{body_limit};
@@ -103,13 +104,17 @@ fn read_head<S: Source>(
     buffer: &mut Buffer,
     source: &mut S,
 ) -> Result<Head, MessageEnd>
-    ensures gives { GivesOut [] buffer.new buffer.old (S.rest source.old) (S.rest source.new) }
+    ensures gives { KeepsBytes [] buffer.new buffer.old (S.rest source.old) (S.rest source.new) }
     ensures head { IfOk result (IsHeadOf buffer.new) }
+    ensures needed { (source.new ≡ source.old)
+        ⊎ ReadsWhile (λ before. HasNoMessage (buffer.old ++ before)) (S.rest source.old) (S.rest source.new) }
+    ensures bounded { length buffer.new ≤ max (length buffer.old) reader_limit }
     ensures body { IfOk result (λ head. head.body_length ≤ body_limit) }
     ensures ends { IfErr result (λ end. IfSome (ending_of end) (λ ending. IfSome (S.rest source.old) (λ bytes.
         EndsSo (buffer.old ++ bytes) ending))) }
     ensures unfinished { result ≡ Err MessageEnd.ReadFault → HasNoMessage buffer.new }
     ensures cause { result ≡ Err MessageEnd.ReadFault → S.faults source.old < S.faults source.new }
+    ensures steady { result ≢ Err MessageEnd.ReadFault → S.faults source.new ≡ S.faults source.old }
     ensures no_fall { S.faults source.old ≤ S.faults source.new }
 {
     match await_head(buffer, source) {
@@ -122,18 +127,22 @@ fn read_head<S: Source>(
 
 /// Reads until the end of a head has come, or more bytes than a head may have.
 fn await_head<S: Source>(buffer: &mut Buffer, source: &mut S) -> Result<(), Stopped>
-    ensures gives { GivesOut [] buffer.new buffer.old (S.rest source.old) (S.rest source.new) }
+    ensures gives { KeepsBytes [] buffer.new buffer.old (S.rest source.old) (S.rest source.new) }
     ensures ready { OnOk result (IsJudged buffer.new) }
+    ensures needed { (source.new ≡ source.old)
+        ⊎ ReadsWhile (λ before. HasNoMessage (buffer.old ++ before)) (S.rest source.old) (S.rest source.new) }
+    ensures bounded { length buffer.new ≤ max (length buffer.old) reader_limit }
     ensures waiting { OnErr result (fold next_place Place.Before buffer.new ≢ Place.End) }
     ensures ended { result ≡ Err Stopped.Ended → HasEnded (S.rest source.old) (S.rest source.new) }
     ensures cause { result ≡ Err Stopped.Failed → S.faults source.old < S.faults source.new }
+    ensures steady { result ≢ Err Stopped.Failed → S.faults source.new ≡ S.faults source.old }
     ensures no_fall { S.faults source.old ≤ S.faults source.new }
 {
     let mut place = Place::Before;
     let mut searched = 0;
     loop {
         let unread = buffer.unread();
-        place = place.behind(&unread[searched..]);
+        place = place.after(&unread[searched..]);
         searched = unread.len();
         if place.is_end() || searched > MAX_HEAD {
             return Ok(());

@@ -2,7 +2,7 @@
 use Rattle.std.proofs.Common.{◌≡◌, ◌<◌, List, ℕ, [], length, take, arith, sym, subst}
 use Rattle.std.proofs.lemmas.Grind.{common_steps}
 use Rattle.std.proofs.lemmas.Result.{err_from_is_err_and}
-use Rattle.sc_http.specs.Stream.{GivesOut}
+use Rattle.sc_http.specs.Stream.{KeepsBytes}
 use Rattle.sc_http.proofs.StreamLemmas.{gives_out_all, gives_out_more, falls_short}
 use Rattle.sc_http.proofs.body.read_rest.Goals as goal
 
@@ -14,7 +14,7 @@ loop-filled-init g c =
       within = omega arith;
       below = omega arith;
       size = omega arith;
-      out = subst (λ (xs : List ℕ). GivesOut xs [] c.args.body.now.items rest rest) (sym whole) (gives_out_all c.args.body.now.items rest);
+      out = subst (λ (xs : List ℕ). KeepsBytes xs [] c.args.body.now.items rest rest) (sym whole) (gives_out_all c.args.body.now.items rest);
       fall = omega arith;
     }
 

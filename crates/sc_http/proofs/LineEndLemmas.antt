@@ -1,7 +1,7 @@
 -- How many lines of a head have ended.
-use Rattle.std.proofs.Common.{◌≡◌, ◌≢◌, ℕ, ◌+◌, ◌-◌, ◌<◌, ◌≤◌, ◌⊎◌, inl, inr, suc, Bool, IsTrue, ◌==◌, cond, true, false, All, List, [], ◌∷◌, ◌++◌, length, take, drop, refl, sym, ap, ◌∙◌, subst, arith, append_assoc, append-nil, length-append}
+use Rattle.std.proofs.Common.{◌≡◌, ◌≢◌, ℕ, ◌+◌, ◌-◌, ◌<◌, ◌≤◌, ◌⊎◌, inl, inr, suc, Bool, IsTrue, ◌==◌, cond, true, false, All, List, [], ◌∷◌, ◌++◌, length, take, drop, get_or, zero, refl, sym, ap, ◌∙◌, subst, arith, append_assoc, append-nil, length-append}
 use Rattle.std.specs.List.{flat_map, count_by, prefix_len}
-use Rattle.std.proofs.lemmas.List.{take_at, take-append-le, take-append-drop}
+use Rattle.std.proofs.lemmas.List.{take_all, take_more, drop-take, get_or-drop, length-drop}
 use Rattle.std.proofs.lemmas.List.Sums.{sum_by-append}
 use Rattle.std.proofs.lemmas.List.Elements.{All-head, All-tail}
 use Rattle.std.proofs.lemmas.Bool.{cases_lt, ne_eqb, false≢true}
@@ -162,3 +162,47 @@ ends_but_last h is =
     let m : feeds (32 ∷ target) ≡ feeds target = refl in
     let n : feeds (32 ∷ version) ≡ feeds version = refl in
     omega (arith, a, b, c, d, e, f, g, i, j, k, l, m, n)
+
+-- ---- the search for a line's end
+
+prefix_len_take : (p : ℕ → Bool) (xs : List ℕ) (i : ℕ) → prefix_len p (take (prefix_len p xs + i) xs) ≡ prefix_len p xs
+prefix_len_take p [] i = ap (prefix_len p) (take_all (prefix_len p [] + i) [] (omega arith))
+prefix_len_take p (x ∷ xs) i = by_test (prefix_len_take p xs i) (p x) refl
+  where
+    first : (n : ℕ) → p x ≡ false → prefix_len p (take n (x ∷ xs)) ≡ 0
+    first zero e = refl
+    first (suc n) e = rw e refl
+    by_test : prefix_len p (take (prefix_len p xs + i) xs) ≡ prefix_len p xs → (b : Bool) → p x ≡ b
+        → prefix_len p (take (prefix_len p (x ∷ xs) + i) (x ∷ xs)) ≡ prefix_len p (x ∷ xs)
+    by_test later true e =
+        let long : prefix_len p (x ∷ xs) ≡ 1 + prefix_len p xs = rw e refl in
+        let more : prefix_len p (x ∷ xs) + i ≡ suc (prefix_len p xs + i) = omega (arith, long) in
+        ap (λ n. prefix_len p (take n (x ∷ xs))) more ∙ inside ∙ ap (λ n. 1 + n) later ∙ sym long
+      where
+        inside : prefix_len p (x ∷ take (prefix_len p xs + i) xs) ≡ 1 + prefix_len p (take (prefix_len p xs + i) xs)
+        inside = rw e refl
+    by_test later false e = let none : prefix_len p (x ∷ xs) ≡ 0 = rw e refl in first (prefix_len p (x ∷ xs) + i) e ∙ sym none
+
+-- the lines that have ended in the first bytes, which go past the start of the request line
+ends_take : (bytes : List ℕ) (i : ℕ) → line_ends (take (prefix_len is_newline bytes + i) bytes) ≡ feeds (take i (drop (prefix_len is_newline bytes) bytes))
+ends_take bytes i =
+    ap (λ n. feeds (drop n (take (prefix_len is_newline bytes + i) bytes))) (prefix_len_take is_newline bytes i)
+    ∙ ap feeds (drop-take (prefix_len is_newline bytes) i bytes)
+
+-- the line feed that ends the line of this number is found
+pub line_found : (bytes items : List ℕ) (start i number ended : ℕ) → start ≡ prefix_len is_newline bytes → items ≡ drop start bytes → i < length items
+    → ended ≡ feeds (take i items) → get_or items i 0 ≡ 10 → ended + 1 ≡ number → EndsLine number (take (start + i + 1) bytes)
+line_found bytes items start i number ended at are inside counted feed last = record {
+  before = take (start + i) bytes;
+  is = take_more bytes (start + i) 0 (omega (arith, ap length are, length-drop start bytes))
+      ∙ ap (λ b. take (start + i) bytes ++ b ∷ []) (sym (get_or-drop start bytes i 0) ∙ ap (λ xs. get_or xs i 0) (sym are) ∙ feed);
+  ended = (let a : line_ends (take (start + i) bytes) ≡ feeds (take i items) =
+      ap (λ n. line_ends (take (n + i) bytes)) at ∙ ends_take bytes i ∙ ap (λ n. feeds (take i (drop n bytes))) (sym at) ∙ ap (λ xs. feeds (take i xs)) (sym are) in
+      omega (arith, a, counted, last));
+}
+
+-- all lines are counted
+pub lines_counted : (bytes items : List ℕ) (start i ended : ℕ) → start ≡ prefix_len is_newline bytes → items ≡ drop start bytes → length items ≤ i
+    → ended ≡ feeds (take i items) → line_ends bytes ≡ ended
+lines_counted bytes items start i ended at are all counted =
+    sym (counted ∙ ap feeds (take_all i items all ∙ are ∙ ap (λ n. drop n bytes) at))

@@ -2,6 +2,7 @@
 use Rattle.std.proofs.Common.{◌≡◌, ◌≢◌, ℕ, ◌<◌, ◌⊎◌, inl, inr, List, [], ◌++◌, length, take, drop, Option, Some, None, Ok, Err, Result, refl, sym, ap, ◌∙◌, subst, arith, append_assoc, append-nil}
 use Rattle.std.specs.Prelude.{IfErr, IfSome}
 use Rattle.std.proofs.lemmas.List.{take-append-drop}
+use mathlib.Core.List.{IsSuffix}
 use Rattle.sc_model.specs.Heads.{request_of}
 use Rattle.sc_model.specs.Messages.{HasHead, ReadsMessage, HasNoMessage, EndsSo, EndsInHead, cut, bad_head, too_large, not_built}
 use Rattle.sc_model.specs.declared.message.Incoming.{Incoming}
@@ -10,12 +11,13 @@ use Rattle.sc_http.specs.declared.stopped.Stopped.{Stopped}
 use Rattle.sc_http.specs.declared.stopped.Stopped.TheVariants as stops
 use Rattle.sc_http.specs.HeadEnd.{IsJudged}
 use Rattle.sc_http.specs.Lines.{IsHeadOf, Describes}
-use Rattle.sc_http.specs.Stream.{Gives, KeepsBytes, FallsShort, HasEnded, LeavesSuffix, HasNoMessageBefore}
+use Rattle.sc_http.specs.Stream.{Gives, KeepsBytes, ReadsWhile, FallsShort, HasEnded, LeavesSuffix, HasNoMessageBefore}
 use Rattle.sc_http.specs.declared.head.Head.{Head}
 use Rattle.sc_http.specs.declared.end.MessageEnd.{MessageEnd}
 use Rattle.sc_http.specs.declared.end.MessageEnd.TheVariants as ends
 use Rattle.sc_http.specs.declared.head_end.Place.TheVariants as places
 use Rattle.sc_http.proofs.HeadEndLemmas.{place_after, open_not_found}
+use Rattle.sc_http.proofs.StreamLemmas.{reads_after}
 use Rattle.sc_http.proofs.MessageLemmas.{HasHead-append, ends-append, no_message_in_body}
 
 -- the bytes of the connection are those that came and those that the source has still to give
@@ -135,10 +137,10 @@ body_order size left before rest (Some bytes) mid new given (out, given') =
     let whole = whole_is left before given.piece bytes given.gives.more given.whole given.gives.whole in
     subst (λ (o : Option (List ℕ)). IfSome o (λ more. IsSuffix (rest ++ more) (before ++ bytes))) (sym second.left) (
       take size left ++ out,
-      whole ∙ ap (λ xs. xs ++ given.gives.more) (sym (take-append-drop size left)) ∙ append_assoc (take size left) (drop size left) given.gives.more
+      sym (whole ∙ ap (λ xs. xs ++ given.gives.more) (sym (take-append-drop size left)) ∙ append_assoc (take size left) (drop size left) given.gives.more
           ∙ ap (λ xs. take size left ++ xs) (whole_is (out ++ rest) (drop size left) given'.piece given.gives.more second.more given'.whole second.whole
           ∙ append_assoc out rest second.more)
-          ∙ sym (append_assoc (take size left) out (rest ++ second.more)),
+          ∙ sym (append_assoc (take size left) out (rest ++ second.more))),
     )
 
 -- how the bytes end where a body was not read
@@ -165,3 +167,19 @@ body_fault stops.Memory end kept left before old mid new is fault given of short
   where
     apart : ends.Memory ≡ ends.ReadFault → ⊥
     apart same = cc
+
+-- where a request is given, what came before the last piece holds none
+pub needed_both : {X : Type 0} (rest : X → Option (List ℕ)) (kept : Head) (left before : List ℕ) (old mid new : X)
+    → KeepsBytes [] left before (rest old) (rest mid) → IsHeadOf left kept
+    → (mid ≡ old) ⊎ ReadsWhile (λ xs. HasNoMessage (before ++ xs)) (rest old) (rest mid)
+    → (new ≡ mid) ⊎ ReadsWhile (λ xs. length (drop kept.size left ++ xs) < kept.body_length) (rest mid) (rest new)
+    → (new ≡ old) ⊎ ReadsWhile (λ xs. HasNoMessage (before ++ xs)) (rest old) (rest new)
+needed_both rest kept left before old mid new given of (inl first) (inl second) = inl (second ∙ first)
+needed_both {X} rest kept left before old mid new given of (inr first) (inl second) =
+    inr (subst (λ (s : X). ReadsWhile (λ xs. HasNoMessage (before ++ xs)) (rest old) (rest s)) (sym second) first)
+needed_both rest kept left before old mid new given of first (inr second) =
+    inr (reads_after (λ xs. length (drop kept.size left ++ xs) < kept.body_length) (λ xs. HasNoMessage (before ++ xs)) given.piece (rest old) (rest mid) (rest new)
+    given.gives second
+    (λ xs short. subst HasNoMessage (ap (λ ys. ys ++ xs) given.whole ∙ append_assoc before given.piece xs)
+    (no_message_in_body (left ++ xs) of.head (drop kept.size left ++ xs) kept.body_length
+    (HasHead-append left of.head (drop kept.size left) xs of.has) of.describes.length_of_body short)))

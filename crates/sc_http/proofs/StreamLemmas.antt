@@ -3,7 +3,7 @@ use Rattle.std.proofs.Common.{◌≡◌, ℕ, ◌+◌, ◌-◌, ◌<◌, ◌≤�
 use Rattle.std.proofs.lemmas.Bool.{cases_lt}
 use Rattle.std.proofs.lemmas.List.{drop-drop, drop-take, drop_all, take_all, take-append-drop, length-take, take-take, take-append-le, length-take-le}
 use Rattle.std.proofs.Math.Seq.{take-append-add}
-use Rattle.sc_http.specs.Stream.{Gives, Grows, KeepsBytes, FallsShort, LeavesSuffix, HasEnded}
+use Rattle.sc_http.specs.Stream.{Gives, Grows, KeepsBytes, FallsShort, ReadsWhile, LeavesSuffix, HasEnded}
 
 drop-take_front : (n m : ℕ) (xs : List ℕ) → drop n (take m xs) ≡ take (m - n) (drop n xs)
 drop-take_front n m xs = by_order (cases_lt m n)
@@ -97,6 +97,26 @@ falls_short out before wanted a b c given few none =
       short = subst (λ (xs : List ℕ). length xs < wanted) (sym (append-nil out) ∙ all.whole) few;
       gives = all.gives;
     }
+
+-- what holds of the bytes that were there before a piece came
+pub reads_while : (Q : List ℕ → Type 0) (out left before piece : List ℕ) (a b c : Option (List ℕ)) → KeepsBytes out left before a b → Gives piece b c
+    → Q (out ++ left) → ReadsWhile (λ xs. Q (before ++ xs)) a c
+reads_while Q out left before piece a b c kept came holds = record {
+  before = kept.piece;
+  piece = piece;
+  held = subst Q kept.whole holds;
+  gives = gives_both kept.piece piece a b c kept.gives came;
+}
+
+-- more bytes were given before that
+pub reads_after : (P Q : List ℕ → Type 0) (first : List ℕ) (a b c : Option (List ℕ)) → Gives first a b → ReadsWhile P b c
+    → ((xs : List ℕ) → P xs → Q (first ++ xs)) → ReadsWhile Q a c
+reads_after P Q first a b c came later step = record {
+  before = first ++ later.before;
+  piece = later.piece;
+  held = step later.before later.held;
+  gives = subst (λ (xs : List ℕ). Gives xs a c) (sym (append_assoc first later.before later.piece)) (gives_both first (later.before ++ later.piece) a b c came later.gives);
+}
 
 -- the first bytes are given out, and the others left
 pub given_front : (front left before : List ℕ) (n : ℕ) (rest : Option (List ℕ)) → front ≡ take n before → left ≡ drop n before

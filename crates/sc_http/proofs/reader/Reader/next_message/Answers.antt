@@ -1,13 +1,13 @@
 -- What was read of the head and of the body is read of the connection's bytes.
-use Rattle.std.proofs.Common.{◌≡◌, List, ℕ, [], ◌++◌, length, Err, ap, subst, arith}
+use Rattle.std.proofs.Common.{◌≡◌, ◌<◌, ◌⊎◌, List, ℕ, [], ◌++◌, length, Err, ap, subst, arith}
 use Rattle.std.specs.Prelude.{IfSome}
 use Rattle.std.proofs.lemmas.Grind.{common_steps}
 use Rattle.std.proofs.lemmas.Result.{err_from_is_err_and}
-use Rattle.sc_model.specs.Messages.{EndsSo}
+use Rattle.sc_model.specs.Messages.{HasNoMessage, EndsSo}
 use Rattle.sc_http.specs.Ends.{ending_of}
-use Rattle.sc_http.specs.Stream.{KeepsBytes, FallsShort, LeavesSuffix}
+use Rattle.sc_http.specs.Stream.{KeepsBytes, FallsShort, LeavesSuffix, ReadsWhile}
 use Rattle.sc_http.specs.declared.end.MessageEnd.TheVariants as ends
-use Rattle.sc_http.proofs.ReaderLemmas.{message_read, head_unfinished, body_ends, body_fault, body_order}
+use Rattle.sc_http.proofs.ReaderLemmas.{message_read, needed_both, head_unfinished, body_ends, body_fault, body_order}
 use Rattle.sc_http.proofs.reader.Reader.next_message.Goals as goal
 
 pub returns-in_err-head-clause-ends : goal.returns-in_err-head-clause-ends
@@ -51,6 +51,18 @@ returns-in-Err-clause-order g c =
     body_order c.in_ok-head.head.size _ _ _ _ _ (g.S.Source.rest c.read_body.new.source) given
     (subst (λ (b : List ℕ). LeavesSuffix c.read_body.new.buffer b (g.S.Source.rest c.read_head.new.source) (g.S.Source.rest c.read_body.new.source))
     c.give.ensures c.in-Err.ensures.order)
+
+pub returns-clause-needed : goal.returns-clause-needed
+returns-clause-needed g c =
+    let old = g.S.Source.rest c.args.source.now in
+    let mid = g.S.Source.rest c.read_head.new.source in
+    let given = subst (λ (b : List ℕ). KeepsBytes [] c.read_head.new.buffer b old mid) c.self.view_is c.read_head.ensures.gives in
+    let first = subst (λ (b : List ℕ). (c.read_head.new.source ≡ c.args.source.now) ⊎ ReadsWhile (λ xs. HasNoMessage (b ++ xs)) old mid)
+    c.self.view_is c.read_head.ensures.needed in
+    let second = subst (λ (b : List ℕ). (c.read_body.new.source ≡ c.read_head.new.source)
+    ⊎ ReadsWhile (λ xs. length (b ++ xs) < c.in_ok-head.head.body_length) mid (g.S.Source.rest c.read_body.new.source))
+    c.give.ensures c.in-Ok.ensures.needed in
+    needed_both g.S.Source.rest c.in_ok-head.head _ _ _ _ _ given c.in_ok-head.ensures.head first second
 
 pub returns-clause-message : goal.returns-clause-message
 returns-clause-message g c =

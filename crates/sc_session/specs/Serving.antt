@@ -1,6 +1,6 @@
 -- What one step of a connection leaves.
 use Rattle.std.specs.Prelude.{◌≡◌, ◌⊎◌, ℕ, ◌+◌, Bool, true, false, ◌||◌, List, ◌++◌, length, nat_le, Option, Some, None, IfSome}
-use Rattle.sc_io.specs.Pieces.{AddsFront}
+use Rattle.sc_io.specs.Pieces.{AddsPrefix}
 use Rattle.sc_record.specs.declared.entry.Entry.{Entry}
 use Rattle.sc_model.specs.declared.connection.End.{End}
 use Rattle.sc_model.specs.declared.connection.End.TheVariants as ends
@@ -18,7 +18,7 @@ Writes text old new = IfSome old (λ bytes. new ≡ Some (bytes ++ text))
 
 -- a front of the text was written, where the sink tells
 abbrev pub WritesFront : List ℕ → Option (List ℕ) → Option (List ℕ) → Type 0
-WritesFront text old new = IfSome old (λ bytes. AddsFront bytes text new)
+WritesFront text old new = IfSome old (λ bytes. AddsPrefix bytes text new)
 
 -- the connection ended so and the text was written, or the sink failed
 abbrev pub EndsWriting : End → End → List ℕ → Option (List ℕ) → Option (List ℕ) → Type 0

@@ -1,2 +1,2 @@
-pub mod RunLaws
-pub mod WordLaws
+pub mod RunLemmas
+pub mod DigitLemmas

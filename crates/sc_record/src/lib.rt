@@ -18,7 +18,8 @@ mod id;
 mod kind;
 mod value;
 
-// A document, and a write of it.
+// A document, a write of it, and what a client is told of that.
+mod ack;
 mod document;
 mod write;
 
@@ -31,6 +32,7 @@ mod slice;
 // What a journal is made of.
 mod entry;
 
+pub use ack::Ack;
 pub use document::{Doc, Field};
 pub use entry::Entry;
 pub use id::{Id, IdFault, MAX_ID_LENGTH};

@@ -1,2 +1,2 @@
-pub mod RunLaws
+pub mod RunLemmas
 pub mod WordLaws

@@ -2,7 +2,7 @@ use Rattle.std.proofs.Common.{ℕ, Option, refl, sym, subst}
 use Rattle.sc_model.specs.Served.{IsServed}
 use Rattle.sc_session.specs.Table.{journals, own_places}
 use Rattle.solr_split.specs.Running.{clock_of}
-use Rattle.solr_split.proofs.RunLaws.{served_at}
+use Rattle.solr_split.proofs.RunLemmas.{served_at}
 use Rattle.solr_split.proofs.run.serve_script.Goals as goal
 
 pub returns-in-Some-clause-served : goal.returns-in-Some-clause-served

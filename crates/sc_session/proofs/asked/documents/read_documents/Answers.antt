@@ -3,7 +3,7 @@ use Rattle.std.proofs.lemmas.Result.{IfOk-weaker}
 use Rattle.serde_json.specs.View.{view}
 use Rattle.serde_json.proofs.Views.{view-Array}
 use Rattle.sc_model.specs.Requests as asking
-use Rattle.sc_session.proofs.Items.{documents_within, documents_beyond}
+use Rattle.sc_session.proofs.ItemLemmas.{documents_within, documents_beyond}
 use Rattle.sc_session.proofs.asked.documents.read_documents.Goals as goal
 
 pub returns-then-len-gt-MAX_DOCUMENTS : goal.returns-then-len-gt-MAX_DOCUMENTS

@@ -2,14 +2,14 @@
 use Rattle.std.proofs.Common.{◌≡◌, ℕ, List, [], ◌∷◌, Option, Some, refl, ap, ◌∙◌}
 use Rattle.sc_io.specs.declared.memory.Fixed.{Fixed}
 use Rattle.sc_model.specs.Answers.{Journals}
-use Rattle.sc_model.specs.Served.{GivesMoments, IsServed}
+use Rattle.sc_model.specs.Served.{GivesTimestamps, IsServed}
 use Rattle.sc_model.specs.declared.connection.End.{End}
 use Rattle.sc_model.specs.declared.stop.Stop.{Stop}
 use Rattle.solr_split.specs.Running.{clock_of}
 
 -- the moments of a fixed clock are those of a script that names one
 pub fixed_moments : {C : Type 0} (gives : C → ℕ → C → Type 0) (moment : ℕ) (clock : C) (moments : List ℕ) (old new : Fixed) → old.moment ≡ moment
-    → GivesMoments (λ (s : Fixed) (now : ℕ) (t : Fixed). (now ≡ s.moment) × (t ≡ s)) old moments new → GivesMoments (clock_of (Some moment) gives) clock moments clock
+    → GivesTimestamps (λ (s : Fixed) (now : ℕ) (t : Fixed). (now ≡ s.moment) × (t ≡ s)) old moments new → GivesTimestamps (clock_of (Some moment) gives) clock moments clock
 fixed_moments gives moment clock [] old new e g = refl
 fixed_moments gives moment clock (now ∷ moments) old new e g = (clock, (g.1.0 ∙ e, refl), fixed_moments gives moment clock moments g.0 new (ap (λ (f : Fixed). f.moment) g.1.1 ∙ e) g.2)
 

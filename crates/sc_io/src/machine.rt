@@ -36,8 +36,8 @@ impl<R: Input> Source for StdSource<R> {
     fn read(&mut self, into: &mut [u8]) -> Result<usize, Failed>
         requires { 0 < length into.old }
         ensures bounded { IfOk result (λ n. n ≤ length into.new) }
+        ensures steady { OnOk result (self.new.faults ≡ self.old.faults) }
         ensures cause { OnErr result (self.new.faults ≡ self.old.faults + 1) }
-        ensures no_fault { OnOk result (self.new.faults ≡ self.old.faults) }
     {
         match self.input.read(into) {
             Ok(count) => Ok(count),
@@ -75,8 +75,8 @@ impl<R: Print> Sink for StdSink<R> {
     ghost faults = { λ s. s.faults };
 
     fn write(&mut self, piece: &[u8]) -> Result<(), Failed>
+        ensures steady { OnOk result (self.new.faults ≡ self.old.faults) }
         ensures cause { OnErr result (self.new.faults ≡ self.old.faults + 1) }
-        ensures no_fault { OnOk result (self.new.faults ≡ self.old.faults) }
     {
         match self.output.write_all(piece) {
             Ok(()) => Ok(()),

@@ -59,8 +59,8 @@ impl Source for MemSource {
             (Some (drop self.new.at self.new.bytes))) }
         ensures end { result ≡ Ok 0 → drop self.old.at self.old.bytes ≡ [] }
         ensures failed { OnErr result (self.new.at ≡ self.old.at) }
+        ensures steady { OnOk result (self.new.faults ≡ self.old.faults) }
         ensures cause { OnErr result (self.new.faults ≡ self.old.faults + 1) }
-        ensures no_fault { OnOk result (self.new.faults ≡ self.old.faults) }
 
         ensures fails { IsErr result ↔ Contains self.old.fails self.old.calls }
         ensures piece { IfOk result (λ n. n ≡ min (min (length self.old.bytes - self.old.at) self.old.most) (length into.old)) }
@@ -137,8 +137,8 @@ impl Sink for MemSink {
     fn write(&mut self, piece: &[u8]) -> Result<(), Failed>
         ensures whole { OnOk result (self.new.bytes ≡ self.old.bytes ++ piece.now) }
         ensures failed { OnErr result (self.new.bytes ≡ self.old.bytes) }
+        ensures steady { OnOk result (self.new.faults ≡ self.old.faults) }
         ensures cause { OnErr result (self.new.faults ≡ self.old.faults + 1) }
-        ensures no_fault { OnOk result (self.new.faults ≡ self.old.faults) }
 
         ensures fails { Contains self.old.fails self.old.calls → IsErr result }
         ensures counted { self.new.calls ≡ min (self.old.calls + 1) (2 ^ 64 - 1) }

@@ -17,6 +17,7 @@ pub trait Sink {
             (λ bytes. written self.new ≡ Some (bytes ++ piece.now))) }
         ensures failed { OnErr result (IfSome (written self.old)
             (λ bytes. AddsFront bytes piece.now (written self.new))) }
+        ensures steady { OnOk result (faults self.new ≡ faults self.old) }
         ensures cause { OnErr result (faults self.old < faults self.new) }
         ensures no_fall { faults self.old ≤ faults self.new };
 }

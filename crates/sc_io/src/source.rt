@@ -1,4 +1,4 @@
-ghost use Rattle.std.specs.Prelude.{◌≡◌, ℕ, ◌<◌, ◌≤◌, List, [], Option, length, take, IfOk, IfSome, OnErr};
+ghost use Rattle.std.specs.Prelude.{◌≡◌, ℕ, ◌<◌, ◌≤◌, List, [], Option, length, take, IfOk, IfSome, OnOk, OnErr};
 ghost use Rattle.sc_io.specs.Pieces.{TakesFront};
 
 use crate::fault::Failed;
@@ -20,6 +20,7 @@ pub trait Source {
             (λ bytes. TakesFront (take n into.new) bytes (rest self.new))) }
         ensures end { result ≡ Ok 0 → IfSome (rest self.old) (λ bytes. bytes ≡ []) }
         ensures failed { OnErr result (rest self.new ≡ rest self.old) }
+        ensures steady { OnOk result (faults self.new ≡ faults self.old) }
         ensures cause { OnErr result (faults self.old < faults self.new) }
         ensures no_fall { faults self.old ≤ faults self.new };
 }

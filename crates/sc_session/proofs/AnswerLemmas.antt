@@ -74,30 +74,31 @@ full_same : (versions : Bool) (shown acks : List (List ℕ × ℤ)) → (version
 full_same true shown acks h = ap (log_full_reply true) (h refl)
 full_same false shown acks h = refl
 
+-- what orders leave that were answered so
+abbrev pub orders_trace : List OrderAnswer → Trace
+orders_trace answers = record {
+  answers = answers;
+  timestamps = map (λ (answer : OrderAnswer). answer.timestamp) answers;
+  stops = flat_map (λ (answer : OrderAnswer). answer.stops) answers;
+}
+
 -- orders that came to this end are answered so
 pub added : {C : Type 0} (gives : C → ℕ → C → Type 0) (limit : ℕ) (orders : List Order) (versions : Bool) (J K : List Entry) (a b : C) (old new : List Stop) (shown : List (List ℕ × ℤ)) (end : Option Outcome) (reply : Reply)
     → AnswersBatch gives limit orders versions J K a b old new shown end → ReportsEnd versions shown end reply
     → AnswersAsked gives limit (add orders versions) J K a b old new reply
 added gives limit orders versions J K a b old new shown end reply batch reports = record {
-  trace = trace;
+  trace = orders_trace batch.answers;
   steps = batch.steps;
   kept = batch.kept;
   given = batch.timestamps;
   answered = λ later begins. by_end end batch.ends_as reports later (batch.answered later begins);
 }
   where
-    abbrev trace : Trace
-    trace = record {
-      answers = batch.answers;
-      timestamps = map (λ (answer : OrderAnswer). answer.timestamp) batch.answers;
-      stops = flat_map (λ (answer : OrderAnswer). answer.stops) batch.answers;
-    }
-
-    of : IsOfOrders trace
+    of : IsOfOrders (orders_trace batch.answers)
     of = record { timestamps_are = refl; stops_are = refl }
 
     by_end : (o : Option Outcome) → EndsAs o orders batch.answers → ReportsEnd versions shown o reply → (later : List Entry) → AnswersOrders limit (journals later) orders batch.answers
-        → IsReply limit (journals later) (add orders versions) trace reply ⊎ IsOutOfMemory limit (journals later) (add orders versions) trace reply
+        → IsReply limit (journals later) (add orders versions) (orders_trace batch.answers) reply ⊎ IsOutOfMemory limit (journals later) (add orders versions) (orders_trace batch.answers) reply
     by_end None e t later answered = elim t [
       | inl r ↦ inl (answered, of, inl (e, r ∙ update_same versions shown (acks_of batch.answers) batch.shown_are))
       | inr m ↦ inr (m, (answered, of))

@@ -1,3 +1,4 @@
+-- The lemmas of this crate, lowest first.
 pub mod JsonLemmas
 pub mod MemberLemmas
 pub mod ItemLemmas

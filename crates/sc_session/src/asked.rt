@@ -13,8 +13,6 @@ mod get;
 mod member;
 mod orders;
 mod raw;
-#[cfg(test)]
-mod tests;
 mod update;
 
 /// An order to add a document.

@@ -19,6 +19,8 @@ mod trail;
 mod answer;
 mod batch;
 mod connection;
+#[cfg(test)]
+mod tests;
 
 pub use connection::serve;
 pub use plain::Plain;

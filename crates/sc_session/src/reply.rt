@@ -5,8 +5,6 @@ use std::borrow::CowStr;
 pub mod document;
 pub mod fixed;
 mod parts;
-#[cfg(test)]
-mod tests;
 pub mod update;
 
 /// The answer to a request: a status, and a body that is fixed or was made for it.

@@ -1,3 +1,4 @@
+-- The reply to an update is that of what its orders came to.
 use Rattle.std.proofs.Common.{map}
 use Rattle.sc_session.specs.Answering.{reply_of}
 use Rattle.sc_session.specs.Asking.{order_view}

@@ -1,3 +1,4 @@
+-- Each request is answered by what it asks for.
 use Rattle.std.proofs.Common.{◌≡◌, ◌≤◌, length, map, refl, sym, ap, ◌∙◌, subst, arith, inl}
 use Rattle.std.proofs.lemmas.List.{length-map}
 use Rattle.sc_model.specs.declared.limits.TheConstants.{MAX_ORDERS}
@@ -24,25 +25,25 @@ pub returns-in-Ok-NotFound-clause-answers : goal.returns-in-Ok-NotFound-clause-a
 returns-in-Ok-NotFound-clause-answers g c =
     let e : asked c.args.request.now ≡ not_found = sym c.in-Ok-NotFound.ensures ∙ ap asked_of c.in-Ok-NotFound.field-0-is in
     subst (λ (a : Asked). AnswersAsked g.C.Clock.gives c.args.table.now.limit a c.args.table.now.journal c.args.table.now.journal c.args.clock.now c.args.clock.now c.args.trail.now.stops c.args.trail.now.stops (reply_of c.not_found.result)) (sym e)
-    (answered_at_once g.C.Clock.gives c.args.table.now.limit not_found c.args.table.now.journal c.args.clock.now c.args.trail.now.stops (reply_of c.not_found.result) (λ later. inl ((refl, c.not_found.ensures))))
+    (answered_at_once g.C.Clock.gives c.args.table.now.limit not_found c.args.table.now.journal c.args.clock.now c.args.trail.now.stops (reply_of c.not_found.result) (λ later. inl (refl, c.not_found.ensures)))
 
 pub returns-in-Ok-NotBuilt-clause-answers : goal.returns-in-Ok-NotBuilt-clause-answers
 returns-in-Ok-NotBuilt-clause-answers g c =
     let e : asked c.args.request.now ≡ not_built = sym c.in-Ok-NotBuilt.ensures ∙ ap asked_of c.in-Ok-NotBuilt.field-0-is in
     subst (λ (a : Asked). AnswersAsked g.C.Clock.gives c.args.table.now.limit a c.args.table.now.journal c.args.table.now.journal c.args.clock.now c.args.clock.now c.args.trail.now.stops c.args.trail.now.stops (reply_of c.not_built.result)) (sym e)
-    (answered_at_once g.C.Clock.gives c.args.table.now.limit not_built c.args.table.now.journal c.args.clock.now c.args.trail.now.stops (reply_of c.not_built.result) (λ later. inl ((refl, c.not_built.ensures))))
+    (answered_at_once g.C.Clock.gives c.args.table.now.limit not_built c.args.table.now.journal c.args.clock.now c.args.trail.now.stops (reply_of c.not_built.result) (λ later. inl (refl, c.not_built.ensures)))
 
 pub returns-in-Ok-BadJson-clause-answers : goal.returns-in-Ok-BadJson-clause-answers
 returns-in-Ok-BadJson-clause-answers g c =
     let e : asked c.args.request.now ≡ bad_json = sym c.in-Ok-BadJson.ensures ∙ ap asked_of c.in-Ok-BadJson.field-0-is in
     subst (λ (a : Asked). AnswersAsked g.C.Clock.gives c.args.table.now.limit a c.args.table.now.journal c.args.table.now.journal c.args.clock.now c.args.clock.now c.args.trail.now.stops c.args.trail.now.stops (reply_of c.bad_json.result)) (sym e)
-    (answered_at_once g.C.Clock.gives c.args.table.now.limit bad_json c.args.table.now.journal c.args.clock.now c.args.trail.now.stops (reply_of c.bad_json.result) (λ later. inl ((refl, c.bad_json.ensures))))
+    (answered_at_once g.C.Clock.gives c.args.table.now.limit bad_json c.args.table.now.journal c.args.clock.now c.args.trail.now.stops (reply_of c.bad_json.result) (λ later. inl (refl, c.bad_json.ensures)))
 
 pub returns-in-Ok-NoId-clause-answers : goal.returns-in-Ok-NoId-clause-answers
 returns-in-Ok-NoId-clause-answers g c =
     let e : asked c.args.request.now ≡ no_id = sym c.in-Ok-NoId.ensures ∙ ap asked_of c.in-Ok-NoId.field-0-is in
     subst (λ (a : Asked). AnswersAsked g.C.Clock.gives c.args.table.now.limit a c.args.table.now.journal c.args.table.now.journal c.args.clock.now c.args.clock.now c.args.trail.now.stops c.args.trail.now.stops (reply_of c.no_id.result)) (sym e)
-    (answered_at_once g.C.Clock.gives c.args.table.now.limit no_id c.args.table.now.journal c.args.clock.now c.args.trail.now.stops (reply_of c.no_id.result) (λ later. inl ((refl, c.no_id.ensures))))
+    (answered_at_once g.C.Clock.gives c.args.table.now.limit no_id c.args.table.now.journal c.args.clock.now c.args.trail.now.stops (reply_of c.no_id.result) (λ later. inl (refl, c.no_id.ensures)))
 
 pub returns-in-Ok-Get-clause-answers : goal.returns-in-Ok-Get-clause-answers
 returns-in-Ok-Get-clause-answers g c =

@@ -1,3 +1,4 @@
+-- The reply to a get is that of the journal at its stop.
 use Rattle.std.proofs.Common.{◌≡◌, List, ◌∷◌, [], ◌++◌, length, sym, ap, ◌∙◌, subst}
 use Rattle.sc_model.specs.Journal.{last_write}
 use Rattle.sc_model.specs.Replies.{get_reply}

@@ -1,3 +1,4 @@
+-- Orders that found no room are refused with what was accepted before.
 use Rattle.std.proofs.Common.{map, Some, sym, subst}
 use Rattle.sc_model.specs.Replies.{log_full_reply}
 use Rattle.sc_session.specs.Answering.{ReportsEnd, reply_of}

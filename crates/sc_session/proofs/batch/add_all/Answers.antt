@@ -1,3 +1,4 @@
+-- One order more is answered after those that were accepted.
 use Rattle.std.proofs.Common.{◌+◌, ◌≤◌, List, [], ◌∷◌, ◌++◌, reverse, map, Ok, None, refl, sym, ap, ◌∙◌, subst, arith, length-append, vec_len, vec_capacity}
 use Rattle.sc_session.specs.Asking.{order_view}
 use Rattle.sc_session.specs.Replying.{ack_view}

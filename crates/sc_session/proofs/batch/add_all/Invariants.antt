@@ -1,3 +1,4 @@
+-- The first orders were accepted, and the others are left.
 use Rattle.std.proofs.Common.{◌≡◌, ◌+◌, ◌≤◌, true, ◌++◌, length, reverse, map, vec_len, vec_capacity, None, List}
 use Rattle.sc_model.specs.Orders.{Order}
 use Rattle.sc_session.specs.Asking.{order_view}
@@ -5,7 +6,7 @@ use Rattle.sc_session.specs.Replying.{ack_view}
 use Rattle.sc_session.specs.Batch.{AnswersBatch}
 use Rattle.sc_session.proofs.batch.add_all.Given as goal
 
--- a front of the orders was accepted, and the others stand in the list, the last of them first
+-- the orders of a prefix were accepted, and the others stand in the list, the last of them first
 abbrev pub invariant-loop-order : goal.invariant-loop-order
 invariant-loop-order g l = record {
   done : (front : List Order) × (front ++ map order_view (reverse l.orders.items) ≡ map order_view l.fn.orders.items)

@@ -1,3 +1,4 @@
+-- One order is answered, by the journal at its stops.
 use Rattle.std.proofs.Common.{◌≡◌, ◌+◌, ℤ, List, [], ◌∷◌, ◌++◌, length, Ok, Err, Some, None, sym, ap, ◌∙◌, subst, to_z, of_z, w64, arith}
 use Rattle.std.proofs.lemmas.Int.{ints}
 use Rattle.std.specs.Option.{option_map}

@@ -1,3 +1,4 @@
+-- One request is answered, and its reply written.
 use Rattle.std.proofs.Common.{◌≡◌, ◌+◌, Bool, ◌||◌, cond, refl, ap, ◌∙◌, subst}
 use Rattle.sc_model.specs.declared.connection.End.{End}
 use Rattle.sc_model.specs.declared.connection.End.TheVariants as ends

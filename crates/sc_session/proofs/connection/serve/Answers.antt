@@ -1,3 +1,4 @@
+-- The connection stays open from request to request, and its end keeps the promise.
 use Rattle.std.proofs.Common.{ℕ, List, [], Some, None, Err, refl, sym, ap, ◌∙◌, subst, arith}
 use Rattle.sc_model.specs.Connection.{out_of_memory}
 use Rattle.sc_session.specs.Ends.{last_without_request}
@@ -24,8 +25,8 @@ loop-request-init g c = record {
       (open_first g.C.Clock.gives c.args.table.now.limit c.args.table.now.journal c.args.clock.now (g.S.Source.rest c.args.source.now) (g.W.Sink.written c.args.sink.now)));
   legal = c.entries.ensures.legal;
   limit = refl;
-  source_faults = omega arith;
-  sink_faults = omega arith;
+  source_faults = refl;
+  sink_faults = refl;
 }
 
 pub returns-in-Some-clause-connection : goal.returns-in-Some-clause-connection
@@ -47,8 +48,8 @@ loop-request-preserved g c =
           c.in-Ok-next_message.ensures.told c.in-Ok-next_message.ensures.message;
       legal = c.exchange.ensures.legal;
       limit = c.exchange.ensures.limit ∙ c.loop-request.invariant.limit;
-      source_faults = omega (arith, c.in-Ok-next_message.ensures.no_fall, c.loop-request.invariant.source_faults);
-      sink_faults = omega (arith, c.exchange.ensures.no_fall, c.loop-request.invariant.sink_faults);
+      source_faults = c.in-Ok-next_message.ensures.steady (λ e. absurd (cc)) ∙ c.loop-request.invariant.source_faults;
+      sink_faults = c.in_default.ensures.no_write_fault (λ e. absurd (cc)) ∙ c.loop-request.invariant.sink_faults;
     }
 
 pub returns-in-Err-next_message-clause-connection :

@@ -1,3 +1,4 @@
+-- The connection is open, and no read or write has failed.
 use Rattle.std.proofs.Common.{◌≡◌, ◌≤◌, ◌-◌}
 use Rattle.sc_model.specs.Legal.{IsLegal}
 use Rattle.sc_session.proofs.OpenLemmas.{IsOpen}

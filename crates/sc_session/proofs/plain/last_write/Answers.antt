@@ -1,3 +1,4 @@
+-- The first write of the id from the end is its last.
 use Rattle.std.proofs.Common.{◌-◌, [], ◌∷◌, arith, sym, ap, ◌∙◌, cond}
 use Rattle.std.specs.Arc.{arc_value}
 use Rattle.std.specs.Str.{bytes_eq}

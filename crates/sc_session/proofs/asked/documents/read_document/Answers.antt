@@ -1,3 +1,4 @@
+-- One more member keeps the document that an object's members are.
 use Rattle.std.proofs.Common.{List, option_map, sym, ap, ◌∙◌, string_bytes}
 use Rattle.serde_json.specs.View.{view, members_view}
 use Rattle.serde_json.proofs.Views.{Entry}

@@ -1,3 +1,4 @@
+-- The members so far are an id and fields, whose names ascend.
 use Rattle.std.proofs.Common.{◌≡◌, ◌≤◌, length, option_map}
 use Rattle.std.specs.Option.{ForSome}
 use Rattle.serde_json.specs.View.{members_view}

@@ -1,3 +1,4 @@
+-- The orders so far are those of the documents that were looked at.
 use Rattle.std.proofs.Common.{◌≡◌, ◌++◌, map, option_map}
 use Rattle.std.specs.Vec.Iter.{into_iter_items}
 use Rattle.sc_model.specs.Requests as asking

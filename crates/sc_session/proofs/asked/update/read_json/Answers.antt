@@ -1,3 +1,4 @@
+-- Bytes that are no JSON, or no UTF-8, have no value.
 use Rattle.std.proofs.Common.{sym, ap, ◌∙◌}
 use Rattle.serde_json.specs.Read.{read}
 use Rattle.sc_session.proofs.JsonLemmas.{json_of_text, json_of_other}

@@ -1,3 +1,4 @@
+-- The write and the entry that settles it keep the table sound.
 use Rattle.std.proofs.Common.{◌≡◌, ◌≤◌, ◌^◌, [], ◌∷◌, ◌++◌, length, w64, ℤ, to_z, of_z, arith, List, sym, ap, ◌∙◌, subst, append_assoc}
 use Rattle.std.specs.Arc.{arc_value}
 use Rattle.std.proofs.lemmas.Int.{ints}

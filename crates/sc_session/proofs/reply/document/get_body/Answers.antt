@@ -1,3 +1,4 @@
+-- The text of a get is that of its document.
 use Rattle.std.proofs.Common.{◌≡◌, false, codes, option_map, option_copied}
 use Rattle.std.specs.Arc.{arc_value}
 use Rattle.serde_json.specs.View.{view, members_view}

@@ -1,3 +1,4 @@
+-- The values so far are the ids and the versions of the additions.
 use Rattle.std.proofs.Common.{◌≡◌, ◌∷◌, [], map, take}
 use Rattle.std.specs.List.{flat_map}
 use Rattle.serde_json.specs.Data.{string}

@@ -1,3 +1,4 @@
+-- The text of a refusal is that of its members.
 use Rattle.std.proofs.Common.{◌≡◌, false, map}
 use Rattle.serde_json.specs.View.{members_view}
 use Rattle.serde_json.specs.Written.{members_have_float}

@@ -1,11 +1,11 @@
 -- What a call took from a source, where the source tells its bytes.
 use Rattle.std.specs.Prelude.{◌≡◌, ◌<◌, ℕ, List, [], ◌++◌, length, Option, Some, IfSome}
-use Rattle.sc_io.specs.Pieces.{TakesFront}
+use Rattle.sc_io.specs.Pieces.{TakesPrefix}
 use Rattle.sc_model.specs.Messages.{HasNoMessage}
 
 -- the source gave these bytes, by what it had to give before and what it has then
 abbrev pub Gives : List ℕ → Option (List ℕ) → Option (List ℕ) → Type 0
-Gives piece old new = IfSome old (λ bytes. TakesFront piece bytes new)
+Gives piece old new = IfSome old (λ bytes. TakesPrefix piece bytes new)
 
 -- the bytes grew by some that the source gave
 pub record Grows (before after : List ℕ) (old new : Option (List ℕ)) : Type 0 where

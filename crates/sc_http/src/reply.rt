@@ -1,17 +1,17 @@
 ghost use Rattle.std.specs.Prelude.{◌≡◌, ◌<◌, ◌≤◌, ◌+◌, ◌++◌, length, decimal, Some, IsSome, IfSome, OnOk, OnErr};
-ghost use Rattle.sc_io.specs.Pieces.{AddsFront};
-ghost use Rattle.arrayvec.specs.ArrayString.{array_string_len};
-ghost use Rattle.sc_http.specs.ReplyHead.{head_text};
+ghost use Rattle.sc_io.specs.Pieces.{AddsPrefix};
+ghost use Rattle.arrayvec.specs.ArrayVec.{array_vec_len};
+ghost use Rattle.sc_http.specs.ReplyHead.{head_text, one_write_limit};
 ghost use Rattle.sc_model.specs.Replies.{Reply, reason_of, close_line, text_of};
 
-use arrayvec::ArrayString;
+use arrayvec::ArrayVec;
 use sc_io::{Failed, Sink};
 
-/// The most bytes of a reply's head.
-const MAX_HEAD: usize = 192;
+/// The most bytes of a reply that is written at once, its head and its body together.
+const ONE_WRITE: usize = 4096;
 
-/// Writes a reply whose body is JSON (RFC 9112, section 4; RFC 8259), in at most two writes. `close`
-/// says that the connection is closed behind it.
+/// Writes a reply whose body is JSON (RFC 9112, section 4; RFC 8259): at once where it has at most 4,096 bytes, else
+/// its head and then its body. `close` says that the connection is closed after it. It takes no memory.
 pub fn write_reply<W: Sink>(
     sink: &mut W,
     status: u16,
@@ -22,33 +22,51 @@ pub fn write_reply<W: Sink>(
     ensures ok { OnOk result (IfSome (W.written sink.old)
         (λ bytes. W.written sink.new ≡ Some (bytes ++ text_of (record { status = status; body = body.now }) close))) }
     ensures err { OnErr result (IfSome (W.written sink.old)
-        (λ bytes. AddsFront bytes (text_of (record { status = status; body = body.now }) close) (W.written sink.new))) }
+        (λ bytes. AddsPrefix bytes (text_of (record { status = status; body = body.now }) close) (W.written sink.new))) }
+    ensures steady { OnOk result (W.faults sink.new ≡ W.faults sink.old) }
     ensures cause { OnErr result (W.faults sink.old < W.faults sink.new) }
     ensures no_fall { W.faults sink.old ≤ W.faults sink.new }
+    ensures two_writes { W.calls sink.new ≤ W.calls sink.old + 2 }
+    ensures one_write { length (text_of (record { status = status; body = body.now }) close) ≤ one_write_limit
+        → W.calls sink.new ≤ W.calls sink.old + 1 }
 {
-    let head = head_of(status, body.len(), close);
-    sink.write(head.as_str().as_bytes())?;
-    if !body.is_empty() {
-        sink.write(body)?;
+    let mut reply = head_of(status, body.len(), close);
+    match reply.try_extend_from_slice(body) {
+        Ok(()) => sink.write(reply.as_slice()),
+        Err(_) => write_both(sink, reply.as_slice(), body),
     }
-    Ok(())
+}
+
+/// Writes the head and then the body.
+fn write_both<W: Sink>(sink: &mut W, head: &[u8], body: &[u8]) -> Result<(), Failed>
+    ensures ok { OnOk result (IfSome (W.written sink.old) (λ bytes. W.written sink.new ≡ Some (bytes ++ (head.now ++ body.now)))) }
+    ensures err { OnErr result (IfSome (W.written sink.old) (λ bytes. AddsPrefix bytes (head.now ++ body.now) (W.written sink.new))) }
+    ensures steady { OnOk result (W.faults sink.new ≡ W.faults sink.old) }
+    ensures cause { OnErr result (W.faults sink.old < W.faults sink.new) }
+    ensures two_writes { W.calls sink.new ≤ W.calls sink.old + 2 }
+{
+    sink.write(head)?;
+    sink.write(body)
 }
 
 /// The bytes of a reply up to its body.
-fn head_of(status: u16, length: usize, close: bool) -> ArrayString<MAX_HEAD>
+fn head_of(status: u16, length: usize, close: bool) -> ArrayVec<u8, ONE_WRITE>
     requires { IsSome (reason_of status) }
-    ensures { result.bytes ≡ head_text status length close }
+    ensures { result.items ≡ head_text status length close }
 {
-    let mut head = ArrayString::new();
-    head.push_str("HTTP/1.1 ");
-    push_decimal(&mut head, status as usize);
-    head.push_str(" ");
-    head.push_str(reason_of(status));
-    head.push_str("\r\nContent-Type: application/json;charset=utf-8\r\nContent-Length: ");
-    push_decimal(&mut head, length);
-    head.push_str("\r\n");
-    head.push_str(close_line(close));
-    head.push_str("\r\n");
+    let mut head = ArrayVec::new();
+    put(&mut head, "HTTP/1.1 ");
+    put_decimal(&mut head, status as usize);
+    put(&mut head, " ");
+    put(&mut head, reason_of(status));
+    put(
+        &mut head,
+        "\r\nContent-Type: application/json;charset=utf-8\r\nContent-Length: ",
+    );
+    put_decimal(&mut head, length);
+    put(&mut head, "\r\n");
+    put(&mut head, close_line(close));
+    put(&mut head, "\r\n");
     head
 }
 
@@ -60,17 +78,26 @@ fn close_line(close: bool) -> &'static str
     if close { "Connection: close\r\n" } else { "" }
 }
 
-/// Puts the number behind what is there, in decimal.
-fn push_decimal(text: &mut ArrayString<MAX_HEAD>, number: usize)
-    requires { array_string_len text.old + 21 ≤ MAX_HEAD }
-    ensures bytes { text.new.bytes ≡ text.old.bytes ++ decimal number }
-    ensures len { array_string_len text.new ≡ array_string_len text.old + length (decimal number) }
+/// Puts the text after what is there.
+fn put(bytes: &mut ArrayVec<u8, ONE_WRITE>, text: &str)
+    requires { array_vec_len bytes.old + length text.now ≤ ONE_WRITE }
+    ensures items { bytes.new.items ≡ bytes.old.items ++ text.now }
+    ensures len { array_vec_len bytes.new ≡ array_vec_len bytes.old + length text.now }
+{
+    let _fits = bytes.try_extend_from_slice(text.as_bytes());
+}
+
+/// Puts the number after what is there, in decimal.
+fn put_decimal(bytes: &mut ArrayVec<u8, ONE_WRITE>, number: usize)
+    requires { array_vec_len bytes.old + 21 ≤ ONE_WRITE }
+    ensures items { bytes.new.items ≡ bytes.old.items ++ decimal number }
+    ensures len { array_vec_len bytes.new ≡ array_vec_len bytes.old + length (decimal number) }
     ensures short { length (decimal number) ≤ 20 }
 {
     if number >= 10 {
-        push_decimal(text, number / 10);
+        put_decimal(bytes, number / 10);
     }
-    text.push((b'0' + (number % 10) as u8) as char);
+    bytes.push(b'0' + (number % 10) as u8);
 }
 
 /// The reason of a status.

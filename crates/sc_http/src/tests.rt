@@ -177,10 +177,31 @@ fn a_reply_is_written(rt: HostRuntime) -> Result<(), Fail> {
     let mut sink = MemSink::new(alloc, List::new(alloc));
     write_reply(&mut sink, 200, b"{\"doc\":null}", false)?;
     write_reply(&mut sink, 413, b"", true)?;
-    assert_eq!(rt; sink.calls, 3);
+    assert_eq!(rt; sink.calls, 2);
     assert_eq!(rt;
         sink.bytes.as_slice(),
         b"HTTP/1.1 200 OK\r\nContent-Type: application/json;charset=utf-8\r\nContent-Length: 12\r\n\r\n{\"doc\":null}HTTP/1.1 413 Content Too Large\r\nContent-Type: application/json;charset=utf-8\r\nContent-Length: 0\r\nConnection: close\r\n\r\n".as_slice()
     );
+    Ok(())
+}
+
+#[test]
+fn a_reply_of_at_most_4096_bytes_takes_one_write(rt: HostRuntime) -> Result<(), Fail> {
+    let alloc = rt.alloc();
+    let head =
+        "HTTP/1.1 200 OK\r\nContent-Type: application/json;charset=utf-8\r\nContent-Length: 4009\r\n\r\n";
+    // the head has 87 bytes where the body has four digits of them
+    for (length, calls) in [(4008, 1), (4009, 1), (4010, 2), (200_000, 2)] {
+        let mut body = Vec::new(alloc);
+        body.resize(length, b'x')?;
+        let mut sink = MemSink::new(alloc, List::new(alloc));
+        write_reply(&mut sink, 200, body.as_slice(), false)?;
+        assert_eq!(rt; sink.calls, calls);
+        assert!(rt; sink.bytes.as_slice().ends_with(body.as_slice()));
+        assert_eq!(rt;
+            length == 4009,
+            sink.bytes.as_slice().starts_with(head.as_bytes())
+        );
+    }
     Ok(())
 }

@@ -1,2 +1,3 @@
--- What the proofs of readers share.
-pub mod Taken
+-- What the proofs of readers and of writers share.
+pub mod TakenLemmas
+pub mod WrittenLemmas

@@ -1,6 +1,6 @@
 -- A clock that has its moments in a list.
 use Rattle.std.specs.Prelude.{ℕ, ◌+◌, List, length, nat_lt, if◌then◌else◌}
 
--- the place behind this one, and at the last place that place again
+-- the place after this one, and at the last place that place again
 abbrev pub next_place : List ℕ → ℕ → ℕ
 next_place moments at = if nat_lt (at + 1) (length moments) then at + 1 else at

@@ -1,5 +1,5 @@
 ghost use Rattle.std.specs.Prelude.{◌≡◌, ℕ, ◌+◌, ◌-◌, ◌^◌, ◌<◌, ◌≤◌, ◌↔◌, List, [], ◌++◌, length, take, drop, min, Some, None, IfOk, IfSome, IsErr, OnOk, OnErr, Contains, slice_index, if◌then◌else◌};
-ghost use Rattle.sc_io.specs.Pieces.{TakesFront, AddsFront};
+ghost use Rattle.sc_io.specs.Pieces.{TakesPrefix, AddsPrefix};
 ghost use Rattle.sc_io.specs.Moments.{next_place};
 
 use crate::clock::Clock;
@@ -55,7 +55,7 @@ impl Source for MemSource {
     fn read(&mut self, into: &mut [u8]) -> Result<usize, Failed>
         requires { 0 < length into.old }
         ensures bounded { IfOk result (λ n. n ≤ length into.new) }
-        ensures taken { IfOk result (λ n. TakesFront (take n into.new) (drop self.old.at self.old.bytes)
+        ensures taken { IfOk result (λ n. TakesPrefix (take n into.new) (drop self.old.at self.old.bytes)
             (Some (drop self.new.at self.new.bytes))) }
         ensures end { result ≡ Ok 0 → drop self.old.at self.old.bytes ≡ [] }
         ensures failed { OnErr result (self.new.at ≡ self.old.at) }
@@ -134,6 +134,8 @@ impl Sink for MemSink {
 
     ghost faults = { λ s. s.faults };
 
+    ghost calls = { λ s. s.calls };
+
     fn write(&mut self, piece: &[u8]) -> Result<(), Failed>
         ensures whole { OnOk result (self.new.bytes ≡ self.old.bytes ++ piece.now) }
         ensures failed { OnErr result (self.new.bytes ≡ self.old.bytes) }
@@ -142,6 +144,7 @@ impl Sink for MemSink {
 
         ensures fails { Contains self.old.fails self.old.calls → IsErr result }
         ensures counted { self.new.calls ≡ min (self.old.calls + 1) (2 ^ 64 - 1) }
+        ensures kept_count { self.old.calls ≤ self.new.calls }
         ensures kept_fails { self.new.fails ≡ self.old.fails }
     {
         let call = self.calls;
@@ -223,6 +226,8 @@ impl Sink for Never {
     ghost written = { λ _. None };
 
     ghost faults = { λ _. 0 };
+
+    ghost calls = { λ _. 0 };
 
     fn write(&mut self, piece: &[u8]) -> Result<(), Failed>
         ensures { result ≡ Ok tt }

@@ -5,10 +5,8 @@ use crate::{
     StdSource,
 };
 use sc_record::List;
-use std::alloc::{AllocError, Allocator, Global};
-use std::cell::RefCell;
-use std::fmt::Display;
-use std::io::{BufRead, ErrorKind, Lines, Read};
+use std::alloc::{AllocError, Global};
+use std::io::{ErrorKind, Read, Write};
 use std::process::Abort;
 use std::test::Fail;
 use std::time::Duration;
@@ -157,71 +155,53 @@ impl Read for Pipe {
     }
 }
 
-impl BufRead for Pipe {
-    fn fill_buf(&mut self) -> io::Result<&[u8]> {
-        Err(io::Error::from(ErrorKind::Unsupported))
-    }
-
-    fn consume(&mut self, _amount: usize) {}
-}
-
-#[derive(Drop)]
-struct Piped;
-
-impl Input for Piped {
-    type Reader = Pipe;
-
-    fn read_line<A: Allocator + Clone>(&self, buf: &mut String<A>) -> io::Result<usize> {
-        self.reader().read_line(buf)
-    }
-
-    fn lines<A: Allocator>(&self, alloc: A) -> Lines<Pipe, A> {
-        self.reader().lines(alloc)
-    }
-
-    fn reader(&self) -> Pipe {
-        Pipe { calls: 0 }
-    }
-}
-
 #[test]
 fn standard_input_is_read_on_after_an_interrupted_read(rt: HostRuntime) -> Result<(), Fail> {
     let alloc = rt.alloc();
-    let mut source = StdSource::new(&Piped);
+    let mut source = StdSource::new(Pipe { calls: 0 });
     let given = reads(alloc, &mut source, &mut [0; 3], 4)?;
     assert_eq!(rt; given.as_slice(), b"abc|!|de||".as_slice());
     assert_eq!(rt; source.faults.count(), 1);
     Ok(())
 }
 
-// An output that keeps what is written to it, and refuses what has a line feed.
+// An output that takes two bytes at most, is interrupted at every other write, and refuses a line feed.
 #[derive(Drop)]
-struct Paper(RefCell<Vec<u8>>);
+struct Paper {
+    written: Vec<u8>,
+    calls: u64,
+}
 
-impl Print for Paper {
-    fn print<D: Display + Drop>(&self, _value: D) -> io::Result<()> {
-        Err(io::Error::from(ErrorKind::Unsupported))
-    }
-
-    fn println<D: Display + Drop>(&self, _value: D) -> io::Result<()> {
-        Err(io::Error::from(ErrorKind::Unsupported))
-    }
-
-    fn write_all(&self, bytes: &[u8]) -> io::Result<()> {
-        match self.0.try_borrow_mut() {
-            Ok(mut written) if !bytes.contains(&b'\n') => Ok(written.extend_from_slice(bytes)?),
-            _ => Err(io::Error::from(ErrorKind::BrokenPipe)),
+impl Write for Paper {
+    fn write(&mut self, buf: &[u8]) -> io::Result<usize> {
+        let call = self.calls;
+        self.calls = call.saturating_add(1);
+        if call % 2 == 0 {
+            return Err(io::Error::from(ErrorKind::Interrupted));
         }
+        let piece = &buf[..buf.len().min(2)];
+        if piece.contains(&b'\n') {
+            return Err(io::Error::from(ErrorKind::BrokenPipe));
+        }
+        self.written.extend_from_slice(piece)?;
+        Ok(piece.len())
+    }
+
+    fn flush(&mut self) -> io::Result<()> {
+        Ok(())
     }
 }
 
 #[test]
 fn standard_output_is_given_the_whole_pieces(rt: HostRuntime) -> Result<(), Fail> {
     let alloc = rt.alloc();
-    let mut sink = StdSink::new(Paper(RefCell::new(Vec::new(alloc))));
-    let written = writes(alloc, &mut sink, &["ab", "c\n", "", "def"])?;
+    let mut sink = StdSink::new(Paper {
+        written: Vec::new(alloc),
+        calls: 0,
+    });
+    let written = writes(alloc, &mut sink, &["abc", "de\n", "", "fgh"])?;
     assert_eq!(rt; written.as_slice(), [true, false, true, true].as_slice());
     assert_eq!(rt; sink.faults.count(), 1);
-    assert_eq!(rt; sink.output.0.into_inner().as_slice(), b"abdef".as_slice());
+    assert_eq!(rt; sink.output.written.as_slice(), b"abcdefgh".as_slice());
     Ok(())
 }

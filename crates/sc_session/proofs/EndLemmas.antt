@@ -2,7 +2,7 @@
 use Rattle.std.proofs.Common.{◌≡◌, ℕ, Bool, true, false, cond, List, [], ◌++◌, Option, Some, None, refl, sym, ap, ◌∙◌, subst, inl, inr}
 use Rattle.std.specs.Prelude.{◌≢◌, map, IfSome, IsSome}
 use Rattle.std.proofs.lemmas.List.{append-nil}
-use Rattle.sc_io.specs.Pieces.{AddsFront}
+use Rattle.sc_io.specs.Pieces.{AddsPrefix}
 use Rattle.sc_record.specs.declared.entry.Entry.{Entry}
 use Rattle.sc_model.specs.declared.stop.Stop.{Stop}
 use Rattle.sc_model.specs.declared.connection.End.{End}
@@ -53,9 +53,9 @@ written_last end before last (Some bytes) mid new w e = at new refl
           let same : more ≡ (bytes ++ texts_of before) ++ last_text before last = (let s : Some more ≡ Some ((bytes ++ texts_of before) ++ last_text before last) = sym n ∙ all in cc) in
           inl ((λ fault. end_of-no_fault last (sym whole.0 ∙ fault)), same))
       | inr part ↦
-          (let front : AddsFront (bytes ++ texts_of before) (last_text before last) new = subst (λ (o : Option (List ℕ)). IfSome o (λ (xs : List ℕ). AddsFront xs (last_text before last) new)) w part.1 in
-          let same : more ≡ (bytes ++ texts_of before) ++ front.front = (let s : Some more ≡ Some ((bytes ++ texts_of before) ++ front.front) = sym n ∙ front.added in cc) in
-          inr (part.0, (front.front, (front.left, sym front.whole), same)))
+          (let added : AddsPrefix (bytes ++ texts_of before) (last_text before last) new = subst (λ (o : Option (List ℕ)). IfSome o (λ (xs : List ℕ). AddsPrefix xs (last_text before last) new)) w part.1 in
+          let same : more ≡ (bytes ++ texts_of before) ++ added.prefix = (let s : Some more ≡ Some ((bytes ++ texts_of before) ++ added.prefix) = sym n ∙ added.added in cc) in
+          inr (part.0, (added.prefix, (added.left, sym added.whole), same)))
     ]
 
 -- a connection that ends without an exchange

@@ -1,7 +1,7 @@
 -- What one step of a connection leaves.
 use Rattle.std.specs.Prelude.{◌≡◌, ◌⊎◌, ℕ, ◌+◌, Bool, true, false, ◌||◌, List, ◌++◌, length, nat_le, Option, Some, None, IfSome}
 use mathlib.Core.List.{IsPrefix}
-use Rattle.sc_io.specs.Pieces.{AddsFront}
+use Rattle.sc_io.specs.Pieces.{AddsPrefix}
 use Rattle.sc_record.specs.declared.entry.Entry.{Entry}
 use Rattle.sc_model.specs.declared.limits.TheConstants.{MAX_REQUESTS, MAX_STOPS}
 use Rattle.sc_model.specs.declared.connection.End.{End}
@@ -20,7 +20,7 @@ Writes text old new = IfSome old (λ bytes. new ≡ Some (bytes ++ text))
 
 -- a prefix of the text was written, where the sink reports it
 abbrev pub WritesPrefix : List ℕ → Option (List ℕ) → Option (List ℕ) → Type 0
-WritesPrefix text old new = IfSome old (λ bytes. AddsFront bytes text new)
+WritesPrefix text old new = IfSome old (λ bytes. AddsPrefix bytes text new)
 
 -- the connection ended so and the text was written, or the sink failed
 abbrev pub EndsWriting : End → End → List ℕ → Option (List ℕ) → Option (List ℕ) → Type 0

@@ -1,4 +1,4 @@
--- A clock that stands still gives one moment.
+-- A clock that stands still gives one timestamp.
 use Rattle.std.proofs.Common.{◌≡◌, ℕ, List, [], ◌∷◌, Option, Some, refl, ap, ◌∙◌}
 use Rattle.sc_io.specs.declared.memory.Fixed.{Fixed}
 use Rattle.sc_model.specs.Answers.{Journals}

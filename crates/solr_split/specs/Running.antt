@@ -6,7 +6,7 @@ use Rattle.sc_model.specs.declared.connection.End.{End}
 use Rattle.sc_model.specs.declared.connection.End.TheVariants as ends
 use Rattle.sc_model.specs.Served.{IsServed}
 use Rattle.sc_session.specs.Table.{journals, own_places}
-use Rattle.solr_split.specs.Words.{Script}
+use Rattle.solr_split.specs.Arguments.{Script}
 
 -- the most entries of the journal
 abbrev pub log_limit : ℕ

@@ -1,14 +1,14 @@
 //! `solr_split`: a document table behind HTTP, in one process.
 //!
 //! `run` is all that the program does, and its contract is what it promises: which bytes it writes for
-//! those that it reads, and its status. `main` hands it the machine's streams and clock, and tells a
+//! those that it reads, and its status. `main` hands it the machine's streams and clock, and says to a
 //! person what a status other than 0 means. It stands on `sc_session`, whose `serve` it calls.
 #![tactic(auto)]
 
+mod arguments;
 mod run;
 #[cfg(test)]
 mod tests;
-mod words;
 
 pub use run::run;
 use sc_io::{MachineClock, StdSink, StdSource};
@@ -21,13 +21,16 @@ const USAGE: &str =
     "usage: solr_split script [--clock MILLISECONDS], as in: solr_split script --clock 1000 < requests";
 
 fn main(rt: HostRuntime) -> ExitCode {
-    let status = match arguments(&rt) {
-        Ok(words) => run(
+    let mut input = StdSource::new(rt.stdin());
+    let mut output = StdSink::new(rt.stdout());
+    let mut clock = MachineClock::new(&rt);
+    let status = match arguments_of(&rt) {
+        Ok(arguments) => run(
             rt.alloc(),
-            words.as_slice(),
-            &mut StdSource::new(&rt),
-            &mut StdSink::new(&rt),
-            &mut MachineClock::new(&rt),
+            arguments.as_slice(),
+            &mut input,
+            &mut output,
+            &mut clock,
         ),
         Err(error) if error.kind() == io::ErrorKind::InvalidData => 2,
         Err(_) => 6,
@@ -38,13 +41,13 @@ fn main(rt: HostRuntime) -> ExitCode {
     ExitCode::from(status)
 }
 
-/// The words behind the program's name. A word that is no UTF-8 is an error of the kind `InvalidData`.
-fn arguments(rt: &HostRuntime) -> io::Result<Vec<String>> {
-    let mut words = Vec::new(rt.alloc());
-    for word in env::args(rt)?.skip(1) {
-        words.push(word).map_err(AllocError::from)?;
+/// The arguments after the program's name. One that is invalid UTF-8 is an error of the kind `InvalidData`.
+fn arguments_of(rt: &HostRuntime) -> io::Result<Vec<String>> {
+    let mut arguments = Vec::new(rt.alloc());
+    for argument in env::args(rt)?.skip(1) {
+        arguments.push(argument).map_err(AllocError::from)?;
     }
-    Ok(words)
+    Ok(arguments)
 }
 
 /// What a status other than 0 means.

@@ -2,9 +2,9 @@ ghost use Rattle.std.specs.Prelude.{◌≡◌, ◌⊎◌, ◌<◌, ◌↔◌, []
 ghost use Rattle.sc_model.specs.Served.{IsServed};
 ghost use Rattle.sc_session.specs.Table.{journals, own_places};
 ghost use Rattle.solr_split.specs.Running.{RunsScript, clock_of, log_limit, status_of};
-ghost use Rattle.solr_split.specs.Words.{script_of};
+ghost use Rattle.solr_split.specs.Arguments.{script_of};
 
-use crate::words::{Script, script_of};
+use crate::arguments::{Script, script_of};
 use sc_io::{Clock, Fixed, Sink, Source};
 use sc_model::End;
 use sc_session::{Plain, Trail, serve};
@@ -16,29 +16,29 @@ const LOG_LIMIT: u64 = 1_048_576;
 /// All that the program does: `script` serves one connection over the source and the sink, with the
 /// clock that is handed in or, with `--clock N`, one that stands still at N milliseconds.
 ///
-/// The status is 0 where the connection came to its end, 2 for words that ask for nothing, 3 where it
+/// The status is 0 where the connection came to its end, 2 for arguments that ask for nothing, 3 where it
 /// ended in a message that can't be read, 4 where the source failed, 5 where the sink did, and 6 where
 /// memory ran out.
 pub fn run<S: Source, W: Sink, C: Clock>(
     alloc: Global,
-    words: &[String],
+    arguments: &[String],
     source: &mut S,
     sink: &mut W,
     clock: &mut C,
 ) -> u8
-    ensures bad_words { (result ≡ 2) ↔ (script_of (map string_bytes words.now) ≡ None) }
+    ensures bad_arguments { (result ≡ 2) ↔ (script_of (map string_bytes arguments.now) ≡ None) }
 
     // Where nothing is asked for, nothing is read or written.
-    ensures nothing_done { script_of (map string_bytes words.now) ≡ None → (source.new ≡ source.old) × (sink.new ≡ sink.old) × (clock.new ≡ clock.old) }
+    ensures nothing_done { script_of (map string_bytes arguments.now) ≡ None → (source.new ≡ source.old) × (sink.new ≡ sink.old) × (clock.new ≡ clock.old) }
 
     // A script serves one connection, unless memory ran out before it began.
-    ensures script { IfSome (script_of (map string_bytes words.now)) (λ script.
+    ensures script { IfSome (script_of (map string_bytes arguments.now)) (λ script.
         RunsScript script C.gives clock.old clock.new (S.rest source.old) (S.rest source.new) (W.written sink.old) (W.written sink.new) result
         ⊎ ((result ≡ 6) × (source.new ≡ source.old) × (sink.new ≡ sink.old) × (clock.new ≡ clock.old))) }
     ensures read_fault { result ≡ 4 → S.faults source.old < S.faults source.new }
     ensures write_fault { result ≡ 5 → W.faults sink.old < W.faults sink.new }
 {
-    let Some(script) = script_of(words) else {
+    let Some(script) = script_of(arguments) else {
         return 2;
     };
     let (mut table, mut trail) = match memory_of(alloc) {

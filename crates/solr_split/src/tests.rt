@@ -26,13 +26,13 @@ const GET_MISSING: &str = "GET /solr/docs/get?id=hello HTTP/1.1\r\nHost: localho
 const MISSING: &str =
     "HTTP/1.1 200 OK\r\nContent-Type: application/json;charset=utf-8\r\nContent-Length: 12\r\n\r\n{\"doc\":null}";
 
-/// The moment at which the clock that is handed in stands still. No script below asks for it by words.
-const MOMENT: u64 = 2000;
+/// The timestamp at which the clock that is handed in stands still. No script below asks for it by its arguments.
+const NOW: u64 = 2000;
 
-fn words(alloc: Global, words: &[&str]) -> Result<Vec<String>, AllocError> {
+fn arguments_of(alloc: Global, texts: &[&str]) -> Result<Vec<String>, AllocError> {
     let mut list = Vec::new(alloc);
-    for word in words {
-        list.push(String::from_str(alloc, word)?)?;
+    for text in texts {
+        list.push(String::from_str(alloc, text)?)?;
     }
     Ok(list)
 }
@@ -59,25 +59,25 @@ fn ran(
     }
     let mut source = MemSource::new(List::from_vec(bytes), most, list(alloc, read_fails)?);
     let mut sink = MemSink::new(alloc, list(alloc, write_fails)?);
-    let asked = words(alloc, asked)?;
+    let arguments = arguments_of(alloc, asked)?;
     let status = run(
         alloc,
-        asked.as_slice(),
+        arguments.as_slice(),
         &mut source,
         &mut sink,
-        &mut Fixed { moment: MOMENT },
+        &mut Fixed { moment: NOW },
     );
     Ok((sink.bytes, status))
 }
 
-/// What a run at the moment 1000 writes, and its status.
+/// What a run at the timestamp 1000 writes, and its status.
 fn script(alloc: Global, input: &[&str], most: usize) -> Result<(List<u8>, u8), AllocError>
     requires { 0 < most }
 {
     ran(alloc, &["script", "--clock", "1000"], input, most, &[], &[])
 }
 
-/// What a table of cases says of a request at the moment 1000: its answer, and the status.
+/// What a table of cases says of a request at the timestamp 1000: its answer, and the status.
 fn expect(
     rt: &impl Abort,
     alloc: Global,
@@ -172,8 +172,8 @@ fn an_unknown_path_is_not_found(rt: HostRuntime) -> Result<(), Fail> {
 fn input_that_ends_inside_a_request_is_cut(rt: HostRuntime) -> Result<(), Fail> {
     let bytes = ADD.as_bytes();
     for end in 1..bytes.len() {
-        let front = std::str::from_utf8(&bytes[..end])?;
-        let (written, status) = script(rt.alloc(), &[front], 16)?;
+        let prefix = std::str::from_utf8(&bytes[..end])?;
+        let (written, status) = script(rt.alloc(), &[prefix], 16)?;
         assert!(rt; written.as_slice().is_empty(), "{end}");
         assert!(rt; status == 3, "{end}");
     }
@@ -181,7 +181,7 @@ fn input_that_ends_inside_a_request_is_cut(rt: HostRuntime) -> Result<(), Fail> 
 }
 
 #[test]
-fn words_that_ask_for_nothing_do_nothing(rt: HostRuntime) -> Result<(), Fail> {
+fn arguments_that_ask_for_nothing_do_nothing(rt: HostRuntime) -> Result<(), Fail> {
     let cases: [&[&str]; 14] = [
         &[],
         &["Script"],
@@ -207,7 +207,7 @@ fn words_that_ask_for_nothing_do_nothing(rt: HostRuntime) -> Result<(), Fail> {
 }
 
 #[test]
-fn the_clock_is_that_of_the_words_or_the_one_handed_in(rt: HostRuntime) -> Result<(), Fail> {
+fn the_clock_is_that_of_the_arguments_or_the_one_handed_in(rt: HostRuntime) -> Result<(), Fail> {
     let cases: [(&[&str], &str); 3] = [
         (&["script"], "[\"abc\",2097152000]"),
         (&["script", "--clock", "0"], "[\"abc\",1]"),
@@ -282,7 +282,7 @@ fn a_request_that_cannot_be_read_is_refused(rt: HostRuntime) -> Result<(), Fail>
 }
 
 #[test]
-fn a_connection_ends_behind_a_request_that_closes_it(rt: HostRuntime) -> Result<(), Fail> {
+fn a_connection_ends_after_a_request_that_closes_it(rt: HostRuntime) -> Result<(), Fail> {
     let answer =
         "HTTP/1.1 200 OK\r\nContent-Type: application/json;charset=utf-8\r\nContent-Length: 12\r\nConnection: close\r\n\r\n{\"doc\":null}";
     let cases = [

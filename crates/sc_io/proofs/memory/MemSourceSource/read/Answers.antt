@@ -1,7 +1,7 @@
 -- The bytes copied are the next ones of the list.
 use Rattle.std.proofs.Common.{arith, drop}
 use Rattle.std.proofs.lemmas.Grind.{common_steps}
-use Rattle.sc_io.proofs.Taken.{takes_next}
+use Rattle.sc_io.proofs.TakenLemmas.{takes_next}
 use Rattle.sc_io.proofs.memory.MemSourceSource.read.Goals as goal
 
 pub returns-clause-taken : goal.returns-clause-taken

@@ -3,20 +3,20 @@ ghost use Rattle.std.specs.Char.{is_ascii_digit};
 ghost use Rattle.std.specs.List.{list_all};
 ghost use Rattle.std.specs.Str.Parse.{digits_value};
 ghost use Rattle.std.specs.Option.{option_map};
-ghost use Rattle.solr_split.specs.Words.{script_of, is_number};
+ghost use Rattle.solr_split.specs.Arguments.{script_of, is_number};
 
-/// What the words ask for: to serve one connection over standard input and output.
+/// What the arguments ask for: to serve one connection over standard input and output.
 #[derive(Clone, Copy, Debug, PartialEq, Eq)]
 pub struct Script {
-    /// The moment, in milliseconds, at which the clock stands still; the machine's clock where there is none.
+    /// The timestamp, in milliseconds, at which the clock stands still; the machine's clock where there is none.
     pub clock: Option<u64>,
 }
 
-/// What the program's words ask for; nothing where they are no line of its usage.
-pub fn script_of(words: &[String]) -> Option<Script>
-    ensures { option_map (λ script. script.clock) result ≡ script_of (map string_bytes words.now) }
+/// What the program's arguments ask for; nothing where they are no line of its usage.
+pub fn script_of(arguments: &[String]) -> Option<Script>
+    ensures { option_map (λ script. script.clock) result ≡ script_of (map string_bytes arguments.now) }
 {
-    match words {
+    match arguments {
         [command] if command.as_str() == "script" => Some(Script { clock: None }),
         [command, option, value] if command.as_str() == "script" && option.as_str() == "--clock" =>
             {

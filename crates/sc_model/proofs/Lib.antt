@@ -1,3 +1,5 @@
-pub mod JournalLaws
-pub mod LegalLaws
-pub mod RequestLaws
+-- Laws of the definitions.
+pub mod JournalLemmas
+pub mod LegalLemmas
+pub mod RequestLemmas
+pub mod OnceLemmas

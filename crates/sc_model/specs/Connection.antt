@@ -1,68 +1,61 @@
 -- What a whole connection is: its requests, their answers and how it ends.
 use Rattle.std.specs.Prelude.{◌≡◌, ◌≢◌, ◌⊎◌, ℕ, ◌==◌, Bool, true, false, ◌||◌, List, [], ◌∷◌, ◌++◌, length, map, nat_le, if◌then◌else◌, ⊤}
 use Rattle.std.specs.List.{flat_map}
+use mathlib.Core.List.{IsPrefix}
 use Rattle.sc_model.specs.Requests.{asked}
 use Rattle.sc_model.specs.Replies.{Reply, text_of, bad_head_reply, too_large_reply, not_built_reply, memory_reply}
 use Rattle.sc_model.specs.Messages.{ReadsMessage, HasNoMessage, Ending, done, cut, bad_head, too_large, not_built, EndsSo, ReadsMessages}
-use Rattle.sc_model.specs.Answers.{Journals, IsReply, IsOutOfMemory}
+use Rattle.sc_model.specs.Answers.{Journals, OrderAnswer, Trace, IsReply, IsOutOfMemory}
+use Rattle.sc_model.specs.declared.limits.TheConstants.{MAX_REQUESTS, MAX_STOPS}
 use Rattle.sc_model.specs.declared.message.Incoming.{Incoming}
 use Rattle.sc_model.specs.declared.stop.Stop.{Stop}
 use Rattle.sc_model.specs.declared.connection.End.{End}
 use Rattle.sc_model.specs.declared.connection.End.TheVariants as ends
 
--- the most requests of a connection
-abbrev pub request_limit : ℕ
-request_limit = 1000
-
--- the number of stops behind which a connection takes no request more
-abbrev pub stop_limit : ℕ
-stop_limit = 65536
-
--- a request with the moments that were read for it, the stops that were kept and its reply
+-- a request with the trace that it left and its reply
 pub record Exchange : Type 0 where
   pub request : Incoming
-  pub moments : List ℕ
-  pub stops : List Stop
+  pub trace : Trace
   pub reply : Reply
 
 -- the reply is that of the journals seen; where memory ran out it is the one that says so
 abbrev pub IsAnswered : ℕ → Journals → Exchange → Type 0
 IsAnswered limit seen x =
-    IsReply limit seen (asked x.request) x.moments x.stops x.reply
-    ⊎ IsOutOfMemory limit seen (asked x.request) x.moments x.stops x.reply
+    IsReply limit seen (asked x.request) x.trace x.reply
+    ⊎ IsOutOfMemory limit seen (asked x.request) x.trace x.reply
 
 -- the stops of exchanges, in order
 abbrev pub stops_of : List Exchange → List Stop
-stops_of exchanges = flat_map (λ (x : Exchange). x.stops) exchanges
+stops_of exchanges = flat_map (λ (x : Exchange). x.trace.stops) exchanges
 
--- want of memory is answered by this status alone
+-- memory ran out: this status says so, and no other reply has it
 abbrev pub is_out_of_memory : Reply → Bool
 is_out_of_memory reply = reply.status == 503
 
 -- these exchanges have reached a limit of their connection
 abbrev pub is_at_limit : List Exchange → Bool
-is_at_limit exchanges = nat_le request_limit (length exchanges) || nat_le stop_limit (length (stops_of exchanges))
+is_at_limit exchanges = nat_le MAX_REQUESTS (length exchanges) || nat_le MAX_STOPS (length (stops_of exchanges))
 
--- the connection is closed behind an exchange that comes after these
-abbrev pub closes_behind : List Exchange → Exchange → Bool
-closes_behind before x = is_out_of_memory x.reply || x.request.close || is_at_limit (before ++ x ∷ [])
+-- the connection is closed after an exchange that comes after these
+abbrev pub closes_after : List Exchange → Exchange → Bool
+closes_after before x = is_out_of_memory x.reply || x.request.close || is_at_limit (before ++ x ∷ [])
 
 -- each exchange leaves the connection open
 abbrev pub StaysOpen : List Exchange → Type 0
-StaysOpen exchanges = (before : List Exchange) (x : Exchange) (after : List Exchange) → exchanges ≡ before ++ x ∷ after → closes_behind before x ≡ false
+StaysOpen exchanges = (before : List Exchange) (x : Exchange) (after : List Exchange) → exchanges ≡ before ++ x ∷ after → closes_after before x ≡ false
 
--- the bytes of replies behind which the connection stays open
+-- the bytes of replies after which the connection stays open
 abbrev pub texts_of : List Exchange → List ℕ
 texts_of exchanges = flat_map (λ (x : Exchange). text_of x.reply false) exchanges
 
--- what comes behind the last exchange that left the connection open
+-- what comes after the last exchange that left the connection open
 pub data Last : Type 0 where
   -- no request more: the bytes end so
   ended : Ending → Last
   -- one more exchange
   answered : Exchange → Last
   -- memory ran out while a request was read
-  no_memory : Last
+  out_of_memory : Last
   -- the source failed
   read_failed : Last
 
@@ -73,8 +66,8 @@ last_text before (ended cut) = []
 last_text before (ended bad_head) = text_of bad_head_reply true
 last_text before (ended too_large) = text_of too_large_reply true
 last_text before (ended not_built) = text_of not_built_reply true
-last_text before (answered x) = text_of x.reply (closes_behind before x)
-last_text before no_memory = text_of memory_reply true
+last_text before (answered x) = text_of x.reply (closes_after before x)
+last_text before out_of_memory = text_of memory_reply true
 last_text before read_failed = []
 
 -- the end of a connection, once its last reply is written
@@ -85,34 +78,38 @@ end_of (ended bad_head) = ends.BadHead
 end_of (ended too_large) = ends.TooLarge
 end_of (ended not_built) = ends.BadHead
 end_of (answered x) = if is_out_of_memory x.reply then ends.Memory else (if x.request.close then ends.Closed else ends.Limit)
-end_of no_memory = ends.Memory
+end_of out_of_memory = ends.Memory
 end_of read_failed = ends.ReadFault
 
--- an exchange behind which a connection ends closes it
+-- an exchange after which a connection ends closes it
 abbrev pub Closes : List Exchange → Last → Type 0
-Closes before (answered x) = closes_behind before x ≡ true
+Closes before (answered x) = closes_after before x ≡ true
 Closes before last = ⊤
 
--- the stops and the moments of what came last
+-- the stops, the timestamps and the orders' answers of what came last
 abbrev pub stops_of_last : Last → List Stop
-stops_of_last (answered x) = x.stops
+stops_of_last (answered x) = x.trace.stops
 stops_of_last last = []
 
-abbrev pub moments_of_last : Last → List ℕ
-moments_of_last (answered x) = x.moments
-moments_of_last last = []
+abbrev pub timestamps_of_last : Last → List ℕ
+timestamps_of_last (answered x) = x.trace.timestamps
+timestamps_of_last last = []
+
+abbrev pub answers_of_last : Last → List OrderAnswer
+answers_of_last (answered x) = x.trace.answers
+answers_of_last last = []
 
 -- what came last is answered as it is to be
 abbrev pub IsLastAnswered : ℕ → Journals → Last → Type 0
 IsLastAnswered limit seen (answered x) = IsAnswered limit seen x
 IsLastAnswered limit seen last = ⊤
 
--- Behind the exchanges, the bytes are what came last says. `more` is what the source has not given yet: where it failed,
+-- After the exchanges, the bytes are what came last says. `more` is what the source has not given yet: where it failed,
 -- no request is whole in what it gave.
 abbrev pub EndsWith : List ℕ → Last → List ℕ → Type 0
 EndsWith bytes (ended ending) more = EndsSo bytes ending
 EndsWith bytes (answered x) more = (rest : List ℕ) × ReadsMessage bytes x.request rest
-EndsWith bytes no_memory more = ⊤
+EndsWith bytes out_of_memory more = ⊤
 EndsWith bytes read_failed more = (taken : List ℕ) × (bytes ≡ taken ++ more) × HasNoMessage taken
 
 -- the bytes that a source has to give are the requests of the exchanges, and then what came last
@@ -121,16 +118,12 @@ pub record IsReadFrom (bytes more : List ℕ) (exchanges : List Exchange) (last 
   pub requests : ReadsMessages bytes (map (λ (x : Exchange). x.request) exchanges) rest
   pub end : EndsWith rest last more
 
--- the first list begins the second
-abbrev pub Begins : {A : Type 0} → List A → List A → Type 0
-Begins {A} front whole = (rest : List A) × (front ++ rest ≡ whole)
-
 -- the end is that of what came last, or the sink failed
 abbrev pub HasEnd : End → List Exchange → Last → Type 0
 HasEnd end before last = ((end ≡ end_of last) × Closes before last) ⊎ (end ≡ ends.WriteFault)
 
--- each reply was written, or the sink failed behind a front of the last one
+-- each reply was written, or the sink failed after a prefix of the last one
 abbrev pub IsWritten : End → List Exchange → Last → List ℕ → List ℕ → Type 0
 IsWritten end before last old new =
     ((end ≢ ends.WriteFault) × (new ≡ old ++ texts_of before ++ last_text before last))
-    ⊎ ((end ≡ ends.WriteFault) × ((front : List ℕ) × Begins front (last_text before last) × (new ≡ old ++ texts_of before ++ front)))
+    ⊎ ((end ≡ ends.WriteFault) × ((part : List ℕ) × IsPrefix part (last_text before last) × (new ≡ old ++ texts_of before ++ part)))

@@ -1,7 +1,7 @@
 -- A journal is the list of what was written to a bucket, oldest first.
 use Rattle.std.specs.Prelude.{ℕ, ◌-◌, ◌==◌, Bool, false, not, ◌&&◌, List, length, filter, slice_get, Option, Some, None}
 use Rattle.std.specs.List.{filter_map, list_any, enumerate_from}
-use Rattle.std.specs.Option.{is_some}
+use Rattle.std.specs.Option.{is_some, option_and_then}
 use Rattle.std.specs.Str.{bytes_eq}
 use Rattle.std.specs.Arc.{arc_value}
 use Rattle.sc_record.specs.declared.write.Write.{Write}
@@ -12,6 +12,10 @@ use Rattle.sc_record.specs.declared.entry.Entry.TheVariants as entry
 abbrev pub write_of : Entry → Option Write
 write_of (entry.Write cell) = Some (arc_value cell)
 write_of (entry.Settled place) = None
+
+-- the write at a place of a journal, where there is one
+abbrev pub write_at : List Entry → ℕ → Option Write
+write_at journal place = option_and_then write_of (slice_get journal place)
 
 -- the writes of a journal
 abbrev pub writes : List Entry → List Write
@@ -33,7 +37,8 @@ last_of items = slice_get items (length items - 1)
 abbrev pub last_write : List Entry → List ℕ → Option Write
 last_write journal id = last_of (writes_of journal id)
 
--- the entry settles the write at the place: each core that has to know of it does
+-- the entry settles the write at the place: it says that every other core that had to take the write was sent it, made
+-- before the update is answered
 abbrev pub settles : ℕ → Entry → Bool
 settles place (entry.Write cell) = false
 settles place (entry.Settled settled) = settled == place

@@ -1,13 +1,12 @@
 -- Which journals can be.
-use Rattle.std.specs.Prelude.{◌≡◌, ◌<ℤ◌, ◌≤ℤ◌, ℕ, ◌+◌, ◌-◌, ◌^◌, pos, false, List, ◌∷◌, ◌++◌, length, slice_get, IsSome}
+use Rattle.std.specs.Prelude.{◌≡◌, ◌<ℤ◌, ◌≤ℤ◌, ℕ, ◌+◌, ◌-◌, ◌^◌, pos, false, List, ◌∷◌, ◌++◌, length, IsSome}
 use Rattle.std.specs.List.{AllByRecursion}
-use Rattle.std.specs.Option.{option_and_then}
 use Rattle.sc_record.specs.declared.write.Write.{Write}
 use Rattle.sc_record.specs.declared.entry.Entry.{Entry}
 use Rattle.sc_record.specs.declared.entry.Entry.TheVariants as entry
-use Rattle.sc_model.specs.Journal.{write_of, writes, writes_of, is_settled}
+use Rattle.sc_model.specs.Journal.{write_at, writes, writes_of, is_settled}
 
--- the write's version is above 0 and that of each earlier write of its id, and no greater than the moment's greatest
+-- the write's version is above 0 and that of each earlier write of its id, and no greater than the greatest timestamp
 -- (2^62 - 2^20) and the number of writes up to it allow
 pub record MayWrite (before : List Entry) (write : Write) : Type 0 where
   pub positive : pos 0 <ℤ write.version
@@ -16,7 +15,7 @@ pub record MayWrite (before : List Entry) (write : Write) : Type 0 where
 
 -- the entry settles an earlier write that no earlier entry settles
 pub record MaySettle (before : List Entry) (place : ℕ) : Type 0 where
-  pub written : IsSome (option_and_then write_of (slice_get before place))
+  pub written : IsSome (write_at before place)
   pub once : is_settled before place ≡ false
 
 -- the entry may come after these

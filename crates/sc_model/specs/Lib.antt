@@ -1,3 +1,4 @@
+-- The definitions that the promises of the crates above cite, lowest first.
 pub mod Journal
 pub mod Legal
 pub mod Orders

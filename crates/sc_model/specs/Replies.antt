@@ -33,7 +33,7 @@ reason_of status = option_map (λ row. row.1) (find (λ row. nat_eq row.0 status
 abbrev pub line_end : List ℕ
 line_end = 13 ∷ 10 ∷ []
 
--- the line that says that the connection is closed behind the reply
+-- the line that says that the connection is closed after the reply
 abbrev pub close_line : Bool → List ℕ
 close_line true = codes "Connection: close" ++ line_end
 close_line false = []

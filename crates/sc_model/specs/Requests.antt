@@ -7,22 +7,16 @@ use Rattle.serde_json.specs.Data.{Data, string, array, object, Items, no_items, 
 use Rattle.serde_json.specs.Read.{read}
 use Rattle.sc_record.specs.Fields.{kind_of}
 use Rattle.sc_record.specs.declared.document.Field.{Field}
+use Rattle.sc_record.specs.declared.id.TheConstants.{MAX_ID_LENGTH}
 use Rattle.sc_record.specs.declared.value.Kind.{Kind}
 use Rattle.sc_record.specs.declared.value.Kind.TheVariants as kinds
 use Rattle.sc_record.specs.declared.value.Value.TheVariants as values
 use Rattle.sc_model.specs.Orders.{Order}
+use Rattle.sc_model.specs.declared.limits.TheConstants.{MAX_ORDERS}
 use Rattle.sc_model.specs.declared.message.Incoming.{Incoming}
 use Rattle.sc_model.specs.declared.message.Method.{Method}
 use Rattle.sc_model.specs.declared.message.Method.TheVariants as methods
 use Rattle.sc_model.specs.declared.message.Param.{Param}
-
--- the most orders of a request
-abbrev pub order_limit : ℕ
-order_limit = 4096
-
--- the most bytes of an id
-abbrev pub id_limit : ℕ
-id_limit = 512
 
 -- the JSON value that a body is (RFC 8259), with arrays and objects in one another at most 127 deep
 abbrev pub json_of : List ℕ → Option Data
@@ -40,7 +34,7 @@ is_single_text kind = false
 
 -- the document with its id
 abbrev pub with_id : List ℕ → RawDocument → Option RawDocument
-with_id text document = if nat_le (length text) id_limit then Some (record { id = Some text; fields = document.fields }) else None
+with_id text document = if nat_le (length text) MAX_ID_LENGTH then Some (record { id = Some text; fields = document.fields }) else None
 
 -- the document with one more field before the others
 abbrev pub with_field : List ℕ → List ℕ → RawDocument → Option RawDocument
@@ -68,7 +62,7 @@ documents_of_items (item value items) = None
 
 -- the documents, where there are no more of them than may be
 abbrev pub within_limit : List RawDocument → Option (List RawDocument)
-within_limit documents = if nat_le (length documents) order_limit then Some documents else None
+within_limit documents = if nat_le (length documents) MAX_ORDERS then Some documents else None
 
 -- the documents that a value is an array of
 abbrev pub documents_of : Data → Option (List RawDocument)
@@ -141,7 +135,7 @@ asked_update request =
 -- the id that the parameters of a get name, where it is the only one
 abbrev pub asked_id : List Param → Asked
 asked_id (param ∷ []) =
-    if bytes_eq param.name (codes "id") && nat_lt 0 (length param.value) && nat_le (length param.value) id_limit then get param.value
+    if bytes_eq param.name (codes "id") && nat_lt 0 (length param.value) && nat_le (length param.value) MAX_ID_LENGTH then get param.value
     else not_built
 asked_id params = not_built
 

@@ -5,11 +5,12 @@ pub enum End {
     Done,
     /// A request asked for it.
     Closed,
-    /// The connection has had its requests or its places.
+    /// The connection has had its requests or its stops.
     Limit,
     /// The input ended inside a message, for which nothing was written.
     Cut,
-    /// A head, or how it states a body's length, can't be read; a 400 was written.
+    /// A head, or how it states a body's length, is malformed; a 400 was written. Or a body has a transfer coding; a
+    /// 501 was written.
     BadHead,
     /// A head or a body is too large; a 413 was written.
     TooLarge,

@@ -1,9 +1,9 @@
-/// A place in a journal at which something was read or written.
+/// A place in a journal at which it was read or written.
 #[derive(Clone, Copy, Debug, PartialEq, Eq)]
 pub struct Stop {
-    /// The number of the lock behind which the journal stands.
+    /// The number of the lock that guards the journal.
     pub lock: u32,
-    /// How many entries the journal had when it was taken.
+    /// How many entries the journal had when it was read, or before the entry was added.
     pub place: u64,
     /// Whether an entry was added, which then has the index `place`.
     pub made: bool,

@@ -5,6 +5,7 @@ use crate::write::Cell;
 pub enum Entry {
     /// A write that was accepted.
     Write(Cell),
-    /// The write at this place, counted from 0, has been answered.
+    /// Every other core that had to take the write at this place (counted from 0) was sent it. Made
+    /// before the update is answered.
     Settled { place: u64 },
 }

@@ -19,7 +19,8 @@ mod id;
 mod kind;
 mod value;
 
-// A document, and a write of it.
+// A document, a write of it, and what a client is told of that.
+mod ack;
 mod document;
 mod write;
 
@@ -32,6 +33,7 @@ mod slice;
 // What a journal is made of.
 mod entry;
 
+pub use ack::Ack;
 pub use copy::{CloneIn, clone_items};
 pub use document::{Doc, Field};
 pub use entry::Entry;

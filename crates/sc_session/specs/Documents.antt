@@ -1,6 +1,7 @@
 -- Documents as they are read, as the definitions see them.
 use Rattle.std.specs.Prelude.{◌≤◌, ◌∷◌, length, Option, Some, None}
 use Rattle.serde_json.specs.Data.{Data, object}
+use Rattle.sc_record.specs.declared.id.TheConstants.{MAX_ID_LENGTH}
 use Rattle.sc_model.specs.Requests as asking
 use Rattle.sc_session.specs.declared.asked.raw.RawDocument.{RawDocument}
 use Rattle.sc_session.specs.declared.asked.member.Member.{Member}
@@ -18,7 +19,7 @@ with_read members.Unread document = None
 
 -- an id has no more bytes than may be
 abbrev pub IsShort : Member → Type 0
-IsShort (members.Id text) = length text ≤ asking.id_limit
+IsShort (members.Id text) = length text ≤ MAX_ID_LENGTH
 IsShort (members.Field field) = Unit {0}
 IsShort members.Unread = Unit {0}
 

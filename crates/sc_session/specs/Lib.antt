@@ -1,3 +1,4 @@
+-- The definitions that the contracts of this crate cite, lowest first.
 pub mod Asking
 pub mod Documents
 pub mod Replying

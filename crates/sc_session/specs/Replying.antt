@@ -2,12 +2,12 @@
 use Rattle.std.specs.Prelude.{ℕ, ℤ, pos, List, [], ◌∷◌, codes}
 use Rattle.std.specs.List.{flat_map}
 use Rattle.serde_json.specs.Data.{Data, string, Members, put}
+use Rattle.sc_record.specs.declared.ack.Ack.{Ack}
 use Rattle.sc_model.specs.Replies as replies
-use Rattle.sc_session.specs.declared.reply.Ack.{Ack}
 
--- an accepted order's id and version
-abbrev pub ack_of : Ack → List ℕ × ℤ
-ack_of ack = (ack.id, ack.version)
+-- an accepted order's id and version as the definitions see them
+abbrev pub ack_view : Ack → List ℕ × ℤ
+ack_view ack = (ack.id, ack.version)
 
 -- the members with these put among them
 abbrev pub put_all : List (List ℕ × Data) → Members → Members

@@ -1,17 +1,16 @@
 ghost use Rattle.std.specs.Prelude.{◌≡◌, ◌+◌, ◌*◌, ◌≤◌, [], ◌∷◌, length, map, true, IfOk, OnErr, IsSome, vec_len, vec_capacity};
 ghost use Rattle.std.specs.Option.{option_map};
-ghost use Rattle.sc_session.specs.Asking.{order_of};
-ghost use Rattle.sc_session.specs.Replying.{ack_of};
+ghost use Rattle.sc_session.specs.Asking.{order_view};
+ghost use Rattle.sc_session.specs.Replying.{ack_view};
 ghost use Rattle.sc_session.specs.Batch.{AnswersBatch, shown_by, stop_of, stopped_by};
-ghost use Rattle.sc_session.specs.Kept.{room};
+ghost use Rattle.sc_session.specs.declared.trail.TheConstants.{ROOM};
 
 use crate::asked::Order;
 use crate::plain::{AddFault, Plain};
-use crate::reply::Ack;
 use crate::trail::Trail;
 use sc_io::Clock;
 use sc_model::Stop;
-use sc_record::{Id, IdFault};
+use sc_record::{Ack, Id, IdFault};
 use std::alloc::{AllocError, Global};
 
 /// What the orders of one request came to.
@@ -32,9 +31,9 @@ pub(crate) fn add_all<C: Clock>(
     mut orders: Vec<Order>,
     versions: bool,
 ) -> BatchEnd
-    requires { length trail.old.stops + 2 * length orders.items ≤ room }
-    ensures answers { AnswersBatch C.gives table.old.limit (map order_of orders.items) versions table.old.journal table.new.journal
-        clock.old clock.new trail.old.stops trail.new.stops (map ack_of result.adds.items) (stop_of result.stop) }
+    requires { length trail.old.stops + 2 * length orders.items ≤ ROOM }
+    ensures answers { AnswersBatch C.gives table.old.limit (map order_view orders.items) versions table.old.journal table.new.journal
+        clock.old clock.new trail.old.stops trail.new.stops (map ack_view result.adds.items) (stop_of result.stop) }
     ensures limit { table.new.limit ≡ table.old.limit }
     ensures requests { trail.new.requests ≡ trail.old.requests }
 {
@@ -47,6 +46,7 @@ pub(crate) fn add_all<C: Clock>(
             };
         }
     };
+    // the first order stands last, where it can be taken out
     orders.reverse();
     while let Some(order) = orders.pop() {
         match add_one(alloc, table, clock, trail, order, versions) {
@@ -75,7 +75,7 @@ fn list_for(alloc: Global, orders: usize, versions: bool) -> Result<Vec<Ack>, Al
     }
 }
 
-/// Adds one document at the moment that the clock tells. What was accepted is told where it is to be shown.
+/// Adds one document at the time that the clock reports. What was accepted is reported where it is to be shown.
 fn add_one<C: Clock>(
     alloc: Global,
     table: &mut Plain,
@@ -84,8 +84,8 @@ fn add_one<C: Clock>(
     order: Order,
     versions: bool,
 ) -> Result<Option<Ack>, AddFault>
-    requires { length trail.old.stops + 2 ≤ room }
-    ensures answers { AnswersBatch C.gives table.old.limit (order_of order ∷ []) versions table.old.journal table.new.journal
+    requires { length trail.old.stops + 2 ≤ ROOM }
+    ensures answers { AnswersBatch C.gives table.old.limit (order_view order ∷ []) versions table.old.journal table.new.journal
         clock.old clock.new trail.old.stops trail.new.stops (shown_by result) (stopped_by result) }
     ensures shown { IfOk result (λ ack. IsSome ack → versions ≡ true) }
     ensures kept { length trail.new.stops ≤ length trail.old.stops + 2 }
@@ -110,7 +110,7 @@ fn add_one<C: Clock>(
                 place: place + 1,
                 made: true,
             });
-            Ok(ack_of(shown, version))
+            Ok(shown_ack(shown, version))
         }
         Err(fault) => {
             trail.keep(Stop {
@@ -139,7 +139,7 @@ fn shown_id(alloc: Global, id: &Id, versions: bool) -> Result<Option<Id>, AddFau
 }
 
 /// The id with its version.
-fn ack_of(shown: Option<Id>, version: i64) -> Option<Ack>
+fn shown_ack(shown: Option<Id>, version: i64) -> Option<Ack>
     ensures { result ≡ option_map (λ id. record { id = id; version = version }) shown }
 {
     match shown {

@@ -1,17 +1,18 @@
-ghost use Rattle.std.specs.Prelude.{◌≡◌, ◌≢◌, ◌+◌, ◌*◌, ◌<◌, ◌≤◌, [], length, true, ◌||◌, if◌then◌else◌, IfSome, IsSome};
+ghost use Rattle.std.specs.Prelude.{◌≡◌, ◌≢◌, ◌↔◌, ◌<◌, [], length, true, ◌||◌, if◌then◌else◌, Some, IsSome};
 ghost use Rattle.std.specs.Cow.{cow_str_bytes};
-ghost use Rattle.sc_model.specs.Connection.{end_of, last_text, request_limit, stop_limit};
+ghost use Rattle.sc_model.specs.Connection.{end_of, last_text};
+ghost use Rattle.sc_model.specs.declared.limits.TheConstants.{MAX_REQUESTS, MAX_STOPS};
 ghost use Rattle.sc_model.specs.Legal.{IsLegal};
 ghost use Rattle.sc_model.specs.Replies as replies;
 ghost use Rattle.sc_model.specs.Served.{IsServed};
-ghost use Rattle.sc_session.specs.Ends.{last_of};
+ghost use Rattle.sc_session.specs.Ends.{last_without_request};
 ghost use Rattle.sc_session.specs.Serving.{EndsWriting, Exchanges, Replies};
 ghost use Rattle.sc_session.specs.Answering.{reply_of};
 ghost use Rattle.sc_session.specs.Table.{journals, own_places};
 
-use crate::answer::{Reply, answer};
+use crate::answer::answer;
 use crate::plain::Plain;
-use crate::reply::fixed;
+use crate::reply::{Reply, fixed};
 use crate::trail::Trail;
 use sc_http::{Incoming, MessageEnd, Reader, write_reply};
 use sc_io::{Clock, Sink, Source};
@@ -19,7 +20,7 @@ use sc_model::End;
 use std::alloc::Global;
 
 /// Serves one connection: reads its requests, answers each over the table and writes the answers, up
-/// to its end. The trail keeps the places at which it read and wrote.
+/// to its end. The trail keeps the stops at which it read and wrote.
 pub fn serve<C: Clock, S: Source, W: Sink>(
     alloc: Global,
     table: &mut Plain,
@@ -34,9 +35,11 @@ pub fn serve<C: Clock, S: Source, W: Sink>(
         (S.rest source.old) (S.rest source.new) (W.written sink.old) (W.written sink.new) trail.new.stops result }
     ensures limit { table.new.limit ≡ table.old.limit }
     ensures read_fault { result ≡ End.ReadFault → S.faults source.old < S.faults source.new }
+    ensures no_read_fault { result ≢ End.ReadFault → S.faults source.new ≡ S.faults source.old }
     ensures write_fault { result ≡ End.WriteFault → W.faults sink.old < W.faults sink.new }
+    ensures no_write_fault { result ≢ End.WriteFault → W.faults sink.new ≡ W.faults sink.old }
 {
-    let _ = table.entries();
+    let _ = table.entries(); // by it the proof knows that the journal is legal
     let mut reader = match Reader::new(alloc) {
         Ok(reader) => reader,
         Err(_) => return end_with(sink, MessageEnd::Memory),
@@ -53,7 +56,7 @@ pub fn serve<C: Clock, S: Source, W: Sink>(
     }
 }
 
-/// Answers one request. Tells the connection's end where it ends behind the reply.
+/// Answers one request. Reports the connection's end where it ends after the reply.
 fn exchange<C: Clock, W: Sink>(
     alloc: Global,
     table: &mut Plain,
@@ -62,33 +65,33 @@ fn exchange<C: Clock, W: Sink>(
     trail: &mut Trail,
     request: &Incoming,
 ) -> Option<End>
-    requires requests { trail.old.requests < request_limit }
-    requires stops { length trail.old.stops < stop_limit }
+    requires requests { trail.old.requests < MAX_REQUESTS }
+    requires stops { length trail.old.stops < MAX_STOPS }
     ensures exchange { Exchanges C.gives table.old.limit request.now table.old.journal table.new.journal clock.old clock.new trail.old trail.new
         (W.written sink.old) (W.written sink.new) result }
     ensures legal { IsLegal table.new.journal }
     ensures limit { table.new.limit ≡ table.old.limit }
-    ensures cause { result ≡ Some End.WriteFault → W.faults sink.old < W.faults sink.new }
-    ensures no_read_fault { result ≢ Some End.ReadFault }
-    ensures no_fall { W.faults sink.old ≤ W.faults sink.new }
+    ensures read_fault { result ≢ Some End.ReadFault }
+    ensures write_fault { result ≡ Some End.WriteFault → W.faults sink.old < W.faults sink.new }
+    ensures no_write_fault { result ≢ Some End.WriteFault → W.faults sink.new ≡ W.faults sink.old }
 {
     let reply = answer(alloc, table, clock, trail, request);
     trail.count_request();
     let memory = reply.is_out_of_memory();
-    let _ = table.entries();
+    let _ = table.entries(); // by it the proof knows that the journal is legal
     let close = closes(memory, request.close, trail.is_full());
-    respond(sink, &reply, close, end_behind(memory, request.close))
+    respond(sink, &reply, close, end_after(memory, request.close))
 }
 
-/// Whether a connection is closed behind a reply.
+/// Whether a connection is closed after a reply.
 fn closes(memory: bool, close: bool, full: bool) -> bool
     ensures { result ≡ (memory || close || full) }
 {
     memory || close || full
 }
 
-/// How a connection ends behind a reply that closes it.
-fn end_behind(memory: bool, close: bool) -> End
+/// How a connection ends after a reply that closes it.
+fn end_after(memory: bool, close: bool) -> End
     ensures { result ≡ (if memory then End.Memory else (if close then End.Closed else End.Limit)) }
 {
     if memory {
@@ -100,14 +103,14 @@ fn end_behind(memory: bool, close: bool) -> End
     }
 }
 
-/// Writes a reply. Tells the connection's end where it ends behind it.
+/// Writes a reply. Reports the connection's end where it ends after it.
 fn respond<W: Sink>(sink: &mut W, reply: &Reply, close: bool, end: End) -> Option<End>
     requires status { IsSome (replies.reason_of reply.now.status) }
     requires no_fault { (end ≢ End.WriteFault) × (end ≢ End.ReadFault) }
     ensures replies { Replies result end (reply_of reply.now) close (W.written sink.old) (W.written sink.new) }
-    ensures cause { result ≡ Some End.WriteFault → W.faults sink.old < W.faults sink.new }
-    ensures no_read_fault { result ≢ Some End.ReadFault }
-    ensures no_fall { W.faults sink.old ≤ W.faults sink.new }
+    ensures read_fault { result ≢ Some End.ReadFault }
+    ensures write_fault { result ≡ Some End.WriteFault → W.faults sink.old < W.faults sink.new }
+    ensures no_write_fault { result ≢ Some End.WriteFault → W.faults sink.new ≡ W.faults sink.old }
 {
     match write_reply(sink, reply.status, reply.body.as_str().as_bytes(), close) {
         Err(_) => Some(End::WriteFault),
@@ -116,11 +119,12 @@ fn respond<W: Sink>(sink: &mut W, reply: &Reply, close: bool, end: End) -> Optio
     }
 }
 
-/// Ends a connection of which no request more is read, with the reply that says why, where there is one.
+/// Ends a connection of which no further request is read, with the reply that says why, where there is one.
 fn end_with<W: Sink>(sink: &mut W, end: MessageEnd) -> End
-    ensures ends { EndsWriting result (end_of (last_of end)) (last_text [] (last_of end)) (W.written sink.old) (W.written sink.new) }
-    ensures cause { result ≡ End.WriteFault → W.faults sink.old < W.faults sink.new }
-    ensures no_fall { W.faults sink.old ≤ W.faults sink.new }
+    ensures ends { EndsWriting result (end_of (last_without_request end)) (last_text [] (last_without_request end)) (W.written sink.old) (W.written sink.new) }
+    ensures read_fault { (result ≡ End.ReadFault) ↔ (end ≡ MessageEnd.ReadFault) }
+    ensures write_fault { result ≡ End.WriteFault → W.faults sink.old < W.faults sink.new }
+    ensures no_write_fault { result ≢ End.WriteFault → W.faults sink.new ≡ W.faults sink.old }
 {
     match end {
         MessageEnd::Done => End::Done,
@@ -136,10 +140,11 @@ fn end_with<W: Sink>(sink: &mut W, end: MessageEnd) -> End
 /// Writes the last reply of a connection, which then ends so.
 fn last_reply<W: Sink>(sink: &mut W, status: u16, body: &str, end: End) -> End
     requires status { IsSome (replies.reason_of status) }
-    requires end { end ≢ End.WriteFault }
+    requires no_fault { (end ≢ End.WriteFault) × (end ≢ End.ReadFault) }
     ensures ends { EndsWriting result end (replies.text_of (record { status = status; body = body.now }) true) (W.written sink.old) (W.written sink.new) }
-    ensures cause { result ≡ End.WriteFault → W.faults sink.old < W.faults sink.new }
-    ensures no_fall { W.faults sink.old ≤ W.faults sink.new }
+    ensures read_fault { result ≢ End.ReadFault }
+    ensures write_fault { result ≡ End.WriteFault → W.faults sink.old < W.faults sink.new }
+    ensures no_write_fault { result ≢ End.WriteFault → W.faults sink.new ≡ W.faults sink.old }
 {
     match write_reply(sink, status, body.as_bytes(), true) {
         Ok(()) => end,

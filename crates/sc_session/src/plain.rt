@@ -5,7 +5,7 @@ ghost use Rattle.sc_model.specs.Journal.{last_write, owed};
 ghost use Rattle.sc_model.specs.Legal.{IsLegal};
 ghost use Rattle.sc_model.specs.Orders.{HasRoom};
 ghost use Rattle.sc_session.specs.Table.{Table, Adds};
-ghost use Rattle.sc_session.specs.Asking.{order_of};
+ghost use Rattle.sc_session.specs.Asking.{order_view};
 
 use crate::asked::Order;
 use sc_record::{Cell, Entry, Write, next_version};
@@ -33,7 +33,7 @@ impl Model for Plain {
 
 /// Why an order was not accepted. The table is as it was.
 #[derive(Clone, Copy, Debug, PartialEq, Eq)]
-pub enum AddFault {
+pub(crate) enum AddFault {
     /// The journal has no room for the write and the entry that settles it.
     LogFull,
     /// Memory ran out.
@@ -75,15 +75,15 @@ impl Plain {
     }
 
     /// The last write of an id, a deletion too.
-    pub fn read(&self, id: &str) -> Option<&Cell>
+    pub(crate) fn read(&self, id: &str) -> Option<&Cell>
         ensures { option_map arc_value (option_copied result) ≡ last_write self.now.journal id.now }
     {
         last_write(&self.journal, id)
     }
 
-    /// Adds a document at this moment, and settles that. The version is answered.
+    /// Adds a document at this timestamp, in milliseconds, and settles the write. The version is answered.
     pub(crate) fn add(&mut self, alloc: Global, order: Order, now: u64) -> Result<i64, AddFault>
-        ensures added { IfOk result (λ version. Adds self.old.journal self.new.journal (order_of order) now version) }
+        ensures added { IfOk result (λ version. Adds self.old.journal self.new.journal (order_view order) now version) }
         ensures room { IfOk result (λ _. HasRoom self.old.limit self.old.journal) }
         ensures full { (result ≡ Err AddFault.LogFull) ↔ (self.old.limit < length self.old.journal + owed self.old.journal + 2) }
         ensures unchanged { OnErr result (self.new ≡ self.old) }

@@ -1,22 +1,16 @@
 ghost use Rattle.std.specs.Prelude.{◌≡◌, ◌+◌, ◌<◌, ◌≤◌, ◌⊎◌, ◌↔◌, ◌^◌, [], ◌∷◌, ◌++◌, length, IfOk, IsTrue};
-ghost use Rattle.sc_session.specs.Kept.{Kept, room};
-ghost use Rattle.sc_model.specs.Connection.{request_limit, stop_limit};
+ghost use Rattle.sc_session.specs.Kept.{Kept};
+ghost use Rattle.sc_model.specs.declared.limits.TheConstants.{MAX_REQUESTS};
 
-use sc_model::Stop;
+use sc_model::{MAX_ORDERS, MAX_REQUESTS, MAX_STOPS, Stop};
 use std::alloc::{AllocError, Global};
 use std::marker::Model;
 
-/// How many stops a trail has room for: those behind which a connection takes no request more
-/// (65,536), and the most that one request keeps (8,448).
-const ROOM: usize = 73_984;
+/// How many stops a trail has room for: those after which a connection takes no further request, two
+/// for each order of one update, and 256 more.
+pub(crate) const ROOM: usize = MAX_STOPS + 2 * MAX_ORDERS + 256;
 
-/// The number of stops behind which a connection takes no request more.
-const STOP_LIMIT: usize = 65_536;
-
-/// The most requests of a connection.
-const REQUEST_LIMIT: u32 = 1_000;
-
-/// The places that a connection has come by, in order, and how many requests it has answered.
+/// The stops of a connection, in order, and how many requests it has answered.
 /// All its memory is taken when it is made.
 #[derive(Debug, Drop)]
 pub struct Trail {
@@ -26,13 +20,14 @@ pub struct Trail {
 
 impl Model for Trail {
     ghost use Rattle.std.specs.Prelude.{◌≤◌, vec_len, vec_capacity};
-    ghost use Rattle.sc_session.specs.Kept.{Kept, room};
+    ghost use Rattle.sc_session.specs.Kept.{Kept};
+    ghost use Rattle.sc_session.specs.declared.trail.TheConstants.{ROOM};
 
     ghost Value = { Kept };
 
     ghost view = { λ a. record { stops = a.stops.items; requests = a.requests } };
 
-    ghost invariant = { λ a. room ≤ vec_capacity a.stops };
+    ghost invariant = { λ a. ROOM ≤ vec_capacity a.stops };
 }
 
 impl Trail {
@@ -70,8 +65,8 @@ impl Trail {
     }
 
     /// Keeps one more stop.
-    pub fn keep(&mut self, stop: Stop)
-        requires { length self.old.stops < room }
+    pub(crate) fn keep(&mut self, stop: Stop)
+        requires { length self.old.stops < ROOM }
         ensures { self.new ≡ record { stops = self.old.stops ++ stop ∷ []; requests = self.old.requests } }
     {
         self.stops.push_reserved(stop);
@@ -79,16 +74,16 @@ impl Trail {
 
     /// Counts one more request.
     pub(crate) fn count_request(&mut self)
-        requires { self.old.requests < request_limit }
+        requires { self.old.requests < MAX_REQUESTS }
         ensures { self.new ≡ record { stops = self.old.stops; requests = self.old.requests + 1 } }
     {
         self.requests += 1;
     }
 
-    /// Whether the connection takes no request more.
+    /// Whether the connection takes no further request.
     pub(crate) fn is_full(&self) -> bool
         ensures { result ≡ is_at_end self.now }
     {
-        self.requests >= REQUEST_LIMIT || self.stops.len() >= STOP_LIMIT
+        self.requests >= MAX_REQUESTS || self.stops.len() >= MAX_STOPS
     }
 }

@@ -1,15 +1,17 @@
--- A clock that stands still gives one timestamp.
-use Rattle.std.proofs.Common.{◌≡◌, ℕ, List, [], ◌∷◌, Option, Some, refl, ap, ◌∙◌}
+-- A clock that stands still gives one timestamp, and a status says which object failed.
+use Rattle.std.proofs.Common.{◌≡◌, ◌<◌, ℕ, List, [], ◌∷◌, Option, Some, refl, ap, ◌∙◌, arith}
+use Rattle.std.specs.Prelude.{◌≢◌, ◌↔◌}
 use Rattle.sc_io.specs.declared.memory.Fixed.{Fixed}
 use Rattle.sc_model.specs.Answers.{Journals}
-use Rattle.sc_model.specs.Served.{GivesMoments, IsServed}
+use Rattle.sc_model.specs.Served.{GivesTimestamps, IsServed}
 use Rattle.sc_model.specs.declared.connection.End.{End}
+use Rattle.sc_model.specs.declared.connection.End.TheVariants as ends
 use Rattle.sc_model.specs.declared.stop.Stop.{Stop}
-use Rattle.solr_split.specs.Running.{clock_of}
+use Rattle.solr_split.specs.Running.{clock_of, status_of}
 
 -- the moments of a fixed clock are those of a script that names one
 pub fixed_moments : {C : Type 0} (gives : C → ℕ → C → Type 0) (moment : ℕ) (clock : C) (moments : List ℕ) (old new : Fixed) → old.moment ≡ moment
-    → GivesMoments (λ (s : Fixed) (now : ℕ) (t : Fixed). (now ≡ s.moment) × (t ≡ s)) old moments new → GivesMoments (clock_of (Some moment) gives) clock moments clock
+    → GivesTimestamps (λ (s : Fixed) (now : ℕ) (t : Fixed). (now ≡ s.moment) × (t ≡ s)) old moments new → GivesTimestamps (clock_of (Some moment) gives) clock moments clock
 fixed_moments gives moment clock [] old new e g = refl
 fixed_moments gives moment clock (now ∷ moments) old new e g = (clock, (g.1.0 ∙ e, refl), fixed_moments gives moment clock moments g.0 new (ap (λ (f : Fixed). f.moment) g.1.1 ∙ e) g.2)
 
@@ -26,3 +28,29 @@ served_at gives moment clock limit old new old_own new_own a b old_unread new_un
   given = fixed_moments gives moment clock s.moments a b e s.given;
   carries = s.carries;
 }
+
+steady : (old new : ℕ) → new ≡ old → old < new → ⊥
+steady old new e l = omega arith
+
+-- the status says that the source failed, or the sink, exactly where its count rose
+pub read_status : (end : End) (old new : ℕ) → (end ≡ ends.ReadFault → old < new) → (end ≢ ends.ReadFault → new ≡ old) → (status_of end ≡ 4) ↔ (old < new)
+read_status ends.Done old new rose same = (λ e. absurd (omega arith), λ l. absurd (steady old new (same (λ e. absurd (cc))) l))
+read_status ends.Closed old new rose same = (λ e. absurd (omega arith), λ l. absurd (steady old new (same (λ e. absurd (cc))) l))
+read_status ends.Limit old new rose same = (λ e. absurd (omega arith), λ l. absurd (steady old new (same (λ e. absurd (cc))) l))
+read_status ends.Cut old new rose same = (λ e. absurd (omega arith), λ l. absurd (steady old new (same (λ e. absurd (cc))) l))
+read_status ends.BadHead old new rose same = (λ e. absurd (omega arith), λ l. absurd (steady old new (same (λ e. absurd (cc))) l))
+read_status ends.TooLarge old new rose same = (λ e. absurd (omega arith), λ l. absurd (steady old new (same (λ e. absurd (cc))) l))
+read_status ends.ReadFault old new rose same = (λ e. rose refl, λ l. refl)
+read_status ends.WriteFault old new rose same = (λ e. absurd (omega arith), λ l. absurd (steady old new (same (λ e. absurd (cc))) l))
+read_status ends.Memory old new rose same = (λ e. absurd (omega arith), λ l. absurd (steady old new (same (λ e. absurd (cc))) l))
+
+pub write_status : (end : End) (old new : ℕ) → (end ≡ ends.WriteFault → old < new) → (end ≢ ends.WriteFault → new ≡ old) → (status_of end ≡ 5) ↔ (old < new)
+write_status ends.Done old new rose same = (λ e. absurd (omega arith), λ l. absurd (steady old new (same (λ e. absurd (cc))) l))
+write_status ends.Closed old new rose same = (λ e. absurd (omega arith), λ l. absurd (steady old new (same (λ e. absurd (cc))) l))
+write_status ends.Limit old new rose same = (λ e. absurd (omega arith), λ l. absurd (steady old new (same (λ e. absurd (cc))) l))
+write_status ends.Cut old new rose same = (λ e. absurd (omega arith), λ l. absurd (steady old new (same (λ e. absurd (cc))) l))
+write_status ends.BadHead old new rose same = (λ e. absurd (omega arith), λ l. absurd (steady old new (same (λ e. absurd (cc))) l))
+write_status ends.TooLarge old new rose same = (λ e. absurd (omega arith), λ l. absurd (steady old new (same (λ e. absurd (cc))) l))
+write_status ends.ReadFault old new rose same = (λ e. absurd (omega arith), λ l. absurd (steady old new (same (λ e. absurd (cc))) l))
+write_status ends.WriteFault old new rose same = (λ e. rose refl, λ l. refl)
+write_status ends.Memory old new rose same = (λ e. absurd (omega arith), λ l. absurd (steady old new (same (λ e. absurd (cc))) l))

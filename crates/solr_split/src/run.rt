@@ -1,7 +1,7 @@
-ghost use Rattle.std.specs.Prelude.{◌≡◌, ◌⊎◌, ◌<◌, ◌↔◌, [], map, IfOk, IfSome, None, string_bytes};
+ghost use Rattle.std.specs.Prelude.{◌≡◌, ◌≢◌, ◌⊎◌, ◌<◌, ◌↔◌, [], map, IfOk, IfSome, None, string_bytes};
 ghost use Rattle.sc_model.specs.Served.{IsServed};
 ghost use Rattle.sc_session.specs.Table.{journals, own_places};
-ghost use Rattle.solr_split.specs.Running.{RunsScript, clock_of, log_limit, status_of};
+ghost use Rattle.solr_split.specs.Running.{RunsScript, clock_of, status_of};
 ghost use Rattle.solr_split.specs.Arguments.{script_of};
 
 use crate::arguments::{Script, script_of};
@@ -35,8 +35,8 @@ pub fn run<S: Source, W: Sink, C: Clock>(
     ensures script { IfSome (script_of (map string_bytes arguments.now)) (λ script.
         RunsScript script C.gives clock.old clock.new (S.rest source.old) (S.rest source.new) (W.written sink.old) (W.written sink.new) result
         ⊎ ((result ≡ 6) × (source.new ≡ source.old) × (sink.new ≡ sink.old) × (clock.new ≡ clock.old))) }
-    ensures read_fault { result ≡ 4 → S.faults source.old < S.faults source.new }
-    ensures write_fault { result ≡ 5 → W.faults sink.old < W.faults sink.new }
+    ensures read_fault { (result ≡ 4) ↔ (S.faults source.old < S.faults source.new) }
+    ensures write_fault { (result ≡ 5) ↔ (W.faults sink.old < W.faults sink.new) }
 {
     let Some(script) = script_of(arguments) else {
         return 2;
@@ -64,7 +64,9 @@ fn serve_script<S: Source, W: Sink, C: Clock>(
         (own_places table.old.journal) (own_places table.new.journal) clock.old clock.new
         (S.rest source.old) (S.rest source.new) (W.written sink.old) (W.written sink.new) trail.new.stops result }
     ensures read_fault { result ≡ End.ReadFault → S.faults source.old < S.faults source.new }
+    ensures no_read_fault { result ≢ End.ReadFault → S.faults source.new ≡ S.faults source.old }
     ensures write_fault { result ≡ End.WriteFault → W.faults sink.old < W.faults sink.new }
+    ensures no_write_fault { result ≢ End.WriteFault → W.faults sink.new ≡ W.faults sink.old }
 {
     match script.clock {
         None => serve(alloc, table, clock, source, sink, trail),
@@ -74,7 +76,7 @@ fn serve_script<S: Source, W: Sink, C: Clock>(
 
 /// What a connection needs: an empty table and an empty trail.
 fn memory_of(alloc: Global) -> Result<(Plain, Trail), AllocError>
-    ensures { IfOk result (λ memory. (memory.0 ≡ record { journal = []; limit = log_limit }) × (memory.1 ≡ record { stops = []; requests = 0 })) }
+    ensures { IfOk result (λ memory. (memory.0 ≡ record { journal = []; limit = LOG_LIMIT }) × (memory.1 ≡ record { stops = []; requests = 0 })) }
 {
     Ok((Plain::new(alloc, LOG_LIMIT)?, Trail::new(alloc)?))
 }

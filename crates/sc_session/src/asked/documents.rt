@@ -5,12 +5,10 @@ ghost use Rattle.sc_session.specs.Documents.{raw_of, document_of_item};
 
 use crate::asked::member::{Member, read_member};
 use crate::asked::raw::RawDocument;
+use sc_model::MAX_ORDERS;
 use sc_record::{Doc, List};
 use serde_json::{Map, Value};
 use std::alloc::{AllocError, Global};
-
-/// The most documents of a request.
-const MAX_DOCUMENTS: usize = 4096;
 
 /// The documents that a value is an array of. `None` where it is none, where it has more than may
 /// be, or where one has a member that is not read.
@@ -21,7 +19,7 @@ pub fn read_documents(alloc: Global, value: Value) -> Result<Option<Vec<RawDocum
     let Value::Array(items) = value else {
         return Ok(None);
     };
-    if items.len() > MAX_DOCUMENTS {
+    if items.len() > MAX_ORDERS {
         return Ok(None);
     }
     read_items(alloc, items)

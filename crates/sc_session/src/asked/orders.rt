@@ -1,6 +1,6 @@
 ghost use Rattle.std.specs.Prelude.{◌≡◌, IfOk, option_map, map};
 ghost use Rattle.sc_model.specs.Requests as asking;
-ghost use Rattle.sc_session.specs.Asking.{order_of};
+ghost use Rattle.sc_session.specs.Asking.{order_view};
 ghost use Rattle.sc_session.specs.Documents.{raw_of};
 
 use crate::asked::Order;
@@ -13,7 +13,7 @@ pub fn orders_of(
     alloc: Global,
     documents: Vec<RawDocument>,
 ) -> Result<Option<Vec<Order>>, AllocError>
-    ensures { IfOk result (λ orders. option_map (λ list. map order_of list.items) orders
+    ensures { IfOk result (λ orders. option_map (λ list. map order_view list.items) orders
         ≡ asking.orders_of (map raw_of documents.items)) }
 {
     let mut orders = Vec::with_capacity(alloc, documents.len())?;
@@ -28,7 +28,7 @@ pub fn orders_of(
 
 /// The order to add the document.
 fn order_from(alloc: Global, document: RawDocument) -> Result<Option<Order>, AllocError>
-    ensures { IfOk result (λ order. option_map order_of order
+    ensures { IfOk result (λ order. option_map order_view order
         ≡ asking.order_of document.id document.document) }
 {
     let RawDocument { id, document } = document;

@@ -2,10 +2,9 @@ ghost use Rattle.std.specs.Prelude.{◌≡◌, ◌∷◌, [], IfOk, OnOk, false,
 ghost use Rattle.serde_json.specs.View.{view, members_view};
 ghost use Rattle.serde_json.specs.Written.{has_float, compact_text};
 ghost use Rattle.sc_model.specs.Replies as replies;
-ghost use Rattle.sc_session.specs.Replying.{ack_of, put_all, error_member, adds_data};
+ghost use Rattle.sc_session.specs.Replying.{ack_view, put_all, error_member, adds_data};
 
-use crate::reply::Ack;
-use sc_record::Text;
+use sc_record::{Ack, Text};
 use serde_json::{Map, Value, json, put};
 use std::alloc::{AllocError, Global};
 
@@ -52,7 +51,7 @@ pub fn put_adds(
     versions: bool,
 ) -> Result<(), AllocError>
     ensures { OnOk result (members_view members.new.entries
-        ≡ put_all (replies.adds_member versions (map ack_of adds.now)) (members_view members.old.entries)) }
+        ≡ put_all (replies.adds_member versions (map ack_view adds.now)) (members_view members.old.entries)) }
 {
     if !versions || adds.is_empty() {
         return Ok(());
@@ -63,7 +62,7 @@ pub fn put_adds(
 
 /// The ids and the versions of additions, in a flat list.
 fn adds_value(alloc: Global, adds: &[Ack]) -> Result<Value, AllocError>
-    ensures { IfOk result (λ value. view value ≡ adds_data (map ack_of adds.now)) }
+    ensures { IfOk result (λ value. view value ≡ adds_data (map ack_view adds.now)) }
 {
     let mut items = Vec::new(alloc);
     for ack in adds {

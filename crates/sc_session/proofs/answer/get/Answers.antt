@@ -1,11 +1,12 @@
+-- The reply to a get is that of the journal at its stop.
 use Rattle.std.proofs.Common.{◌≡◌, List, ◌∷◌, [], ◌++◌, length, sym, ap, ◌∙◌, subst}
 use Rattle.sc_model.specs.Journal.{last_write}
 use Rattle.sc_model.specs.Replies.{get_reply}
 use Rattle.sc_model.specs.declared.stop.Stop.{Stop}
 use Rattle.sc_session.specs.Answering.{GetsDocument, reply_of}
 use Rattle.sc_session.specs.Kept.{Kept}
-use Rattle.sc_session.proofs.AnswerLaws.{made_or_memory, got}
-use Rattle.sc_session.proofs.BatchLaws.{seen_stop}
+use Rattle.sc_session.proofs.AnswerLemmas.{made_or_memory, got}
+use Rattle.sc_session.proofs.BatchLemmas.{seen_stop}
 use Rattle.sc_session.proofs.answer.get.Goals as goal
 
 pub returns-clause-answers : goal.returns-clause-answers

@@ -1,9 +1,10 @@
+-- The first write of the id from the end is its last.
 use Rattle.std.proofs.Common.{◌-◌, [], ◌∷◌, arith, sym, ap, ◌∙◌, cond}
 use Rattle.std.specs.Arc.{arc_value}
 use Rattle.std.specs.Str.{bytes_eq}
 use Rattle.sc_record.specs.declared.write.Write.{Write}
 use Rattle.sc_model.specs.Journal.{writes_of}
-use Rattle.sc_model.proofs.JournalLaws.{last_write_at, last_write_before}
+use Rattle.sc_model.proofs.JournalLemmas.{last_write_at, last_write_before}
 use Rattle.sc_session.proofs.plain.last_write.Goals as goal
 
 pub returns-then-eq : goal.returns-then-eq

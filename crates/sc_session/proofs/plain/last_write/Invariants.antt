@@ -1,3 +1,4 @@
+-- No entry that was looked at is a write of the id.
 use Rattle.std.proofs.Common.{◌≡◌, ◌≤◌, length, take}
 use Rattle.sc_model.specs.Journal.{last_write}
 use Rattle.sc_session.proofs.plain.last_write.Given as goal

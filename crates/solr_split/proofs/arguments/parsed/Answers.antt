@@ -1,3 +1,4 @@
+-- Digits that don't parse have no number of 64 bits.
 use Rattle.solr_split.proofs.DigitLemmas.{refused}
 use Rattle.solr_split.proofs.arguments.parsed.Goals as goal
 

@@ -1,9 +1,11 @@
+-- A run is one connection over a journal that begins empty, and its status is that of the end.
 use Rattle.std.proofs.Common.{◌≡◌, map, Some, string_bytes, sym, subst, inl}
 use Rattle.sc_model.specs.Served.{IsServed}
 use Rattle.sc_session.specs.declared.plain.Plain.{Plain}
 use Rattle.sc_session.specs.Table.{journals, own_places}
 use Rattle.solr_split.specs.Running.{clock_of}
 use Rattle.solr_split.specs.Arguments.{script_of}
+use Rattle.solr_split.proofs.RunLemmas.{read_status, write_status}
 use Rattle.solr_split.proofs.run.run.Goals as goal
 
 pub returns-clause-script : goal.returns-clause-script
@@ -17,3 +19,11 @@ returns-clause-script g c =
       status_is = c.status_of.ensures;
       served = served;
     }))
+
+pub returns-clause-read_fault : goal.returns-clause-read_fault
+returns-clause-read_fault g c =
+    rw c.status_of.ensures (read_status c.serve_script-end.result (g.S.Source.faults c.args.source.now) (g.S.Source.faults c.serve_script-end.new.source) c.serve_script-end.ensures.read_fault c.serve_script-end.ensures.no_read_fault)
+
+pub returns-clause-write_fault : goal.returns-clause-write_fault
+returns-clause-write_fault g c =
+    rw c.status_of.ensures (write_status c.serve_script-end.result (g.W.Sink.faults c.args.sink.now) (g.W.Sink.faults c.serve_script-end.new.sink) c.serve_script-end.ensures.write_fault c.serve_script-end.ensures.no_write_fault)

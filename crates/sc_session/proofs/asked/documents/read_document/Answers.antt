@@ -1,9 +1,10 @@
+-- One more member keeps the document that an object's members are.
 use Rattle.std.proofs.Common.{List, option_map, sym, ap, ◌∙◌, string_bytes}
 use Rattle.serde_json.specs.View.{view, members_view}
 use Rattle.serde_json.proofs.Views.{Entry}
 use Rattle.sc_model.specs.Requests as asking
 use Rattle.sc_session.specs.Documents.{with_read}
-use Rattle.sc_session.proofs.Members.{joined, joined_field, all_read}
+use Rattle.sc_session.proofs.MemberLemmas.{joined, joined_field, all_read}
 use Rattle.sc_session.proofs.asked.documents.read_document.Goals as goal
 
 pub loop-name-preserved : goal.loop-name-preserved

@@ -1,13 +1,14 @@
+-- A value is an array of documents, of which there are few enough, or it is none.
 use Rattle.std.proofs.Common.{sym, ap, ◌∙◌, arith}
 use Rattle.std.proofs.lemmas.Result.{IfOk-weaker}
 use Rattle.serde_json.specs.View.{view}
 use Rattle.serde_json.proofs.Views.{view-Array}
 use Rattle.sc_model.specs.Requests as asking
-use Rattle.sc_session.proofs.Items.{documents_within, documents_beyond}
+use Rattle.sc_session.proofs.ItemLemmas.{documents_within, documents_beyond}
 use Rattle.sc_session.proofs.asked.documents.read_documents.Goals as goal
 
-pub returns-then-len-gt-MAX_DOCUMENTS : goal.returns-then-len-gt-MAX_DOCUMENTS
-returns-then-len-gt-MAX_DOCUMENTS c =
+pub returns-then-len-gt-MAX_ORDERS : goal.returns-then-len-gt-MAX_ORDERS
+returns-then-len-gt-MAX_ORDERS c =
     let items = c.in-Array.items in
     let seen = ap view c.in-Array.is ∙ view-Array items in
     sym (ap asking.documents_of seen ∙ documents_beyond items.items (omega (arith, items.ok.0)))

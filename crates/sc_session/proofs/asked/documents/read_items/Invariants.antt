@@ -1,3 +1,4 @@
+-- The documents so far are those of the items that were looked at.
 use Rattle.std.proofs.Common.{◌≡◌, ◌++◌, map, option_map}
 use Rattle.std.specs.Vec.Iter.{into_iter_items}
 use Rattle.serde_json.specs.View.{items_view}

@@ -1,3 +1,4 @@
+-- No parameter that was looked at has the name.
 use Rattle.std.proofs.Common.{◌≡◌, drop}
 use Rattle.sc_model.specs.Requests as asking
 use Rattle.sc_session.proofs.asked.update.parameter.Given as goal

@@ -1,6 +1,7 @@
+-- Bytes that are no JSON, or no UTF-8, have no value.
 use Rattle.std.proofs.Common.{sym, ap, ◌∙◌}
 use Rattle.serde_json.specs.Read.{read}
-use Rattle.sc_session.proofs.Json.{json_of_text, json_of_other}
+use Rattle.sc_session.proofs.JsonLemmas.{json_of_text, json_of_other}
 use Rattle.sc_session.proofs.asked.update.read_json.Goals as goal
 
 pub returns-in_default : goal.returns-in_default

@@ -1,3 +1,4 @@
+-- The write and the entry that settles it keep the table sound.
 use Rattle.std.proofs.Common.{◌≡◌, ◌≤◌, ◌^◌, [], ◌∷◌, ◌++◌, length, w64, ℤ, to_z, of_z, arith, List, sym, ap, ◌∙◌, subst, append_assoc}
 use Rattle.std.specs.Arc.{arc_value}
 use Rattle.std.proofs.lemmas.Int.{ints}
@@ -6,10 +7,11 @@ use Rattle.sc_record.specs.declared.write.Write.{Write}
 use Rattle.sc_record.specs.declared.entry.Entry.{Entry}
 use Rattle.sc_record.specs.declared.entry.Entry.TheVariants as entry
 use Rattle.sc_model.specs.Journal.{writes}
-use Rattle.sc_model.proofs.JournalLaws.{length-writes}
+use Rattle.sc_model.specs.Orders.{content_of}
+use Rattle.sc_model.proofs.JournalLemmas.{length-writes}
 use Rattle.sc_session.specs.Table.{Table, Adds, IsSound}
-use Rattle.sc_session.specs.Asking.{order_of}
-use Rattle.sc_session.proofs.TableLaws.{IsSound-added}
+use Rattle.sc_session.specs.Asking.{order_view}
+use Rattle.sc_session.proofs.TableLemmas.{IsSound-added}
 use Rattle.sc_session.proofs.plain.Plain.add.Goals as goal
 
 pub next_version-version-requires-clause-can_rise :
@@ -51,16 +53,12 @@ returns-clause-added c =
     c.push_reserved-2.ensures.items ∙ ap (λ (xs : List Entry). xs ++ entry.Settled c.len-place.result ∷ []) first
     ∙ append_assoc J (entry.Write c.in-Ok.cell ∷ []) (entry.Settled c.len-place.result ∷ []) ∙ ap (λ n. J ++ entry.Write c.in-Ok.cell ∷ entry.Settled n ∷ []) len in
     let seen : J ≡ c.args.self.now.journal = ap (λ (t : Table). t.journal) c.self.view_is in
-    subst (λ (xs : List Entry). Adds xs c.push_reserved-2.new.self.items (order_of c.args.order) c.args.now (to_z w64 (of_z w64 c.next_version-version.result))) seen
+    subst (λ (xs : List Entry). Adds xs c.push_reserved-2.new.self.items (order_view c.args.order) c.args.now (to_z w64 (of_z w64 c.next_version-version.result))) seen
     (record {
       clock = clock;
       clock_is = c.self.invariant.clock_is;
       version_is = kept ∙ version;
       cell = c.in-Ok.cell;
-      written = record {
-        id = ap (λ (w : Write). w.id) c.in-Ok.ensures.ok;
-        version_is = ap (λ (w : Write). w.version) c.in-Ok.ensures.ok;
-        document = ap (λ (w : Write). w.doc) c.in-Ok.ensures.ok;
-      };
+      written = ap content_of c.in-Ok.ensures.ok;
       added = items;
     })

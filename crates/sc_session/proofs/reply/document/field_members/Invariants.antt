@@ -1,3 +1,4 @@
+-- The members so far are those of the last fields.
 use Rattle.std.proofs.Common.{◌≡◌, ◌++◌, List, length, map}
 use Rattle.serde_json.specs.View.{members_view}
 use Rattle.sc_record.specs.declared.document.Field.{Field}

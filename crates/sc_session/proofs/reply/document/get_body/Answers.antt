@@ -1,9 +1,10 @@
+-- The text of a get is that of its document.
 use Rattle.std.proofs.Common.{◌≡◌, false, codes, option_map, option_copied}
 use Rattle.std.specs.Arc.{arc_value}
 use Rattle.serde_json.specs.View.{view, members_view}
 use Rattle.serde_json.specs.Written.{has_float, members_have_float}
 use Rattle.serde_json.proofs.Views.{view-Object}
-use Rattle.sc_session.proofs.NoFloats.{no_float_put, no_float_written}
+use Rattle.sc_session.proofs.NoFloatLemmas.{no_float_put, no_float_written}
 use Rattle.sc_session.proofs.reply.document.get_body.Goals as goal
 
 pub text_of-requires : goal.text_of-requires

@@ -1,3 +1,4 @@
+-- The values so far are those of the list.
 use Rattle.std.proofs.Common.{◌≡◌, map, take}
 use Rattle.serde_json.specs.View.{view}
 use Rattle.sc_model.specs.Replies as replies

@@ -28,7 +28,7 @@ first_of (Some text) later = Some text
 abbrev pub joined : Option (List ℕ) → List Field → asking.RawDocument → asking.RawDocument
 joined id fields document = record { id = first_of id document.id; fields = fields ++ document.fields }
 
--- one more field goes behind those that were read
+-- one more field comes after those that were read
 pub joined_field : (id : Option (List ℕ)) (fields : List Field) (field : Field) (added : asking.RawDocument → Option asking.RawDocument) (found : Option asking.RawDocument)
     → ((document : asking.RawDocument) → added document ≡ Some (record { id = document.id; fields = field ∷ document.fields }))
     → option_map (joined id (fields ++ field ∷ [])) found ≡ option_map (joined id fields) (option_and_then added found)

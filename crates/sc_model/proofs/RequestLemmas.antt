@@ -6,7 +6,8 @@ use Rattle.std.specs.Prelude.{not, nat_le, codes, option_map, option_and_then}
 use Rattle.std.proofs.lemmas.Bool.Decides.{nat_tests}
 use Rattle.serde_json.specs.Data.{Data, null, boolean, number, string, array, object}
 use Rattle.sc_model.specs.Orders.{Order}
-use Rattle.sc_model.specs.Requests.{Asked, add, get, not_found, not_built, RawDocument, order_limit, order_of, orders_of, within_limit, documents_of, documents_of_items, asked_orders, asked_documents, asked_value, asked_update, asked_id, asked_get, asked, json_of, is_plain_update, is_set, paths}
+use Rattle.sc_model.specs.Requests.{Asked, add, get, not_found, not_built, RawDocument, order_of, orders_of, within_limit, documents_of, documents_of_items, asked_orders, asked_documents, asked_value, asked_update, asked_id, asked_get, asked, json_of, is_plain_update, is_set, paths}
+use Rattle.sc_model.specs.declared.limits.TheConstants.{MAX_ORDERS}
 use Rattle.sc_model.specs.declared.message.Incoming.{Incoming}
 use Rattle.sc_model.specs.declared.message.Method.{Method}
 use Rattle.sc_model.specs.declared.message.Method.TheVariants as methods
@@ -14,7 +15,7 @@ use Rattle.sc_model.specs.declared.message.Param.{Param}
 
 -- what was asked for has at most so many orders
 abbrev pub HasFewOrders : Asked → Type 0
-HasFewOrders (add orders versions) = length orders ≤ order_limit
+HasFewOrders (add orders versions) = length orders ≤ MAX_ORDERS
 HasFewOrders other = Unit {0}
 
 -- a choice keeps what both sides have
@@ -41,15 +42,15 @@ orders_within (document ∷ documents) (suc n) h = subst (λ m. Within m (orders
 -- no more documents than may be, where there are documents
 abbrev pub AreFew : Option (List RawDocument) → Type 0
 AreFew None = Unit {0}
-AreFew (Some documents) = length documents ≤ order_limit
+AreFew (Some documents) = length documents ≤ MAX_ORDERS
 
-limited_at : (documents : List RawDocument) (b : Bool) → nat_le (length documents) order_limit ≡ b → AreFew (cond b (Some documents) None)
+limited_at : (documents : List RawDocument) (b : Bool) → nat_le (length documents) MAX_ORDERS ≡ b → AreFew (cond b (Some documents) None)
 limited_at documents true e = grind (arith, nat_tests)
 limited_at documents false e = tt
 
 limited : (documents : Option (List RawDocument)) → AreFew (option_and_then within_limit documents)
 limited None = tt
-limited (Some documents) = limited_at documents (nat_le (length documents) order_limit) refl
+limited (Some documents) = limited_at documents (nat_le (length documents) MAX_ORDERS) refl
 
 documents_few : (value : Data) → AreFew (documents_of value)
 documents_few null = tt
@@ -59,13 +60,13 @@ documents_few (string s) = tt
 documents_few (array items) = limited (documents_of_items items)
 documents_few (object fields) = tt
 
-orders_few : (versions : Bool) (orders : Option (List Order)) → Within order_limit orders → HasFewOrders (asked_orders versions orders)
+orders_few : (versions : Bool) (orders : Option (List Order)) → Within MAX_ORDERS orders → HasFewOrders (asked_orders versions orders)
 orders_few versions None h = tt
 orders_few versions (Some orders) h = h
 
 asked_documents_few : (versions : Bool) (documents : Option (List RawDocument)) → AreFew documents → HasFewOrders (asked_documents versions documents)
 asked_documents_few versions None h = tt
-asked_documents_few versions (Some documents) h = orders_few versions (orders_of documents) (orders_within documents order_limit h)
+asked_documents_few versions (Some documents) h = orders_few versions (orders_of documents) (orders_within documents MAX_ORDERS h)
 
 value_few : (versions : Bool) (value : Option Data) → HasFewOrders (asked_value versions value)
 value_few versions None = tt

@@ -5,19 +5,21 @@ use Rattle.std.specs.List.{AllByRecursion}
 use Rattle.std.proofs.lemmas.List.{append-nil}
 use Rattle.std.proofs.lemmas.Grind.{flat_map-append}
 use Rattle.std.proofs.lemmas.Bool.Decides.{nat_tests}
+use mathlib.Core.List.{IsPrefix}
 use Rattle.sc_record.specs.declared.entry.Entry.{Entry}
+use Rattle.sc_model.specs.declared.limits.TheConstants.{MAX_REQUESTS, MAX_STOPS}
 use Rattle.sc_model.specs.declared.stop.Stop.{Stop}
 use Rattle.sc_model.specs.declared.connection.End.{End}
 use Rattle.sc_model.specs.declared.message.Incoming.{Incoming}
-use Rattle.sc_model.specs.Connection.{Begins, Exchange, IsAnswered, StaysOpen, closes_behind, stops_of, texts_of, is_out_of_memory, request_limit, stop_limit}
+use Rattle.sc_model.specs.Connection.{Exchange, IsAnswered, StaysOpen, closes_after, stops_of, texts_of, is_out_of_memory}
 use Rattle.sc_model.specs.Messages.{ReadsMessage, ReadsMessages}
-use Rattle.sc_model.specs.Served.{GivesMoments, moments_of}
+use Rattle.sc_model.specs.Served.{GivesTimestamps, timestamps_of}
 use Rattle.sc_session.specs.Kept.{Kept}
-use Rattle.sc_session.specs.Serving.{Exchanges, Writes, closes_after}
+use Rattle.sc_session.specs.Serving.{Exchanges, Writes, closes_by}
 use Rattle.sc_session.specs.Steps.{GoesOn}
 use Rattle.sc_session.specs.Table.{journals}
-use Rattle.sc_session.proofs.StepLaws.{GoesOn-none, GoesOn-then}
-use Rattle.sc_session.proofs.BatchSteps.{moments-append}
+use Rattle.sc_session.proofs.StepLemmas.{GoesOn-none, GoesOn-then}
+use Rattle.sc_session.proofs.BatchStepLemmas.{timestamps-append}
 
 -- A connection that is open: its requests so far were read, answered and written, and `held` is what its reader has of the
 -- bytes that come next.
@@ -27,10 +29,10 @@ pub record IsOpen {C : Type 0} (gives : C → ℕ → C → Type 0) (limit : ℕ
   pub steps : GoesOn old new (stops_of exchanges)
   pub stops : kept.stops ≡ stops_of exchanges
   pub requests : kept.requests ≡ length exchanges
-  pub few : kept.requests < request_limit
-  pub short : length kept.stops < stop_limit
-  pub answers : (later : List Entry) → Begins new later → AllByRecursion (IsAnswered limit (journals later)) exchanges
-  pub given : GivesMoments gives old_clock (moments_of exchanges) new_clock
+  pub few : kept.requests < MAX_REQUESTS
+  pub short : length kept.stops < MAX_STOPS
+  pub answers : (later : List Entry) → IsPrefix new later → AllByRecursion (IsAnswered limit (journals later)) exchanges
+  pub given : GivesTimestamps gives old_clock (timestamps_of exchanges) new_clock
   pub read : IfSome old_unread (λ bytes. (more : List ℕ) × (new_unread ≡ Some more) × ReadsMessages bytes (map (λ (x : Exchange). x.request) exchanges) (held ++ more))
   pub wrote : Writes (texts_of exchanges) old_written new_written
 
@@ -42,7 +44,7 @@ read_none : (unread : Option (List ℕ)) → IfSome unread (λ bytes. (more : Li
 read_none None = tt
 read_none (Some bytes) = (bytes, refl, refl)
 
-none_between : (before : List Exchange) (x : Exchange) (after : List Exchange) → [] ≡ before ++ x ∷ after → closes_behind before x ≡ false
+none_between : (before : List Exchange) (x : Exchange) (after : List Exchange) → [] ≡ before ++ x ∷ after → closes_after before x ≡ false
 none_between [] x after h = absurd (cc)
 none_between (b ∷ before) x after h = absurd (cc)
 
@@ -90,33 +92,33 @@ some_of : {A : Type 0} (o : Option A) → IsSome o → (x : A) × (o ≡ Some x)
 some_of None h = absurd (cc)
 some_of (Some x) h = (x, refl)
 
-pub stops_of-push : (exchanges : List Exchange) (x : Exchange) → stops_of (exchanges ++ x ∷ []) ≡ stops_of exchanges ++ x.stops
-stops_of-push exchanges x = flat_map-append (λ (y : Exchange). y.stops) exchanges (x ∷ []) ∙ ap (λ (ss : List Stop). stops_of exchanges ++ ss) (append-nil x.stops)
+pub stops_of-push : (exchanges : List Exchange) (x : Exchange) → stops_of (exchanges ++ x ∷ []) ≡ stops_of exchanges ++ x.trace.stops
+stops_of-push exchanges x = flat_map-append (λ (y : Exchange). y.trace.stops) exchanges (x ∷ []) ∙ ap (λ (ss : List Stop). stops_of exchanges ++ ss) (append-nil x.trace.stops)
 
 module _ {C : Type 0} (gives : C → ℕ → C → Type 0) (limit : ℕ) (J K L : List Entry) (a b c : C) (first second : Kept) (held next : List ℕ) (unread now_unread then_unread written now_written then_written : Option (List ℕ)) (request : Incoming) (end : Option End)
     (open_ : IsOpen gives limit J K a b first held unread now_unread written now_written)
     (step : Exchanges gives limit request K L b c first second now_written then_written end) where
-  -- the stops up to the exchange, and whether the connection is closed behind it
-  pub stops_behind : second.stops ≡ stops_of open_.exchanges ++ step.exchange.stops
-  stops_behind = step.kept ∙ ap (λ (ss : List Stop). ss ++ step.exchange.stops) open_.stops
+  -- the stops up to the exchange, and whether the connection is closed after it
+  pub stops_after : second.stops ≡ stops_of open_.exchanges ++ step.exchange.trace.stops
+  stops_after = step.kept ∙ ap (λ (ss : List Stop). ss ++ step.exchange.trace.stops) open_.stops
 
-  pub closes_same : closes_behind open_.exchanges step.exchange ≡ closes_after step.exchange second
+  pub closes_same : closes_after open_.exchanges step.exchange ≡ closes_by step.exchange second
   closes_same =
       let count : length (open_.exchanges ++ step.exchange ∷ []) ≡ second.requests = omega (arith, length-append open_.exchanges (step.exchange ∷ []), step.counted, open_.requests) in
-      let stops : stops_of (open_.exchanges ++ step.exchange ∷ []) ≡ second.stops = stops_of-push open_.exchanges step.exchange ∙ sym stops_behind in
-      ap (λ n. is_out_of_memory step.exchange.reply || step.exchange.request.close || (nat_le request_limit n || nat_le stop_limit (length (stops_of (open_.exchanges ++ step.exchange ∷ []))))) count
-      ∙ ap (λ (ss : List Stop). is_out_of_memory step.exchange.reply || step.exchange.request.close || (nat_le request_limit second.requests || nat_le stop_limit (length ss))) stops
+      let stops : stops_of (open_.exchanges ++ step.exchange ∷ []) ≡ second.stops = stops_of-push open_.exchanges step.exchange ∙ sym stops_after in
+      ap (λ n. is_out_of_memory step.exchange.reply || step.exchange.request.close || (nat_le MAX_REQUESTS n || nat_le MAX_STOPS (length (stops_of (open_.exchanges ++ step.exchange ∷ []))))) count
+      ∙ ap (λ (ss : List Stop). is_out_of_memory step.exchange.reply || step.exchange.request.close || (nat_le MAX_REQUESTS second.requests || nat_le MAX_STOPS (length ss))) stops
 
-  pub steps_behind : GoesOn J L (stops_of open_.exchanges ++ step.exchange.stops)
-  steps_behind = GoesOn-then J K L (stops_of open_.exchanges) step.exchange.stops open_.steps step.steps
+  pub steps_after : GoesOn J L (stops_of open_.exchanges ++ step.exchange.trace.stops)
+  steps_after = GoesOn-then J K L (stops_of open_.exchanges) step.exchange.trace.stops open_.steps step.steps
 
-  pub given_behind : GivesMoments gives a (moments_of open_.exchanges ++ step.exchange.moments) c
-  given_behind = moments-append gives a b c (moments_of open_.exchanges) step.exchange.moments open_.given step.given
+  pub given_after : GivesTimestamps gives a (timestamps_of open_.exchanges ++ step.exchange.trace.timestamps) c
+  given_after = timestamps-append gives a b c (timestamps_of open_.exchanges) step.exchange.trace.timestamps open_.given step.given
 
   -- what was read, with this request
-  pub read_behind : (IsSome now_unread → IsSome then_unread) → IfSome now_unread (λ bytes. IfSome then_unread (λ more. ReadsMessage (held ++ bytes) request (next ++ more)))
+  pub read_after : (IsSome now_unread → IsSome then_unread) → IfSome now_unread (λ bytes. IfSome then_unread (λ more. ReadsMessage (held ++ bytes) request (next ++ more)))
       → IfSome unread (λ bytes. (between more : List ℕ) × (then_unread ≡ Some more) × ReadsMessages bytes (map (λ (x : Exchange). x.request) open_.exchanges) between × ReadsMessage between step.exchange.request (next ++ more))
-  read_behind told message = at unread open_.read
+  read_after told message = at unread open_.read
     where
       at : (o : Option (List ℕ)) → IfSome o (λ bytes. (more : List ℕ) × (now_unread ≡ Some more) × ReadsMessages bytes (map (λ (x : Exchange). x.request) open_.exchanges) (held ++ more))
           → IfSome o (λ bytes. (between more : List ℕ) × (then_unread ≡ Some more) × ReadsMessages bytes (map (λ (x : Exchange). x.request) open_.exchanges) between × ReadsMessage between step.exchange.request (next ++ more))

@@ -17,8 +17,8 @@ use Rattle.sc_record.specs.declared.entry.Entry.TheVariants as entry
 use Rattle.sc_record.proofs.VersionLaws.{version_after-above_clock, version_after-above_zero, version_after-at_most}
 use Rattle.sc_model.specs.Journal.{write_of, writes, is_of, is_settled, settles}
 use Rattle.sc_model.specs.Legal.{IsLegal, MayWrite, MaySettle}
-use Rattle.sc_model.proofs.JournalLaws.{writes-append, AllByRecursion-filter, AllByRecursion-append, AllByRecursion-weaker, owed-settled, slice_get-append_end}
-use Rattle.sc_model.proofs.LegalLaws.{IsLegal-append}
+use Rattle.sc_model.proofs.JournalLemmas.{writes-append, AllByRecursion-filter, AllByRecursion-append, AllByRecursion-weaker, owed-settled, slice_get-append_end}
+use Rattle.sc_model.proofs.LegalLemmas.{IsLegal-append}
 use Rattle.sc_session.specs.Table.{IsSound}
 
 -- a write with a version that comes after the table's clock may be added
@@ -31,7 +31,7 @@ may_write J clock limit now w sound version =
       bounded = let most : version_after now clock ≤ℤ _ = version_after-at_most now clock in let b : clock ≤ℤ pos (2 ^ 62 - 2 ^ 20 + length (writes J)) = sound.clock_bounded in rw version (omega (arith, ints, clamps));
     }
 
--- a legal journal settles no place behind its end
+-- a legal journal settles no place after its end
 places_differ : (p n : ℕ) → p < n → (p == n) ≡ false
 places_differ p n h = grind (arith, nat_tests)
 
@@ -52,7 +52,7 @@ none_settles before (entry.Settled p ∷ after) n legal h =
     place_within (one ∷ before) zero h = omega arith
     place_within (one ∷ before) (suc p) h = omega (arith, place_within before p h)
 
--- the write and what settles it may come behind the journal
+-- the write and what settles it may come after the journal
 legal_added : (J : List Entry) (clock : ℤ) (limit now : ℕ) (cell : Arc Write Global) → IsSound J clock limit → (arc_value cell).version ≡ version_after now clock → IsLegal (J ++ entry.Write cell ∷ entry.Settled (length J) ∷ [])
 legal_added J clock limit now cell sound version =
     let first : IsLegal (J ++ entry.Write cell ∷ []) = IsLegal-append J (entry.Write cell) sound.legal (may_write J clock limit now (arc_value cell) sound version) in
@@ -66,7 +66,7 @@ legal_added J clock limit now cell sound version =
 writes_added : (J : List Entry) (cell : Arc Write Global) (n : ℕ) → writes (J ++ entry.Write cell ∷ entry.Settled n ∷ []) ≡ writes J ++ arc_value cell ∷ []
 writes_added J cell n = writes-append J (entry.Write cell ∷ entry.Settled n ∷ [])
 
--- with the write, and what settles it, the table is sound, and its clock stands at the write's version
+-- with the write, and what settles it, the table is sound, and its clock is the write's version
 pub IsSound-added : (J : List Entry) (clock : ℤ) (limit now : ℕ) (cell : Arc Write Global) → IsSound J clock limit → length J + 2 ≤ limit → (arc_value cell).version ≡ version_after now clock → IsSound (J ++ entry.Write cell ∷ entry.Settled (length J) ∷ []) (version_after now clock) limit
 IsSound-added J clock limit now cell sound room version =
     let K : List Entry = entry.Write cell ∷ entry.Settled (length J) ∷ [] in
@@ -79,7 +79,7 @@ IsSound-added J clock limit now cell sound room version =
       legal = legal_added J clock limit now cell sound version;
       settled = owed-settled J cell sound.settled;
       clock_is = record {
-        stands = inr (rw more (rw (map-append (λ (x : Write). x.version) (writes J) (w ∷ [])) (Contains-append_right (map (λ (x : Write). x.version) (writes J)) (w.version ∷ []) (version_after now clock) (0, omega arith, version))));
+        is_clock = inr (rw more (rw (map-append (λ (x : Write). x.version) (writes J) (w ∷ [])) (Contains-append_right (map (λ (x : Write). x.version) (writes J)) (w.version ∷ []) (version_after now clock) (0, omega arith, version))));
         greatest = rw more (AllByRecursion-append _ (writes J) (w ∷ [])
             (AllByRecursion-weaker _ _ (λ (earlier : Write) h. let k : earlier.version ≤ℤ clock = h in let l : earlier.version ≤ℤ version_after now clock = omega (arith, ints) in l) (writes J) sound.clock_is.greatest)
             ((let l : w.version ≤ℤ version_after now clock = rw version (omega (arith, ints)) in l), tt));

@@ -7,7 +7,7 @@ use Rattle.serde_json.specs.declared.value.Value.{Value}
 use Rattle.sc_model.specs.Requests as asking
 use Rattle.sc_session.specs.Documents.{document_of_item}
 
--- the documents of one item and of those behind it
+-- the documents of one item and of those after it
 abbrev pub joined_documents : Option asking.RawDocument → Option (List asking.RawDocument) → Option (List asking.RawDocument)
 joined_documents first rest = option_and_then (λ document. option_map (λ documents. document ∷ documents) rest) first
 

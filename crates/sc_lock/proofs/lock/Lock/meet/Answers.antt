@@ -26,4 +26,5 @@ returns-clause-same g c =
     let there = subst (λ x. IsLongest x pass_seen at_keeper) (ap (λ m. m.0.seen) of_keeper.2)
     (subst (λ x. IsLongest keeper_split x at_keeper) (ap (λ m. m.0.seen) of_pass.4) c.join_seats-2.ensures.longest) in
     ap (λ m. m.0.seen) c.join_seats-2.ensures.view
-    ∙ IsLongest-same keeper_seen pass_seen at_keeper at_pass there here ∙ sym (ap (λ m. m.0.seen) c.join_seats.ensures.view)
+    ∙ IsLongest-same keeper_seen pass_seen at_keeper at_pass there here
+    ∙ sym (ap (λ m. m.0.seen) c.join_seats.ensures.view)

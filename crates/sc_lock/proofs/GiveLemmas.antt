@@ -1,6 +1,6 @@
 -- A note, and the step that puts the value back and passes the turn on, keep the invariant.
 use mathlib.Core.Option as maybe
-use Rattle.std.proofs.Common.{◌≡◌, ◌≢◌, ℕ, ◌+◌, ◌%◌, ◌^◌, ◌<◌, ◌≤◌, List, [], ◌∷◌, ◌++◌, length, get_or, set, Some, None, sym, refl, ap, ◌∙◌, subst, ⊎_elim, arith}
+use Rattle.std.proofs.Common.{◌≡◌, ◌≢◌, ℕ, ◌+◌, ◌%◌, ◌^◌, ◌≤◌, List, [], ◌∷◌, length, get_or, set, Some, None, sym, refl, ap, ◌∙◌, subst, ⊎_elim, arith}
 use Rattle.std.specs.Prelude.{Option}
 use Rattle.std.specs.Option.{unwrap_or}
 use Rattle.std.proofs.lemmas.Option.{none-some}
@@ -15,7 +15,7 @@ use Rattle.sc_lock.specs.declared.kept.Kept.{Ghosts as Kept}
 use Rattle.sc_lock.specs.declared.view.View.{View}
 use Rattle.sc_lock.specs.declared.view.Stage.{Stage}
 use Rattle.sc_lock.specs.declared.view.Stage.TheVariants.{Idle, Waiting, Holding, Noted, Joined}
-use Rattle.sc_lock.specs.Invariant.{LockState, TableState, SeatsAreDisjoint, HasTurn, IsCurrent, StageInvariant, SeatInvariant, TableInvariant, LockInvariant}
+use Rattle.sc_lock.specs.Invariant.{LockState, SeatsAreDisjoint, HasTurn, IsCurrent, StageInvariant, SeatInvariant, TableInvariant, LockInvariant}
 use Rattle.sc_lock.specs.Journal.{ArePlacesIn, GrowsByAtMostOne, places_after}
 use Rattle.sc_lock.specs.Views.{part_after, with_stage, ticket, ticket_in, ticket_count, ticket_count_in}
 use Rattle.sc_lock.specs.Steps.{SeatState, holding, MayGiveBack, noted, AfterNote, AfterPassOn}

@@ -16,6 +16,10 @@ use Rattle.sc_lock.specs.Views.{with_stage, ticket, ticket_in, ticket_count, tic
 use Rattle.sc_lock.proofs.SumLemmas.{sum_by-set-at}
 use Rattle.sc_lock.proofs.PlaceLemmas.{Contains-none}
 
+-- every seat
+abbrev pub Any : ℕ → Type 0
+Any i = Unit {0}
+
 module _ {K E P : Type 0} where
   -- whichever comes first
   pub SeatsAreDisjoint-sym : (v w : View K E P) → SeatsAreDisjoint v w → SeatsAreDisjoint w v
@@ -35,6 +39,35 @@ module _ {K E P : Type 0} where
 
   served-in-range : (n : LockState K E P) (q t : ℕ) → HasTurn n q → q ≡ t → (n.served ≤ t) × (t < n.drawn)
   served-in-range n q t h e = let same = h.is_served in let below = h.is_drawn in (omega arith, omega arith)
+
+  -- what holds of a seat's new view, and of each other seat, holds of all seats once it has that view
+  pub each-set : (Holds : ℕ → View K E P → Type 0) (views : List (View K E P)) (me : ℕ) (w : View K E P) → Holds me w
+      → ((i : ℕ) (u : View K E P) → i ≢ me → get_elem? views i ≡ some u → Holds i u)
+      → (i : ℕ) (u : View K E P) → get_elem? (set views me w) i ≡ some u → Holds i u
+  each-set Holds views me w mine others i u e = ⊎_elim
+      (λ t. subst (λ (x : ℕ × View K E P). Holds x.0 x.1) (λ k. (sym t.0 k, t.1 k)) mine)
+      (λ t. others i u t.0 t.1) (at_set views me i w u e)
+
+  -- of the seats with these numbers any two are disjoint
+  abbrev pub ArePairwiseDisjoint : (ℕ → Type 0) → List (View K E P) → Type 0
+  ArePairwiseDisjoint Among views =
+      (i j : ℕ) (u x : View K E P) → Among i → Among j → i ≢ j → get_elem? views i ≡ some u
+      → get_elem? views j ≡ some x → SeatsAreDisjoint u x
+
+  -- seats stay disjoint where one has a new view, if that is disjoint from each other seat's
+  pub pairs-set : (Among : ℕ → Type 0) (views : List (View K E P)) (me : ℕ) (w : View K E P)
+      → ((i : ℕ) (u : View K E P) → Among i → i ≢ me → get_elem? views i ≡ some u → SeatsAreDisjoint w u)
+      → ArePairwiseDisjoint (λ i. Among i × (i ≢ me)) views → ArePairwiseDisjoint Among (set views me w)
+  pairs-set Among views me w mine others i j u x in_i in_j ne ei ej = ⊎_elim
+      (λ ti.
+      ⊎_elim (λ tj. absurd (ne (ti.0 ∙ sym tj.0)))
+      (λ tj. subst (λ (z : View K E P). SeatsAreDisjoint z x) ti.1 (mine j x in_j tj.0 tj.1))
+      (at_set views me j w x ej))
+      (λ ti.
+      ⊎_elim
+      (λ tj. subst (SeatsAreDisjoint u) tj.1 (SeatsAreDisjoint-sym w u (mine i u in_i ti.0 ti.1)))
+      (λ tj. others i j u x (in_i, ti.0) (in_j, tj.0) ne ti.1 tj.1) (at_set views me j w x ej))
+      (at_set views me i w u ei)
 
   -- the state, with other tickets, and the value at rest or not
   abbrev pub state_with : LockState K E P → ℕ → ℕ → maybe.Option (Option K) → LockState K E P
@@ -89,21 +122,9 @@ module _ {K E P : Type 0} (kept : Kept K E P) (origin : K) where
     slots = hs;
     weights = let t = sum_by-set-at weight_of s.views me v w at in let a = r.weights in omega arith;
     tickets = let t = sum_by-set-at ticket_count s.views me v w at in let a = r.tickets in omega arith;
-    each = λ i u e.
-        ⊎_elim
-        (λ t. subst (λ (x : ℕ × View K E P). SeatInvariant kept origin n' x.0 x.1) (λ k. (sym t.0 k, t.1 k)) mine)
-        (λ t. others i u t.0 t.1 (r.each i u t.1)) (at_set s.views me i w u e);
-    pairs = λ i j u x ne ei ej.
-        ⊎_elim
-        (λ ti.
-        ⊎_elim (λ tj. absurd (ne (ti.0 ∙ sym tj.0)))
-        (λ tj. subst (λ (z : View K E P). SeatsAreDisjoint z x) ti.1 (moved j x tj.0 tj.1))
-        (at_set s.views me j w x ej))
-        (λ ti.
-        ⊎_elim
-        (λ tj.
-        subst (λ (z : View K E P). SeatsAreDisjoint u z) tj.1 (SeatsAreDisjoint-sym w u (moved i u ti.0 ti.1)))
-        (λ tj. r.pairs i j u x ne ti.1 tj.1) (at_set s.views me j w x ej)) (at_set s.views me i w u ei);
+    each = each-set (SeatInvariant kept origin n') s.views me w mine (λ i u other e. others i u other e (r.each i u e));
+    pairs = λ i j u x ne. pairs-set Any s.views me w (λ i u _ other e. moved i u other e)
+        (λ i j u x _ _. r.pairs i j u x) i j u x tt tt ne;
     value = value;
   }
     where

@@ -1,24 +1,24 @@
 -- A join, and the look after it, keep the invariant.
 use Rattle.std.proofs.Common.{◌≡◌, ◌≢◌, ℕ, ◌<◌, ◌≤◌, List, length, take, get_or, set, Some, false, sym, refl, ap, ◌∙◌, subst, ⊎_elim, arith}
-use Rattle.std.specs.Prelude.{Option, ltb}
+use Rattle.std.specs.Prelude.{ltb}
 use Rattle.std.proofs.lemmas.Option.{none-some}
 use mathlib.Core.Option.{some, none, some-ne-none}
 use mathlib.Core.List.{IsPrefix}
 use lib.ListN.{get_elem?}
 use lib.Seq.{set-get_or}
 use Rattle.atomic_table.specs.Table.{step, keeps, Allows, Joins}
-use Rattle.atomic_table.proofs.Lists.{at_set, set_else}
+use Rattle.atomic_table.proofs.Lists.{set_else}
 use Rattle.sc_lock.specs.declared.kept.Kept.{Ghosts as Kept}
 use Rattle.sc_lock.specs.declared.view.View.{View}
 use Rattle.sc_lock.specs.declared.view.Stage.TheVariants.{Idle, Joined}
-use Rattle.sc_lock.specs.Invariant.{LockState, TableState, SeatsAreDisjoint, StageInvariant, SeatInvariant, ValueInvariant, TableInvariant, LockInvariant}
+use Rattle.sc_lock.specs.Invariant.{LockState, SeatsAreDisjoint, StageInvariant, SeatInvariant, TableInvariant, LockInvariant}
 use Rattle.sc_lock.specs.Views.{with_stage, joined, spent, ticket_count, ticket_count_in, has_value, weight_of}
 use Rattle.sc_lock.specs.Journal.{longer}
 use Rattle.sc_lock.specs.Steps.{SeatState, AfterJoin}
 use Rattle.sc_lock.proofs.SumLemmas.{sum_by-set-at}
 use Rattle.sc_lock.proofs.PrefixLemmas.{IsPrefix-shorter, IsPrefix-whole, take-IsPrefix, longer-IsPrefix-if, longer-length-if, OneIsPrefix-of}
 use Rattle.sc_lock.proofs.PlaceLemmas.{Contains-merged, ArePlacesIn-below, ArePlacesIn-merged}
-use Rattle.sc_lock.proofs.InvariantLemmas.{SeatsAreDisjoint-sym, SeatsAreDisjoint-blank, SeatInvariant-at, TableInvariant-moved, ValueInvariant-with}
+use Rattle.sc_lock.proofs.InvariantLemmas.{Any, SeatsAreDisjoint-sym, SeatsAreDisjoint-blank, each-set, ArePairwiseDisjoint, pairs-set, SeatInvariant-at, TableInvariant-moved, ValueInvariant-with}
 use Rattle.sc_lock.proofs.SeatLemmas.{SeatInvariant-new}
 
 module _ {K E P : Type 0} where
@@ -97,22 +97,10 @@ module _ {K E P : Type 0} (kept : Kept K E P) (origin : K) where
       let near : (i : ℕ) (u : View K E P) → i ≢ id → i ≢ other → get_elem? s.views i ≡ some u
       → SeatsAreDisjoint b u = λ i u a c e.
       joined-disjoint v w u (r.pairs id i v u (λ q. a (sym q)) at e) (r.pairs other i w u (λ q. c (sym q)) at'' e) in
-      let inner : (i : ℕ) (u : View K E P) → i ≢ other → get_elem? vs i ≡ some u → SeatInvariant kept origin n i u =
-      λ i u c e.
-      ⊎_elim
-      (λ t. subst (λ (x : ℕ × View K E P). SeatInvariant kept origin n x.0 x.1) (λ k. (sym t.0 k, t.1 k)) mine)
-      (λ t. r.each i u t.1) (at_set s.views id i b u e) in
-      let pairs : (i j : ℕ) (u x : View K E P) → i ≢ j → i ≢ other → j ≢ other → get_elem? vs i ≡ some u
-      → get_elem? vs j ≡ some x → SeatsAreDisjoint u x = λ i j u x d ci cj ei ej.
-      ⊎_elim
-      (λ ti.
-      ⊎_elim (λ tj. absurd (d (ti.0 ∙ sym tj.0)))
-      (λ tj. subst (λ (y : View K E P). SeatsAreDisjoint y x) ti.1 (near j x tj.0 cj tj.1))
-      (at_set s.views id j b x ej))
-      (λ ti.
-      ⊎_elim
-      (λ tj. subst (λ (y : View K E P). SeatsAreDisjoint u y) tj.1 (SeatsAreDisjoint-sym b u (near i u ti.0 ci ti.1)))
-      (λ tj. r.pairs i j u x d ti.1 tj.1) (at_set s.views id j b x ej)) (at_set s.views id i b u ei) in
+      let inner : (i : ℕ) (u : View K E P) → get_elem? vs i ≡ some u → SeatInvariant kept origin n i u =
+      each-set (SeatInvariant kept origin n) s.views id b mine (λ i u _. r.each i u) in
+      let pairs : ArePairwiseDisjoint (λ i. i ≢ other) vs =
+      pairs-set (λ i. i ≢ other) s.views id b (λ i u c a e. near i u a c e) (λ i j u x _ _. r.pairs i j u x) in
       let blank : (y : View K E P) → SeatsAreDisjoint y z = λ y. SeatsAreDisjoint-blank y z refl refl in (
         n,
         record {
@@ -128,15 +116,9 @@ module _ {K E P : Type 0} (kept : Kept K E P) (origin : K) where
               let d = sum_by-set-at ticket_count vs other w z at' in
               let e = (idle_has v sv).1 in
               let k = (idle_has w sw).1 in omega arith;
-          each = λ i u e.
-              ⊎_elim (λ t. subst (SeatInvariant kept origin n i) t.1 (gone i)) (λ t. inner i u t.0 t.1)
-              (at_set vs other i z u e);
-          pairs = λ i j u x d ei ej.
-              ⊎_elim
-              (λ ti. subst (λ (y : View K E P). SeatsAreDisjoint y x) ti.1 (SeatsAreDisjoint-sym x z (blank x)))
-              (λ ti.
-              ⊎_elim (λ tj. subst (SeatsAreDisjoint u) tj.1 (blank u)) (λ tj. pairs i j u x d ti.0 tj.0 ti.1 tj.1)
-              (at_set vs other j z x ej)) (at_set vs other i z u ei);
+          each = each-set (SeatInvariant kept origin n) vs other z (gone other) (λ i u _. inner i u);
+          pairs = λ i j u x. pairs-set Any vs other z (λ q y _ _ e. SeatsAreDisjoint-sym y z (blank y))
+              (λ i j u x in_i in_j. pairs i j u x in_i.1 in_j.1) i j u x tt tt;
           value =
               ValueInvariant-with kept origin n n.drawn vs other w z n.at_rest at' (idle_has w sw).0
               (ValueInvariant-with kept origin n n.drawn s.views id v b n.at_rest at (idle_has v sv).0 r.value);

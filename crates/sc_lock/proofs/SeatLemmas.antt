@@ -1,6 +1,6 @@
 -- A new lock meets the invariant, and a split and a new seat keep it.
 use mathlib.Core.Option as maybe
-use Rattle.std.proofs.Common.{◌≡◌, ◌≢◌, ℕ, zero, suc, ◌+◌, ◌≤◌, List, [], ◌∷◌, ◌++◌, map, length, set, Some, None, sym, refl, ap, ◌∙◌, subst, ⊎_elim, arith}
+use Rattle.std.proofs.Common.{◌≡◌, ◌≢◌, ℕ, zero, suc, ◌+◌, List, [], ◌∷◌, ◌++◌, map, length, set, Some, None, sym, refl, ap, ◌∙◌, subst, ⊎_elim, arith}
 use Rattle.std.specs.Prelude.{Option}
 use Rattle.std.specs.List.{Contains}
 use Rattle.std.specs.Option.{unwrap_or}
@@ -10,18 +10,18 @@ use mathlib.Core.Option.{some, none, some-injective, some-ne-none}
 use mathlib.Core.List.{IsPrefix}
 use lib.ListN.{get_elem?}
 use Rattle.atomic_table.specs.Table.{step, Splits, Enters, opening}
-use Rattle.atomic_table.proofs.Lists.{at_set, at_snoc, at_longer}
+use Rattle.atomic_table.proofs.Lists.{at_snoc, at_longer}
 use Rattle.sc_lock.specs.declared.kept.Kept.{Ghosts as Kept}
 use Rattle.sc_lock.specs.declared.view.View.{View}
 use Rattle.sc_lock.specs.declared.view.Stage.TheVariants.{Idle}
-use Rattle.sc_lock.specs.Invariant.{LockState, TableState, SeatsAreDisjoint, IsCurrent, StageInvariant, SeatInvariant, ValueInvariant, TableInvariant, LockInvariant}
+use Rattle.sc_lock.specs.Invariant.{LockState, SeatsAreDisjoint, StageInvariant, SeatInvariant, ValueInvariant, TableInvariant, LockInvariant}
 use Rattle.sc_lock.specs.Journal.{ArePlacesIn}
 use Rattle.sc_lock.specs.Views.{with_weight, split_off, visitor, first_view, ticket_in, ticket_count, ticket_count_in, has_value, weight_of}
 use Rattle.sc_lock.specs.Steps.{AfterVisit}
 use Rattle.sc_lock.proofs.SumLemmas.{sum_by-set-at}
 use Rattle.sc_lock.proofs.PrefixLemmas.{IsPrefix-self}
 use Rattle.sc_lock.proofs.PlaceLemmas.{Contains-none, ArePlacesIn-none}
-use Rattle.sc_lock.proofs.InvariantLemmas.{SeatsAreDisjoint-sym, SeatsAreDisjoint-blank, ValueInvariant-with}
+use Rattle.sc_lock.proofs.InvariantLemmas.{Any, SeatsAreDisjoint-sym, SeatsAreDisjoint-blank, each-set, ArePairwiseDisjoint, pairs-set, ValueInvariant-with}
 
 module _ {K E P : Type 0} where
   -- a single seat makes no pair
@@ -91,22 +91,12 @@ module _ {K E P : Type 0} (kept : Kept K E P) (origin : K) where
         weight = omega arith;
         stage = fit.stage;
       } in
-      let old : (i : ℕ) (u : View K E P) → get_elem? vs i ≡ some u → SeatInvariant kept origin n i u = λ i u e.
-      ⊎_elim
-      (λ t. subst (λ (x : ℕ × View K E P). SeatInvariant kept origin n x.0 x.1) (λ k. (sym t.0 k, t.1 k)) mine)
-      (λ t. r.each i u t.1) (at_set s.views id i l u e) in
+      let old : (i : ℕ) (u : View K E P) → get_elem? vs i ≡ some u → SeatInvariant kept origin n i u =
+      each-set (SeatInvariant kept origin n) s.views id l mine (λ i u _. r.each i u) in
       let beside : (i : ℕ) (u : View K E P) → i ≢ id → get_elem? s.views i ≡ some u → SeatsAreDisjoint l u = λ i u ne e.
       let d = r.pairs id i v u (λ q. ne (sym q)) at e in record { places = d.places; tickets = d.tickets } in
-      let pairs : (i j : ℕ) (u x : View K E P) → i ≢ j → get_elem? vs i ≡ some u → get_elem? vs j ≡ some x
-      → SeatsAreDisjoint u x = λ i j u x ne ei ej.
-      ⊎_elim
-      (λ ti.
-      ⊎_elim (λ tj. absurd (ne (ti.0 ∙ sym tj.0)))
-      (λ tj. subst (λ (y : View K E P). SeatsAreDisjoint y x) ti.1 (beside j x tj.0 tj.1)) (at_set s.views id j l x ej))
-      (λ ti.
-      ⊎_elim
-      (λ tj. subst (λ (y : View K E P). SeatsAreDisjoint u y) tj.1 (SeatsAreDisjoint-sym l u (beside i u ti.0 ti.1)))
-      (λ tj. r.pairs i j u x ne ti.1 tj.1) (at_set s.views id j l x ej)) (at_set s.views id i l u ei) in (
+      let pairs : ArePairwiseDisjoint Any vs =
+      pairs-set Any s.views id l (λ i u _. beside i u) (λ i j u x _ _. r.pairs i j u x) in (
         n,
         record {
           words = r.words;
@@ -122,7 +112,7 @@ module _ {K E P : Type 0} (kept : Kept K E P) (origin : K) where
           each = λ i u e. ⊎_elim (old i u)
               (λ t. subst (SeatInvariant kept origin n i) t (SeatInvariant-new n i z fit.seen fit.named refl refl refl))
               (at_snoc vs z u i e);
-          pairs = pairs-blank vs z refl refl pairs;
+          pairs = pairs-blank vs z refl refl (λ i j u x. pairs i j u x tt tt);
           value = ValueInvariant-longer n vs z n.at_rest
               (ValueInvariant-with kept origin n n.drawn s.views id v l n.at_rest at (ap has_value idle) r.value);
         },

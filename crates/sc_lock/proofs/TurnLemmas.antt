@@ -65,8 +65,8 @@ module _ {K E P : Type 0} (kept : Kept K E P) (origin : K) where
         tt,
         (
           n',
-          TableInvariant-moved kept origin n n' s id v w (set s.words 0 ((get_or s.words 0 0 + 1) % 2 ^ 64)) s.homes r at
-              (words-drawn s.words n.drawn (n.served % 2 ^ 64) (length n.entries) r.words) r.slots refl (omega arith)
+          TableInvariant-moved kept origin n n' s id v w (set s.words 0 ((get_or s.words 0 0 + 1) % 2 ^ 64)) s.homes r
+              at (words-drawn s.words n.drawn (n.served % 2 ^ 64) (length n.entries) r.words) r.slots refl (omega arith)
               (λ i u other e f.
               SeatInvariant-with kept origin n (n.drawn + 1) n.served n.at_rest i u (StageInvariant-drawn n u.stage) f)
               (SeatInvariant-at kept origin n (n.drawn + 1) n.served n.at_rest id v (Waiting t) fit (omega arith)

@@ -1,5 +1,5 @@
 -- What a seat of the lock knows, which is its view, and how a step changes it.
-use Rattle.std.specs.Prelude.{ℕ, ◌+◌, ◌^◌, Bool, true, false, List, [], Option, Some, None}
+use Rattle.std.specs.Prelude.{ℕ, ◌+◌, ◌^◌, Bool, true, false, [], Option, Some, None}
 use mathlib.Core.Option as maybe
 use Rattle.sc_lock.specs.declared.kept.Kept.{Ghosts as Kept}
 use Rattle.sc_lock.specs.declared.view.View.{View}

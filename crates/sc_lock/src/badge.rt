@@ -5,8 +5,8 @@ ghost use Rattle.sc_lock.specs.Tokens.{lock_id, IsKeeperOf, IsFreeKeeper, badge_
 use crate::keeper::Keeper;
 use crate::kept::Kept;
 use crate::lock::Lock;
-use crate::plays::Visit;
 use crate::seat::NEXT;
+use crate::steps::Visit;
 use crate::view::View;
 use std::alloc::AllocError;
 
@@ -25,6 +25,7 @@ impl<K: Kept> Lock<K> {
         ensures ok { IsOk result }
         ensures lock { IfOk result (λ b. badge_lock b ≡ lock_id self.now) }
     {
+        // The number isn't needed: the step brings the seat that becomes the badge.
         let (_, seat) = self.table.shared.load_new_seat::<Visit>(NEXT);
         Ok(Badge {
             badge: seat.into_badge(),

@@ -7,7 +7,7 @@ ghost use Rattle.sc_lock.specs.Tokens.{lock_id, lock_name, IsPassOf, IsFree, see
 use crate::kept::Kept;
 use crate::lock::Lock;
 use crate::pass::Pass;
-use crate::plays::Beside;
+use crate::steps::SplitSeen;
 use crate::turn::Turn;
 use crate::view::LockSeat;
 use std::sync::Wait;
@@ -72,9 +72,10 @@ impl<K: Kept> Lock<K> {
         ensures keeper_places { keeper_places keeper.new ≡ keeper_places keeper.old }
         ensures part { keeper_part keeper.new ≡ keeper_part keeper.old }
     {
-        let from_pass = self.table.shared.split_seat::<Beside>(&mut pass.seat);
-        let from_keeper = self.table.shared.split_seat::<Beside>(&mut keeper.seat);
-        self.bring(&mut pass.seat, from_keeper);
-        self.bring(&mut keeper.seat, from_pass);
+        // Each passes on what it has seen by a seat that is split off it.
+        let from_pass = self.table.shared.split_seat::<SplitSeen>(&mut pass.seat);
+        let from_keeper = self.table.shared.split_seat::<SplitSeen>(&mut keeper.seat);
+        self.join_seats(&mut pass.seat, from_keeper);
+        self.join_seats(&mut keeper.seat, from_pass);
     }
 }

@@ -1,4 +1,4 @@
-//! What may lie behind a lock.
+//! What a lock may keep.
 ghost use Rattle.std.specs.Prelude.{◌≡◌, ℕ, ◌<◌, List, length, take, Option, Some};
 
 /// A value with a journal of entries, which each step of it leaves as it is or makes longer by one.

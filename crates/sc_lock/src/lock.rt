@@ -4,7 +4,7 @@ ghost use Rattle.std.specs.Prelude.{◌≡◌};
 use crate::keeper::Keeper;
 use crate::kept::Kept;
 use crate::pass::Pass;
-use crate::plays::{AllBut, Tickets};
+use crate::steps::{LockRule, SplitFirst};
 use crate::view::{LockSeat, View};
 use atomic_table::Table;
 use std::alloc::{AllocError, Global};
@@ -13,13 +13,13 @@ use std::snapshot::Snapshot;
 /// A ticket lock round one value, and the value.
 ///
 /// Its table has three words, the number of tickets drawn and served, modulo 2^64, and the journal's
-/// length, and one slot, where the value lies while nobody holds it. A hold and its give by a lone
+/// length, and one slot, where the value is while nobody holds it. A hold and its give by a lone
 /// thread are five atomic steps, take no memory and move the value; a thread that waits spins for a
-/// short time and then sleeps until the number served changes. Dropping a lock drops its value once; a value that
-/// is out when the lock is dropped is its holder's.
+/// short time and then sleeps until the number served changes. Dropping a lock drops its value once;
+/// a value that is out when the lock is dropped is its holder's.
 #[derive(Drop)]
 pub struct Lock<K: Kept> {
-    pub(crate) table: Table<Option<K>, View<K, K::Entry, K::Part>, Snapshot<K>, Tickets, Global>,
+    pub(crate) table: Table<Option<K>, View<K, K::Entry, K::Part>, Snapshot<K>, LockRule, Global>,
     ghost counts: { (table.shared.table_id.words ≡ 3) × (table.shared.table_id.slots ≡ 1) },
 }
 
@@ -29,7 +29,7 @@ impl<K: Kept + Drop> Lock<K> {
 
     /// Puts a value behind a lock of its own, with the first pass and the one keeper.
     ///
-    /// It is refused for want of memory alone, and the value is dropped then.
+    /// It fails only where memory runs out, and the value is dropped then.
     pub fn new(alloc: Global, value: K) -> Result<(Lock<K>, Pass<K>, Keeper<K>), AllocError>
         requires sound { K.sound value }
         ensures name { IfOk result (λ r. lock_name K.name r.0 ≡ K.name value) }
@@ -42,6 +42,7 @@ impl<K: Kept + Drop> Lock<K> {
         ensures keeper_places { IfOk result (λ r. keeper_places r.2 ≡ []) }
         ensures part { IfOk result (λ r. keeper_part r.2 ≡ Some (K.part value)) }
     {
+        // The snapshot has no bytes: by it proofs name the value that the lock was made with.
         let origin = Snapshot::of(&value);
         let words = [0, 0, value.entries()];
         let mut slots = Vec::new(alloc);
@@ -50,7 +51,7 @@ impl<K: Kept + Drop> Lock<K> {
             return Err(AllocError);
         };
         let lock = Lock { table };
-        let (pass, keeper) = lock.deal(seat);
+        let (pass, keeper) = lock.split_first(seat);
         Ok((lock, pass, keeper))
     }
 }
@@ -60,8 +61,8 @@ impl<K: Kept> Lock<K> {
     ghost use Rattle.sc_lock.specs.Views.{first_view};
     ghost use Rattle.sc_lock.specs.Tokens.{origin_of, lock_id, IsOfTable, IsPassOf, IsFree, seen, own_places, splits_left, IsKeeperOf, IsFreeKeeper, keeper_seen, keeper_places, keeper_part};
 
-    // Cuts the first seat in two: the keeper's, and the pass's with all splits.
-    fn deal(&self, mut seat: LockSeat<K>) -> (Pass<K>, Keeper<K>)
+    // Splits the first seat in two: the keeper's, and the pass's with all splits.
+    fn split_first(&self, mut seat: LockSeat<K>) -> (Pass<K>, Keeper<K>)
         requires lock { IsOfTable self.now seat }
         requires first { seat.me ≡ (first_view K.Kept (origin_of self.now), []) }
         ensures pass { IsPassOf (lock_id self.now) result.0 × IsFree result.0 }
@@ -73,7 +74,7 @@ impl<K: Kept> Lock<K> {
         ensures keeper_places { keeper_places result.1 ≡ [] }
         ensures part { keeper_part result.1 ≡ Some (K.part (origin_of self.now)) }
     {
-        let plain = self.table.shared.split_seat::<AllBut>(&mut seat);
+        let plain = self.table.shared.split_seat::<SplitFirst>(&mut seat);
         (Pass { seat: plain }, Keeper { seat })
     }
 }

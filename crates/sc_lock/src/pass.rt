@@ -6,7 +6,7 @@ ghost use Rattle.sc_lock.specs.Tokens.{lock_id, lock_name, IsPassOf, IsFree, see
 
 use crate::kept::Kept;
 use crate::lock::Lock;
-use crate::plays::OneOf;
+use crate::steps::SplitPass;
 use crate::turn::Turn;
 use crate::view::LockSeat;
 use std::sync::Wait;
@@ -70,7 +70,7 @@ impl<K: Kept> Lock<K> {
         ensures new_places { own_places result ≡ [] }
         ensures new_splits { splits_left result ≡ 0 }
     {
-        let seat = self.table.shared.split_seat::<OneOf>(&mut pass.seat);
+        let seat = self.table.shared.split_seat::<SplitPass>(&mut pass.seat);
         Pass { seat }
     }
 
@@ -86,6 +86,6 @@ impl<K: Kept> Lock<K> {
         ensures splits { splits_left into.new ≡ splits_left into.old + splits_left from + 1 }
     {
         let Pass { seat } = from;
-        self.bring(&mut into.seat, seat);
+        self.join_seats(&mut into.seat, seat);
     }
 }

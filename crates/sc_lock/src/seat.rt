@@ -8,7 +8,7 @@ ghost use Rattle.sc_lock.specs.Tokens.{IsIdle, IsOfTable, IsSameSeat, origin_of}
 
 use crate::kept::Kept;
 use crate::lock::Lock;
-use crate::plays::{Draw, Look, Meeting, Note, PassOn, Settle};
+use crate::steps::{Draw, JoinSeats, Look, Note, PassOn, Settle};
 use crate::view::LockSeat;
 use std::hint;
 use std::sync::Wait;
@@ -61,7 +61,7 @@ impl<K: Kept> Lock<K> {
     }
 
     // Moves the value out of the slot that the seat has.
-    fn lift(&self, seat: &mut LockSeat<K>) -> K
+    fn take_value(&self, seat: &mut LockSeat<K>) -> K
         requires lock { IsOfTable self.now seat.old }
         requires holds { (x : K) × (seat.old.me.1 ≡ (0, Some x) ∷ []) }
         ensures seat { IsSameSeat seat.old seat.new }
@@ -71,12 +71,13 @@ impl<K: Kept> Lock<K> {
     }
 
     // Moves the value into the slot that the seat has.
-    fn lay(&self, seat: &mut LockSeat<K>, value: K)
+    fn put_value(&self, seat: &mut LockSeat<K>, value: K)
         requires lock { IsOfTable self.now seat.old }
         requires holds { seat.old.me.1 ≡ (0, None) ∷ [] }
         ensures seat { IsSameSeat seat.old seat.new }
         ensures value { seat.new.me ≡ (seat.old.me.0, (0, Some value) ∷ []) }
     {
+        // What was in the slot can't just be let go, since a value need not be `Drop`: it is none.
         match self.table.shared.exchange(seat, VALUE, Some(value)) {
             None => {}
             Some(_) => unreachable!(),
@@ -104,7 +105,7 @@ impl<K: Kept> Lock<K> {
         let mut looks = 0;
         for _ in rt.forever() {
             if self.look(seat, ticket) {
-                return self.lift(seat);
+                return self.take_value(seat);
             }
             if looks < SPINS {
                 spin(looks);
@@ -113,6 +114,7 @@ impl<K: Kept> Lock<K> {
                 self.sleep(rt, ticket);
             }
         }
+        // `forever` has no end.
         unreachable!()
     }
 
@@ -129,12 +131,13 @@ impl<K: Kept> Lock<K> {
             → ArePlacesIn (places_after seat.old.me.0.places (K.journal x) (K.journal value)) (K.journal value) }
     {
         let entries = value.entries();
-        self.lay(seat, value);
+        self.put_value(seat, value);
         self.table.shared.store::<Note>(seat, LENGTH, entries);
         self.table.shared.fetch_add::<PassOn>(seat, SERVED, 1)
     }
 
-    // Wakes those who wait, if a ticket was drawn after the one that was served.
+    // Wakes those who wait, if a ticket was drawn after the one that was served. No contract can say
+    // that somebody wakes: this has no `ensures`, and a test sees to it.
     pub(crate) fn wake(&self, served: u64) {
         if self.table.shared.peek(NEXT) != served.wrapping_add(1) {
             self.table.shared.wake_all(SERVED);
@@ -142,7 +145,7 @@ impl<K: Kept> Lock<K> {
     }
 
     // Lets `into` have what `from` has seen, and its places.
-    pub(crate) fn bring(&self, into: &mut LockSeat<K>, from: LockSeat<K>)
+    pub(crate) fn join_seats(&self, into: &mut LockSeat<K>, from: LockSeat<K>)
         requires lock { IsOfTable self.now into.old × IsOfTable self.now from }
         requires idle { IsIdle into.old × IsIdle from }
         ensures seat { IsSameSeat into.old into.new }
@@ -151,7 +154,8 @@ impl<K: Kept> Lock<K> {
         ensures disjoint { AreDisjoint into.old.me.0.places from.me.0.places }
         ensures places { ArePlacesIn into.new.me.0.places into.new.me.0.seen }
     {
-        self.table.shared.join_seat::<Meeting>(into, from);
+        self.table.shared.join_seat::<JoinSeats>(into, from);
+        // The number isn't needed: the look shows the proof what was joined.
         self.table.shared.load::<Settle>(into, SERVED);
     }
 }

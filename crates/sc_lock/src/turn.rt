@@ -39,6 +39,7 @@ impl<K: Kept> Lock<K> {
     {
         let ticket = self.draw(seat);
         let value = self.wait(rt, seat, ticket);
+        // The snapshots have no bytes: by them proofs name what was handed out, and to which seat.
         let turn = Turn {
             handed: Snapshot::of(&value),
             seat: Snapshot::of(seat),

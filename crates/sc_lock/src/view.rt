@@ -28,8 +28,9 @@ pub struct View<K, E, P> {
     pub seen: LinkedList<E>,
     /// The places of the seat's own entries.
     pub places: LinkedList<u64>,
-    /// The seat's share of the right to draw tickets: all of a lock together have 2^31 + 2. A pass
-    /// has the splits that it has left and one, the keeper has one.
+    /// The seat's share of the right to draw tickets. The keeper has one, and a pass has one and the
+    /// splits that it has left: those of the first pass are 2^31, so all of a lock together have
+    /// 2^31 + 2.
     pub weight: u64,
     /// The part that the keeper left, and none in any other seat.
     pub part: Option<P>,

@@ -22,8 +22,9 @@ returns-clause-same g c =
     let at_pass = longer pass_split c.split_seat-from_keeper.result.me.0.seen in
     let at_keeper = longer keeper_split c.split_seat-from_pass.result.me.0.seen in
     let here = subst (λ x. IsLongest x keeper_seen at_pass) (ap (λ m. m.0.seen) of_pass.2)
-    (subst (λ x. IsLongest pass_split x at_pass) (ap (λ m. m.0.seen) of_keeper.4) c.bring.ensures.longest) in
+    (subst (λ x. IsLongest pass_split x at_pass) (ap (λ m. m.0.seen) of_keeper.4) c.join_seats.ensures.longest) in
     let there = subst (λ x. IsLongest x pass_seen at_keeper) (ap (λ m. m.0.seen) of_keeper.2)
-    (subst (λ x. IsLongest keeper_split x at_keeper) (ap (λ m. m.0.seen) of_pass.4) c.bring-2.ensures.longest) in
-    ap (λ m. m.0.seen) c.bring-2.ensures.view
-    ∙ IsLongest-same keeper_seen pass_seen at_keeper at_pass there here ∙ sym (ap (λ m. m.0.seen) c.bring.ensures.view)
+    (subst (λ x. IsLongest keeper_split x at_keeper) (ap (λ m. m.0.seen) of_pass.4) c.join_seats-2.ensures.longest) in
+    ap (λ m. m.0.seen) c.join_seats-2.ensures.view
+    ∙ IsLongest-same keeper_seen pass_seen at_keeper at_pass there here
+    ∙ sym (ap (λ m. m.0.seen) c.join_seats.ensures.view)

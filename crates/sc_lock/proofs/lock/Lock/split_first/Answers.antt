@@ -1,8 +1,8 @@
--- `deal`: the split of the first seat keeps the invariant, and the keeper's half is the keeper's.
+-- `split_first`: the split of the first seat keeps the invariant, and the keeper's half is the keeper's.
 use Rattle.std.proofs.Common.{rules, ap, sym, ◌∙◌, subst, ◌<◌, arith}
 use Rattle.sc_lock.specs.Journal.{ArePlacesIn}
 use Rattle.sc_lock.specs.Views.{with_weight}
-use Rattle.sc_lock.proofs.lock.Lock.deal.Goals as goal
+use Rattle.sc_lock.proofs.lock.Lock.split_first.Goals as goal
 use Rattle.sc_lock.proofs.PlaceLemmas.{ArePlacesIn-none}
 use Rattle.sc_lock.proofs.SeatLemmas.{split_keeps}
 

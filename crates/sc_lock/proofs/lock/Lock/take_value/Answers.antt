@@ -1,7 +1,7 @@
--- `lift`: the slot that the seat has may be read.
+-- `take_value`: the slot that the seat has may be read.
 use Rattle.std.proofs.Common.{rules, ap, sym, ◌∙◌, Some, ◌∷◌}
 use Rattle.atomic_table.specs.Table.{rest}
-use Rattle.sc_lock.proofs.lock.Lock.lift.Goals as goal
+use Rattle.sc_lock.proofs.lock.Lock.take_value.Goals as goal
 
 pub exchange-requires : goal.exchange-requires
 exchange-requires g c = let holds = c.requires.holds in

@@ -10,9 +10,9 @@ use atomic_table::{Join, Play, Split, TableRule};
 use std::snapshot::Snapshot;
 
 /// The invariant, which holds between any two steps. Its key is the value that the lock was made with.
-pub struct Tickets;
+pub struct LockRule;
 
-impl<K: Kept> TableRule<Option<K>, View<K, K::Entry, K::Part>, Snapshot<K>> for Tickets {
+impl<K: Kept> TableRule<Option<K>, View<K, K::Entry, K::Part>, Snapshot<K>> for LockRule {
     ghost holds = { λ key. LockInvariant K.Kept key.value };
 
     ghost first = { λ key. first_view K.Kept key.value };
@@ -61,36 +61,36 @@ impl<K: Kept> Play<Option<K>, View<K, K::Entry, K::Part>> for Visit {
 }
 
 /// The new seat has seen the same, and can draw no ticket.
-pub struct Beside;
+pub struct SplitSeen;
 
-impl<K, E, P> Split<View<K, E, P>> for Beside {
+impl<K, E, P> Split<View<K, E, P>> for SplitSeen {
     ghost left = { λ v. v };
 
     ghost right = { split_off 0 };
 }
 
 /// The new seat can draw tickets and has no split left.
-pub struct OneOf;
+pub struct SplitPass;
 
-impl<K, E, P> Split<View<K, E, P>> for OneOf {
+impl<K, E, P> Split<View<K, E, P>> for SplitPass {
     ghost left = { λ v. with_weight (v.weight - 1) v };
 
     ghost right = { split_off 1 };
 }
 
 /// The new seat has all splits, and the old one can draw tickets.
-pub struct AllBut;
+pub struct SplitFirst;
 
-impl<K, E, P> Split<View<K, E, P>> for AllBut {
+impl<K, E, P> Split<View<K, E, P>> for SplitFirst {
     ghost left = { with_weight 1 };
 
     ghost right = { λ v. split_off (v.weight - 1) v };
 }
 
 /// Two seats become one.
-pub struct Meeting;
+pub struct JoinSeats;
 
-impl<K, E, P> Join<View<K, E, P>> for Meeting {
+impl<K, E, P> Join<View<K, E, P>> for JoinSeats {
     ghost both = { joined };
 
     ghost spent = { spent };

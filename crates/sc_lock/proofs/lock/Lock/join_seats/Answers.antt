@@ -1,7 +1,7 @@
--- `bring`: the join and the look after it keep the invariant, and what the seat knows then.
+-- `join_seats`: the join and the look after it keep the invariant, and what the seat knows then.
 use Rattle.std.proofs.Common.{rules, ap, sym, subst}
 use Rattle.sc_lock.specs.Journal.{ArePlacesIn}
-use Rattle.sc_lock.proofs.lock.Lock.bring.Goals as goal
+use Rattle.sc_lock.proofs.lock.Lock.join_seats.Goals as goal
 use Rattle.sc_lock.proofs.PrefixLemmas.{IsLongest-longer}
 use Rattle.sc_lock.proofs.JoinLemmas.{join_keeps, settle_keeps}
 

@@ -1,4 +1,4 @@
--- The search for the end of a head comes to it behind the head's last byte, and not before.
+-- The search for the end of a head comes to it after the head's last byte, and not before.
 use Rattle.std.proofs.Common.{◌≡◌, ◌≢◌, inl, inr, ℕ, ◌+◌, ◌<◌, Bool, true, false, IsTrue, All, List, [], ◌∷◌, ◌++◌, length, refl, sym, ap, ◌∙◌, subst, arith, append_assoc, append-nil, length-append, ◌-◌, take, drop}
 use Rattle.std.proofs.Math.Seq.{take-append-add}
 use Rattle.std.proofs.lemmas.List.{take_rest, take_at, take-append-drop}
@@ -15,19 +15,19 @@ use Rattle.sc_http.specs.HeadEnd.{next_place}
 use Rattle.sc_http.specs.declared.head_end.Place.{Place}
 use Rattle.sc_http.specs.declared.head_end.Place.TheVariants as places
 
--- the place behind these bytes
-abbrev pub behind : Place → List ℕ → Place
-behind place bytes = fold next_place place bytes
+-- the place after these bytes
+abbrev pub place_after : Place → List ℕ → Place
+place_after place bytes = fold next_place place bytes
 
 -- the byte ends no line
 abbrev pub IsPlain : ℕ → Type 0
 IsPlain b = (b ≢ 10) × (b ≢ 13)
 
-after : (place between : Place) (xs ys : List ℕ) → behind place xs ≡ between → behind place (xs ++ ys) ≡ behind between ys
-after place between xs ys e = fold-append next_place place xs ys ∙ ap (λ p. behind p ys) e
+after-append : (place between : Place) (xs ys : List ℕ) → place_after place xs ≡ between → place_after place (xs ++ ys) ≡ place_after between ys
+after-append place between xs ys e = fold-append next_place place xs ys ∙ ap (λ p. place_after p ys) e
 
--- behind the end nothing more is looked at
-pub end_stays : (bytes : List ℕ) → behind places.End bytes ≡ places.End
+-- after the end nothing more is looked at
+pub end_stays : (bytes : List ℕ) → place_after places.End bytes ≡ places.End
 end_stays bytes = fold_stays next_place places.End (λ b. refl) bytes
 
 step_plain : (place : Place) (b : ℕ) → IsPlain b → place ≢ places.End → next_place place b ≡ places.Text
@@ -37,20 +37,20 @@ step_plain places.LineStart b plain open_ = rw (ne_eqb b 10 plain.0, ne_eqb b 13
 step_plain places.LineStartReturn b plain open_ = rw (ne_eqb b 10 plain.0)
 step_plain places.End b plain open_ = absurd (open_ refl)
 
-text_stays : (bytes : List ℕ) → All IsPlain bytes → behind places.Text bytes ≡ places.Text
+text_stays : (bytes : List ℕ) → All IsPlain bytes → place_after places.Text bytes ≡ places.Text
 text_stays [] plain = refl
 text_stays (b ∷ bytes) plain =
-    ap (λ p. behind p bytes) (step_plain places.Text b (All-head IsPlain b bytes plain) (λ e. cc))
+    ap (λ p. place_after p bytes) (step_plain places.Text b (All-head IsPlain b bytes plain) (λ e. cc))
     ∙ text_stays bytes (All-tail IsPlain b bytes plain)
 
-text_begins : (place : Place) (bytes : List ℕ) → place ≢ places.End → 0 < length bytes → All IsPlain bytes → behind place bytes ≡ places.Text
+text_begins : (place : Place) (bytes : List ℕ) → place ≢ places.End → 0 < length bytes → All IsPlain bytes → place_after place bytes ≡ places.Text
 text_begins place [] open_ some plain = absurd (omega arith)
 text_begins place (b ∷ bytes) open_ some plain =
-    ap (λ p. behind p bytes) (step_plain place b (All-head IsPlain b bytes plain) open_)
+    ap (λ p. place_after p bytes) (step_plain place b (All-head IsPlain b bytes plain) open_)
     ∙ text_stays bytes (All-tail IsPlain b bytes plain)
 
 -- what passes a test that no line end passes is plain
-plain_by : (test : ℕ → Bool) → test 10 ≡ false → test 13 ≡ false → (bytes : List ℕ) → AllPass test bytes → All IsPlain bytes
+pub plain_by : (test : ℕ → Bool) → test 10 ≡ false → test 13 ≡ false → (bytes : List ℕ) → AllPass test bytes → All IsPlain bytes
 plain_by test feed return bytes pass =
     All-weaker (λ b. IsTrue (test b)) IsPlain
     (λ b yes. (
@@ -58,7 +58,7 @@ plain_by test feed return bytes pass =
       (λ e. let at : test 13 ≡ true = subst (λ v. test v ≡ true) e yes in cc),
     )) bytes pass
 
-plain_token : (bytes : List ℕ) → AllPass is_token_byte bytes → All IsPlain bytes
+pub plain_token : (bytes : List ℕ) → AllPass is_token_byte bytes → All IsPlain bytes
 plain_token bytes pass =
     All-weaker (λ b. IsTrue (is_token_byte b)) IsPlain
     (λ b yes. (
@@ -66,47 +66,47 @@ plain_token bytes pass =
       (λ e. let at : is_newline 13 ≡ false = subst (λ v. is_newline v ≡ false) e (token_is_no_newline b yes) in cc),
     )) bytes pass
 
-plain_version : (minor : ℕ) → minor < 2 → behind places.Text (print_version minor) ≡ places.Text
+plain_version : (minor : ℕ) → minor < 2 → place_after places.Text (print_version minor) ≡ places.Text
 plain_version minor small = step_plain places.Text (48 + minor) ((λ e. omega arith), (λ e. omega arith)) (λ e. cc)
 
-blank_stays : (ends : List LineEnd) → behind places.Before (print_blank ends) ≡ places.Before
+blank_stays : (ends : List LineEnd) → place_after places.Before (print_blank ends) ≡ places.Before
 blank_stays [] = refl
 blank_stays (crlf ∷ ends) = blank_stays ends
 blank_stays (lf ∷ ends) = blank_stays ends
 
-line_ends : (end : LineEnd) → behind places.Text (print_end end) ≡ places.LineStart
+line_ends : (end : LineEnd) → place_after places.Text (print_end end) ≡ places.LineStart
 line_ends crlf = refl
 line_ends lf = refl
 
-field_ends : (field : Field) → IsField field → behind places.LineStart (print_field field) ≡ places.LineStart
+field_ends : (field : Field) → IsField field → place_after places.LineStart (print_field field) ≡ places.LineStart
 field_ends field is =
-    ap (behind places.LineStart) (append_assoc field.name (58 ∷ field.raw) (print_end field.end))
-    ∙ (after places.LineStart places.Text field.name (58 ∷ (field.raw ++ print_end field.end))
+    ap (place_after places.LineStart) (append_assoc field.name (58 ∷ field.raw) (print_end field.end))
+    ∙ (after-append places.LineStart places.Text field.name (58 ∷ (field.raw ++ print_end field.end))
     (text_begins places.LineStart field.name (λ e. cc) is.name.0 (plain_token field.name is.name.1)))
-    ∙ (after places.Text places.Text field.raw (print_end field.end) (text_stays field.raw (plain_by is_value_byte refl refl field.raw is.raw)))
+    ∙ (after-append places.Text places.Text field.raw (print_end field.end) (text_stays field.raw (plain_by is_value_byte refl refl field.raw is.raw)))
     ∙ line_ends field.end
 
-fields_end : (fields : List Field) → All IsField fields → behind places.LineStart (flat_map print_field fields) ≡ places.LineStart
+fields_end : (fields : List Field) → All IsField fields → place_after places.LineStart (flat_map print_field fields) ≡ places.LineStart
 fields_end [] all = refl
 fields_end (field ∷ fields) all =
-    after places.LineStart places.LineStart (print_field field) (flat_map print_field fields) (field_ends field (All-head IsField field fields all))
+    after-append places.LineStart places.LineStart (print_field field) (flat_map print_field fields) (field_ends field (All-head IsField field fields all))
     ∙ fields_end fields (All-tail IsField field fields all)
 
 -- what stands before the line feed of a line's end
-abbrev before_feed : LineEnd → List ℕ
+abbrev pub before_feed : LineEnd → List ℕ
 before_feed crlf = 13 ∷ []
 before_feed lf = []
 
-feed_splits : (end : LineEnd) → print_end end ≡ before_feed end ++ 10 ∷ []
+pub feed_splits : (end : LineEnd) → print_end end ≡ before_feed end ++ 10 ∷ []
 feed_splits crlf = refl
 feed_splits lf = refl
 
-feed_closes : (end : LineEnd) → next_place (behind places.LineStart (before_feed end)) 10 ≡ places.End
+feed_closes : (end : LineEnd) → next_place (place_after places.LineStart (before_feed end)) 10 ≡ places.End
 feed_closes crlf = refl
 feed_closes lf = refl
 
 -- the bytes of a head before its last one
-abbrev but_last : RequestHead → List ℕ
+abbrev pub but_last : RequestHead → List ℕ
 but_last h =
     print_blank h.blank ++ (h.method ++ 32 ∷ (h.target ++ 32 ∷ (print_version h.minor
     ++ (print_end h.line_end ++ (flat_map print_field h.fields ++ before_feed h.last)))))
@@ -114,7 +114,7 @@ but_last h =
 cons-append : (x : ℕ) (a b : List ℕ) → (x ∷ a) ++ b ≡ x ∷ (a ++ b)
 cons-append x a b = refl
 
-head_splits : (h : RequestHead) → print_request h ≡ but_last h ++ 10 ∷ []
+pub head_splits : (h : RequestHead) → print_request h ≡ but_last h ++ 10 ∷ []
 head_splits h =
     sym (append-nil (print_request h)) ∙ print_request-append h []
     ∙ regroup (print_blank h.blank) h.method h.target (print_version h.minor) (print_end h.line_end)
@@ -125,46 +125,46 @@ head_splits h =
         ≡ (a ++ (b ++ 32 ∷ (c ++ 32 ∷ (d ++ (e ++ (f ++ k)))))) ++ 10 ∷ []
     regroup a b c d e f g k split = rw split (simp (append_assoc, append-nil, cons-append))
 
--- behind all but the last byte of a head the place is that before the last line feed
-but_last_behind : (h : RequestHead) → IsRequestHead h → behind places.Before (but_last h) ≡ behind places.LineStart (before_feed h.last)
-but_last_behind h is =
+-- after all but the last byte of a head the place is that before the last line feed
+but_last_place : (h : RequestHead) → IsRequestHead h → place_after places.Before (but_last h) ≡ place_after places.LineStart (before_feed h.last)
+but_last_place h is =
     let headers = flat_map print_field h.fields ++ before_feed h.last in
     let line = print_end h.line_end ++ headers in
     let version = print_version h.minor ++ line in
     let target = h.target ++ 32 ∷ version in
-    after places.Before places.Before (print_blank h.blank) (h.method ++ 32 ∷ target) (blank_stays h.blank)
-    ∙ after places.Before places.Text h.method (32 ∷ target) (text_begins places.Before h.method (λ e. cc) is.method.0 (plain_token h.method is.method.1))
-    ∙ after places.Text places.Text h.target (32 ∷ version) (text_stays h.target (plain_by is_uri_byte refl refl h.target is.target.1))
-    ∙ after places.Text places.Text (print_version h.minor) line (plain_version h.minor (omega arith))
-    ∙ after places.Text places.LineStart (print_end h.line_end) headers (line_ends h.line_end)
-    ∙ after places.LineStart places.LineStart (flat_map print_field h.fields) (before_feed h.last) (fields_end h.fields is.fields)
+    after-append places.Before places.Before (print_blank h.blank) (h.method ++ 32 ∷ target) (blank_stays h.blank)
+    ∙ after-append places.Before places.Text h.method (32 ∷ target) (text_begins places.Before h.method (λ e. cc) is.method.0 (plain_token h.method is.method.1))
+    ∙ after-append places.Text places.Text h.target (32 ∷ version) (text_stays h.target (plain_by is_uri_byte refl refl h.target is.target.1))
+    ∙ after-append places.Text places.Text (print_version h.minor) line (plain_version h.minor (omega arith))
+    ∙ after-append places.Text places.LineStart (print_end h.line_end) headers (line_ends h.line_end)
+    ∙ after-append places.LineStart places.LineStart (flat_map print_field h.fields) (before_feed h.last) (fields_end h.fields is.fields)
 
 -- the search finds the end of a head that comes first
-pub end_of_head : (bytes : List ℕ) (h : RequestHead) (rest : List ℕ) → ReadsRequest bytes h rest → behind places.Before bytes ≡ places.End
+pub end_of_head : (bytes : List ℕ) (h : RequestHead) (rest : List ℕ) → ReadsRequest bytes h rest → place_after places.Before bytes ≡ places.End
 end_of_head bytes h rest reads =
     let split : bytes ≡ but_last h ++ (10 ∷ rest) = rw (reads.1, head_splits h, append_assoc) refl in
-    ap (behind places.Before) split
-    ∙ after places.Before _ (but_last h) (10 ∷ rest) (but_last_behind h reads.0)
-    ∙ ap (λ p. behind p rest) (feed_closes h.last)
+    ap (place_after places.Before) split
+    ∙ after-append places.Before _ (but_last h) (10 ∷ rest) (but_last_place h reads.0)
+    ∙ ap (λ p. place_after p rest) (feed_closes h.last)
     ∙ end_stays rest
 
 -- a search that goes on from where it stopped has searched all
-pub place_behind : (place result : Place) (bytes same : List ℕ) (searched : ℕ) → same ≡ bytes → place ≡ behind places.Before (take searched bytes)
-    → result ≡ behind place (take (length same - searched) (drop searched same)) → result ≡ behind places.Before bytes
-place_behind place result bytes same searched is before next =
-    next ∙ ap (λ xs. behind place (take (length xs - searched) (drop searched xs))) is
-    ∙ ap (behind place) (take_rest bytes searched)
-    ∙ ap (λ p. behind p (drop searched bytes)) before
+pub search_goes_on : (place result : Place) (bytes same : List ℕ) (searched : ℕ) → same ≡ bytes → place ≡ place_after places.Before (take searched bytes)
+    → result ≡ place_after place (take (length same - searched) (drop searched same)) → result ≡ place_after places.Before bytes
+search_goes_on place result bytes same searched is before next =
+    next ∙ ap (λ xs. place_after place (take (length xs - searched) (drop searched xs))) is
+    ∙ ap (place_after place) (take_rest bytes searched)
+    ∙ ap (λ p. place_after p (drop searched bytes)) before
     ∙ sym (fold-append next_place places.Before (take searched bytes) (drop searched bytes))
-    ∙ ap (behind places.Before) (take-append-drop searched bytes)
+    ∙ ap (place_after places.Before) (take-append-drop searched bytes)
 
 -- the same once more bytes have come
-pub place_kept : (result : Place) (bytes more after : List ℕ) (searched : ℕ) → result ≡ behind places.Before bytes → searched ≡ length bytes
-    → after ≡ bytes ++ more → result ≡ behind places.Before (take searched after)
+pub place_kept : (result : Place) (bytes more after : List ℕ) (searched : ℕ) → result ≡ place_after places.Before bytes → searched ≡ length bytes
+    → after ≡ bytes ++ more → result ≡ place_after places.Before (take searched after)
 place_kept result bytes more after searched here all grown =
-    here ∙ ap (behind places.Before) (sym (take_at bytes more searched (sym all)) ∙ ap (take searched) (sym grown))
+    here ∙ ap (place_after places.Before) (sym (take_at bytes more searched (sym all)) ∙ ap (take searched) (sym grown))
 
-feed_open : (end : LineEnd) → behind places.LineStart (before_feed end) ≡ places.End → ⊥
+feed_open : (end : LineEnd) → place_after places.LineStart (before_feed end) ≡ places.End → ⊥
 feed_open crlf e = apart e
   where
     apart : places.LineStartReturn ≡ places.End → ⊥
@@ -176,7 +176,7 @@ feed_open lf e = apart e
 
 -- a part of a head that lacks its last byte has no end
 part_is_open : (h : RequestHead) (bytes more : List ℕ) → IsRequestHead h → bytes ++ more ≡ but_last h ++ 10 ∷ [] → 0 < length more
-    → behind places.Before bytes ≡ places.End → ⊥
+    → place_after places.Before bytes ≡ places.End → ⊥
 part_is_open h bytes more is whole some found =
     let total = length-append (but_last h) (10 ∷ []) in
     let parts = length-append bytes more in
@@ -186,18 +186,18 @@ part_is_open h bytes more is whole some found =
     let front : but_last h ≡ bytes ++ take n more =
     sym (take_at (but_last h) (10 ∷ []) (length (but_last h)) refl) ∙ ap (take (length (but_last h))) (sym whole)
     ∙ ap (λ k. take k (bytes ++ more)) split ∙ take-append-add bytes more n in
-    feed_open h.last (sym (but_last_behind h is) ∙ ap (behind places.Before) front ∙ after places.Before places.End bytes (take n more) found ∙ end_stays (take n more))
+    feed_open h.last (sym (but_last_place h is) ∙ ap (place_after places.Before) front ∙ after-append places.Before places.End bytes (take n more) found ∙ end_stays (take n more))
 
 -- bytes that are no head yet, and may become one, have no end of a head
-pub open_not_found : (bytes : List ℕ) → HasNoRequest bytes → MayBecomeRequest bytes → behind places.Before bytes ≡ places.End → ⊥
+pub open_not_found : (bytes : List ℕ) → HasNoRequest bytes → MayBecomeRequest bytes → place_after places.Before bytes ≡ places.End → ⊥
 open_not_found bytes none (inl ([], h, reads)) found = none h [] (subst (λ (xs : List ℕ). ReadsRequest xs h []) (append-nil bytes) reads)
 open_not_found bytes none (inl (m ∷ more, h, reads)) found =
     let some : 0 < length (m ∷ more) = omega arith in
     part_is_open h bytes (m ∷ more) reads.0 (reads.1 ∙ append-nil (print_request h) ∙ head_splits h) some found
 open_not_found bytes none (inr (blank, method, target, token, uri, split)) found =
-    apart (sym (ap (behind places.Before) (split ∙ append_assoc (print_blank blank) method (32 ∷ target))
-    ∙ after places.Before places.Before (print_blank blank) (method ++ 32 ∷ target) (blank_stays blank)
-    ∙ after places.Before places.Text method (32 ∷ target) (text_begins places.Before method (λ e. cc) token.0 (plain_token method token.1))
+    apart (sym (ap (place_after places.Before) (split ∙ append_assoc (print_blank blank) method (32 ∷ target))
+    ∙ after-append places.Before places.Before (print_blank blank) (method ++ 32 ∷ target) (blank_stays blank)
+    ∙ after-append places.Before places.Text method (32 ∷ target) (text_begins places.Before method (λ e. cc) token.0 (plain_token method token.1))
     ∙ text_stays target (plain_by is_uri_byte refl refl target uri)) ∙ found)
   where
     apart : places.Text ≡ places.End → ⊥

@@ -10,7 +10,7 @@ use Rattle.std.proofs.lemmas.List.Elements.{filter-append}
 use Rattle.form_urlencoded.specs.Form.{split}
 use Rattle.httparse.specs.Grammar.{RequestHead}
 use Rattle.httparse.specs.Spans.{name_and_value}
-use Rattle.sc_model.specs.Heads.{LengthFault, badly_stated, too_great, body_limit, is_digits, length_by, values_of, has_header, comma, says_close}
+use Rattle.sc_model.specs.Heads.{LengthFault, malformed_length, too_large_length, body_limit, is_digits, length_by, values_of, has_header, comma, says_close}
 use Rattle.sc_http.specs.Lines.{is_named, values_in, has_line, is_close}
 
 pub list_any-map : {X Y : Type 0} (p : Y → Bool) (h : X → Y) (xs : List X) → list_any p (map h xs) ≡ list_any (λ x. p (h x)) xs
@@ -58,7 +58,7 @@ filter_none {X} p (x ∷ xs) none = by_test (filter_none p xs) (p x) refl none
     by_test later true e none = let bad : true ≡ false = rw e at none in cc
     by_test later false e none = let rest : list_any p xs ≡ false = rw e at none in rw (e) (later rest)
 
--- the first that passes, and what passes behind it
+-- the first that passes, and what passes after it
 pub filter_first : {X : Type 0} (p : X → Bool) (xs : List X) (i : ℕ) (d : X) → i < length xs → list_any p (take i xs) ≡ false → p (get_or xs i d) ≡ true
     → filter p xs ≡ get_or xs i d ∷ filter p (drop (i + 1) xs)
 filter_first p xs i d inside none here =
@@ -84,9 +84,9 @@ values_none name h xs none = values_in-map name h xs ∙ ap (map (λ x. (h x).1)
 -- what a first value states, by whether it is a number, it is too great, and others follow
 abbrev stated : Bool → Bool → Bool → ℕ → Result ℕ LengthFault
 stated digits great others number =
-    if not digits then Err badly_stated
-    else (if great then Err too_great
-    else (if others then Err badly_stated else Ok number))
+    if not digits then Err malformed_length
+    else (if great then Err too_large_length
+    else (if others then Err malformed_length else Ok number))
 
 stated_fault : (digits great others : Bool) (number : ℕ) (fault : LengthFault) → stated digits great false number ≡ Err fault → stated digits great others number ≡ Err fault
 stated_fault false great others number fault e = e
@@ -94,7 +94,7 @@ stated_fault true true others number fault e = e
 stated_fault true false others number fault e = cc
 
 stated_number : (digits great others : Bool) (number length_is : ℕ) → stated digits great false number ≡ Ok length_is
-    → stated digits great others number ≡ (if others then Err badly_stated else Ok length_is)
+    → stated digits great others number ≡ (if others then Err malformed_length else Ok length_is)
 stated_number false great others number length_is e = cc
 stated_number true true others number length_is e = cc
 stated_number true false true number length_is e = refl
@@ -106,7 +106,7 @@ first_fault value more fault e = stated_fault (is_digits value) (nat_lt body_lim
 
 -- a first value that can be read holds where no other follows
 pub first_number : (value : List ℕ) (more : List (List ℕ)) (number : ℕ) → length_by (value ∷ []) ≡ Ok number
-    → length_by (value ∷ more) ≡ (if nat_lt 0 (length more) then Err badly_stated else Ok number)
+    → length_by (value ∷ more) ≡ (if nat_lt 0 (length more) then Err malformed_length else Ok number)
 first_number value more number e = stated_number (is_digits value) (nat_lt body_limit (digits_value 10 value)) (nat_lt 0 (length more)) (digits_value 10 value) number e
 
 -- the tokens of a list are the parts between its commas
@@ -155,10 +155,10 @@ pub states_number : {X : Type 0} (h : X → List ℕ × List ℕ) (xs : List X) 
     → list_any (λ x. is_named length_name (h x)) (take i xs) ≡ false → is_named length_name (h (get_or xs i d)) ≡ true
     → value ≡ (h (get_or xs i d)).1 → length_by (value ∷ []) ≡ Ok number → (others : List X) → others ≡ drop (i + 1) xs
     → (several : Bool) → several ≡ has_line length_name (map h others)
-    → length_by (values_in length_name (map h xs)) ≡ (if several then Err badly_stated else Ok number)
-states_number h xs i d value number inside none here is e others behind several by =
+    → length_by (values_in length_name (map h xs)) ≡ (if several then Err malformed_length else Ok number)
+states_number h xs i d value number inside none here is e others after several by =
     ap length_by (values_first length_name h xs i d inside none here)
     ∙ ap (λ v. length_by (v ∷ values_in length_name (map h (drop (i + 1) xs)))) (sym is)
     ∙ first_number value (values_in length_name (map h (drop (i + 1) xs))) number e
-    ∙ ap (λ b. if b then Err badly_stated else Ok number)
-    (some_values length_name (map h (drop (i + 1) xs)) ∙ ap (λ ys. has_line length_name (map h ys)) (sym behind) ∙ sym by)
+    ∙ ap (λ b. if b then Err malformed_length else Ok number)
+    (some_values length_name (map h (drop (i + 1) xs)) ∙ ap (λ ys. has_line length_name (map h ys)) (sym after) ∙ sym by)

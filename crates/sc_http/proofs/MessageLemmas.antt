@@ -7,10 +7,10 @@ use Rattle.httparse.specs.Grammar.{RequestHead, HasNoRequest, NeverHasRequest, M
 use Rattle.httparse.specs.Spans.{RequestExceeds}
 use Rattle.httparse.proofs.GrammarLemmas.{ReadsRequest-append, request_unique, request_prefix_free}
 use Rattle.sc_model.specs.Heads.{head_limit, line_limit, body_length, request_of}
-use Rattle.sc_model.specs.Messages.{HasHead, window, HasNoMessage, Ending, done, cut, bad_head, too_large, not_built, HasLongHead, EndsSo}
+use Rattle.sc_model.specs.Messages.{HasHead, window, HasNoMessage, HasMalformedHead, Ending, done, cut, bad_head, too_large, not_built, HasLongHead, EndsSo}
 use Rattle.sc_http.specs.Laws.{OneReading}
 use Rattle.sc_http.specs.declared.head_end.Place.TheVariants as places
-use Rattle.sc_http.proofs.HeadEndLemmas.{behind, end_of_head}
+use Rattle.sc_http.proofs.HeadEndLemmas.{place_after, end_of_head}
 
 -- the window of more bytes begins with that of the first ones
 pub window-append : (bytes more : List ℕ) → window (bytes ++ more) ≡ window bytes ++ take (head_limit - length bytes) more
@@ -49,7 +49,7 @@ one_reading bytes more request other rest others (h, body, has, plain, long, is)
     (is ∙ ap (λ x. request_of x body) same.0 ∙ ap (request_of k) parts.0 ∙ sym is', sym parts.1)
 
 -- no request is whole where the end of its head has not come
-pub no_message_yet : (bytes : List ℕ) → behind places.Before bytes ≢ places.End → HasNoMessage bytes
+pub no_message_yet : (bytes : List ℕ) → place_after places.Before bytes ≢ places.End → HasNoMessage bytes
 no_message_yet bytes open_ request rest (h, body, has, plain, long, is) = open_ (end_of_head bytes h (body ++ rest) has.reads)
 
 -- nor where the body has not come whole
@@ -62,16 +62,16 @@ no_message_in_body bytes head front whole has length_of short request rest (h, b
     let fits : length front ≡ length body + length rest = ap length same.1 ∙ length-append body rest in
     omega arith
 
-HasNoRequest-same : (a b : List ℕ) → a ≡ b → HasNoRequest a → HasNoRequest b
-HasNoRequest-same a b e none = subst HasNoRequest e none
+malformed-append : (bytes more : List ℕ) → HasMalformedHead bytes → HasMalformedHead (bytes ++ more)
+malformed-append bytes more malformed = record {
+  prefix = malformed.prefix;
+  begins = (malformed.begins.0 ++ more, sym (append_assoc malformed.prefix malformed.begins.0 more) ∙ ap (λ xs. xs ++ more) malformed.begins.1);
+  never = malformed.never;
+  within = malformed.within;
+  few_lines = malformed.few_lines;
+}
 
-never-append : (bytes more : List ℕ) → NeverHasRequest bytes → NeverHasRequest (bytes ++ more)
-never-append bytes more never others = HasNoRequest-same (bytes ++ (more ++ others)) ((bytes ++ more) ++ others) (sym (append_assoc bytes more others)) (never (more ++ others))
-
-never-window : (bytes more : List ℕ) → NeverHasRequest (window bytes) → NeverHasRequest (window (bytes ++ more))
-never-window bytes more never = subst NeverHasRequest (sym (window-append bytes more)) (never-append (window bytes) (take (head_limit - length bytes) more) never)
-
-exceeds-append : (bytes more : List ℕ) → RequestExceeds line_limit bytes → RequestExceeds line_limit (bytes ++ more)
+pub exceeds-append : (bytes more : List ℕ) → RequestExceeds line_limit bytes → RequestExceeds line_limit (bytes ++ more)
 exceeds-append bytes more (front, rest, split, head, reads, many) =
     (front, rest ++ more, ap (λ xs. xs ++ more) split ∙ append_assoc front rest more, head, reads, many)
 
@@ -92,7 +92,7 @@ long-append bytes more long =
 pub ends-append : (bytes more : List ℕ) (ending : Ending) → ending ≢ done → ending ≢ cut → EndsSo bytes ending → EndsSo (bytes ++ more) ending
 ends-append bytes more done not_done not_cut ends = absurd (not_done refl)
 ends-append bytes more cut not_done not_cut ends = absurd (not_cut refl)
-ends-append bytes more bad_head not_done not_cut (inl never) = inl (never-window bytes more never)
+ends-append bytes more bad_head not_done not_cut (inl malformed) = inl (malformed-append bytes more malformed)
 ends-append bytes more bad_head not_done not_cut (inr (head, rest, has, plain, length_of)) = inr (head, rest ++ more, HasHead-append bytes head rest more has, plain, length_of)
 ends-append bytes more too_large not_done not_cut (inl long) = inl (long-append bytes more long)
 ends-append bytes more too_large not_done not_cut (inr (inl exceeds)) = inr (inl (exceeds-window bytes more exceeds))

@@ -2,6 +2,7 @@
 use Rattle.std.proofs.Common.{◌≡◌, ◌≢◌, ℕ, ◌<◌, ◌⊎◌, inl, inr, List, [], ◌++◌, length, take, drop, Option, Some, None, Ok, Err, Result, refl, sym, ap, ◌∙◌, subst, arith, append_assoc, append-nil}
 use Rattle.std.specs.Prelude.{IfErr, IfSome}
 use Rattle.std.proofs.lemmas.List.{take-append-drop}
+use mathlib.Core.List.{IsSuffix}
 use Rattle.sc_model.specs.Heads.{request_of}
 use Rattle.sc_model.specs.Messages.{HasHead, ReadsMessage, HasNoMessage, EndsSo, EndsInHead, cut, bad_head, too_large, not_built}
 use Rattle.sc_model.specs.declared.message.Incoming.{Incoming}
@@ -10,12 +11,13 @@ use Rattle.sc_http.specs.declared.stopped.Stopped.{Stopped}
 use Rattle.sc_http.specs.declared.stopped.Stopped.TheVariants as stops
 use Rattle.sc_http.specs.HeadEnd.{IsJudged}
 use Rattle.sc_http.specs.Lines.{IsHeadOf, Describes}
-use Rattle.sc_http.specs.Stream.{Gives, GivesOut, FallsShort, HasEnded, IsBehind, IsBehindGiven, TookNoMessage}
+use Rattle.sc_http.specs.Stream.{Gives, KeepsBytes, ReadsWhile, FallsShort, HasEnded, LeavesSuffix, HasNoMessageBefore}
 use Rattle.sc_http.specs.declared.head.Head.{Head}
 use Rattle.sc_http.specs.declared.end.MessageEnd.{MessageEnd}
 use Rattle.sc_http.specs.declared.end.MessageEnd.TheVariants as ends
 use Rattle.sc_http.specs.declared.head_end.Place.TheVariants as places
-use Rattle.sc_http.proofs.HeadEndLemmas.{behind, open_not_found}
+use Rattle.sc_http.proofs.HeadEndLemmas.{place_after, open_not_found}
+use Rattle.sc_http.proofs.StreamLemmas.{reads_after}
 use Rattle.sc_http.proofs.MessageLemmas.{HasHead-append, ends-append, no_message_in_body}
 
 -- the bytes of the connection are those that came and those that the source has still to give
@@ -26,7 +28,7 @@ whole_is left before piece bytes more came rest = ap (λ xs. before ++ xs) rest 
 judged_ends : (r : Result Head MessageEnd) (left more : List ℕ) → IsJudged left → IfErr r (λ end. IfSome (ending_of end) (EndsSo left))
     → (r ≡ Err ends.Cut → EndsInHead left) → IfErr r (λ end. IfSome (ending_of end) (EndsSo (left ++ more)))
 judged_ends (Ok head) left more judged e in_head = tt
-judged_ends (Err ends.Done) left more (inl found) e in_head = absurd (apart (sym (ap (behind places.Before) e) ∙ found))
+judged_ends (Err ends.Done) left more (inl found) e in_head = absurd (apart (sym (ap (place_after places.Before) e) ∙ found))
   where
     apart : places.Before ≡ places.End → ⊥
     apart same = cc
@@ -50,7 +52,7 @@ untold (Err ends.ReadFault) = tt
 untold (Err ends.Memory) = tt
 
 -- the end of a reading of a head, of the connection's bytes
-pub head_ends : (r : Result Head MessageEnd) (left before : List ℕ) (old new : Option (List ℕ)) → GivesOut [] left before old new
+pub head_ends : (r : Result Head MessageEnd) (left before : List ℕ) (old new : Option (List ℕ)) → KeepsBytes [] left before old new
     → IsJudged left ⊎ HasEnded old new → IfErr r (λ end. IfSome (ending_of end) (EndsSo left)) → (r ≡ Err ends.Cut → EndsInHead left)
     → IfErr r (λ end. IfSome (ending_of end) (λ ending. IfSome old (λ bytes. EndsSo (before ++ bytes) ending)))
 head_ends r left before None new given state e in_head = untold r
@@ -63,26 +65,26 @@ head_ends r left before (Some bytes) new given (inr ended) e in_head =
     subst (λ (xs : List ℕ). IfErr r (λ end. IfSome (ending_of end) (EndsSo xs)))
     (sym (whole_is left before given.piece bytes given.gives.more given.whole given.gives.whole ∙ ap (λ xs. left ++ xs) none ∙ append-nil left)) e
 
--- a request is read: its head, and the body behind it
+-- a request is read: its head, and the body after it
 pub message_read : (kept : Head) (left before body rest : List ℕ) (request : Incoming) (old mid new : Option (List ℕ))
-    → GivesOut [] left before old mid → IsHeadOf left kept → GivesOut body rest (drop kept.size left) mid new → length body ≡ kept.body_length
+    → KeepsBytes [] left before old mid → IsHeadOf left kept → KeepsBytes body rest (drop kept.size left) mid new → length body ≡ kept.body_length
     → ((h : _) → Describes kept h → request ≡ request_of h body)
     → IfSome old (λ bytes. IfSome new (λ more. ReadsMessage (before ++ bytes) request (rest ++ more)))
 message_read kept left before body rest request None mid new given of given' long is = tt
 message_read kept left before body rest request (Some bytes) mid new given of given' long is =
     let second : Gives given'.piece (Some given.gives.more) new = subst (λ (o : Option (List ℕ)). Gives given'.piece o new) given.gives.left given'.gives in
     let whole = whole_is left before given.piece bytes given.gives.more given.whole given.gives.whole in
-    let behind_head : drop kept.size left ++ given.gives.more ≡ body ++ (rest ++ second.more) =
+    let after_head : drop kept.size left ++ given.gives.more ≡ body ++ (rest ++ second.more) =
     whole_is (body ++ rest) (drop kept.size left) given'.piece given.gives.more second.more given'.whole second.whole ∙ append_assoc body rest second.more in
     let has : HasHead (before ++ bytes) of.head (body ++ (rest ++ second.more)) =
     subst (λ (xs : List ℕ). HasHead xs of.head (body ++ (rest ++ second.more))) (sym whole)
-    (subst (λ (xs : List ℕ). HasHead (left ++ given.gives.more) of.head xs) behind_head
+    (subst (λ (xs : List ℕ). HasHead (left ++ given.gives.more) of.head xs) after_head
     (HasHead-append left of.head (drop kept.size left) given.gives.more of.has)) in
     subst (λ (o : Option (List ℕ)). IfSome o (λ more. ReadsMessage (before ++ bytes) request (rest ++ more))) (sym second.left)
     (of.head, body, has, of.describes.plain, of.describes.length_of_body ∙ ap Ok (sym long), is of.head of.describes)
 
 -- the input ended inside a body
-pub body_cut : (kept : Head) (left before : List ℕ) (old mid new : Option (List ℕ)) → GivesOut [] left before old mid → IsHeadOf left kept
+pub body_cut : (kept : Head) (left before : List ℕ) (old mid new : Option (List ℕ)) → KeepsBytes [] left before old mid → IsHeadOf left kept
     → FallsShort (drop kept.size left) kept.body_length mid new → HasEnded mid new → IfSome old (λ bytes. EndsSo (before ++ bytes) cut)
 body_cut kept left before None mid new given of short ended = tt
 body_cut kept left before (Some bytes) mid new given of short ended =
@@ -104,14 +106,14 @@ body_cut kept left before (Some bytes) mid new given of short ended =
     )
 
 -- the source failed inside a body
-pub body_unfinished : (kept : Head) (left before : List ℕ) (old mid new : Option (List ℕ)) → GivesOut [] left before old mid → IsHeadOf left kept
+pub body_unfinished : (kept : Head) (left before : List ℕ) (old mid new : Option (List ℕ)) → KeepsBytes [] left before old mid → IsHeadOf left kept
     → FallsShort (drop kept.size left) kept.body_length mid new
-    → IfSome old (λ bytes. IfSome new (λ more. TookNoMessage (before ++ bytes) more))
+    → IfSome old (λ bytes. IfSome new (λ more. HasNoMessageBefore more (before ++ bytes)))
 body_unfinished kept left before None mid new given of short = tt
 body_unfinished kept left before (Some bytes) mid new given of short =
     let second : Gives short.piece (Some given.gives.more) new = subst (λ (o : Option (List ℕ)). Gives short.piece o new) given.gives.left short.gives in
     let whole = whole_is left before given.piece bytes given.gives.more given.whole given.gives.whole in
-    subst (λ (o : Option (List ℕ)). IfSome o (λ more. TookNoMessage (before ++ bytes) more)) (sym second.left) (
+    subst (λ (o : Option (List ℕ)). IfSome o (λ more. HasNoMessageBefore more (before ++ bytes))) (sym second.left) (
       left ++ short.piece,
       whole ∙ ap (λ xs. left ++ xs) second.whole ∙ sym (append_assoc left short.piece second.more),
       no_message_in_body (left ++ short.piece) of.head (drop kept.size left ++ short.piece) kept.body_length
@@ -119,31 +121,31 @@ body_unfinished kept left before (Some bytes) mid new given of short =
     )
 
 -- the source failed inside a head
-pub head_unfinished : (left before : List ℕ) (old new : Option (List ℕ)) → GivesOut [] left before old new → HasNoMessage left
-    → IfSome old (λ bytes. IfSome new (λ more. TookNoMessage (before ++ bytes) more))
+pub head_unfinished : (left before : List ℕ) (old new : Option (List ℕ)) → KeepsBytes [] left before old new → HasNoMessage left
+    → IfSome old (λ bytes. IfSome new (λ more. HasNoMessageBefore more (before ++ bytes)))
 head_unfinished left before None new given none = tt
 head_unfinished left before (Some bytes) new given none =
-    subst (λ (o : Option (List ℕ)). IfSome o (λ more. TookNoMessage (before ++ bytes) more)) (sym given.gives.left)
+    subst (λ (o : Option (List ℕ)). IfSome o (λ more. HasNoMessageBefore more (before ++ bytes))) (sym given.gives.left)
     (left, whole_is left before given.piece bytes given.gives.more given.whole given.gives.whole, none)
 
 -- where no body was read, a front was given out
-pub body_order : (size : ℕ) (left before rest : List ℕ) (old mid new : Option (List ℕ)) → GivesOut [] left before old mid
-    → IsBehindGiven rest (drop size left) mid new → IfSome old (λ bytes. IfSome new (λ more. IsBehind (before ++ bytes) (rest ++ more)))
+pub body_order : (size : ℕ) (left before rest : List ℕ) (old mid new : Option (List ℕ)) → KeepsBytes [] left before old mid
+    → LeavesSuffix rest (drop size left) mid new → IfSome old (λ bytes. IfSome new (λ more. IsSuffix (rest ++ more) (before ++ bytes)))
 body_order size left before rest None mid new given (out, given') = tt
 body_order size left before rest (Some bytes) mid new given (out, given') =
     let second : Gives given'.piece (Some given.gives.more) new = subst (λ (o : Option (List ℕ)). Gives given'.piece o new) given.gives.left given'.gives in
     let whole = whole_is left before given.piece bytes given.gives.more given.whole given.gives.whole in
-    subst (λ (o : Option (List ℕ)). IfSome o (λ more. IsBehind (before ++ bytes) (rest ++ more))) (sym second.left) (
+    subst (λ (o : Option (List ℕ)). IfSome o (λ more. IsSuffix (rest ++ more) (before ++ bytes))) (sym second.left) (
       take size left ++ out,
-      whole ∙ ap (λ xs. xs ++ given.gives.more) (sym (take-append-drop size left)) ∙ append_assoc (take size left) (drop size left) given.gives.more
+      sym (whole ∙ ap (λ xs. xs ++ given.gives.more) (sym (take-append-drop size left)) ∙ append_assoc (take size left) (drop size left) given.gives.more
           ∙ ap (λ xs. take size left ++ xs) (whole_is (out ++ rest) (drop size left) given'.piece given.gives.more second.more given'.whole second.whole
           ∙ append_assoc out rest second.more)
-          ∙ sym (append_assoc (take size left) out (rest ++ second.more)),
+          ∙ sym (append_assoc (take size left) out (rest ++ second.more))),
     )
 
 -- how the bytes end where a body was not read
 pub body_ends : (stopped : Stopped) (end : MessageEnd) (kept : Head) (left before : List ℕ) (old mid new : Option (List ℕ))
-    → end ≡ end_in_body stopped → GivesOut [] left before old mid → IsHeadOf left kept
+    → end ≡ end_in_body stopped → KeepsBytes [] left before old mid → IsHeadOf left kept
     → (stopped ≢ stops.Memory → FallsShort (drop kept.size left) kept.body_length mid new) → (stopped ≡ stops.Ended → HasEnded mid new)
     → IfSome (ending_of end) (λ ending. IfSome old (λ bytes. EndsSo (before ++ bytes) ending))
 body_ends stops.Ended end kept left before old mid new is given of short ended =
@@ -153,9 +155,9 @@ body_ends stops.Memory end kept left before old mid new is given of short ended 
 
 -- a fault in a body
 pub body_fault : (stopped : Stopped) (end : MessageEnd) (kept : Head) (left before : List ℕ) (old mid new : Option (List ℕ))
-    → end ≡ end_in_body stopped → end ≡ ends.ReadFault → GivesOut [] left before old mid → IsHeadOf left kept
+    → end ≡ end_in_body stopped → end ≡ ends.ReadFault → KeepsBytes [] left before old mid → IsHeadOf left kept
     → (stopped ≢ stops.Memory → FallsShort (drop kept.size left) kept.body_length mid new)
-    → IfSome old (λ bytes. IfSome new (λ more. TookNoMessage (before ++ bytes) more))
+    → IfSome old (λ bytes. IfSome new (λ more. HasNoMessageBefore more (before ++ bytes)))
 body_fault stops.Ended end kept left before old mid new is fault given of short = absurd (apart (sym is ∙ fault))
   where
     apart : ends.Cut ≡ ends.ReadFault → ⊥
@@ -165,3 +167,19 @@ body_fault stops.Memory end kept left before old mid new is fault given of short
   where
     apart : ends.Memory ≡ ends.ReadFault → ⊥
     apart same = cc
+
+-- where a request is given, what came before the last piece holds none
+pub needed_both : {X : Type 0} (rest : X → Option (List ℕ)) (kept : Head) (left before : List ℕ) (old mid new : X)
+    → KeepsBytes [] left before (rest old) (rest mid) → IsHeadOf left kept
+    → (mid ≡ old) ⊎ ReadsWhile (λ xs. HasNoMessage (before ++ xs)) (rest old) (rest mid)
+    → (new ≡ mid) ⊎ ReadsWhile (λ xs. length (drop kept.size left ++ xs) < kept.body_length) (rest mid) (rest new)
+    → (new ≡ old) ⊎ ReadsWhile (λ xs. HasNoMessage (before ++ xs)) (rest old) (rest new)
+needed_both rest kept left before old mid new given of (inl first) (inl second) = inl (second ∙ first)
+needed_both {X} rest kept left before old mid new given of (inr first) (inl second) =
+    inr (subst (λ (s : X). ReadsWhile (λ xs. HasNoMessage (before ++ xs)) (rest old) (rest s)) (sym second) first)
+needed_both rest kept left before old mid new given of first (inr second) =
+    inr (reads_after (λ xs. length (drop kept.size left ++ xs) < kept.body_length) (λ xs. HasNoMessage (before ++ xs)) given.piece (rest old) (rest mid) (rest new)
+    given.gives second
+    (λ xs short. subst HasNoMessage (ap (λ ys. ys ++ xs) given.whole ∙ append_assoc before given.piece xs)
+    (no_message_in_body (left ++ xs) of.head (drop kept.size left ++ xs) kept.body_length
+    (HasHead-append left of.head (drop kept.size left) xs of.has) of.describes.length_of_body short)))

@@ -1,9 +1,9 @@
--- Bytes that were read, behind those that were there.
+-- Bytes that were read, after those that were there.
 use Rattle.std.proofs.Common.{◌≡◌, ℕ, ◌+◌, ◌-◌, ◌<◌, ◌≤◌, List, [], ◌++◌, length, take, drop, refl, sym, ap, ◌∙◌, subst, inl, inr, ◌⊎◌, arith, append_assoc, append-nil, Option, Some, None}
 use Rattle.std.proofs.lemmas.Bool.{cases_lt}
 use Rattle.std.proofs.lemmas.List.{drop-drop, drop-take, drop_all, take_all, take-append-drop, length-take, take-take, take-append-le, length-take-le}
 use Rattle.std.proofs.Math.Seq.{take-append-add}
-use Rattle.sc_http.specs.Stream.{Gives, Grows, GivesOut, FallsShort, IsBehindGiven, HasEnded}
+use Rattle.sc_http.specs.Stream.{Gives, Grows, KeepsBytes, FallsShort, ReadsWhile, LeavesSuffix, HasEnded}
 
 drop-take_front : (n m : ℕ) (xs : List ℕ) → drop n (take m xs) ≡ take (m - n) (drop n xs)
 drop-take_front n m xs = by_order (cases_lt m n)
@@ -23,11 +23,11 @@ drop_front xs start end n =
     let less : end - (start + n) ≡ end - start - n = omega arith in
     rw (drop-take_front n (end - start) (drop start xs), drop-drop n start xs, less) refl
 
--- what was read into the room behind the first bytes
-pub read_behind : (old m into post tail : List ℕ) (filled count len : ℕ) → take filled m ≡ take filled old → filled ≤ length m
+-- what was read into the room after the first bytes
+pub read_after : (old m into post tail : List ℕ) (filled count len : ℕ) → take filled m ≡ take filled old → filled ≤ length m
     → count ≤ length into → filled + count ≤ len
     → take (filled + count) (take len ((take filled m ++ (into ++ post)) ++ tail)) ≡ take filled old ++ take count into
-read_behind old m into post tail filled count len kept inside came fits =
+read_after old m into post tail filled count len kept inside came fits =
     let long : length (take filled m) ≡ filled = length-take-le filled m inside in
     take-take (filled + count) len ((take filled m ++ (into ++ post)) ++ tail) fits
     ∙ ap (take (filled + count)) (append_assoc (take filled m) (into ++ post) tail ∙ ap (λ ys. take filled m ++ ys) (append_assoc into post tail))
@@ -55,15 +55,15 @@ gives_ended p (Some bytes) b c first second =
     subst (λ (o : Option (List ℕ)). HasEnded o c) first.left second
 
 -- the bytes that were there are given out
-pub gives_out_all : (bytes : List ℕ) (rest : Option (List ℕ)) → GivesOut bytes [] bytes rest rest
+pub gives_out_all : (bytes : List ℕ) (rest : Option (List ℕ)) → KeepsBytes bytes [] bytes rest rest
 gives_out_all bytes rest = record { piece = []; whole = refl; gives = gives_none rest }
 
 -- none of them is
-pub gives_out_nothing : (bytes : List ℕ) (rest : Option (List ℕ)) → GivesOut [] bytes bytes rest rest
+pub gives_out_nothing : (bytes : List ℕ) (rest : Option (List ℕ)) → KeepsBytes [] bytes bytes rest rest
 gives_out_nothing bytes rest = record { piece = []; whole = sym (append-nil bytes); gives = gives_none rest }
 
--- what grew behind bytes that were given out
-pub gives_out_more : (out after before : List ℕ) (a b c : Option (List ℕ)) → GivesOut out [] before a b → Grows out after b c → GivesOut after [] before a c
+-- what grew after bytes that were given out
+pub gives_out_more : (out after before : List ℕ) (a b c : Option (List ℕ)) → KeepsBytes out [] before a b → Grows out after b c → KeepsBytes after [] before a c
 gives_out_more out after before a b c given grown = record {
   piece = given.piece ++ grown.piece;
   whole = ap (λ xs. xs ++ []) (grown.whole ∙ ap (λ xs. xs ++ grown.piece) (sym (append-nil out) ∙ given.whole) ∙ append_assoc before given.piece grown.piece)
@@ -72,7 +72,7 @@ gives_out_more out after before a b c given grown = record {
 }
 
 -- what is left grew
-pub left_more : (left after before : List ℕ) (a b c : Option (List ℕ)) → GivesOut [] left before a b → Grows left after b c → GivesOut [] after before a c
+pub left_more : (left after before : List ℕ) (a b c : Option (List ℕ)) → KeepsBytes [] left before a b → Grows left after b c → KeepsBytes [] after before a c
 left_more left after before a b c given grown = record {
   piece = given.piece ++ grown.piece;
   whole = grown.whole ∙ ap (λ xs. xs ++ grown.piece) given.whole ∙ append_assoc before given.piece grown.piece;
@@ -80,7 +80,7 @@ left_more left after before a b c given grown = record {
 }
 
 -- a call that took nothing changes nothing
-pub gives_then_none : (out left before : List ℕ) (a b c : Option (List ℕ)) → GivesOut out left before a b → Gives [] b c → GivesOut out left before a c
+pub gives_then_none : (out left before : List ℕ) (a b c : Option (List ℕ)) → KeepsBytes out left before a b → Gives [] b c → KeepsBytes out left before a c
 gives_then_none out left before a b c given none = record {
   piece = given.piece;
   whole = given.whole;
@@ -88,7 +88,7 @@ gives_then_none out left before a b c given none = record {
 }
 
 -- too few bytes came
-pub falls_short : (out before : List ℕ) (wanted : ℕ) (a b c : Option (List ℕ)) → GivesOut out [] before a b → length out < wanted → Gives [] b c
+pub falls_short : (out before : List ℕ) (wanted : ℕ) (a b c : Option (List ℕ)) → KeepsBytes out [] before a b → length out < wanted → Gives [] b c
     → FallsShort before wanted a c
 falls_short out before wanted a b c given few none =
     let all = gives_then_none out [] before a b c given none in
@@ -98,9 +98,29 @@ falls_short out before wanted a b c given few none =
       gives = all.gives;
     }
 
+-- what holds of the bytes that were there before a piece came
+pub reads_while : (Q : List ℕ → Type 0) (out left before piece : List ℕ) (a b c : Option (List ℕ)) → KeepsBytes out left before a b → Gives piece b c
+    → Q (out ++ left) → ReadsWhile (λ xs. Q (before ++ xs)) a c
+reads_while Q out left before piece a b c kept came holds = record {
+  before = kept.piece;
+  piece = piece;
+  held = subst Q kept.whole holds;
+  gives = gives_both kept.piece piece a b c kept.gives came;
+}
+
+-- more bytes were given before that
+pub reads_after : (P Q : List ℕ → Type 0) (first : List ℕ) (a b c : Option (List ℕ)) → Gives first a b → ReadsWhile P b c
+    → ((xs : List ℕ) → P xs → Q (first ++ xs)) → ReadsWhile Q a c
+reads_after P Q first a b c came later step = record {
+  before = first ++ later.before;
+  piece = later.piece;
+  held = step later.before later.held;
+  gives = subst (λ (xs : List ℕ). Gives xs a c) (sym (append_assoc first later.before later.piece)) (gives_both first (later.before ++ later.piece) a b c came later.gives);
+}
+
 -- the first bytes are given out, and the others left
 pub given_front : (front left before : List ℕ) (n : ℕ) (rest : Option (List ℕ)) → front ≡ take n before → left ≡ drop n before
-    → GivesOut front left before rest rest
+    → KeepsBytes front left before rest rest
 given_front front left before n rest first others = record {
   piece = [];
   whole = rw (first, others) (take-append-drop n before ∙ sym (append-nil before));
@@ -109,7 +129,7 @@ given_front front left before n rest first others = record {
 
 -- all that was there is given out, and more
 pub given_whole : (out front left before : List ℕ) (n : ℕ) (a b : Option (List ℕ)) → front ≡ take n before → left ≡ drop n before
-    → length before ≤ n → GivesOut out [] front a b → GivesOut out left before a b
+    → length before ≤ n → KeepsBytes out [] front a b → KeepsBytes out left before a b
 given_whole out front left before n a b first others short given =
     let all : front ≡ before = first ∙ take_all n before short in
     let none : left ≡ [] = others ∙ drop_all n before short in
@@ -121,7 +141,7 @@ given_whole out front left before n a b first others short given =
 
 -- where too few bytes came, none is left
 pub left_none : (front left before : List ℕ) (n wanted : ℕ) (a b : Option (List ℕ)) → left ≡ drop n before → length before ≤ n
-    → FallsShort front wanted a b → IsBehindGiven left before a b
+    → FallsShort front wanted a b → LeavesSuffix left before a b
 left_none front left before n wanted a b others short falls =
     let none : left ≡ [] = others ∙ drop_all n before short in (
       before ++ falls.piece,

@@ -4,4 +4,5 @@ pub mod Ends
 pub mod Lines
 pub mod Laws
 pub mod HeadEnd
+pub mod LineEnds
 pub mod ReplyHead

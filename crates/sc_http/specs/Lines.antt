@@ -3,7 +3,7 @@ use Rattle.std.specs.Prelude.{◌≡◌, ◌≤◌, ℕ, Bool, false, not, List,
 use Rattle.std.specs.List.{list_any}
 use Rattle.std.specs.Str.{str_eq_ignore_ascii_case}
 use Rattle.httparse.specs.Grammar.{RequestHead, trim_ows}
-use Rattle.sc_model.specs.Heads.{LengthFault, badly_stated, too_great, has_header, is_coded, body_length, method_of, path_of, params_of, asks_close}
+use Rattle.sc_model.specs.Heads.{LengthFault, malformed_length, too_large_length, has_header, is_coded, body_length, method_of, path_of, params_of, asks_close}
 use Rattle.sc_model.specs.Messages.{HasHead}
 use Rattle.sc_http.specs.declared.head.Head.{Head}
 use Rattle.sc_http.specs.declared.lines.LengthError.{LengthError}
@@ -27,8 +27,8 @@ is_close token = str_eq_ignore_ascii_case (trim_ows token) (codes "close")
 
 -- why a length can't be read, as the definitions say it
 abbrev pub fault_of : LengthError → LengthFault
-fault_of errors.BadlyStated = badly_stated
-fault_of errors.TooGreat = too_great
+fault_of errors.Malformed = malformed_length
+fault_of errors.TooLarge = too_large_length
 
 -- the length that was found, or why there is none
 abbrev pub length_is : Result ℕ LengthError → Result ℕ LengthFault

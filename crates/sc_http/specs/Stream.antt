@@ -15,7 +15,7 @@ pub record Grows (before after : List ℕ) (old new : Option (List ℕ)) : Type 
   pub gives : Gives piece old new
 
 -- what was given out and what is left are the bytes that were there, and then some that the source gave
-pub record GivesOut (out left before : List ℕ) (old new : Option (List ℕ)) : Type 0 where
+pub record KeepsBytes (out left before : List ℕ) (old new : Option (List ℕ)) : Type 0 where
   pub piece : List ℕ
   pub whole : out ++ left ≡ before ++ piece
   pub gives : Gives piece old new
@@ -27,17 +27,24 @@ pub record FallsShort (before : List ℕ) (wanted : ℕ) (old new : Option (List
   pub gives : Gives piece old new
 
 -- what is left comes last of the bytes that were there and those that the source gave
-abbrev pub IsBehindGiven : List ℕ → List ℕ → Option (List ℕ) → Option (List ℕ) → Type 0
-IsBehindGiven left before old new = (out : List ℕ) × GivesOut out left before old new
+abbrev pub LeavesSuffix : List ℕ → List ℕ → Option (List ℕ) → Option (List ℕ) → Type 0
+LeavesSuffix left before old new = (out : List ℕ) × KeepsBytes out left before old new
 
 -- a source that tells its bytes has no more of them
 abbrev pub HasEnded : Option (List ℕ) → Option (List ℕ) → Type 0
 HasEnded old new = IfSome old (λ bytes. new ≡ Some [])
 
--- the last of the bytes
-abbrev pub IsBehind : List ℕ → List ℕ → Type 0
-IsBehind bytes last = (front : List ℕ) × (bytes ≡ front ++ last)
+-- the source gave bytes of which this holds, and then one piece more
+pub record ReadsWhile (holds : List ℕ → Type 0) (old new : Option (List ℕ)) : Type 0 where
+  pub before : List ℕ
+  pub piece : List ℕ
+  pub held : holds before
+  pub gives : Gives (before ++ piece) old new
 
--- no request is whole in what was taken of the bytes: all of them but the last ones, which are still to come
-abbrev pub TookNoMessage : List ℕ → List ℕ → Type 0
-TookNoMessage bytes last = (taken : List ℕ) × (bytes ≡ taken ++ last) × HasNoMessage taken
+-- the most bytes that a reader takes after the end of a request
+abbrev pub reader_limit : ℕ
+reader_limit = 69632
+
+-- no request is whole in the bytes before these last ones
+abbrev pub HasNoMessageBefore : List ℕ → List ℕ → Type 0
+HasNoMessageBefore last bytes = (taken : List ℕ) × (bytes ≡ taken ++ last) × HasNoMessage taken

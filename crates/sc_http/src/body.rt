@@ -1,5 +1,5 @@
-ghost use Rattle.std.specs.Prelude.{◌≡◌, ◌≢◌, ◌<◌, ◌≤◌, ◌^◌, [], vec_len, IfOk, IfErr, OnOk, OnErr, Err};
-ghost use Rattle.sc_http.specs.Stream.{GivesOut, FallsShort, HasEnded, IsBehindGiven};
+ghost use Rattle.std.specs.Prelude.{◌≡◌, ◌≢◌, ◌<◌, ◌≤◌, ◌⊎◌, ◌^◌, [], ◌++◌, length, vec_len, IfOk, IfErr, OnOk, OnErr, Err};
+ghost use Rattle.sc_http.specs.Stream.{KeepsBytes, FallsShort, HasEnded, LeavesSuffix, ReadsWhile};
 
 use crate::buffer::Buffer;
 use crate::refill::refill;
@@ -15,12 +15,16 @@ pub(crate) fn read_body<S: Source>(
     whole: usize,
 ) -> Result<Vec<u8>, Stopped>
     requires { whole ≤ 2 ^ 32 }
-    ensures body { IfOk result (λ body. GivesOut body.items buffer.new buffer.old (S.rest source.old) (S.rest source.new)) }
+    ensures body { IfOk result (λ body. KeepsBytes body.items buffer.new buffer.old (S.rest source.old) (S.rest source.new)) }
     ensures whole { IfOk result (λ body. vec_len body ≡ whole) }
-    ensures order { OnErr result (IsBehindGiven buffer.new buffer.old (S.rest source.old) (S.rest source.new)) }
+    ensures needed { OnOk result ((source.new ≡ source.old)
+        ⊎ ReadsWhile (λ before. length (buffer.old ++ before) < whole) (S.rest source.old) (S.rest source.new)) }
+    ensures shorter { length buffer.new ≤ length buffer.old }
+    ensures order { OnErr result (LeavesSuffix buffer.new buffer.old (S.rest source.old) (S.rest source.new)) }
     ensures short { IfErr result (λ e. e ≢ Stopped.Memory → FallsShort buffer.old whole (S.rest source.old) (S.rest source.new)) }
     ensures ended { result ≡ Err Stopped.Ended → HasEnded (S.rest source.old) (S.rest source.new) }
     ensures cause { result ≡ Err Stopped.Failed → S.faults source.old < S.faults source.new }
+    ensures steady { result ≢ Err Stopped.Failed → S.faults source.new ≡ S.faults source.old }
     ensures no_fall { S.faults source.old ≤ S.faults source.new }
 {
     let have = buffer.unread().len();
@@ -34,15 +38,18 @@ pub(crate) fn read_body<S: Source>(
     Ok(body)
 }
 
-/// Reads behind what the body has until it is whole.
+/// Reads after what the body has until it is whole.
 fn read_rest<S: Source>(body: &mut Vec<u8>, source: &mut S, whole: usize) -> Result<(), Stopped>
     requires fits { vec_len body.old ≤ whole }
     requires small { whole ≤ 2 ^ 32 }
-    ensures body { OnOk result (GivesOut body.new.items [] body.old.items (S.rest source.old) (S.rest source.new)) }
+    ensures body { OnOk result (KeepsBytes body.new.items [] body.old.items (S.rest source.old) (S.rest source.new)) }
     ensures whole { OnOk result (vec_len body.new ≡ whole) }
+    ensures needed { OnOk result ((source.new ≡ source.old)
+        ⊎ ReadsWhile (λ before. length (body.old.items ++ before) < whole) (S.rest source.old) (S.rest source.new)) }
     ensures short { OnErr result (FallsShort body.old.items whole (S.rest source.old) (S.rest source.new)) }
     ensures ended { result ≡ Err Stopped.Ended → HasEnded (S.rest source.old) (S.rest source.new) }
     ensures cause { result ≡ Err Stopped.Failed → S.faults source.old < S.faults source.new }
+    ensures steady { result ≢ Err Stopped.Failed → S.faults source.new ≡ S.faults source.old }
     ensures no_fall { S.faults source.old ≤ S.faults source.new }
 {
     let mut filled = body.len();

@@ -1,4 +1,4 @@
-ghost use Rattle.std.specs.Prelude.{◌≡◌, ◌<◌, ◌≤◌, ◌^◌, [], length, drop, IfOk, OnOk, OnErr, Err};
+ghost use Rattle.std.specs.Prelude.{◌≡◌, ◌≢◌, ◌<◌, ◌≤◌, ◌^◌, [], length, drop, IfOk, OnOk, OnErr, Err};
 ghost use Rattle.sc_http.specs.Stream.{Gives, Grows, HasEnded};
 
 use crate::refill::refill;
@@ -16,7 +16,7 @@ pub(crate) struct Buffer {
     bytes: Vec<u8>,
     /// The place of the first byte that was not given out.
     start: usize,
-    /// The place behind the last byte that was read.
+    /// The place after the last byte that was read.
     filled: usize,
 }
 
@@ -59,7 +59,7 @@ impl Buffer {
         }
     }
 
-    /// Reads the next bytes behind those that are there, up to `limit` in all. What is left of earlier bytes is moved to
+    /// Reads the next bytes after those that are there, up to `limit` in all. What is left of earlier bytes is moved to
     /// the front first.
     pub(crate) fn fill<S: Source>(&mut self, source: &mut S, limit: usize) -> Result<(), Stopped>
         requires below { length self.old < limit }
@@ -70,6 +70,7 @@ impl Buffer {
         ensures stays { OnErr result (Gives [] (S.rest source.old) (S.rest source.new)) }
         ensures ended { result ≡ Err Stopped.Ended → HasEnded (S.rest source.old) (S.rest source.new) }
         ensures cause { result ≡ Err Stopped.Failed → S.faults source.old < S.faults source.new }
+        ensures steady { result ≢ Err Stopped.Failed → S.faults source.new ≡ S.faults source.old }
         ensures no_fall { S.faults source.old ≤ S.faults source.new }
     {
         if self.start > 0 {

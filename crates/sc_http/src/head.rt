@@ -1,4 +1,4 @@
-ghost use Rattle.std.specs.Prelude.{◌≡◌, ◌≢◌, ◌≤◌, ◌⊎◌, length, IfOk, IfErr, IfSome, Err};
+ghost use Rattle.std.specs.Prelude.{◌≡◌, ◌≢◌, ◌≤◌, length, IfOk, IfErr, IfSome, Err};
 ghost use Rattle.httparse.specs.Spans.{IsRequestWithin, IsRequestOf};
 ghost use Rattle.sc_model.specs.Heads.{head_limit, line_limit, body_limit};
 ghost use Rattle.sc_model.specs.Messages.{EndsSo, EndsInHead};
@@ -6,10 +6,11 @@ ghost use Rattle.sc_http.specs.Ends.{ending_of};
 ghost use Rattle.sc_http.specs.Lines.{IsHeadOf};
 
 use crate::end::MessageEnd;
+use crate::line_ends::end_of_line;
 use crate::lines::{LengthError, asks_close, has_line, stated_length};
 use crate::target::{method_of, split_target};
 use httparse::spans::{EMPTY_HEADER_SPAN, HeaderSpan, RequestSpans, parse_request};
-use httparse::{Error, Status};
+use httparse::Status;
 use sc_model::{Method, Param};
 use sc_record::{List, Text};
 use std::alloc::Global;
@@ -36,7 +37,8 @@ pub(crate) struct Head {
     pub size: usize,
 }
 
-/// The head that comes first of these bytes, or why they have none.
+/// The head that comes first of these bytes, or why they have none. Nothing is looked at after the first header line
+/// above the most.
 pub(crate) fn parse_head(alloc: Global, bytes: &[u8]) -> Result<Head, MessageEnd>
     ensures head { IfOk result (IsHeadOf bytes.now) }
     ensures body { IfOk result (λ head. head.body_length ≤ body_limit) }
@@ -48,23 +50,16 @@ pub(crate) fn parse_head(alloc: Global, bytes: &[u8]) -> Result<Head, MessageEnd
         return Err(MessageEnd::Done);
     }
     let window = &bytes[..bytes.len().min(MAX_HEAD)];
-    let mut lines = [EMPTY_HEADER_SPAN; MAX_LINES];
-    match parse_request(window, &mut lines) {
-        Ok(Status::Complete(spans)) => describe(alloc, window, &spans, &lines),
-        Ok(Status::Partial) if bytes.len() > MAX_HEAD => Err(MessageEnd::TooLarge),
+    let excess = end_of_line(window, MAX_LINES + 2);
+    let judged = &window[..excess.unwrap_or(window.len())];
+    let mut lines = [EMPTY_HEADER_SPAN; MAX_LINES + 1];
+    match parse_request(judged, &mut lines) {
+        Ok(Status::Complete(spans)) => describe(alloc, judged, &spans, &lines),
+        Ok(Status::Partial) if excess.is_some() || bytes.len() > MAX_HEAD => {
+            Err(MessageEnd::TooLarge)
+        }
         Ok(Status::Partial) => Err(MessageEnd::Cut),
-        Err(error) => Err(refused(error)),
-    }
-}
-
-/// What an error of the parser is to a request.
-fn refused(error: Error) -> MessageEnd
-    ensures { ((error ≡ Error.TooManyHeaders) × (result ≡ MessageEnd.TooLarge))
-        ⊎ ((error ≢ Error.TooManyHeaders) × (result ≡ MessageEnd.BadHead)) }
-{
-    match error {
-        Error::TooManyHeaders => MessageEnd::TooLarge,
-        _ => MessageEnd::BadHead,
+        Err(_) => Err(MessageEnd::BadHead),
     }
 }
 
@@ -78,7 +73,7 @@ fn describe(
     requires within { IsRequestWithin window.now headers.now spans.now }
     requires parsed { IsRequestOf window.now headers.now spans.now }
     requires size { length window.now ≤ head_limit }
-    requires lines { length headers.now ≤ line_limit }
+    requires lines { spans.now.headers ≤ line_limit }
     ensures head { IfOk result (IsHeadOf window.now) }
     ensures body { IfOk result (λ head. head.body_length ≤ body_limit) }
     ensures ends { IfErr result (λ end. IfSome (ending_of end) (EndsSo window.now)) }
@@ -92,8 +87,8 @@ fn describe(
     }
     let body_length = match stated_length(window, lines) {
         Ok(length) => length,
-        Err(LengthError::BadlyStated) => return Err(MessageEnd::BadHead),
-        Err(LengthError::TooGreat) => return Err(MessageEnd::TooLarge),
+        Err(LengthError::Malformed) => return Err(MessageEnd::BadHead),
+        Err(LengthError::TooLarge) => return Err(MessageEnd::TooLarge),
     };
     let Ok(target) = str::from_utf8(spans.path.of(window)) else {
         return Err(MessageEnd::BadHead);

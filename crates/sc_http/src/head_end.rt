@@ -1,22 +1,22 @@
 ghost use Rattle.std.specs.Prelude.{◌≡◌, ◌↔◌, IsTrue, fold};
 ghost use Rattle.sc_http.specs.HeadEnd.{next_place};
 
-/// How far the search for the end of a head has come: a head ends at the first empty line behind some text.
+/// How far the search for the end of a head has come: a head ends at the first empty line after some text.
 #[derive(Clone, Copy, Debug)]
 pub(crate) enum Place {
     /// In the line ends before the head's text, which belong to it.
     Before,
     Text,
-    /// Behind the end of a line.
+    /// After the end of a line.
     LineStart,
-    /// Behind the end of a line and a carriage return.
+    /// After the end of a line and a carriage return.
     LineStartReturn,
     /// The end was found.
     End,
 }
 
 impl Place {
-    /// The place behind one byte more.
+    /// The place after one byte more.
     fn next(self, byte: u8) -> Place
         ensures { result ≡ next_place self byte }
     {
@@ -36,8 +36,8 @@ impl Place {
         matches!(self, Place::End)
     }
 
-    /// The place behind these bytes. The search stops at the end of the head.
-    pub(crate) fn behind(self, bytes: &[u8]) -> Place
+    /// The place after these bytes. The search stops at the end of the head.
+    pub(crate) fn after(self, bytes: &[u8]) -> Place
         ensures { result ≡ fold next_place self bytes.now }
     {
         let mut place = self;

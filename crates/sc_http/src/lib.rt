@@ -12,6 +12,7 @@ mod end;
 mod head;
 mod head_end;
 mod laws;
+mod line_ends;
 mod lines;
 mod reader;
 mod refill;
@@ -22,7 +23,7 @@ mod target;
 mod tests;
 
 pub use end::MessageEnd;
-pub use laws::no_request_is_a_prefix;
+pub use laws::{bytes_end_in_one_way, no_ending_of_a_request, no_request_is_a_prefix};
 pub use reader::Reader;
 pub use reply::write_reply;
 pub use sc_model::{Bytes, Incoming, Method, Param};

@@ -15,8 +15,8 @@ const MAX_BODY: u64 = 16_777_216;
 /// Why the length of a body can't be read.
 #[derive(Clone, Copy, Debug, PartialEq, Eq)]
 pub(crate) enum LengthError {
-    BadlyStated,
-    TooGreat,
+    Malformed,
+    TooLarge,
 }
 
 fn is_named(head: &[u8], line: &HeaderSpan, name: &[u8]) -> bool
@@ -49,7 +49,7 @@ pub(crate) fn stated_length(head: &[u8], lines: &[HeaderSpan]) -> Result<usize, 
         if is_named(head, line, b"content-length") {
             let length = length_of(line.value.of(head))?;
             if has_line(head, &lines[i + 1..], b"content-length") {
-                return Err(LengthError::BadlyStated);
+                return Err(LengthError::Malformed);
             }
             return Ok(length);
         }
@@ -63,17 +63,17 @@ fn length_of(value: &[u8]) -> Result<usize, LengthError>
     ensures bounded { IfOk result (λ length. length ≤ body_limit) }
 {
     if value.is_empty() {
-        return Err(LengthError::BadlyStated);
+        return Err(LengthError::Malformed);
     }
     let mut length: u64 = 0;
     for byte in value {
         let Some(digit) = digit_of(*byte) else {
-            return Err(LengthError::BadlyStated);
+            return Err(LengthError::Malformed);
         };
         length = (length * 10 + digit).min(MAX_BODY + 1);
     }
     if length > MAX_BODY {
-        return Err(LengthError::TooGreat);
+        return Err(LengthError::TooLarge);
     }
     Ok(length as usize)
 }

@@ -1,7 +1,8 @@
-ghost use Rattle.std.specs.Prelude.{◌≡◌, ◌≢◌, ◌<◌, ◌≤◌, [], ◌++◌, length, fold, IfOk, OnOk, IfErr, IfSome, OnErr, Err, IsSome};
+ghost use Rattle.std.specs.Prelude.{◌≡◌, ◌≢◌, ◌<◌, ◌≤◌, ◌⊎◌, [], ◌++◌, length, max, fold, IfOk, OnOk, IfErr, IfSome, OnErr, Err, IsSome};
 ghost use Rattle.sc_model.specs.Messages.{ReadsMessage, HasNoMessage, EndsSo};
 ghost use Rattle.sc_http.specs.Ends.{ending_of};
-ghost use Rattle.sc_http.specs.Stream.{GivesOut, HasEnded, IsBehind, TookNoMessage};
+ghost use mathlib.Core.List.{IsSuffix};
+ghost use Rattle.sc_http.specs.Stream.{KeepsBytes, HasEnded, HasNoMessageBefore, ReadsWhile, reader_limit};
 ghost use Rattle.sc_http.specs.HeadEnd.{next_place, IsJudged};
 ghost use Rattle.sc_http.specs.Lines.{IsHeadOf};
 ghost use Rattle.sc_model.specs.Heads.{body_limit};
@@ -45,8 +46,9 @@ impl Reader {
     }
 
     /// The next request: its head, within 65,536 bytes and 128 header lines, and the body whose length the head states,
-    /// at most 16,777,216 bytes (RFC 9112, sections 2 to 6). Empty lines before it belong to it.
-    /// Behind an error the connection is at its end: what was taken of a request that is not whole may be gone.
+    /// at most 16,777,216 bytes (RFC 9112, sections 2 to 6). Empty lines before it belong to it. A request that has
+    /// come is given out without another read. After an error the connection is at its end: what was taken of a request
+    /// that is not whole may be gone.
     pub fn next_message<S: Source>(
         &mut self,
         alloc: Global,
@@ -54,14 +56,18 @@ impl Reader {
     ) -> Result<Incoming, MessageEnd>
         ensures message { IfOk result (λ request. IfSome (S.rest source.old) (λ bytes. IfSome (S.rest source.new)
             (λ more. ReadsMessage (self.old ++ bytes) request (self.new ++ more)))) }
+        ensures needed { OnOk result ((source.new ≡ source.old)
+            ⊎ ReadsWhile (λ before. HasNoMessage (self.old ++ before)) (S.rest source.old) (S.rest source.new)) }
+        ensures bounded { length self.new ≤ max (length self.old) reader_limit }
         ensures ends { IfErr result (λ end. IfSome (ending_of end) (λ ending. IfSome (S.rest source.old)
             (λ bytes. EndsSo (self.old ++ bytes) ending))) }
         ensures fault { result ≡ Err MessageEnd.ReadFault → S.faults source.old < S.faults source.new }
+        ensures steady { result ≢ Err MessageEnd.ReadFault → S.faults source.new ≡ S.faults source.old }
         ensures unfinished { result ≡ Err MessageEnd.ReadFault → IfSome (S.rest source.old) (λ bytes. IfSome (S.rest source.new)
-            (λ more. TookNoMessage (self.old ++ bytes) more)) }
+            (λ more. HasNoMessageBefore more (self.old ++ bytes))) }
         ensures order { OnErr result (IfSome (S.rest source.old) (λ bytes. IfSome (S.rest source.new)
-            (λ more. IsBehind (self.old ++ bytes) (self.new ++ more)))) }
-        ensures told { IsSome (S.rest source.old) → IsSome (S.rest source.new) }
+            (λ more. IsSuffix (self.new ++ more) (self.old ++ bytes)))) }
+        ensures reports { IsSome (S.rest source.old) → IsSome (S.rest source.new) }
         ensures no_fall { S.faults source.old ≤ S.faults source.new }
     {
         let head = read_head(alloc, &mut self.buffer, source)?;
@@ -98,13 +104,17 @@ fn read_head<S: Source>(
     buffer: &mut Buffer,
     source: &mut S,
 ) -> Result<Head, MessageEnd>
-    ensures gives { GivesOut [] buffer.new buffer.old (S.rest source.old) (S.rest source.new) }
+    ensures gives { KeepsBytes [] buffer.new buffer.old (S.rest source.old) (S.rest source.new) }
     ensures head { IfOk result (IsHeadOf buffer.new) }
+    ensures needed { (source.new ≡ source.old)
+        ⊎ ReadsWhile (λ before. HasNoMessage (buffer.old ++ before)) (S.rest source.old) (S.rest source.new) }
+    ensures bounded { length buffer.new ≤ max (length buffer.old) reader_limit }
     ensures body { IfOk result (λ head. head.body_length ≤ body_limit) }
     ensures ends { IfErr result (λ end. IfSome (ending_of end) (λ ending. IfSome (S.rest source.old) (λ bytes.
         EndsSo (buffer.old ++ bytes) ending))) }
     ensures unfinished { result ≡ Err MessageEnd.ReadFault → HasNoMessage buffer.new }
     ensures cause { result ≡ Err MessageEnd.ReadFault → S.faults source.old < S.faults source.new }
+    ensures steady { result ≢ Err MessageEnd.ReadFault → S.faults source.new ≡ S.faults source.old }
     ensures no_fall { S.faults source.old ≤ S.faults source.new }
 {
     match await_head(buffer, source) {
@@ -117,18 +127,22 @@ fn read_head<S: Source>(
 
 /// Reads until the end of a head has come, or more bytes than a head may have.
 fn await_head<S: Source>(buffer: &mut Buffer, source: &mut S) -> Result<(), Stopped>
-    ensures gives { GivesOut [] buffer.new buffer.old (S.rest source.old) (S.rest source.new) }
+    ensures gives { KeepsBytes [] buffer.new buffer.old (S.rest source.old) (S.rest source.new) }
     ensures ready { OnOk result (IsJudged buffer.new) }
+    ensures needed { (source.new ≡ source.old)
+        ⊎ ReadsWhile (λ before. HasNoMessage (buffer.old ++ before)) (S.rest source.old) (S.rest source.new) }
+    ensures bounded { length buffer.new ≤ max (length buffer.old) reader_limit }
     ensures waiting { OnErr result (fold next_place Place.Before buffer.new ≢ Place.End) }
     ensures ended { result ≡ Err Stopped.Ended → HasEnded (S.rest source.old) (S.rest source.new) }
     ensures cause { result ≡ Err Stopped.Failed → S.faults source.old < S.faults source.new }
+    ensures steady { result ≢ Err Stopped.Failed → S.faults source.new ≡ S.faults source.old }
     ensures no_fall { S.faults source.old ≤ S.faults source.new }
 {
     let mut place = Place::Before;
     let mut searched = 0;
     loop {
         let unread = buffer.unread();
-        place = place.behind(&unread[searched..]);
+        place = place.after(&unread[searched..]);
         searched = unread.len();
         if place.is_end() || searched > MAX_HEAD {
             return Ok(());

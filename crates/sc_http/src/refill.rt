@@ -1,4 +1,4 @@
-ghost use Rattle.std.specs.Prelude.{◌≡◌, ◌<◌, ◌≤◌, ◌+◌, ◌^◌, length, take, vec_len, max, IfOk, OnOk, OnErr, Err, []};
+ghost use Rattle.std.specs.Prelude.{◌≡◌, ◌≢◌, ◌<◌, ◌≤◌, ◌+◌, ◌^◌, length, take, vec_len, max, IfOk, OnOk, OnErr, Err, []};
 ghost use Rattle.sc_http.specs.Stream.{Gives, Grows, HasEnded};
 
 use crate::stopped::Stopped;
@@ -8,7 +8,7 @@ use std::alloc::AllocError;
 /// The least room that is made for a read, in bytes.
 const LEAST_ROOM: usize = 4096;
 
-/// Reads the next bytes into `bytes` behind its first `filled`, and answers how many are filled then. The room grows by
+/// Reads the next bytes into `bytes` after its first `filled`, and answers how many are filled then. The room grows by
 /// at most doubling, and not beyond `limit`.
 pub(crate) fn refill<S: Source>(
     bytes: &mut Vec<u8>,
@@ -29,6 +29,7 @@ pub(crate) fn refill<S: Source>(
     ensures stays { OnErr result (Gives [] (S.rest source.old) (S.rest source.new)) }
     ensures ended { result ≡ Err Stopped.Ended → HasEnded (S.rest source.old) (S.rest source.new) }
     ensures cause { result ≡ Err Stopped.Failed → S.faults source.old < S.faults source.new }
+    ensures steady { result ≢ Err Stopped.Failed → S.faults source.new ≡ S.faults source.old }
     ensures no_fall { S.faults source.old ≤ S.faults source.new }
 {
     if filled == bytes.len() {

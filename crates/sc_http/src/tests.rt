@@ -136,12 +136,22 @@ fn bytes_end_as_the_protocol_says(rt: HostRuntime) -> Result<(), Fail> {
 #[test]
 fn a_head_has_its_limits(rt: HostRuntime) -> Result<(), Fail> {
     let alloc = rt.alloc();
-    for (lines, end) in [(128, MessageEnd::Done), (129, MessageEnd::TooLarge)] {
-        let mut head = Vec::from_slice(alloc, b"GET / HTTP/1.1\r\n")?;
+    let rows: [(u32, &[u8], MessageEnd); 8] = [
+        (128, b"\r\n", MessageEnd::Done),
+        (128, b"a: b\r", MessageEnd::Cut),
+        (128, b"(: b\r\n\r\n", MessageEnd::BadHead),
+        (129, b"", MessageEnd::TooLarge),
+        (129, b"\r\n", MessageEnd::TooLarge),
+        (129, b"(: b\r\n\r\n", MessageEnd::TooLarge),
+        (130, b"", MessageEnd::TooLarge),
+        (256, b"a", MessageEnd::TooLarge),
+    ];
+    for (lines, rest, end) in rows {
+        let mut head = Vec::from_slice(alloc, b"\r\nGET / HTTP/1.1\r\n")?;
         for _ in 0..lines {
             head.extend_from_slice(b"a: b\r\n")?;
         }
-        head.extend_from_slice(b"\r\n")?;
+        head.extend_from_slice(rest)?;
         assert_eq!(rt; outcome(alloc, head.as_slice(), 1000)?.1, Some(end));
     }
     for (size, end) in [(65_536, MessageEnd::Done), (65_537, MessageEnd::TooLarge)] {
@@ -158,7 +168,7 @@ fn a_head_has_its_limits(rt: HostRuntime) -> Result<(), Fail> {
 }
 
 #[test]
-fn a_fault_is_told(rt: HostRuntime) -> Result<(), Fail> {
+fn a_fault_is_reported(rt: HostRuntime) -> Result<(), Fail> {
     let alloc = rt.alloc();
     for read in 0..4 {
         let mut source = source_of(alloc, ADD, 40, &[read])?;

@@ -34,8 +34,8 @@ has_header name head = list_any (λ (field : Field). str_eq_ignore_ascii_case fi
 
 -- why the length of a body can't be read
 pub data LengthFault : Type 0 where
-  badly_stated : LengthFault
-  too_great : LengthFault
+  malformed_length : LengthFault
+  too_large_length : LengthFault
 
 -- one or more decimal digits
 abbrev pub is_digits : List ℕ → Bool
@@ -45,9 +45,9 @@ is_digits text = nat_lt 0 (length text) && list_all is_ascii_digit text
 abbrev pub length_by : List (List ℕ) → Result ℕ LengthFault
 length_by [] = Ok 0
 length_by (value ∷ more) =
-    if not (is_digits value) then Err badly_stated
-    else (if nat_lt body_limit (digits_value 10 value) then Err too_great
-    else (if nat_lt 0 (length more) then Err badly_stated else Ok (digits_value 10 value)))
+    if not (is_digits value) then Err malformed_length
+    else (if nat_lt body_limit (digits_value 10 value) then Err too_large_length
+    else (if nat_lt 0 (length more) then Err malformed_length else Ok (digits_value 10 value)))
 
 -- the length of the body that follows a head
 abbrev pub body_length : RequestHead → Result ℕ LengthFault
@@ -57,7 +57,7 @@ body_length head = length_by (values_of (codes "content-length") head)
 abbrev pub is_coded : RequestHead → Bool
 is_coded head = has_header (codes "transfer-encoding") head
 
--- the method, as far as it is told apart
+-- the method, as far as it is distinguished
 abbrev pub method_of : List ℕ → Method
 method_of name =
     if bytes_eq name (codes "GET") then methods.Get
@@ -78,7 +78,7 @@ path_of target = before_first (λ b. b == question_mark) target
 abbrev pub param_of : List ℕ × List ℕ → Param
 param_of (name, value) = record { name = utf8_lossy (decode name); value = utf8_lossy (decode value) }
 
--- the parameters behind the first question mark
+-- the parameters after the first question mark
 abbrev pub params_of : List ℕ → List Param
 params_of target = map param_of (raw_pairs (after_first (λ b. b == question_mark) target))
 
@@ -90,7 +90,7 @@ says_close value = list_any (λ token. str_eq_ignore_ascii_case (trim_ows token)
 abbrev pub asks_close : RequestHead → Bool
 asks_close head = head.minor == 0 || list_any says_close (values_of (codes "connection") head)
 
--- the request that a head and the body behind it are
+-- the request that a head and the body after it are
 abbrev pub request_of : RequestHead → List ℕ → Incoming
 request_of head body = record {
   method = method_of head.method;

@@ -1,8 +1,9 @@
 -- The requests that a connection's bytes are, and how those bytes end.
 use Rattle.std.specs.Prelude.{◌≡◌, ◌<◌, ◌≤◌, ◌⊎◌, ℕ, false, true, List, [], ◌∷◌, ◌++◌, length, take, Ok, Err}
+use mathlib.Core.List.{IsPrefix}
 use Rattle.httparse.specs.Grammar.{RequestHead, print_request, ReadsRequest, HasNoRequest, NeverHasRequest, MayBecomeRequest}
 use Rattle.httparse.specs.Spans.{RequestExceeds}
-use Rattle.sc_model.specs.Heads.{head_limit, line_limit, badly_stated, too_great, body_length, is_coded, request_of}
+use Rattle.sc_model.specs.Heads.{head_limit, line_limit, malformed_length, too_large_length, body_length, is_coded, request_of}
 use Rattle.sc_model.specs.declared.message.Incoming.{Incoming}
 
 -- the bytes begin with this head, within its limits, and the rest follows
@@ -29,23 +30,37 @@ HasNoMessage bytes = (request : Incoming) (rest : List ℕ) → ReadsMessage byt
 pub data Ending : Type 0 where
   done cut bad_head too_large not_built : Ending
 
--- The bytes end before a head is whole, which more bytes could make whole.
+-- so many header lines have ended that a head has more than it may, whatever follows
+abbrev pub HasTooManyLines : List ℕ → Type 0
+HasTooManyLines bytes = RequestExceeds line_limit bytes
+
+-- the bytes end before a head is whole, which more bytes could make whole, and no limit of the head is passed
 pub record EndsInHead (bytes : List ℕ) : Type 0 where
   pub some : 0 < length bytes
   pub within : length bytes ≤ head_limit
+  pub few_lines : ¬ (HasTooManyLines bytes)
   pub partial : HasNoRequest bytes
   pub open_ : MayBecomeRequest bytes
 
 -- the bytes end before a body is whole
 abbrev pub EndsInBody : List ℕ → Type 0
 EndsInBody bytes =
-    (head : RequestHead) × (front : List ℕ) × (whole : ℕ) × HasHead bytes head front
-    × (is_coded head ≡ false) × (body_length head ≡ Ok whole) × (length front < whole)
+    (head : RequestHead) × (part : List ℕ) × (whole : ℕ) × HasHead bytes head part
+    × (is_coded head ≡ false) × (body_length head ≡ Ok whole) × (length part < whole)
 
--- a head is whole, and states the body's length so that it can't be read
-abbrev pub HasBadLength : List ℕ → Type 0
-HasBadLength bytes =
-    (head : RequestHead) × (rest : List ℕ) × HasHead bytes head rest × (is_coded head ≡ false) × (body_length head ≡ Err badly_stated)
+-- A prefix decides that no head comes, whatever follows, and passes no limit of a head. It may be taken as the shortest that
+-- decides.
+pub record HasMalformedHead (bytes : List ℕ) : Type 0 where
+  pub prefix : List ℕ
+  pub begins : IsPrefix prefix bytes
+  pub never : NeverHasRequest prefix
+  pub within : length prefix ≤ head_limit
+  pub few_lines : ¬ (HasTooManyLines prefix)
+
+-- a head is whole, and states a malformed length of the body
+abbrev pub HasMalformedLength : List ℕ → Type 0
+HasMalformedLength bytes =
+    (head : RequestHead) × (rest : List ℕ) × HasHead bytes head rest × (is_coded head ≡ false) × (body_length head ≡ Err malformed_length)
 
 -- no head is whole in the bytes that it may have, more bytes follow, and so far it could have become one
 pub record HasLongHead (bytes : List ℕ) : Type 0 where
@@ -53,21 +68,22 @@ pub record HasLongHead (bytes : List ℕ) : Type 0 where
   pub partial : HasNoRequest (window bytes)
   pub open_ : MayBecomeRequest (window bytes)
 
--- a head is whole, and states too great a length
-abbrev pub HasGreatLength : List ℕ → Type 0
-HasGreatLength bytes =
-    (head : RequestHead) × (rest : List ℕ) × HasHead bytes head rest × (is_coded head ≡ false) × (body_length head ≡ Err too_great)
+-- a head is whole, and states too large a length
+abbrev pub HasTooLargeLength : List ℕ → Type 0
+HasTooLargeLength bytes =
+    (head : RequestHead) × (rest : List ℕ) × HasHead bytes head rest × (is_coded head ≡ false) × (body_length head ≡ Err too_large_length)
 
 -- a head is whole, and its body has a transfer coding
 abbrev pub HasCoding : List ℕ → Type 0
 HasCoding bytes = (head : RequestHead) × (rest : List ℕ) × HasHead bytes head rest × (is_coded head ≡ true)
 
--- The bytes begin with no request, and this is why. A front with more header lines than may be is too large.
+-- The bytes begin with no request, and this is why. A limit of the head is decided at the first byte after the most that it may
+-- have, or at the end of the first header line above the most; what a head says of its body, at the end of the head.
 abbrev pub EndsSo : List ℕ → Ending → Type 0
 EndsSo bytes done = bytes ≡ []
 EndsSo bytes cut = EndsInHead bytes ⊎ EndsInBody bytes
-EndsSo bytes bad_head = NeverHasRequest (window bytes) ⊎ HasBadLength bytes
-EndsSo bytes too_large = HasLongHead bytes ⊎ (RequestExceeds line_limit (window bytes) ⊎ HasGreatLength bytes)
+EndsSo bytes bad_head = HasMalformedHead bytes ⊎ HasMalformedLength bytes
+EndsSo bytes too_large = HasLongHead bytes ⊎ (HasTooManyLines (window bytes) ⊎ HasTooLargeLength bytes)
 EndsSo bytes not_built = HasCoding bytes
 
 -- the bytes begin with these requests, one after another, and the rest follows

@@ -1,6 +1,6 @@
 -- What the body has is what it had and then what the source gave.
-use Rattle.std.proofs.Common.{◌≤◌, ◌-◌, [], take, vec_len}
-use Rattle.sc_http.specs.Stream.{GivesOut}
+use Rattle.std.proofs.Common.{◌≡◌, ◌<◌, ◌≤◌, ◌⊎◌, ◌-◌, ◌++◌, [], length, take, vec_len}
+use Rattle.sc_http.specs.Stream.{KeepsBytes, ReadsWhile}
 use Rattle.sc_http.proofs.body.read_rest.Given as goal
 
 abbrev pub invariant-loop-filled : goal.invariant-loop-filled
@@ -8,8 +8,10 @@ invariant-loop-filled g l = record {
   within : l.filled ≤ vec_len l.body;
   below : l.filled ≤ l.whole;
   size : vec_len l.body ≤ l.whole;
-  out : GivesOut (take l.filled l.body.items) [] l.fn.body.items (g.S.Source.rest l.fn.source) (g.S.Source.rest l.source);
-  fall : g.S.Source.faults l.fn.source ≤ g.S.Source.faults l.source;
+  out : KeepsBytes (take l.filled l.body.items) [] l.fn.body.items (g.S.Source.rest l.fn.source) (g.S.Source.rest l.source);
+  needed : (l.source ≡ l.fn.source)
+      ⊎ ReadsWhile (λ before. length (l.fn.body.items ++ before) < l.fn.whole) (g.S.Source.rest l.fn.source) (g.S.Source.rest l.source);
+  steady : g.S.Source.faults l.source ≡ g.S.Source.faults l.fn.source;
 }
 
 abbrev pub decreases-loop-filled : goal.decreases-loop-filled

@@ -19,8 +19,8 @@ returns-then-has_line-clause-ends c =
       sym (has_said c.args.window.now c.args.headers.now c.args.spans.now h at _ same (codes "transfer-encoding") c.has_line.result c.has_line.ensures) ∙ c.if-has_line.true,
     )
 
-pub returns-in-Err-BadlyStated-clause-ends : goal.returns-in-Err-BadlyStated-clause-ends
-returns-in-Err-BadlyStated-clause-ends c =
+pub returns-in-Err-Malformed-clause-ends : goal.returns-in-Err-Malformed-clause-ends
+returns-in-Err-Malformed-clause-ends c =
     let h = c.requires.parsed.0 in
     let at = c.requires.parsed.1 in
     let same : take c.args.spans.now.headers c.args.headers.now ≡ take c.args.spans.now.headers c.args.headers.now = refl in
@@ -29,12 +29,12 @@ returns-in-Err-BadlyStated-clause-ends c =
       drop c.args.spans.now.len c.args.window.now,
       head_is c.args.window.now c.args.headers.now c.args.spans.now h at c.requires.within c.requires.size c.requires.lines,
       sym (has_said c.args.window.now c.args.headers.now c.args.spans.now h at _ same (codes "transfer-encoding") c.has_line.result c.has_line.ensures) ∙ c.if-has_line.false,
-      sym (length_said c.args.window.now c.args.headers.now c.args.spans.now h at _ same) ∙ sym c.in-Err-BadlyStated.ensures.length
-          ∙ ap (λ f. Err (fault_of f)) c.in-Err-BadlyStated.field-0-is,
+      sym (length_said c.args.window.now c.args.headers.now c.args.spans.now h at _ same) ∙ sym c.in-Err-Malformed.ensures.length
+          ∙ ap (λ f. Err (fault_of f)) c.in-Err-Malformed.field-0-is,
     )
 
-pub returns-in-Err-TooGreat-clause-ends : goal.returns-in-Err-TooGreat-clause-ends
-returns-in-Err-TooGreat-clause-ends c =
+pub returns-in-Err-TooLarge-clause-ends : goal.returns-in-Err-TooLarge-clause-ends
+returns-in-Err-TooLarge-clause-ends c =
     let h = c.requires.parsed.0 in
     let at = c.requires.parsed.1 in
     let same : take c.args.spans.now.headers c.args.headers.now ≡ take c.args.spans.now.headers c.args.headers.now = refl in
@@ -43,8 +43,8 @@ returns-in-Err-TooGreat-clause-ends c =
       drop c.args.spans.now.len c.args.window.now,
       head_is c.args.window.now c.args.headers.now c.args.spans.now h at c.requires.within c.requires.size c.requires.lines,
       sym (has_said c.args.window.now c.args.headers.now c.args.spans.now h at _ same (codes "transfer-encoding") c.has_line.result c.has_line.ensures) ∙ c.if-has_line.false,
-      sym (length_said c.args.window.now c.args.headers.now c.args.spans.now h at _ same) ∙ sym c.in-Err-TooGreat.ensures.length
-          ∙ ap (λ f. Err (fault_of f)) c.in-Err-TooGreat.field-0-is,
+      sym (length_said c.args.window.now c.args.headers.now c.args.spans.now h at _ same) ∙ sym c.in-Err-TooLarge.ensures.length
+          ∙ ap (λ f. Err (fault_of f)) c.in-Err-TooLarge.field-0-is,
     ))
 
 pub returns-clause-head : goal.returns-clause-head

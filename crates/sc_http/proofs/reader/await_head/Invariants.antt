@@ -1,7 +1,8 @@
--- The place is that behind what was searched, which is all that came so far but the last read.
-use Rattle.std.proofs.Common.{◌≡◌, ◌≤◌, ◌-◌, ◌+◌, [], length, take}
+-- The place is that after what was searched, which is all that came so far but the last read.
+use Rattle.std.proofs.Common.{◌≡◌, ◌≤◌, ◌⊎◌, ◌-◌, ◌+◌, ◌++◌, [], length, max, take}
 use Rattle.std.specs.Prelude.{fold}
-use Rattle.sc_http.specs.Stream.{GivesOut}
+use Rattle.sc_http.specs.Stream.{KeepsBytes, ReadsWhile, reader_limit}
+use Rattle.sc_model.specs.Messages.{HasNoMessage}
 use Rattle.sc_http.specs.HeadEnd.{next_place}
 use Rattle.sc_http.specs.declared.head_end.Place.TheVariants as places
 use Rattle.sc_http.proofs.reader.await_head.Given as goal
@@ -11,8 +12,11 @@ invariant-loop-place g l = record {
   within : l.searched ≤ length l.buffer;
   limit : l.searched ≤ 65536;
   place : l.place ≡ fold next_place places.Before (take l.searched l.buffer);
-  gives : GivesOut [] l.buffer l.fn.buffer (g.S.Source.rest l.fn.source) (g.S.Source.rest l.source);
-  fall : g.S.Source.faults l.fn.source ≤ g.S.Source.faults l.source;
+  gives : KeepsBytes [] l.buffer l.fn.buffer (g.S.Source.rest l.fn.source) (g.S.Source.rest l.source);
+  needed : (l.source ≡ l.fn.source)
+      ⊎ ReadsWhile (λ before. HasNoMessage (l.fn.buffer ++ before)) (g.S.Source.rest l.fn.source) (g.S.Source.rest l.source);
+  bounded : length l.buffer ≤ max (length l.fn.buffer) reader_limit;
+  steady : g.S.Source.faults l.source ≡ g.S.Source.faults l.fn.source;
 }
 
 abbrev pub decreases-loop-place : goal.decreases-loop-place

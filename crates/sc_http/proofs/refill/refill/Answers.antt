@@ -1,8 +1,8 @@
--- What was read stands behind what was there.
+-- What was read stands after what was there.
 use Rattle.std.proofs.Common.{◌≡◌, take, arith}
 use Rattle.std.proofs.lemmas.Grind.{common_steps}
 use Rattle.std.proofs.lemmas.List.{length-take-le}
-use Rattle.sc_http.proofs.StreamLemmas.{read_behind}
+use Rattle.sc_http.proofs.StreamLemmas.{read_after}
 use Rattle.sc_http.proofs.refill.refill.Goals as goal
 use Rattle.sc_http.proofs.refill.refill.Goals.{then-filled-len+in_ok-make_room, else-filled-len}
 
@@ -13,7 +13,7 @@ returns-in-Ok-clause-grows g c =
     record {
       piece = take c.in-Ok.count c.read.new.into;
       some = omega (arith, length-take-le c.in-Ok.count c.read.new.into c.in-Ok.ensures.bounded);
-      whole = read_behind c.args.bytes.now.items c.deref_mut.result.now c.read.new.into _ _ c.args.filled c.in-Ok.count c.if-filled-len.bytes.len
+      whole = read_after c.args.bytes.now.items c.deref_mut.result.now c.read.new.into _ _ c.args.filled c.in-Ok.count c.if-filled-len.bytes.len
           kept (grind (arith, common_steps)) c.in-Ok.ensures.bounded (grind (arith, common_steps));
       gives = c.in-Ok.ensures.taken;
     }

@@ -1,4 +1,4 @@
--- Behind no question mark there are no parameters.
+-- After no question mark there are no parameters.
 use Rattle.std.proofs.Common.{◌≡◌, ◌+◌, ◌≤◌, length, map, sym, ap, ◌∙◌, arith}
 use Rattle.std.specs.List.{position_or_len}
 use Rattle.std.specs.Prelude.{◌==◌}

@@ -1,4 +1,4 @@
--- The bytes behind the first ones are left.
+-- The bytes after the first ones are left.
 use Rattle.std.proofs.Common.{drop, ◌∙◌, ap}
 use Rattle.sc_http.proofs.StreamLemmas.{drop_front}
 use Rattle.sc_http.proofs.buffer.Buffer.give.Goals as goal

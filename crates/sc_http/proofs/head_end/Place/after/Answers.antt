@@ -1,9 +1,9 @@
--- Behind the end of a head the place stays.
+-- After the end of a head the place stays.
 use Rattle.std.proofs.Common.{refl, sym, ◌∙◌, ap, get_or}
 use Rattle.std.proofs.lemmas.List.Folds.{fold_stuck}
 use Rattle.sc_http.specs.HeadEnd.{next_place}
 use Rattle.sc_http.specs.declared.head_end.Place.TheVariants as places
-use Rattle.sc_http.proofs.head_end.Place.behind.Goals as goal
+use Rattle.sc_http.proofs.head_end.Place.after.Goals as goal
 
 pub returns-in-End : goal.returns-in-End
 returns-in-End c =

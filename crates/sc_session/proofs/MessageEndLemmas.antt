@@ -4,7 +4,7 @@ use Rattle.std.specs.Prelude.{IfSome}
 use Rattle.sc_http.specs.declared.end.MessageEnd.{MessageEnd}
 use Rattle.sc_http.specs.declared.end.MessageEnd.TheVariants as reads
 use Rattle.sc_http.specs.Ends.{ending_of}
-use Rattle.sc_http.specs.Stream.{TookNoMessage}
+use Rattle.sc_http.specs.Stream.{HasNoMessageBefore}
 use Rattle.sc_model.specs.Connection.{EndsWith}
 use Rattle.sc_model.specs.Messages.{EndsSo}
 use Rattle.sc_session.specs.Ends.{last_without_request}
@@ -33,7 +33,7 @@ last_without_request-plain reads.Memory = tt
 -- the bytes end as the reader reports
 pub ends_as_reported : (end : MessageEnd) (held : List ℕ) (unread then_unread : Option (List ℕ))
     → IfSome (ending_of end) (λ ending. IfSome unread (λ bytes. EndsSo (held ++ bytes) ending))
-    → (end ≡ reads.ReadFault → IfSome unread (λ bytes. IfSome then_unread (λ more. TookNoMessage (held ++ bytes) more)))
+    → (end ≡ reads.ReadFault → IfSome unread (λ bytes. IfSome then_unread (λ more. HasNoMessageBefore more (held ++ bytes))))
     → IfSome unread (λ bytes. IfSome then_unread (λ more. EndsWith (held ++ bytes) (last_without_request end) more))
 ends_as_reported reads.Done held unread then_unread ends unfinished = nested _ unread then_unread ends
 ends_as_reported reads.Cut held unread then_unread ends unfinished = nested _ unread then_unread ends

@@ -35,7 +35,7 @@ returns-in-Some-clause-connection g c =
     (g.S.Source.rest c.args.source.now) (g.S.Source.rest c.loop-request.source) (g.S.Source.rest c.next_message.new.source) (g.W.Sink.written c.args.sink.now) (g.W.Sink.written c.loop-request.sink) (g.W.Sink.written c.exchange.new.sink) c.in-Ok-next_message.request c.in-Some.end
     c.loop-request.invariant.is_open
     (subst (λ n. Exchanges g.C.Clock.gives n c.in-Ok-next_message.request c.loop-request.table.journal c.exchange.new.table.journal c.loop-request.clock c.exchange.new.clock c.loop-request.trail c.exchange.new.trail (g.W.Sink.written c.loop-request.sink) (g.W.Sink.written c.exchange.new.sink) (Some c.in-Some.end)) c.loop-request.invariant.limit c.in-Some.ensures.exchange)
-    c.in-Some.ensures.legal c.in-Ok-next_message.ensures.told c.in-Ok-next_message.ensures.message
+    c.in-Some.ensures.legal c.in-Ok-next_message.ensures.reports c.in-Ok-next_message.ensures.message
 
 pub loop-request-preserved : goal.loop-request-preserved
 loop-request-preserved g c =
@@ -45,7 +45,7 @@ loop-request-preserved g c =
           (g.S.Source.rest c.args.source.now) (g.S.Source.rest c.loop-request.source) (g.S.Source.rest c.next_message.new.source) (g.W.Sink.written c.args.sink.now) (g.W.Sink.written c.loop-request.sink) (g.W.Sink.written c.exchange.new.sink) c.in-Ok-next_message.request
           c.loop-request.invariant.is_open
           (subst (λ n. Exchanges g.C.Clock.gives n c.in-Ok-next_message.request c.loop-request.table.journal c.exchange.new.table.journal c.loop-request.clock c.exchange.new.clock c.loop-request.trail c.exchange.new.trail (g.W.Sink.written c.loop-request.sink) (g.W.Sink.written c.exchange.new.sink) None) c.loop-request.invariant.limit step)
-          c.in-Ok-next_message.ensures.told c.in-Ok-next_message.ensures.message;
+          c.in-Ok-next_message.ensures.reports c.in-Ok-next_message.ensures.message;
       legal = c.exchange.ensures.legal;
       limit = c.exchange.ensures.limit ∙ c.loop-request.invariant.limit;
       source_faults = c.in-Ok-next_message.ensures.steady (λ e. absurd (cc)) ∙ c.loop-request.invariant.source_faults;

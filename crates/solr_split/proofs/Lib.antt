@@ -1,2 +1,3 @@
+-- What the proofs of the arguments and of a run share.
 pub mod RunLemmas
 pub mod DigitLemmas

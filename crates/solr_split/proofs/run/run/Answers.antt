@@ -1,3 +1,4 @@
+-- What a script was answered is what its connection was served.
 use Rattle.std.proofs.Common.{◌≡◌, map, Some, string_bytes, sym, subst, inl}
 use Rattle.sc_model.specs.Served.{IsServed}
 use Rattle.sc_session.specs.declared.plain.Plain.{Plain}

@@ -15,7 +15,7 @@ pub fixed_timestamps : {C : Type 0} (gives : C → ℕ → C → Type 0) (moment
 fixed_timestamps gives moment clock [] old new e g = refl
 fixed_timestamps gives moment clock (now ∷ moments) old new e g = (clock, (g.1.0 ∙ e, refl), fixed_timestamps gives moment clock moments g.0 new (ap (λ (f : Fixed). f.moment) g.1.1 ∙ e) g.2)
 
--- what was served with a fixed clock was served with the clock of a script that names its moment
+-- what was served with a fixed clock was served with the clock of a script that names its timestamp
 pub served_at : {C : Type 0} (gives : C → ℕ → C → Type 0) (moment : ℕ) (clock : C) (limit : ℕ) (old new : Journals) (old_own new_own : ℕ → List ℕ) (a b : Fixed) (old_unread new_unread old_written new_written : Option (List ℕ)) (stops : List Stop) (end : End) → a.moment ≡ moment
     → IsServed (λ (s : Fixed) (now : ℕ) (t : Fixed). (now ≡ s.moment) × (t ≡ s)) limit old new old_own new_own a b old_unread new_unread old_written new_written stops end
     → IsServed (clock_of (Some moment) gives) limit old new old_own new_own clock clock old_unread new_unread old_written new_written stops end

@@ -2,7 +2,7 @@
 //!
 //! `run` is all that the program does, and its contract is what it promises: which bytes it writes for
 //! those that it reads, and its status. `main` hands it the machine's streams and clock, and says to a
-//! person what a status other than 0 means. It stands on `sc_session`, whose `serve` it calls.
+//! person what a status other than 0 means. It depends on `sc_session`, whose `serve` it calls.
 #![tactic(auto)]
 
 mod arguments;

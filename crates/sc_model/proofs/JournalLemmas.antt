@@ -10,7 +10,7 @@ use Rattle.sc_record.specs.declared.entry.Entry.{Entry}
 use Rattle.sc_record.specs.declared.entry.Entry.TheVariants as entry
 use Rattle.sc_model.specs.Journal.{write_of, writes, is_of, writes_of, last_of, last_write, settles, is_settled, is_unsettled, owed}
 
--- the entry behind a front
+-- the entry after a prefix
 pub slice_get-append_end : {A : Type 0} (xs : List A) (x : A) (ys : List A) → slice_get (xs ++ x ∷ ys) (length xs) ≡ Some x
 slice_get-append_end [] x ys = refl
 slice_get-append_end (z ∷ xs) x ys = slice_get-append_end xs x ys
@@ -65,19 +65,19 @@ pub AllByRecursion-weaker : {A : Type 0} (P Q : A → Type 0) → ((x : A) → P
 AllByRecursion-weaker P Q f [] h = tt
 AllByRecursion-weaker P Q f (x ∷ xs) h = (f x h.0, AllByRecursion-weaker P Q f xs h.1)
 
--- the front up to an entry, and that entry
-front_with : (J : List Entry) (end before : ℕ) (one d : Entry) → before + 1 ≡ end → end ≤ length J → one ≡ get_or J before d → take end J ≡ take before J ++ one ∷ []
-front_with J end before one d e within is = ap (λ n. take n J) (sym e) ∙ take_more J before d (omega arith) ∙ ap (λ x. take before J ++ x ∷ []) (sym is)
+-- the prefix up to an entry, and that entry
+prefix_with : (J : List Entry) (end before : ℕ) (one d : Entry) → before + 1 ≡ end → end ≤ length J → one ≡ get_or J before d → take end J ≡ take before J ++ one ∷ []
+prefix_with J end before one d e within is = ap (λ n. take n J) (sym e) ∙ take_more J before d (omega arith) ∙ ap (λ x. take before J ++ x ∷ []) (sym is)
 
--- behind a front that ends in a write of the id there is a later write, or that one is the last
+-- the last write of a prefix that ends in a write of the id is that one
 pub last_write_at : (J : List Entry) (end before : ℕ) (one d : Entry) (cell : _) (id : List ℕ) → before + 1 ≡ end → end ≤ length J → one ≡ get_or J before d → one ≡ entry.Write cell → is_of id (arc_value cell) ≡ true → last_write (take end J) id ≡ Some (arc_value cell)
 last_write_at J end before one d cell id e within is write h =
-    ap (λ j. last_write j id) (front_with J end before one d e within is ∙ ap (λ x. take before J ++ x ∷ []) write) ∙ last_write_found (take before J) cell id h
+    ap (λ j. last_write j id) (prefix_with J end before one d e within is ∙ ap (λ x. take before J ++ x ∷ []) write) ∙ last_write_found (take before J) cell id h
 
--- a front's last entry that is no write of the id is of no matter
+-- a prefix's last entry that is no write of the id is of no matter
 pub last_write_before : (J : List Entry) (end before : ℕ) (one d : Entry) (id : List ℕ) → before + 1 ≡ end → end ≤ length J → one ≡ get_or J before d → writes_of (one ∷ []) id ≡ [] → last_write (take before J) id ≡ last_write (take end J) id
 last_write_before J end before one d id e within is h =
-    sym (ap (λ j. last_write j id) (front_with J end before one d e within is) ∙ last_write_other (take before J) one id h)
+    sym (ap (λ j. last_write j id) (prefix_with J end before one d e within is) ∙ last_write_other (take before J) one id h)
 
 enumerate_from-append : {A : Type 0} (n : ℕ) (xs ys : List A) → enumerate_from n (xs ++ ys) ≡ enumerate_from n xs ++ enumerate_from (n + length xs) ys
 enumerate_from-append n [] ys = ap (λ m. enumerate_from m ys) (omega arith)
@@ -110,7 +110,7 @@ unsettled_stays J K at h = rw (list_any-append (settles at.0) J K) (settled_stay
 settles_self : (n : ℕ) → settles n (entry.Settled n) ≡ true
 settles_self n = eq-eqb n n refl
 
--- a write's place is settled behind what settles it
+-- a write's place is settled after the entry that settles it
 pub written_settled : (J : List Entry) (cell : _) (n : ℕ) → is_settled (J ++ entry.Write cell ∷ entry.Settled n ∷ []) n ≡ true
 written_settled J cell n = list_any-append (settles n) J (entry.Write cell ∷ entry.Settled n ∷ []) ∙ ap (λ b. is_settled J n || (b || false)) (settles_self n) ∙ or_true (is_settled J n)
   where

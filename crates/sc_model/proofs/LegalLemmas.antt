@@ -1,4 +1,4 @@
--- What may come behind a legal journal keeps it legal.
+-- What may come after a legal journal keeps it legal.
 use Rattle.std.proofs.Common.{◌≡◌, List, [], ◌∷◌, ◌++◌, refl, ap, subst, inl, inr}
 use Rattle.std.specs.Prelude.{◌⊎◌}
 use Rattle.sc_record.specs.declared.entry.Entry.{Entry}

@@ -90,7 +90,7 @@ stands_once limit seen (add orders versions) trace h = trace_once limit seen ord
 stands_once limit seen (get id) trace h = elim h [ inl none ↦ nothing_once seen trace none | inr look ↦ look_once seen id trace look.0 look.1 ]
 
 exchange_once : (limit : ℕ) (seen : Journals) (x : Exchange) → IsAnswered limit seen x → WritesOnce seen x.trace.stops x.trace.answers
-exchange_once limit seen x h = elim h [ inl told ↦ reply_once limit seen _ x.trace x.reply told | inr out ↦ stands_once limit seen _ x.trace out.1 ]
+exchange_once limit seen x h = elim h [ inl replied ↦ reply_once limit seen _ x.trace x.reply replied | inr out ↦ stands_once limit seen _ x.trace out.1 ]
 
 exchanges_once : (limit : ℕ) (seen : Journals) (exchanges : List Exchange) → AllByRecursion (IsAnswered limit seen) exchanges → WritesOnce seen (stops_of exchanges) (answers_of exchanges)
 exchanges_once limit seen [] h = refl

@@ -50,13 +50,13 @@ accepted_answer limit J K order now version adds room later b =
 pub one_accepted : {C : Type 0} (gives : C → ℕ → C → Type 0) (limit : ℕ) (J K : List Entry) (order : Order) (versions : Bool) (now : ℕ) (version : ℤ) (clock after : C) (stops : List Stop) (shown : List (List ℕ × ℤ))
     → Adds J K order now version → HasRoom limit J → gives clock now after → (versions ≡ true → shown ≡ (order.id, version) ∷ [])
     → AnswersBatch gives limit (order ∷ []) versions J K clock after stops ((stops ++ made_stop (length J) ∷ []) ++ made_stop (length J + 1) ∷ []) shown None
-one_accepted gives limit J K order versions now version clock after stops shown adds room given told = record {
+one_accepted gives limit J K order versions now version clock after stops shown adds room given shows = record {
   answers = record { order = order; timestamp = now; stops = made_stop (length J) ∷ made_stop (length J + 1) ∷ []; outcome = accepted version } ∷ [];
   steps = rw adds.added (GoesOn-added J (entry.Write adds.cell) (entry.Settled (length J)));
   kept = append_assoc stops (made_stop (length J) ∷ []) (made_stop (length J + 1) ∷ []);
   timestamps = (after, given, refl);
   answered = λ later b. (refl, accepted_answer limit J K order now version adds room later b, inl (refl, tt));
-  shown_are = told;
+  shown_are = shows;
   ends_as = refl;
 }
 

@@ -78,7 +78,7 @@ batch_more gives limit orders order versions J K L a b c first second third show
       kept = two.kept ∙ ap (λ (ss : List Stop). ss ++ stops_of two.answers) one.kept ∙ append_assoc first (stops_of one.answers) (stops_of two.answers) ∙ ap (λ (ss : List Stop). first ++ ss) (sym split);
       timestamps = subst (λ (ms : List ℕ). GivesTimestamps gives a ms c) (sym (map-append (λ (answer : OrderAnswer). answer.timestamp) one.answers two.answers)) (timestamps-append gives a b c _ _ one.timestamps two.timestamps);
       answered = λ later begins. orders_then limit (journals later) orders (order ∷ []) one.answers two.answers (one.answered later (IsPrefix-then K L later two.steps.begins begins)) one.ends_as (two.answered later begins);
-      shown_are = λ told. ap (λ (s : List (List ℕ × ℤ)). s ++ more) (one.shown_are told) ∙ ap (λ (s : List (List ℕ × ℤ)). acks_of one.answers ++ s) (two.shown_are told) ∙ sym (filter_map-append ack_of one.answers two.answers);
+      shown_are = λ shows. ap (λ (s : List (List ℕ × ℤ)). s ++ more) (one.shown_are shows) ∙ ap (λ (s : List (List ℕ × ℤ)). acks_of one.answers ++ s) (two.shown_are shows) ∙ sym (filter_map-append ack_of one.answers two.answers);
       ends_as = ends_then end orders order one.answers two.answers one.ends_as two.ends_as;
     }
 
@@ -105,37 +105,37 @@ reverse_twice [] = refl
 reverse_twice (x ∷ xs) = ap reverse (reverse-append (x ∷ []) xs) ∙ reverse-append (reverse xs) (x ∷ []) ∙ ap (λ ys. x ∷ ys) (reverse_twice xs)
 
 -- the last of a reversed list comes next
-pub next_of : {A B : Type 0} (f : A → B) (front : List B) (before after : List A) (x : A) (all : List B) → before ≡ after ++ x ∷ [] → front ++ map f (reverse before) ≡ all → (front ++ f x ∷ []) ++ map f (reverse after) ≡ all
-next_of f front before after x all e h = append_assoc front (f x ∷ []) (map f (reverse after)) ∙ ap (λ ys. front ++ map f ys) (sym (ap reverse e ∙ reverse-append after (x ∷ []))) ∙ h
+pub next_of : {A B : Type 0} (f : A → B) (done : List B) (before after : List A) (x : A) (all : List B) → before ≡ after ++ x ∷ [] → done ++ map f (reverse before) ≡ all → (done ++ f x ∷ []) ++ map f (reverse after) ≡ all
+next_of f done before after x all e h = append_assoc done (f x ∷ []) (map f (reverse after)) ∙ ap (λ ys. done ++ map f ys) (sym (ap reverse e ∙ reverse-append after (x ∷ []))) ∙ h
 
 -- one order more was tried
-module _ {C : Type 0} (gives : C → ℕ → C → Type 0) (limit here : ℕ) (front : List Order) (order : Order) (versions : Bool) (J K L : List Entry) (a b c : C) (first second third : List Stop) (adds : List Ack) (r : Result (Option Ack) AddFault) where
-  one_tried : here ≡ limit → AnswersBatch gives limit front versions J K a b first second (map reply.ack_view adds) None → AnswersBatch gives here (order ∷ []) versions K L b c second third (shown_by r) (stopped_by r)
-      → AnswersBatch gives limit (front ++ order ∷ []) versions J L a c first third (map reply.ack_view adds ++ shown_by r) (stopped_by r)
-  one_tried same one two = batch_more gives limit front order versions J K L a b c first second third (map reply.ack_view adds) (shown_by r) (stopped_by r) one (subst (λ n. AnswersBatch gives n (order ∷ []) versions K L b c second third (shown_by r) (stopped_by r)) same two)
+module _ {C : Type 0} (gives : C → ℕ → C → Type 0) (limit here : ℕ) (done : List Order) (order : Order) (versions : Bool) (J K L : List Entry) (a b c : C) (first second third : List Stop) (adds : List Ack) (r : Result (Option Ack) AddFault) where
+  one_tried : here ≡ limit → AnswersBatch gives limit done versions J K a b first second (map reply.ack_view adds) None → AnswersBatch gives here (order ∷ []) versions K L b c second third (shown_by r) (stopped_by r)
+      → AnswersBatch gives limit (done ++ order ∷ []) versions J L a c first third (map reply.ack_view adds ++ shown_by r) (stopped_by r)
+  one_tried same one two = batch_more gives limit done order versions J K L a b c first second third (map reply.ack_view adds) (shown_by r) (stopped_by r) one (subst (λ n. AnswersBatch gives n (order ∷ []) versions K L b c second third (shown_by r) (stopped_by r)) same two)
 
   -- and accepted, and is to be shown
-  pub batch_shown : (ack : Ack) (more : List Ack) → here ≡ limit → AnswersBatch gives limit front versions J K a b first second (map reply.ack_view adds) None → AnswersBatch gives here (order ∷ []) versions K L b c second third (shown_by r) (stopped_by r)
-      → r ≡ Ok (Some ack) → more ≡ adds ++ ack ∷ [] → AnswersBatch gives limit (front ++ order ∷ []) versions J L a c first third (map reply.ack_view more) None
+  pub batch_shown : (ack : Ack) (more : List Ack) → here ≡ limit → AnswersBatch gives limit done versions J K a b first second (map reply.ack_view adds) None → AnswersBatch gives here (order ∷ []) versions K L b c second third (shown_by r) (stopped_by r)
+      → r ≡ Ok (Some ack) → more ≡ adds ++ ack ∷ [] → AnswersBatch gives limit (done ++ order ∷ []) versions J L a c first third (map reply.ack_view more) None
   batch_shown ack more same one two is pushed =
-      subst (λ (shown : List (List ℕ × ℤ)). AnswersBatch gives limit (front ++ order ∷ []) versions J L a c first third shown None)
+      subst (λ (shown : List (List ℕ × ℤ)). AnswersBatch gives limit (done ++ order ∷ []) versions J L a c first third shown None)
       (ap (λ (x : Result (Option Ack) AddFault). map reply.ack_view adds ++ shown_by x) is ∙ sym (ap (map reply.ack_view) pushed ∙ map-append reply.ack_view adds (ack ∷ [])))
-      (subst (λ (end : Option Outcome). AnswersBatch gives limit (front ++ order ∷ []) versions J L a c first third (map reply.ack_view adds ++ shown_by r) end) (ap stopped_by is) (one_tried same one two))
+      (subst (λ (end : Option Outcome). AnswersBatch gives limit (done ++ order ∷ []) versions J L a c first third (map reply.ack_view adds ++ shown_by r) end) (ap stopped_by is) (one_tried same one two))
 
   -- and accepted
-  pub batch_accepted : here ≡ limit → AnswersBatch gives limit front versions J K a b first second (map reply.ack_view adds) None → AnswersBatch gives here (order ∷ []) versions K L b c second third (shown_by r) (stopped_by r)
-      → r ≡ Ok None → AnswersBatch gives limit (front ++ order ∷ []) versions J L a c first third (map reply.ack_view adds) None
+  pub batch_accepted : here ≡ limit → AnswersBatch gives limit done versions J K a b first second (map reply.ack_view adds) None → AnswersBatch gives here (order ∷ []) versions K L b c second third (shown_by r) (stopped_by r)
+      → r ≡ Ok None → AnswersBatch gives limit (done ++ order ∷ []) versions J L a c first third (map reply.ack_view adds) None
   batch_accepted same one two is =
-      subst (λ (shown : List (List ℕ × ℤ)). AnswersBatch gives limit (front ++ order ∷ []) versions J L a c first third shown None)
+      subst (λ (shown : List (List ℕ × ℤ)). AnswersBatch gives limit (done ++ order ∷ []) versions J L a c first third shown None)
       (ap (λ (x : Result (Option Ack) AddFault). map reply.ack_view adds ++ shown_by x) is ∙ append-nil (map reply.ack_view adds))
-      (subst (λ (end : Option Outcome). AnswersBatch gives limit (front ++ order ∷ []) versions J L a c first third (map reply.ack_view adds ++ shown_by r) end) (ap stopped_by is) (one_tried same one two))
+      (subst (λ (end : Option Outcome). AnswersBatch gives limit (done ++ order ∷ []) versions J L a c first third (map reply.ack_view adds ++ shown_by r) end) (ap stopped_by is) (one_tried same one two))
 
   -- and refused
-  pub batch_refused : (rest all : List Order) (fault : AddFault) → here ≡ limit → AnswersBatch gives limit front versions J K a b first second (map reply.ack_view adds) None → AnswersBatch gives here (order ∷ []) versions K L b c second third (shown_by r) (stopped_by r)
-      → r ≡ Err fault → (front ++ order ∷ []) ++ rest ≡ all → AnswersBatch gives limit all versions J L a c first third (map reply.ack_view adds) (Some (outcome_of fault))
+  pub batch_refused : (rest all : List Order) (fault : AddFault) → here ≡ limit → AnswersBatch gives limit done versions J K a b first second (map reply.ack_view adds) None → AnswersBatch gives here (order ∷ []) versions K L b c second third (shown_by r) (stopped_by r)
+      → r ≡ Err fault → (done ++ order ∷ []) ++ rest ≡ all → AnswersBatch gives limit all versions J L a c first third (map reply.ack_view adds) (Some (outcome_of fault))
   batch_refused rest all fault same one two is whole =
       subst (λ (orders : List Order). AnswersBatch gives limit orders versions J L a c first third (map reply.ack_view adds) (Some (outcome_of fault))) whole
-      (batch_stop gives limit (front ++ order ∷ []) rest versions J L a c first third (map reply.ack_view adds) (outcome_of fault)
-      (subst (λ (shown : List (List ℕ × ℤ)). AnswersBatch gives limit (front ++ order ∷ []) versions J L a c first third shown (Some (outcome_of fault)))
+      (batch_stop gives limit (done ++ order ∷ []) rest versions J L a c first third (map reply.ack_view adds) (outcome_of fault)
+      (subst (λ (shown : List (List ℕ × ℤ)). AnswersBatch gives limit (done ++ order ∷ []) versions J L a c first third shown (Some (outcome_of fault)))
       (ap (λ (x : Result (Option Ack) AddFault). map reply.ack_view adds ++ shown_by x) is ∙ append-nil (map reply.ack_view adds))
-      (subst (λ (end : Option Outcome). AnswersBatch gives limit (front ++ order ∷ []) versions J L a c first third (map reply.ack_view adds ++ shown_by r) end) (ap stopped_by is) (one_tried same one two))))
+      (subst (λ (end : Option Outcome). AnswersBatch gives limit (done ++ order ∷ []) versions J L a c first third (map reply.ack_view adds ++ shown_by r) end) (ap stopped_by is) (one_tried same one two))))

@@ -146,7 +146,7 @@ pub served_at_exchange : {C : Type 0} (gives : C → ℕ → C → Type 0) (limi
     → IsOpen gives limit J K a b first held unread now_unread written now_written → Exchanges gives limit request K L b c first second now_written then_written (Some end) → IsLegal L
     → (IsSome now_unread → IsSome then_unread) → IfSome now_unread (λ bytes. IfSome then_unread (λ more. ReadsMessage (held ++ bytes) request (next ++ more)))
     → IsServed gives limit (journals J) (journals L) (own_places J) (own_places L) a c unread then_unread written then_written second.stops end
-served_at_exchange gives limit J K L a b c first second held next unread now_unread then_unread written now_written then_written request end open_ step legal told message =
+served_at_exchange gives limit J K L a b c first second held next unread now_unread then_unread written now_written then_written request end open_ step legal reports message =
     let x : List Exchange = open_.exchanges in
     let y : Exchange = step.exchange in
     let all_stops : second.stops ≡ stops_of x ++ y.trace.stops = stops_after gives limit J K L a b c first second held next unread now_unread then_unread written now_written then_written request (Some end) open_ step in
@@ -171,7 +171,7 @@ served_at_exchange gives limit J K L a b c first second held next unread now_unr
       };
       given = given_after gives limit J K L a b c first second held next unread now_unread then_unread written now_written then_written request (Some end) open_ step;
       carries = record {
-        requests = reads unread (read_after gives limit J K L a b c first second held next unread now_unread then_unread written now_written then_written request (Some end) open_ step told message);
+        requests = reads unread (read_after gives limit J K L a b c first second held next unread now_unread then_unread written now_written then_written request (Some end) open_ step reports message);
         replies = written_last end x (answered y) written now_written then_written open_.wrote text;
         end_is = end_is;
       };

@@ -118,13 +118,13 @@ module _ {C : Type 0} (gives : C → ℕ → C → Type 0) (limit : ℕ) (J K L 
   -- what was read, with this request
   pub read_after : (IsSome now_unread → IsSome then_unread) → IfSome now_unread (λ bytes. IfSome then_unread (λ more. ReadsMessage (held ++ bytes) request (next ++ more)))
       → IfSome unread (λ bytes. (between more : List ℕ) × (then_unread ≡ Some more) × ReadsMessages bytes (map (λ (x : Exchange). x.request) open_.exchanges) between × ReadsMessage between step.exchange.request (next ++ more))
-  read_after told message = at unread open_.read
+  read_after reports message = at unread open_.read
     where
       at : (o : Option (List ℕ)) → IfSome o (λ bytes. (more : List ℕ) × (now_unread ≡ Some more) × ReadsMessages bytes (map (λ (x : Exchange). x.request) open_.exchanges) (held ++ more))
           → IfSome o (λ bytes. (between more : List ℕ) × (then_unread ≡ Some more) × ReadsMessages bytes (map (λ (x : Exchange). x.request) open_.exchanges) between × ReadsMessage between step.exchange.request (next ++ more))
       at None r = tt
       at (Some bytes) r =
-          let some : (x : List ℕ) × (then_unread ≡ Some x) = some_of then_unread (told (rw r.1 refl)) in
+          let some : (x : List ℕ) × (then_unread ≡ Some x) = some_of then_unread (reports (rw r.1 refl)) in
           let here : IfSome then_unread (λ more. ReadsMessage (held ++ r.0) request (next ++ more)) = subst (λ (o : Option (List ℕ)). IfSome o (λ bytes. IfSome then_unread (λ more. ReadsMessage (held ++ bytes) request (next ++ more)))) r.1 message in
           let read : ReadsMessage (held ++ r.0) request (next ++ some.0) = subst (λ (o : Option (List ℕ)). IfSome o (λ more. ReadsMessage (held ++ r.0) request (next ++ more))) some.1 here in
           (held ++ r.0, some.0, some.1, r.2, subst (λ (q : Incoming). ReadsMessage (held ++ r.0) q (next ++ some.0)) (sym step.asked) read)

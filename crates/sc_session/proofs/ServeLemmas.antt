@@ -38,7 +38,7 @@ module _ {C : Type 0} (gives : C → ℕ → C → Type 0) (limit : ℕ) (J K L 
   pub open_more : (IsOpen gives limit J K a b first held unread now_unread written now_written) → Exchanges gives limit request K L b c first second now_written then_written None
       → (IsSome now_unread → IsSome then_unread) → IfSome now_unread (λ bytes. IfSome then_unread (λ more. ReadsMessage (held ++ bytes) request (next ++ more)))
       → IsOpen gives limit J L a c second next unread then_unread written then_written
-  open_more open_ step told message =
+  open_more open_ step reports message =
       let x : Exchange = step.exchange in
       let stops : second.stops ≡ stops_of (open_.exchanges ++ x ∷ []) = stops_after gives limit J K L a b c first second held next unread now_unread then_unread written now_written then_written request None open_ step ∙ sym (stops_of-push open_.exchanges x) in
       let still : closes_after open_.exchanges x ≡ false = closes_same gives limit J K L a b c first second held next unread now_unread then_unread written now_written then_written request None open_ step ∙ step.replies.0 in
@@ -53,7 +53,7 @@ module _ {C : Type 0} (gives : C → ℕ → C → Type 0) (limit : ℕ) (J K L 
         short = below MAX_STOPS (length second.stops) (or_right (nat_le MAX_REQUESTS second.requests) (nat_le MAX_STOPS (length second.stops)) limits);
         answers = λ later begins. AllByRecursion-append (IsAnswered limit (journals later)) open_.exchanges (x ∷ []) (open_.answers later (IsPrefix-then K L later step.steps.begins begins)) (step.is_answered later begins, tt);
         given = subst (λ (ms : List ℕ). GivesTimestamps gives a ms c) (sym (timestamps_of-push open_.exchanges x)) (given_after gives limit J K L a b c first second held next unread now_unread then_unread written now_written then_written request None open_ step);
-        read = reads unread (read_after gives limit J K L a b c first second held next unread now_unread then_unread written now_written then_written request None open_ step told message);
+        read = reads unread (read_after gives limit J K L a b c first second held next unread now_unread then_unread written now_written then_written request None open_ step reports message);
         wrote = subst (λ (text : List ℕ). Writes text written then_written) (sym (texts_of-push open_.exchanges x)) (writes_then (texts_of open_.exchanges) (text_of x.reply false) written now_written then_written open_.wrote step.replies.1);
       }
     where

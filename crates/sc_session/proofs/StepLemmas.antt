@@ -20,7 +20,7 @@ pub IsPrefix-self : {A : Type 0} (xs : List A) → IsPrefix xs xs
 IsPrefix-self xs = ([], append-nil xs)
 
 pub IsPrefix-then : {A : Type 0} (xs ys zs : List A) → IsPrefix xs ys → IsPrefix ys zs → IsPrefix xs zs
-IsPrefix-then xs ys zs b d = (b.0 ++ d.0, sym (append_assoc xs b.0 d.0) ∙ ap (λ front. front ++ d.0) b.1 ∙ d.1)
+IsPrefix-then xs ys zs b d = (b.0 ++ d.0, sym (append_assoc xs b.0 d.0) ∙ ap (λ before. before ++ d.0) b.1 ∙ d.1)
 
 pub IsPrefix-length : {A : Type 0} (xs ys : List A) → IsPrefix xs ys → length xs ≤ length ys
 IsPrefix-length xs ys b = omega (arith, length-append xs b.0, ap length b.1)

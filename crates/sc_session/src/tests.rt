@@ -31,7 +31,8 @@ const UPDATES: &str = r#"200 ?versions=true [{"id":"a","t_s":"x"},{"id":"\"\u00e
 "#;
 
 /// The bodies of the answers to a get of the ids that the updates added, and of one that they didn't.
-const DOCUMENTS: &str = r#"a {"doc":{"B_s":"1","_s":"\u0000😀","_version_":1048576002,"id":"a","t_s":"x","z_s":"2"}}
+const DOCUMENTS: &str =
+    r#"a {"doc":{"B_s":"1","_s":"\u0000😀","_version_":1048576002,"id":"a","t_s":"x","z_s":"2"}}
 %22%C3%A9%0A {"doc":{"_version_":1048576001,"id":"\"é\n"}}
 c {"doc":{"_version_":1048576003,"id":"c","t_s":"last"}}
 b {"doc":null}
@@ -63,16 +64,17 @@ fn updates_and_gets_are_answered(rt: HostRuntime) -> Result<(), Fail> {
     for line in UPDATES.lines() {
         let (status, rest) = line.split_once(' ').ok_or("a status")?;
         let (target, body) = rest.split_once(' ').ok_or("a body")?;
-        let request =
-            format!(in alloc; "POST /solr/docs/update{target} HTTP/1.1\r\nHost: a\r\nContent-Length: {}\r\n\r\n{body}", body.len())?;
+        let request = format!(in alloc;
+            "POST /solr/docs/update{target} HTTP/1.1\r\nHost: a\r\nContent-Length: {}\r\n\r\n{body}",
+            body.len()
+        )?;
         let written = reply(alloc, &mut table, &mut trail, request)?;
         let head = format!(in alloc; "HTTP/1.1 {status} ")?;
         assert!(rt; written.as_slice().starts_with(head.as_bytes()), "{line}");
     }
     for line in DOCUMENTS.lines() {
         let (id, body) = line.split_once(' ').ok_or("a body")?;
-        let request =
-            format!(in alloc; "GET /solr/docs/get?id={id} HTTP/1.1\r\nHost: a\r\n\r\n")?;
+        let request = format!(in alloc; "GET /solr/docs/get?id={id} HTTP/1.1\r\nHost: a\r\n\r\n")?;
         let written = reply(alloc, &mut table, &mut trail, request)?;
         assert!(rt; written.as_slice().ends_with(body.as_bytes()), "{line}");
     }

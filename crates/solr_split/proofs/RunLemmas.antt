@@ -10,22 +10,22 @@ use Rattle.sc_model.specs.declared.stop.Stop.{Stop}
 use Rattle.solr_split.specs.Running.{clock_of, status_of}
 
 -- the timestamps of a fixed clock are those of a script that names one
-pub fixed_timestamps : {C : Type 0} (gives : C → ℕ → C → Type 0) (moment : ℕ) (clock : C) (moments : List ℕ) (old new : Fixed) → old.moment ≡ moment
-    → GivesTimestamps (λ (s : Fixed) (now : ℕ) (t : Fixed). (now ≡ s.moment) × (t ≡ s)) old moments new → GivesTimestamps (clock_of (Some moment) gives) clock moments clock
-fixed_timestamps gives moment clock [] old new e g = refl
-fixed_timestamps gives moment clock (now ∷ moments) old new e g = (clock, (g.1.0 ∙ e, refl), fixed_timestamps gives moment clock moments g.0 new (ap (λ (f : Fixed). f.moment) g.1.1 ∙ e) g.2)
+pub fixed_timestamps : {C : Type 0} (gives : C → ℕ → C → Type 0) (timestamp : ℕ) (clock : C) (timestamps : List ℕ) (old new : Fixed) → old.moment ≡ timestamp
+    → GivesTimestamps (λ (s : Fixed) (now : ℕ) (t : Fixed). (now ≡ s.moment) × (t ≡ s)) old timestamps new → GivesTimestamps (clock_of (Some timestamp) gives) clock timestamps clock
+fixed_timestamps gives timestamp clock [] old new e g = refl
+fixed_timestamps gives timestamp clock (now ∷ timestamps) old new e g = (clock, (g.1.0 ∙ e, refl), fixed_timestamps gives timestamp clock timestamps g.0 new (ap (λ (f : Fixed). f.moment) g.1.1 ∙ e) g.2)
 
 -- what was served with a fixed clock was served with the clock of a script that names its timestamp
-pub served_at : {C : Type 0} (gives : C → ℕ → C → Type 0) (moment : ℕ) (clock : C) (limit : ℕ) (old new : Journals) (old_own new_own : ℕ → List ℕ) (a b : Fixed) (old_unread new_unread old_written new_written : Option (List ℕ)) (stops : List Stop) (end : End) → a.moment ≡ moment
+pub served_at : {C : Type 0} (gives : C → ℕ → C → Type 0) (timestamp : ℕ) (clock : C) (limit : ℕ) (old new : Journals) (old_own new_own : ℕ → List ℕ) (a b : Fixed) (old_unread new_unread old_written new_written : Option (List ℕ)) (stops : List Stop) (end : End) → a.moment ≡ timestamp
     → IsServed (λ (s : Fixed) (now : ℕ) (t : Fixed). (now ≡ s.moment) × (t ≡ s)) limit old new old_own new_own a b old_unread new_unread old_written new_written stops end
-    → IsServed (clock_of (Some moment) gives) limit old new old_own new_own clock clock old_unread new_unread old_written new_written stops end
-served_at gives moment clock limit old new old_own new_own a b old_unread new_unread old_written new_written stops end e s = record {
+    → IsServed (clock_of (Some timestamp) gives) limit old new old_own new_own clock clock old_unread new_unread old_written new_written stops end
+served_at gives timestamp clock limit old new old_own new_own a b old_unread new_unread old_written new_written stops end e s = record {
   exchanges = s.exchanges;
   last = s.last;
   timestamps = s.timestamps;
   journals = s.journals;
   answers = s.answers;
-  given = fixed_timestamps gives moment clock s.timestamps a b e s.given;
+  given = fixed_timestamps gives timestamp clock s.timestamps a b e s.given;
   carries = s.carries;
 }
 

@@ -24,7 +24,7 @@ status_of ends.Memory = 6
 -- the clock of a script: the one that was handed in, or one that stands still and leaves that as it was
 abbrev pub clock_of : {C : Type 0} → Script → (C → ℕ → C → Type 0) → C → ℕ → C → Type 0
 clock_of None gives = gives
-clock_of (Some moment) gives = λ old now new. (now ≡ moment) × (new ≡ old)
+clock_of (Some timestamp) gives = λ old now new. (now ≡ timestamp) × (new ≡ old)
 
 -- One connection was served over a journal that began empty, and the status is that of its end.
 pub record RunsScript {C : Type 0} (script : Script) (gives : C → ℕ → C → Type 0) (old_clock new_clock : C) (old_unread new_unread old_written new_written : Option (List ℕ)) (status : ℕ) : Type 0 where

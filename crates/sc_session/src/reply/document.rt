@@ -59,14 +59,14 @@ fn field_members(alloc: Global, fields: &[Field]) -> Result<Map<String, Json>, A
 {
     let mut members = Map::new(alloc);
     let mut left = fields;
-    while let Some((field, front)) = left.split_last() {
+    while let Some((field, others)) = left.split_last() {
         put(
             &mut members,
             alloc,
             field.name.as_str(),
             field_value(alloc, field)?,
         )?;
-        left = front;
+        left = others;
     }
     Ok(members)
 }

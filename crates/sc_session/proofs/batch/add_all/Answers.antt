@@ -24,7 +24,7 @@ loop-order-init g c = record {
   );
   limit = refl;
   requests = refl;
-  room = λ told. let room : vec_len c.in-Ok.adds + c.len.result ≤ vec_capacity c.in-Ok.adds = c.in-Ok.ensures.room told in omega arith;
+  room = λ shows. let room : vec_len c.in-Ok.adds + c.len.result ≤ vec_capacity c.in-Ok.adds = c.in-Ok.ensures.room shows in omega arith;
 }
 
 pub push_reserved-requires : goal.push_reserved-requires
@@ -45,7 +45,7 @@ loop-order-preserved-in-Ok-Some g c =
       );
       limit = c.add_one.ensures.limit ∙ c.loop-order.invariant.limit;
       requests = c.add_one.ensures.requests ∙ c.loop-order.invariant.requests;
-      room = λ told. let room : vec_len c.loop-order.adds + vec_len c.loop-order.orders ≤ vec_capacity c.loop-order.adds = c.loop-order.invariant.room told in omega (arith, c.in-Some.ensures.len);
+      room = λ shows. let room : vec_len c.loop-order.adds + vec_len c.loop-order.orders ≤ vec_capacity c.loop-order.adds = c.loop-order.invariant.room shows in omega (arith, c.in-Some.ensures.len);
     }
 
 pub loop-order-preserved : goal.loop-order-preserved
@@ -61,7 +61,7 @@ loop-order-preserved g c =
       );
       limit = c.add_one.ensures.limit ∙ c.loop-order.invariant.limit;
       requests = c.add_one.ensures.requests ∙ c.loop-order.invariant.requests;
-      room = λ told. let room : vec_len c.loop-order.adds + vec_len c.loop-order.orders ≤ vec_capacity c.loop-order.adds = c.loop-order.invariant.room told in omega (arith, c.in-Some.ensures.len);
+      room = λ shows. let room : vec_len c.loop-order.adds + vec_len c.loop-order.orders ≤ vec_capacity c.loop-order.adds = c.loop-order.invariant.room shows in omega (arith, c.in-Some.ensures.len);
     }
 
 pub returns-in-Err-add_one-clause-answers : goal.returns-in-Err-add_one-clause-answers

@@ -9,9 +9,9 @@ use Rattle.sc_session.proofs.batch.add_all.Given as goal
 -- the orders of a prefix were accepted, and the others stand in the list, the last of them first
 abbrev pub invariant-loop-order : goal.invariant-loop-order
 invariant-loop-order g l = record {
-  done : (front : List Order) × (front ++ map order_view (reverse l.orders.items) ≡ map order_view l.fn.orders.items)
-      × AnswersBatch g.C.Clock.gives l.fn.table.limit front l.versions l.fn.table.journal l.table.journal l.fn.clock l.clock l.fn.trail.stops l.trail.stops (map ack_view l.adds.items) None
-      × (length l.trail.stops ≤ length l.fn.trail.stops + (length front + length front));
+  done : (some : List Order) × (some ++ map order_view (reverse l.orders.items) ≡ map order_view l.fn.orders.items)
+      × AnswersBatch g.C.Clock.gives l.fn.table.limit some l.versions l.fn.table.journal l.table.journal l.fn.clock l.clock l.fn.trail.stops l.trail.stops (map ack_view l.adds.items) None
+      × (length l.trail.stops ≤ length l.fn.trail.stops + (length some + length some));
   limit : l.table.limit ≡ l.fn.table.limit;
   requests : l.trail.requests ≡ l.fn.trail.requests;
   room : l.versions ≡ true → vec_len l.adds + vec_len l.orders ≤ vec_capacity l.adds;

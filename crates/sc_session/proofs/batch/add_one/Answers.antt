@@ -29,7 +29,7 @@ returns-in-Ok-add-clause-answers g c =
     subst (λ (ss : List Stop). AnswersBatch g.C.Clock.gives c.args.table.now.limit (order_view c.args.order ∷ []) c.args.versions c.args.table.now.journal c.add.new.self.journal c.args.clock.now c.now-now.new.self c.args.trail.now.stops ss (shown_by (Ok c.shown_ack.result)) None) (sym stops)
     (one_accepted g.C.Clock.gives c.args.table.now.limit c.args.table.now.journal c.add.new.self.journal (order_view c.args.order) c.args.versions c.now-now.result c.in-Ok-add.version c.args.clock.now c.now-now.new.self c.args.trail.now.stops _
     c.in-Ok-add.ensures.added c.in-Ok-add.ensures.room c.now-now.ensures
-    (λ told. ap (λ (o : _). shown_by (Ok o)) (c.shown_ack.ensures ∙ ap (option_map _) (c.in-Ok.ensures.shown told)) ∙ ap (λ (v : ℤ). (c.args.order.id, v) ∷ []) back))
+    (λ shows. ap (λ (o : _). shown_by (Ok o)) (c.shown_ack.ensures ∙ ap (option_map _) (c.in-Ok.ensures.shown shows)) ∙ ap (λ (v : ℤ). (c.args.order.id, v) ∷ []) back))
 
 pub returns-in-Err-add-clause-answers : goal.returns-in-Err-add-clause-answers
 returns-in-Err-add-clause-answers g c =

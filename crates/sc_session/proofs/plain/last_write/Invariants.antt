@@ -3,7 +3,7 @@ use Rattle.std.proofs.Common.{◌≡◌, ◌≤◌, length, take}
 use Rattle.sc_model.specs.Journal.{last_write}
 use Rattle.sc_session.proofs.plain.last_write.Given as goal
 
--- no write behind the end is one of the id
+-- no write from the end on is one of the id
 abbrev pub invariant-loop-end : goal.invariant-loop-end
 invariant-loop-end l = record {
   within : l.end ≤ length l.journal;

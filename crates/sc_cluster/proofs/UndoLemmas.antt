@@ -1,6 +1,6 @@
 -- A split that fails leaves the slices as they were, its end does not depend on its recovery, and ids rise by the
 -- number of subs at most.
-use Rattle.std.proofs.Common.{◌≡◌, ℕ, ◌+◌, ◌<◌, ◌≤◌, Bool, true, false, not, cond, List, [], ◌∷◌, ◌++◌, length, map, max, refl, sym, ap, ◌∙◌, All, Some, slice_get, arith, append-nil, sum_by, IsTrue}
+use Rattle.std.proofs.Common.{◌≡◌, ℕ, ◌+◌, ◌≤◌, Bool, true, false, not, List, [], ◌∷◌, ◌++◌, length, map, refl, sym, ap, ◌∙◌, All, arith, append-nil}
 use Rattle.std.specs.List.{filter}
 use Rattle.std.proofs.Math.Path.{fun_ext}
 use Rattle.std.proofs.lemmas.Simd.{map-map}
@@ -12,9 +12,9 @@ use Rattle.sc_record.specs.declared.slice.SliceId.{SliceId}
 use Rattle.sc_record.specs.declared.slice.SubSlice.{SubSlice}
 use Rattle.sc_cluster.specs.declared.slice.State.TheVariants as states
 use Rattle.sc_cluster.specs.declared.slice.Slice.{Slice}
-use Rattle.sc_cluster.specs.Slices.{is_forming, forming, greatest_id}
+use Rattle.sc_cluster.specs.Slices.{is_forming, greatest_id}
 use Rattle.sc_cluster.specs.Changes.{Change, begun_slice, in_state, recovering_slice, switched_slice, after, MayChange}
-use Rattle.sc_cluster.specs.Histories.{after_all, AreAllowed, subs_begun, CountsIdsUp, UndoesAFailedSplit, MayLeaveRecoveryOut}
+use Rattle.sc_cluster.specs.Histories.{subs_begun, CountsIdsUp, UndoesAFailedSplit, MayLeaveRecoveryOut}
 use Rattle.sc_cluster.proofs.ListLemmas.{filter-none, filter-all, filter-map, none_from_filter, All-from_slice_get}
 use Rattle.sc_cluster.proofs.IdLemmas.{id_of, greatest_id-bounds}
 use Rattle.sc_cluster.proofs.StateLemmas.{is_settled, is_other, recovering_keeps, switched_keeps, is_forming-recovering, switched-forming}

@@ -1,6 +1,7 @@
 //! Which slices the collection has, which hashes each of them has, and how a split changes them. It depends on
 //! `sc_hash` and `sc_record`, and does no input and no output.
-//! The layers above cut a range by `cut`, find the slice that leads a hash by `ClusterMap::leads`, and change a map by
+//! The layers above cut a range by `cut`, ask by `tiles` whether given ranges are the parts of one, find a slice by
+//! `ClusterMap::leads`, `by_name` and `by_id`, ask by `allows` whether a plan's split may begin, and change a map by
 //! `begin`, `recovering`, `switched`, `failed` and `dropped`, each of which is one step of `after`, the definition
 //! that the entries of a journal go by too. Whatever was done to it, a map is what `IsMap` says: its active slices
 //! share out all hashes, and at most one of them is being split.

@@ -1,8 +1,8 @@
 //! Where a document's hash comes from and which part of the hashes a slice has: MurmurHash3 x86_32,
 //! and ranges of signed 32-bit hashes with the text that shows them. It depends on std alone.
 //! The layers above use the contract of `murmur3`, which names the public standard's hash of a list of
-//! bytes, those of `Hasher`, which gives the same hash of bytes that come one by one, and those of `Range`,
-//! whose every value has min <= max.
+//! bytes, those of `Hasher`, which is seen as its progress in bytes that come one by one and gives the same hash,
+//! and those of `Range`, whose every value has min <= max.
 #![tactic(auto)]
 
 mod hash;

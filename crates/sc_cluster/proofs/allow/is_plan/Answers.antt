@@ -1,9 +1,9 @@
 -- Each test fails exactly where a part of the plan does.
-use Rattle.std.proofs.Common.{◌≡◌, ◌≤◌, ◌+◌, ℕ, List, length, map, Some, slice_get, true, arith, IsTrue, refl, subst, sym, ap, ◌∙◌}
+use Rattle.std.proofs.Common.{◌≡◌, ◌≤◌, ◌+◌, ℕ, List, length, map, Some, slice_get, arith, subst, sym, ap, ◌∙◌}
 use Rattle.std.proofs.lemmas.Bool.{false≢true}
 use Rattle.sc_record.specs.declared.slice.SubSlice.{SubSlice}
 use Rattle.sc_cluster.specs.Tiles.{Tiles}
-use Rattle.sc_cluster.specs.Slices.{is_active_state, greatest_id}
+use Rattle.sc_cluster.specs.Slices.{is_active_state}
 use Rattle.sc_cluster.specs.Plans.{sub_bounds, IsPlanned, IsPlan}
 use Rattle.sc_cluster.proofs.LeaderLemmas.{active_from_test}
 use Rattle.sc_cluster.proofs.MapLemmas.{planned_is_plan}

@@ -1,8 +1,6 @@
 -- A range that ends before the whole one is followed by one.
-use Rattle.std.proofs.Common.{◌≡◌, ◌+ℤ◌, inl, inr, FitsSigned, w32, of_z, pos, map, ap, sym, ◌∙◌, arith, rules}
+use Rattle.std.proofs.Common.{◌+ℤ◌, FitsSigned, w32, of_z, pos, ap, arith, rules}
 use Rattle.std.proofs.lemmas.Int.{ints, to_z-of_z}
-use Rattle.std.proofs.lemmas.Bool.Decides.{Decides-eqb}
-use Rattle.sc_cluster.specs.Tiles.{holders}
 use Rattle.sc_cluster.proofs.TileTestLemmas.{last_test}
 use Rattle.sc_cluster.proofs.tile.is_followed.Goals as goal
 

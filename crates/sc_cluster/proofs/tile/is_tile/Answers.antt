@@ -1,7 +1,7 @@
 -- The range passes each of the four tests.
-use Rattle.std.proofs.Common.{◌≡◌, ◌≤ℤ◌, IsTrue, map, FitsSigned, w32, subst, sym, ◌∙◌, arith, rules}
+use Rattle.std.proofs.Common.{◌≤ℤ◌, IsTrue, map, FitsSigned, w32, subst, sym, ◌∙◌, rules}
 use Rattle.std.specs.Prelude.{◌↔◌}
-use Rattle.std.proofs.lemmas.Int.{ints, to_z-of_z}
+use Rattle.std.proofs.lemmas.Int.{to_z-of_z}
 use Rattle.sc_hash.specs.Bounds.{bounds}
 use Rattle.sc_cluster.specs.Tiles.{IsTile}
 use Rattle.sc_cluster.proofs.TileTestLemmas.{IsTile-from_last}

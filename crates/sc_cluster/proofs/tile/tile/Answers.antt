@@ -1,5 +1,5 @@
 -- The items tile where each passes the test.
-use Rattle.std.proofs.Common.{◌≡◌, IsTrue, FitsSigned, w32, map, Contains, refl, sym, ◌∙◌, rules}
+use Rattle.std.proofs.Common.{IsTrue, FitsSigned, w32, map, Contains, refl, sym, ◌∙◌, rules}
 use Rattle.std.proofs.lemmas.Bool.{false≢true}
 use Rattle.std.proofs.lemmas.Int.{to_z-of_z}
 use Rattle.std.proofs.lemmas.List.{take_all}

@@ -1,5 +1,5 @@
 -- Where no byte waits the four are a whole word, and else they are written one by one.
-use Rattle.std.proofs.Common.{◌≡◌, ◌+◌, ◌%◌, ◌^◌, ◌∷◌, ◌++◌, [], length, get_or, ap, subst, ◌∙◌, arith, append_assoc}
+use Rattle.std.proofs.Common.{◌≡◌, ◌+◌, ◌%◌, ◌^◌, ◌∷◌, ◌++◌, [], length, get_or, ap, ◌∙◌, arith, append_assoc}
 use Rattle.sc_hash.specs.Hash.{after_word}
 use Rattle.sc_hash.specs.Hasher.{progress}
 use Rattle.sc_hash.proofs.HasherLemmas.{progress_of, progress-word, each_of_four}

@@ -1,2 +1,4 @@
+-- The names and kinds of fields, orders and the changes that they ask for, and versions.
 pub mod Fields
+pub mod Orders
 pub mod Versions

@@ -19,6 +19,10 @@ use Rattle.sc_record.specs.declared.order.Change.TheVariants as changes
 abbrev pub is_int : ℤ → Bool
 is_int n = int_le (negsuc (2 ^ 31 - 1)) n && int_le n (pos (2 ^ 31 - 1))
 
+-- the number has 64 bits
+abbrev pub is_long : ℤ → Bool
+is_long n = int_le (negsuc (2 ^ 63 - 1)) n && int_le n (pos (2 ^ 63 - 1))
+
 -- a number may be added to the value of a field of this kind, which has one value
 abbrev pub fits_amount : Kind → Bool → ℤ → Bool
 fits_amount kinds.Int false amount = is_int amount

@@ -6,7 +6,7 @@ use Rattle.sc_record.specs.declared.order.Change.TheVariants as changes
 use Rattle.sc_record.specs.declared.order.Order.{Order}
 use Rattle.sc_router.specs.Route.{bucket_of}
 use Rattle.sc_journal.specs.declared.stop.Stop.{Stop}
-use Rattle.sc_journal.specs.Journal.{is_settled}
+use Rattle.sc_journal.specs.Journal.{is_settled, write_at}
 use Rattle.sc_journal.specs.Outcomes.{Outcome, accepted, conflict, partial, log_full, out_of_memory, IsOutcome}
 use Rattle.sc_journal.specs.Seen.{Layout, Seen, journal_at, journal_after}
 
@@ -17,10 +17,12 @@ pub record OrderAnswer : Type 0 where
   pub stops : List Stop
   pub outcome : Outcome
 
--- an accepted order's second stop: it comes after the first, in the same bucket, and there the write of the first is settled
+-- an accepted order's second stop: it comes after the first, in the same bucket; an entry that it made is no write; and
+-- there the write of the first is settled
 pub record IsSettling (seen : Seen) (first second : Stop) : Type 0 where
   pub lock : second.lock ≡ first.lock
   pub later : first.place < second.place
+  pub no_write : second.made ≡ true → write_at (seen.journals second.lock) second.place ≡ None
   pub settled : is_settled (journal_after seen second) first.place ≡ true
 
 -- an accepted order has a stop at which its write was made, and one at which that was settled; any other has one stop

@@ -1,10 +1,10 @@
 -- A journal is the list of what happened to a bucket, oldest first.
-use Rattle.std.specs.Prelude.{ℕ, ◌-◌, ◌==◌, Bool, false, not, ◌&&◌, ℤ, List, length, filter, slice_get, Option, Some, None}
+use Rattle.std.specs.Prelude.{ℕ, ◌-◌, ◌==◌, Bool, false, not, ◌&&◌, ℤ, List, length, map, filter, slice_get, Option, Some, None}
 use Rattle.std.specs.List.{filter_map, list_any, enumerate_from}
-use Rattle.std.specs.Option.{is_some}
-use Rattle.std.specs.Str.{bytes_eq}
+use Rattle.std.specs.Option.{is_some, option_and_then}
 use Rattle.std.specs.Arc.{arc_value}
 use Rattle.sc_record.specs.Versions.{found_version}
+use Rattle.sc_record.specs.Writes.{is_of}
 use Rattle.sc_record.specs.declared.write.Write.{Write}
 use Rattle.sc_record.specs.declared.entry.Entry.{Entry}
 use Rattle.sc_record.specs.declared.entry.Entry.TheVariants as entry
@@ -17,10 +17,6 @@ write_of _ = None
 -- the writes of a journal
 abbrev pub writes : List Entry → List Write
 writes journal = filter_map write_of journal
-
--- the write is of this id
-abbrev pub is_of : List ℕ → Write → Bool
-is_of id write = bytes_eq write.id id
 
 -- the writes of an id
 abbrev pub writes_of : List Entry → List ℕ → List Write
@@ -51,6 +47,10 @@ is_settled journal place = list_any (settles place) journal
 abbrev pub is_unsettled : List Entry → ℕ × Entry → Bool
 is_unsettled journal (place, one) = is_some (write_of one) && not (is_settled journal place)
 
--- how many writes of the journal no entry settles
-abbrev pub unsettled : List Entry → ℕ
-unsettled journal = length (filter (is_unsettled journal) (enumerate_from 0 journal))
+-- the places of the writes that no entry settles, ascending
+abbrev pub unsettled : List Entry → List ℕ
+unsettled journal = map (λ (place, one). place) (filter (is_unsettled journal) (enumerate_from 0 journal))
+
+-- the write at a place, where there is one
+abbrev pub write_at : List Entry → ℕ → Option Write
+write_at journal place = option_and_then write_of (slice_get journal place)

@@ -1,7 +1,6 @@
 -- Which journals can be.
-use Rattle.std.specs.Prelude.{◌≡◌, ◌<ℤ◌, ◌≤ℤ◌, ℕ, ◌+◌, ◌-◌, ◌^◌, pos, false, List, ◌∷◌, ◌++◌, length, slice_get, IsSome, Some, None, ⊤}
+use Rattle.std.specs.Prelude.{◌≡◌, ◌<ℤ◌, ◌≤ℤ◌, ℕ, ◌+◌, ◌-◌, ◌^◌, pos, false, List, ◌∷◌, ◌++◌, length, IsSome, Some, None, ⊤}
 use Rattle.std.specs.List.{AllByRecursion}
-use Rattle.std.specs.Option.{option_and_then}
 use Rattle.sc_record.specs.declared.slice.SliceId.{SliceId}
 use Rattle.sc_record.specs.declared.slice.SubSlice.{SubSlice}
 use Rattle.sc_record.specs.declared.write.Write.{Write}
@@ -11,7 +10,7 @@ use Rattle.sc_router.specs.Route.{route_hash}
 use Rattle.sc_cluster.specs.declared.slice.Slice.{Slice}
 use Rattle.sc_cluster.specs.Changes.{IsInactive}
 use Rattle.sc_cluster.specs.Plans.{IsPlan}
-use Rattle.sc_journal.specs.Journal.{write_of, writes, writes_of, is_settled}
+use Rattle.sc_journal.specs.Journal.{write_at, writes, writes_of, is_settled}
 use Rattle.sc_journal.specs.Splits.{map_after, open_split}
 
 -- The write has its id's hash. Its version is above 0 and that of each earlier write of its id, and no greater than the
@@ -24,7 +23,7 @@ pub record MayWrite (before : List Entry) (write : Write) : Type 0 where
 
 -- the entry settles an earlier write that no earlier entry settles
 pub record MaySettle (before : List Entry) (place : ℕ) : Type 0 where
-  pub written : IsSome (option_and_then write_of (slice_get before place))
+  pub written : IsSome (write_at before place)
   pub once : is_settled before place ≡ false
 
 -- a split may begin: none is open, and these are subs by which the map's slice may be split

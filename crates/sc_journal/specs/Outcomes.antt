@@ -1,5 +1,5 @@
 -- What an order is answered at the end of a journal (Solr Reference Guide, "Optimistic Concurrency").
-use Rattle.std.specs.Prelude.{◌≡◌, ◌<◌, ◌≤◌, ◌⊎◌, ℕ, ◌+◌, ℤ, pos, true, false, List, [], length, slice_get, Option, Some, None, Contains, map}
+use Rattle.std.specs.Prelude.{◌≡◌, ◌<◌, ◌≤◌, ◌⊎◌, ℕ, ◌+◌, ℤ, pos, true, false, List, [], length, Option, Some, None, Contains, map}
 use Rattle.std.specs.Option.{option_and_then}
 use Rattle.sc_record.specs.Versions.{meets, signed, version_after}
 use Rattle.sc_record.specs.declared.document.Field.{Field}
@@ -10,7 +10,7 @@ use Rattle.sc_record.specs.declared.write.Write.{Write}
 use Rattle.sc_record.specs.declared.entry.Entry.{Entry}
 use Rattle.sc_partial.specs.Resolved.{first_refused, IsChanged}
 use Rattle.sc_cluster.specs.declared.slice.Slice.{Slice}
-use Rattle.sc_journal.specs.Journal.{write_of, writes, last_write, found}
+use Rattle.sc_journal.specs.Journal.{write_at, writes, last_write, found}
 use Rattle.sc_journal.specs.Splits.{owed}
 
 -- what one order was answered
@@ -73,7 +73,7 @@ pub record IsAccepted (first : List Slice) (limit : ℕ) (before : List Entry) (
   pub condition : meets order.condition (found before order.id) ≡ true
   pub possible : MayMake (last_write before order.id) order.change
   pub room : HasRoom first limit before
-  pub written : (write : Write) × (option_and_then write_of (slice_get after (length before)) ≡ Some write) × IsWriteOf before order now shown write
+  pub written : (write : Write) × (write_at after (length before) ≡ Some write) × IsWriteOf before order now shown write
 
 -- What an order is answered at the end of the journal `before`, at the timestamp `now`. The causes are looked at in this
 -- order: the condition, the change, the room. Only where the condition is met may memory run out.

@@ -1,5 +1,5 @@
 -- The map of slices that a journal leads to, and the room that a journal owes to what has begun.
-use Rattle.std.specs.Prelude.{ℕ, ◌+◌, Bool, true, false, List, fold, count_by, Option, Some, None, if◌then◌else◌}
+use Rattle.std.specs.Prelude.{ℕ, ◌+◌, Bool, true, false, List, length, fold, count_by, Option, Some, None, if◌then◌else◌}
 use Rattle.std.specs.List.{filter_map}
 use Rattle.std.specs.Option.{is_some}
 use Rattle.sc_record.specs.declared.slice.SliceId.{SliceId}
@@ -46,4 +46,4 @@ is_inactive slice = is_inactive_state slice.state
 -- each inactive slice
 abbrev pub owed : List Slice → List Entry → ℕ
 owed first journal =
-    unsettled journal + (if is_some (open_split journal) then 2 else 0) + count_by is_inactive (map_after first journal)
+    length (unsettled journal) + (if is_some (open_split journal) then 2 else 0) + count_by is_inactive (map_after first journal)

@@ -1,0 +1,2 @@
+//! One core of a slice.
+#![tactic(auto)]

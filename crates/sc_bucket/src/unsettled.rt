@@ -1,4 +1,4 @@
-ghost use Rattle.std.specs.Prelude.{◌≡◌, ◌<◌, ◌-◌, ◌+◌, ◌↔◌, [], ◌∷◌, ◌++◌, max, filter, not, ◌==◌, IsTrue, Contains, OnOk, OnErr};
+ghost use Rattle.std.specs.Prelude.{◌≡◌, ◌<◌, ◌-◌, ◌+◌, ◌↔◌, [], ◌∷◌, ◌++◌, max, filter, not, ◌==◌, IsTrue, Contains, OnOk, OnErr, ◌≤◌, vec_len, vec_capacity};
 
 use std::alloc::{AllocError, Global};
 use std::marker::Model;
@@ -65,6 +65,15 @@ impl Unsettled {
     pub fn remove(&mut self, place: u64)
         ensures { self.new ≡ record self.old { places = filter (λ other. not (other == place)) self.old.places } }
     {
-        self.places.retain(|other| *other != place);
+        remove_place(&mut self.places, place);
     }
+}
+
+// Takes a place out of the list of them.
+fn remove_place(places: &mut Vec<u64>, place: u64)
+    ensures items { places.new.items ≡ filter (λ other. not (other == place)) places.old.items }
+    ensures bound { vec_len places.new ≤ vec_len places.old }
+    ensures capacity { vec_capacity places.new ≡ vec_capacity places.old }
+{
+    places.retain(|other| *other != place);
 }

@@ -1,5 +1,6 @@
 -- Versions of documents (Solr Reference Guide, "Optimistic Concurrency").
-use Rattle.std.specs.Prelude.{ℕ, ◌*◌, ◌-◌, ◌^◌, min, ℤ, pos, negsuc, neg_ℤ, ◌+ℤ◌, Option, Some, None}
+use Rattle.std.specs.Prelude.{ℕ, ◌*◌, ◌-◌, ◌^◌, min, ℤ, pos, negsuc, neg_ℤ, ◌+ℤ◌, Option, Some, None, Bool, ◌||◌, ◌&&◌, int_lt}
+use Rattle.std.specs.Ordering.{int_eq}
 use Rattle.std.specs.Int.{int_max}
 use Rattle.sc_record.specs.declared.write.Write.{Write}
 
@@ -16,6 +17,13 @@ shown_version w = signed w.doc w.version
 abbrev pub found_version : Option Write → ℤ
 found_version None = negsuc 0
 found_version (Some w) = shown_version w
+
+-- a condition is met by the version that is found: 0 by any, 1 by that of any document, one below 0 by that of none, and
+-- each by itself
+abbrev pub meets : ℤ → ℤ → Bool
+meets condition found =
+    int_eq condition (pos 0) || int_eq condition found
+    || (int_lt condition (pos 0) && int_lt found (pos 0)) || (int_eq condition (pos 1) && int_lt (pos 0) found)
 
 -- the version of a write at this moment (milliseconds), after a clock: the greater of the moment's and the clock's next
 abbrev pub version_after : ℕ → ℤ → ℤ

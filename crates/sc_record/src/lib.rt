@@ -30,6 +30,9 @@ mod version;
 // The parts of the collection that a split changes.
 mod slice;
 
+// What a client asks to be written.
+mod order;
+
 // What a journal is made of.
 mod entry;
 
@@ -40,10 +43,11 @@ pub use entry::Entry;
 pub use id::{Id, IdFault, MAX_ID_LENGTH};
 pub use kind::{MAX_NAME_LENGTH, kind_of};
 pub use list::List;
+pub use order::{Change, FieldChange, How, Order};
 pub use slice::{CoreId, SliceId, SubSlice};
 pub use text::Text;
 pub use value::{Kind, Value};
-pub use version::{found, next_version};
+pub use version::{found, meets, next_version};
 pub use write::{Cell, Write};
 
 #[cfg(test)]

@@ -104,6 +104,7 @@ fn write_of(alloc: Global, version: i64, doc: Option<Doc>) -> Result<Cell, Fail>
         alloc,
         Write {
             id: Id::new(alloc, "a")?,
+            hash: 0,
             version,
             doc,
         },

@@ -8,6 +8,7 @@ ghost use Rattle.std.specs.Str.{bytes_eq};
 use crate::copy::CloneIn;
 use std::alloc::{AllocError, Global};
 use std::cmp::Ordering;
+use std::fmt;
 use std::marker::Model;
 
 /// A text that is kept, which contracts see as its UTF-8 bytes.
@@ -60,6 +61,12 @@ impl Text {
 impl CloneIn for Text {
     fn clone_in(&self, alloc: Global) -> Result<Text, AllocError> {
         Text::new(alloc, self.as_str())
+    }
+}
+
+impl fmt::Display for Text {
+    fn fmt<W: fmt::Write>(&self, f: &mut fmt::Formatter<W>) -> fmt::Result {
+        f.write_str(self.as_str())
     }
 }
 

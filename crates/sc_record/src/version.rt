@@ -1,7 +1,7 @@
 ghost use Rattle.std.specs.Prelude.{◌≡◌, ◌-◌, ◌^◌, option_copied, pos, ◌≤ℤ◌, ◌<ℤ◌};
 ghost use Rattle.std.specs.Option.{option_map};
 ghost use Rattle.std.specs.Arc.{arc_value};
-ghost use Rattle.sc_record.specs.Versions.{found_version, version_after};
+ghost use Rattle.sc_record.specs.Versions.{found_version, meets, version_after};
 
 use crate::write::Cell;
 
@@ -21,6 +21,23 @@ pub fn found(cell: Option<&Cell>) -> i64
         Some(write) => write.shown(),
         None => -1,
     }
+}
+
+/// Whether the condition of an order is met by the version that is found of its id: 0 asks nothing, any other condition is
+/// met by an equal version, 1 by any document, and a number below 0 by none (Solr Reference Guide, "Optimistic Concurrency").
+pub fn meets(condition: i64, found: i64) -> bool
+    ensures { result ≡ meets condition found }
+{
+    if condition == 0 || condition == found {
+        return true;
+    }
+    if condition < 0 {
+        return found < 0;
+    }
+    if condition == 1 {
+        return found > 0;
+    }
+    false
 }
 
 /// The version of a write that comes at this moment, in milliseconds since 1970, to a core whose

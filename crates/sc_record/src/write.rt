@@ -8,6 +8,8 @@ use std::sync::Arc;
 #[derive(Debug, Drop)]
 pub struct Write {
     pub id: Id,
+    /// The id's hash, by which it belongs to a slice.
+    pub hash: i32,
     pub version: i64,
     pub doc: Option<Doc>,
     pub ghost positive: { pos 0 <ℤ version },

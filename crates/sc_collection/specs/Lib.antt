@@ -1,0 +1,2 @@
+-- What is handed out of a collection and given back.
+pub mod Desks

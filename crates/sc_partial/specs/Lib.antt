@@ -1,0 +1,2 @@
+-- What an atomic update makes of a document.
+pub mod Resolved

@@ -1,0 +1,2 @@
+-- What a document's fields and their values may be.
+pub mod Raw

@@ -42,7 +42,7 @@ last_write_other J one id h = ap last_of (writes_of-append J (one ∷ []) id ∙
 -- a journal has no more writes than entries
 writes_of_one : (one : Entry) (J : List Entry) → length (writes J) ≤ length J → length (writes (one ∷ J)) ≤ length (one ∷ J)
 writes_of_one (entry.Write cell) J h = omega arith
-writes_of_one (entry.Settled place) J h = omega arith
+writes_of_one _ J h = omega arith
 
 pub length-writes : (J : List Entry) → length (writes J) ≤ length J
 length-writes [] = omega arith

@@ -11,7 +11,7 @@ use Rattle.sc_record.specs.declared.entry.Entry.TheVariants as entry
 -- the write of an entry that is one
 abbrev pub write_of : Entry → Option Write
 write_of (entry.Write cell) = Some (arc_value cell)
-write_of (entry.Settled place) = None
+write_of _ = None
 
 -- the write at a place of a journal, where there is one
 abbrev pub write_at : List Entry → ℕ → Option Write
@@ -40,8 +40,8 @@ last_write journal id = last_of (writes_of journal id)
 -- the entry settles the write at the place: it says that every other core that had to take the write was sent it, made
 -- before the update is answered
 abbrev pub settles : ℕ → Entry → Bool
-settles place (entry.Write cell) = false
 settles place (entry.Settled settled) = settled == place
+settles place _ = false
 
 -- an entry settles the write at the place
 abbrev pub is_settled : List Entry → ℕ → Bool

@@ -18,10 +18,11 @@ pub record MaySettle (before : List Entry) (place : ℕ) : Type 0 where
   pub written : IsSome (write_at before place)
   pub once : is_settled before place ≡ false
 
--- the entry may come after these
+-- the entry may come after these: no entry but a write and one that settles it
 abbrev pub MayFollow : List Entry → Entry → Type 0
 MayFollow before (entry.Write cell) = MayWrite before cell.value
 MayFollow before (entry.Settled place) = MaySettle before place
+MayFollow before _ = ⊥
 
 -- each entry may come after those before it
 abbrev pub IsLegal : List Entry → Type 0

@@ -51,6 +51,7 @@ none_settles before (entry.Settled p ∷ after) n legal h =
     place_within [] p h = absurd (cc)
     place_within (one ∷ before) zero h = omega arith
     place_within (one ∷ before) (suc p) h = omega (arith, place_within before p h)
+none_settles before (one ∷ after) n legal h = absurd (legal before one after refl)
 
 -- the write and what settles it may come after the journal
 legal_added : (J : List Entry) (clock : ℤ) (limit now : ℕ) (cell : Arc Write Global) → IsSound J clock limit → (arc_value cell).version ≡ version_after now clock → IsLegal (J ++ entry.Write cell ∷ entry.Settled (length J) ∷ [])

@@ -9,6 +9,7 @@ ghost use Rattle.sc_session.specs.Asking.{order_view};
 
 use crate::asked::Order;
 use sc_record::{Cell, Entry, Write, next_version};
+use sc_router::route_hash;
 use std::alloc::{AllocError, Global};
 use std::marker::Model;
 use std::sync::Arc;
@@ -95,8 +96,10 @@ impl Plain {
         }
         let version = next_version(now, self.clock);
         self.journal.reserve(2)?;
+        let hash = route_hash(order.id.as_str());
         let write = Write {
             id: order.id,
+            hash,
             version,
             doc: Some(order.document),
         };

@@ -3,7 +3,7 @@ use Rattle.std.proofs.Common.{◌≡◌, ℕ, ◌+◌, ◌-◌, ◌<◌, ◌≤�
 use Rattle.std.proofs.lemmas.Bool.{cases_lt}
 use Rattle.std.proofs.lemmas.List.{drop-drop, drop-take, drop_all, take_all, take-append-drop, length-take, take-take, take-append-le, length-take-le}
 use Rattle.std.proofs.Math.Seq.{take-append-add}
-use Rattle.sc_http.specs.Stream.{Gives, Grows, KeepsBytes, FallsShort, ReadsWhile, LeavesSuffix, HasEnded}
+use Rattle.sc_http.specs.Stream.{Gives, Grows, KeepsBytes, FallsShort, ReadsWhile, LeavesSuffix}
 
 drop-take_prefix : (n m : ℕ) (xs : List ℕ) → drop n (take m xs) ≡ take (m - n) (drop n xs)
 drop-take_prefix n m xs = by_order (cases_lt m n)
@@ -47,12 +47,6 @@ gives_both p q None b c first second = tt
 gives_both p q (Some bytes) b c first second =
     let next : Gives q (Some first.more) c = subst (λ (o : Option (List ℕ)). Gives q o c) first.left second in
     record { more = next.more; whole = first.whole ∙ ap (λ ys. p ++ ys) next.whole ∙ sym (append_assoc p q next.more); left = next.left }
-
--- whether a source reports its bytes stays
-pub gives_ended : (p : List ℕ) (a b c : Option (List ℕ)) → Gives p a b → HasEnded b c → HasEnded a c
-gives_ended p None b c first second = tt
-gives_ended p (Some bytes) b c first second =
-    subst (λ (o : Option (List ℕ)). HasEnded o c) first.left second
 
 -- the bytes that were there are given out
 pub gives_out_all : (bytes : List ℕ) (rest : Option (List ℕ)) → KeepsBytes bytes [] bytes rest rest

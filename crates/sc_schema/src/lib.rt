@@ -12,5 +12,12 @@ mod raw;
 // Why one can't be taken.
 mod fault;
 
+// What a value is to a field, and a member to a document.
+mod change;
+mod document;
+mod value;
+mod values;
+
+pub use document::check_doc;
 pub use fault::DocFault;
 pub use raw::{RawDoc, RawField, RawFlat, RawOne, RawValue};

@@ -1,3 +1,4 @@
 pub mod FieldLaws
 pub mod FieldSearch
+pub mod TermLemmas
 pub mod VersionLaws

@@ -18,8 +18,9 @@ mod id;
 mod kind;
 mod value;
 
-// A document, and a write of it.
+// A document, what it is found by, and a write of it.
 mod document;
+mod term;
 mod write;
 
 // The numbers that order the writes.
@@ -41,6 +42,7 @@ pub use kind::{MAX_NAME_LENGTH, kind_of};
 pub use list::List;
 pub use order::{Change, FieldChange, How, Order};
 pub use slice::{CoreId, SliceId, SubSlice};
+pub use term::Term;
 pub use text::Text;
 pub use value::{Kind, Value};
 pub use version::{found, meets, next_version};

@@ -1,5 +1,6 @@
--- The names and kinds of fields, orders and the changes that they ask for, versions, and writes by their ids.
+-- The names and kinds of fields, orders and the changes that they ask for, terms, versions, and writes by their ids.
 pub mod Fields
 pub mod Orders
+pub mod Terms
 pub mod Versions
 pub mod Writes

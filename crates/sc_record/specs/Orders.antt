@@ -1,5 +1,5 @@
 -- Which changes an order may ask for (Solr Reference Guide, "Atomic Updates").
-use Rattle.std.specs.Prelude.{ℕ, ◌-◌, ◌^◌, Bool, true, false, ◌&&◌, ℤ, pos, negsuc, int_le, List, [], ◌∷◌, map, IsTrue, Option, Some, None, ⊤}
+use Rattle.std.specs.Prelude.{◌-◌, ◌^◌, Bool, true, false, ◌&&◌, ℤ, pos, negsuc, int_le, List, map, IsTrue, Option, Some, None, ⊤}
 use mathlib.Core.Bool.{Bool-set}
 use Rattle.std.specs.Coded.{×_prop, Unit-prop}
 use Rattle.std.specs.List.{list_all, AllByRecursion, AllByRecursion-prop}

@@ -9,7 +9,9 @@ pub enum Entry {
     Write(Cell),
     /// Every other core that had to take the write at this place, counted from 0, was sent it. It comes before the update is
     /// answered.
-    Settled { place: u64 },
+    Settled {
+        place: u64,
+    },
     /// All that was written before it can be found by a search.
     Committed,
     /// A split of the parent into these slices began, which commits too.
@@ -18,9 +20,15 @@ pub enum Entry {
         subs: List<SubSlice>,
     },
     /// The slices that the split made took the parent's place.
-    Switched { parent: SliceId },
+    Switched {
+        parent: SliceId,
+    },
     /// The split ended, and the parent is as it was.
-    Failed { parent: SliceId },
+    Failed {
+        parent: SliceId,
+    },
     /// An inactive slice is gone.
-    Dropped { slice: SliceId },
+    Dropped {
+        slice: SliceId,
+    },
 }

@@ -1,10 +1,10 @@
-//! What the collection keeps and hands on: ids, documents of typed fields, versioned writes, the
-//! entries of a journal, and the names of slices and cores.
+//! What the collection keeps and hands on: ids, documents of typed fields, orders to change them,
+//! versioned writes, the entries of a journal, and the names of slices and cores.
 //!
-//! It may stand on `std` and `thiserror` alone, and does no input and no output. The layers above
-//! read a `Doc` as its fields with `IsDocument`, tell a field's kind by `kind_of`, show a write's
-//! version by `shown` and `found`, and give each new write the version of `next_version`, which is
-//! above the clock and at least the moment's.
+//! It may depend on `std` and `thiserror` alone, and does no input and no output. The layers above
+//! read a `Doc` as its fields with `IsDocument`, get a field's kind by `kind_of`, show a write's
+//! version by `shown` and `found`, test an order's condition by `meets`, and give each new write the
+//! version of `next_version`, which is above the clock and at least the timestamp's.
 #![tactic(auto)]
 
 // Copies, texts and lists.
@@ -19,9 +19,10 @@ mod id;
 mod kind;
 mod value;
 
-// A document, a write of it, and what a client is told of that.
+// A document, what it is found by, a write of it, and what a client is told of that.
 mod ack;
 mod document;
+mod term;
 mod write;
 
 // The numbers that order the writes.
@@ -45,6 +46,7 @@ pub use kind::{MAX_NAME_LENGTH, kind_of};
 pub use list::List;
 pub use order::{Change, FieldChange, How, Order};
 pub use slice::{CoreId, SliceId, SubSlice};
+pub use term::Term;
 pub use text::Text;
 pub use value::{Kind, Value};
 pub use version::{found, meets, next_version};

@@ -1,4 +1,8 @@
+ghost use Rattle.std.specs.Prelude.{◌≡◌};
+ghost use Rattle.sc_schema.specs.declared.fault.DocFault.TheVariants as faults;
+
 use sc_record::Text;
+use std::alloc::AllocError;
 use thiserror::Error;
 
 /// Why a document can't be taken, by the first of its faults: those of its id, then that of its version, then those of its
@@ -18,4 +22,12 @@ pub enum DocFault {
     WrongValue(Text),
     #[error("out of memory")]
     Memory,
+}
+
+impl From<AllocError> for DocFault {
+    ghost from_gives = { λ _ fault. fault ≡ faults.Memory };
+
+    fn from(_error: AllocError) -> DocFault {
+        DocFault::Memory
+    }
 }

@@ -12,5 +12,18 @@ mod raw;
 // Why one can't be taken.
 mod fault;
 
+// What a value is to a field, and a member to a document.
+mod change;
+mod document;
+mod value;
+mod values;
+
+// What a document is found by.
+mod terms;
+mod word;
+
+pub use document::check_doc;
 pub use fault::DocFault;
 pub use raw::{RawDoc, RawField, RawFlat, RawOne, RawValue};
+pub use terms::terms_of;
+pub use word::fold_word;

@@ -1,2 +1,0 @@
--- What is handed out of a collection and given back.
-pub mod Desks

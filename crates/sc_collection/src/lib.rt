@@ -1,6 +1,0 @@
-//! A collection of buckets, as one thread has it or as many share it.
-#![tactic(auto)]
-
-mod desk;
-
-pub use desk::Desk;

@@ -1,2 +1,0 @@
-//! What an atomic update makes of a document.
-#![tactic(auto)]

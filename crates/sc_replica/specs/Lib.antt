@@ -1,3 +1,0 @@
--- What one core of a slice keeps, and what becomes of it by each write.
-pub mod Cells
-pub mod Cores

@@ -1,5 +1,5 @@
 -- The lemmas of this crate, lowest first.
-pub mod FieldLaws
-pub mod FieldSearch
+pub mod FieldLemmas
+pub mod FieldSearchLemmas
 pub mod TermLemmas
-pub mod VersionLaws
+pub mod VersionLemmas

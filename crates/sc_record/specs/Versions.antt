@@ -25,6 +25,6 @@ meets condition found =
     int_eq condition (pos 0) || int_eq condition found
     || (int_lt condition (pos 0) && int_lt found (pos 0)) || (int_eq condition (pos 1) && int_lt (pos 0) found)
 
--- the version of a write at this moment (milliseconds), after a clock: the greater of the moment's and the clock's next
+-- the version of a write at this timestamp (milliseconds), after a clock: the greater of the timestamp's and the clock's next
 abbrev pub version_after : ℕ → ℤ → ℤ
 version_after now clock = int_max (pos (min now (2 ^ 42 - 1) * 2 ^ 20)) (clock +ℤ pos 1)

@@ -7,7 +7,7 @@ use crate::value::Kind;
 pub const MAX_NAME_LENGTH: usize = 256;
 
 /// The kind of the field of this name, and whether it has many values: by the name's ending, as
-/// the dynamic fields of Solr's default schema are told (Solr Reference Guide, "Dynamic Fields").
+/// the dynamic fields of Solr's default schema are (Solr Reference Guide, "Dynamic Fields").
 /// `None` for any other name, such as `id` and `_version_`.
 #[tactic(auto, unfolding(crate::specs::Fields::kind_of))]
 pub fn kind_of(name: &str) -> Option<(Kind, bool)>

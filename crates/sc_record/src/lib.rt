@@ -15,7 +15,7 @@ mod text;
 // What names a document.
 mod id;
 
-// What a field keeps, and how its name tells.
+// What a field keeps, and how its name says so.
 mod kind;
 mod value;
 

@@ -5,8 +5,8 @@ ghost use Rattle.sc_record.specs.Versions.{found_version, meets, version_after};
 
 use crate::write::Cell;
 
-/// The last moment, in milliseconds, that versions tell apart.
-const LAST_MOMENT: u64 = (1 << 42) - 1;
+/// The last timestamp, in milliseconds, that versions keep apart.
+const LAST_TIMESTAMP: u64 = (1 << 42) - 1;
 
 /// How many versions a millisecond has.
 const VERSIONS_A_MILLISECOND: u64 = 1 << 20;
@@ -40,13 +40,13 @@ pub fn meets(condition: i64, found: i64) -> bool
     false
 }
 
-/// The version of a write that comes at this moment, in milliseconds since 1970, to a core whose
+/// The version of a write that comes at this timestamp, in milliseconds since 1970, to a core whose
 /// clock stands at `clock`.
 pub fn next_version(now: u64, clock: i64) -> i64
     requires from_zero { pos 0 ≤ℤ clock }
     requires can_rise { clock <ℤ pos (2 ^ 63 - 1) }
     ensures { result ≡ version_after now clock }
 {
-    let moment = now.min(LAST_MOMENT) * VERSIONS_A_MILLISECOND;
-    i64::max(moment as i64, clock + 1)
+    let timestamp = now.min(LAST_TIMESTAMP) * VERSIONS_A_MILLISECOND;
+    i64::max(timestamp as i64, clock + 1)
 }

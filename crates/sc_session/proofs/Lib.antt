@@ -2,7 +2,7 @@
 pub mod JsonLemmas
 pub mod MemberLemmas
 pub mod ItemLemmas
-pub mod Texts
+pub mod TextLemmas
 pub mod NoFloatLemmas
 pub mod TableLemmas
 pub mod StepLemmas

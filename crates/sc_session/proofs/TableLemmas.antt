@@ -14,7 +14,7 @@ use Rattle.sc_record.specs.Versions.{version_after}
 use Rattle.sc_record.specs.declared.write.Write.{Write}
 use Rattle.sc_record.specs.declared.entry.Entry.{Entry}
 use Rattle.sc_record.specs.declared.entry.Entry.TheVariants as entry
-use Rattle.sc_record.proofs.VersionLaws.{version_after-above_clock, version_after-above_zero, version_after-at_most}
+use Rattle.sc_record.proofs.VersionLemmas.{version_after-above_clock, version_after-above_zero, version_after-at_most}
 use Rattle.sc_model.specs.Journal.{write_of, writes, is_of, is_settled, settles}
 use Rattle.sc_model.specs.Legal.{IsLegal, MayWrite, MaySettle}
 use Rattle.sc_model.proofs.JournalLemmas.{writes-append, AllByRecursion-filter, AllByRecursion-append, AllByRecursion-weaker, owed-settled, slice_get-append_end}

@@ -5,7 +5,7 @@ use Rattle.std.specs.Ordering.{nat_cmp}
 use Rattle.std.proofs.lemmas.Fn.{always_returns_same}
 use Rattle.sc_record.specs.Fields.{Ascends, values_of}
 use Rattle.sc_record.specs.declared.document.Field.{Field}
-use Rattle.sc_record.proofs.FieldSearch.{searchable, values_of-found, values_of-absent}
+use Rattle.sc_record.proofs.FieldSearchLemmas.{searchable, values_of-found, values_of-absent}
 use Rattle.sc_record.proofs.document.Doc.get.Goals as goal
 
 pub returns-in-Ok : goal.returns-in-Ok

@@ -12,10 +12,10 @@ version_after-above_clock now clock = omega (arith, ints, clamps)
 pub version_after-above_zero : (now : ℕ) (clock : ℤ) → pos 0 ≤ℤ clock → pos 0 <ℤ version_after now clock
 version_after-above_zero now clock h = omega (arith, ints, clamps)
 
--- it is at least the moment's number
+-- it is at least the timestamp's number
 pub version_after-from_moment : (now : ℕ) (clock : ℤ) → pos (min now (2 ^ 42 - 1) * 2 ^ 20) ≤ℤ version_after now clock
 version_after-from_moment now clock = omega (arith, ints, clamps)
 
--- it is at most the last moment's number, or the clock's next
+-- it is at most the last timestamp's number, or the clock's next
 pub version_after-at_most : (now : ℕ) (clock : ℤ) → version_after now clock ≤ℤ int_max (pos (2 ^ 62 - 2 ^ 20)) (clock +ℤ pos 1)
 version_after-at_most now clock = omega (arith, ints, clamps)

@@ -11,7 +11,7 @@ use Rattle.std.proofs.lemmas.Cmp.{nat_list_cmp_total, alike_right}
 use Rattle.std.proofs.lemmas.List.Sorted.{searchable_from_sorted}
 use Rattle.sc_record.specs.Fields.{IsBelowFirst, Ascends, values_of}
 use Rattle.sc_record.specs.declared.document.Field.{Field}
-use Rattle.sc_record.proofs.FieldLaws.{below_next}
+use Rattle.sc_record.proofs.FieldLemmas.{below_next}
 
 -- what is below the first name is below each
 below_at : (name : List ℕ) (fields : List Field) (i : ℕ) (d : Field) → IsBelowFirst name fields → Ascends fields → i < length fields → slice_cmp nat_cmp name (get_or fields i d).name ≡ Less

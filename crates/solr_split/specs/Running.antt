@@ -7,7 +7,10 @@ use Rattle.sc_model.specs.declared.connection.End.TheVariants as ends
 use Rattle.sc_model.specs.Served.{IsServed}
 use Rattle.sc_session.specs.Table.{journals, own_places}
 use Rattle.solr_split.specs.Arguments.{Script}
-use Rattle.solr_split.specs.declared.run.TheConstants.{LOG_LIMIT}
+
+-- the most entries of the journal
+abbrev pub log_limit : ℕ
+log_limit = 1048576
 
 -- the exit status by how the connection ended
 abbrev pub status_of : End → ℕ
@@ -32,4 +35,4 @@ pub record RunsScript {C : Type 0} (script : Script) (gives : C → ℕ → C �
   pub stops : List Stop
   pub end : End
   pub status_is : status ≡ status_of end
-  pub served : IsServed (clock_of script gives) LOG_LIMIT (journals []) (journals journal) (own_places []) (own_places journal) old_clock new_clock old_unread new_unread old_written new_written stops end
+  pub served : IsServed (clock_of script gives) log_limit (journals []) (journals journal) (own_places []) (own_places journal) old_clock new_clock old_unread new_unread old_written new_written stops end

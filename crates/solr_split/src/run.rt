@@ -1,7 +1,7 @@
 ghost use Rattle.std.specs.Prelude.{◌≡◌, ◌≢◌, ◌⊎◌, ◌<◌, ◌↔◌, [], map, IfOk, IfSome, None, string_bytes};
 ghost use Rattle.sc_model.specs.Served.{IsServed};
 ghost use Rattle.sc_session.specs.Table.{journals, own_places};
-ghost use Rattle.solr_split.specs.Running.{RunsScript, clock_of, status_of};
+ghost use Rattle.solr_split.specs.Running.{RunsScript, clock_of, log_limit, status_of};
 ghost use Rattle.solr_split.specs.Arguments.{script_of};
 
 use crate::arguments::{Script, script_of};
@@ -76,7 +76,7 @@ fn serve_script<S: Source, W: Sink, C: Clock>(
 
 /// What a connection needs: an empty table and an empty trail.
 fn memory_of(alloc: Global) -> Result<(Plain, Trail), AllocError>
-    ensures { IfOk result (λ memory. (memory.0 ≡ record { journal = []; limit = LOG_LIMIT }) × (memory.1 ≡ record { stops = []; requests = 0 })) }
+    ensures { IfOk result (λ memory. (memory.0 ≡ record { journal = []; limit = log_limit }) × (memory.1 ≡ record { stops = []; requests = 0 })) }
 {
     Ok((Plain::new(alloc, LOG_LIMIT)?, Trail::new(alloc)?))
 }

@@ -1,4 +1,4 @@
--- A clock that has its moments in a list.
+-- A clock that has its timestamps in a list.
 use Rattle.std.specs.Prelude.{ℕ, ◌+◌, List, length, nat_lt, if◌then◌else◌}
 
 -- the place after this one, and at the last place that place again

@@ -1,9 +1,9 @@
-//! Where bytes come from and go to, and what tells the time: three traits, the forms of them that
-//! lie in memory, and the real ones at the program's edge. It stands on the project's lists, and on
+//! Where bytes come from and go to, and what reports the time: three traits, the forms of them that
+//! lie in memory, and the machine's at the program's edge. It depends on the project's lists, and on
 //! a log that only proofs read, for the counts of faults. The layers above are generic over
 //! `Source`, `Sink` and `Clock`, and use the clauses of their one method each: which bytes a call
-//! took or gave, which moment it answered, and that a call fails only where its object's count of
-//! faults rose.
+//! took or gave, which timestamp it answered, that its object's count of faults rose exactly where it
+//! failed, and that a sink counts at most one write a call.
 #![tactic(auto)]
 
 mod clock;

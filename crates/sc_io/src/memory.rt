@@ -157,7 +157,7 @@ impl Sink for MemSink {
     }
 }
 
-/// A clock that gives these moments in order, and then the last one for ever. `at` is the place of
+/// A clock that gives these timestamps in order, in milliseconds, and then the last one for ever. `at` is the place of
 /// the next one.
 #[derive(Debug, Drop)]
 pub struct MemClock {

@@ -90,16 +90,16 @@ fn a_sink_in_memory_keeps_what_it_is_given_and_fails_by_number(
     Ok(())
 }
 
-fn moments<C: Clock>(clock: &mut C) -> [u64; 4] {
+fn timestamps<C: Clock>(clock: &mut C) -> [u64; 4] {
     [clock.now(), clock.now(), clock.now(), clock.now()]
 }
 
 #[test]
-fn clocks_give_their_moments_and_the_last_one_for_ever(rt: HostRuntime) -> Result<(), Fail> {
+fn clocks_give_their_timestamps_and_the_last_one_for_ever(rt: HostRuntime) -> Result<(), Fail> {
     let alloc = rt.alloc();
     let mut listed = MemClock::new(list(alloc, &[5, 9, 7])?);
-    assert_eq!(rt; moments(&mut listed), [5, 9, 7, 7]);
-    assert_eq!(rt; moments(&mut Fixed { moment: 1000 }), [1000; 4]);
+    assert_eq!(rt; timestamps(&mut listed), [5, 9, 7, 7]);
+    assert_eq!(rt; timestamps(&mut Fixed { moment: 1000 }), [1000; 4]);
     Ok(())
 }
 
@@ -129,7 +129,7 @@ fn the_machines_clock_shows_milliseconds_since_1970(rt: HostRuntime) {
         (None, 0),
     ] {
         let watch = Watch(nanos);
-        assert_eq!(rt; moments(&mut MachineClock::new(&watch)), [want; 4]);
+        assert_eq!(rt; timestamps(&mut MachineClock::new(&watch)), [want; 4]);
     }
     // the real one stands after 2021, when this was written
     assert!(rt; MachineClock::new(&rt).now() > 1_609_459_200_000);

@@ -20,9 +20,9 @@ pub fn script_of(arguments: &[String]) -> Option<Script>
         [command] if command.as_str() == "script" => Some(Script { clock: None }),
         [command, option, value] if command.as_str() == "script" && option.as_str() == "--clock" =>
             {
-                let moment = number(value.as_str())?;
+                let timestamp = number(value.as_str())?;
                 Some(Script {
-                    clock: Some(moment),
+                    clock: Some(timestamp),
                 })
             }
         _ => None,

@@ -1,6 +1,6 @@
 ghost use Rattle.std.specs.Prelude.{◌<◌};
 
-use crate::run;
+use crate::{USAGE, meaning, run};
 use sc_io::{Fixed, MemSink, MemSource};
 use sc_model::End;
 use sc_record::List;
@@ -207,6 +207,44 @@ fn arguments_that_ask_for_nothing_do_nothing(rt: HostRuntime) -> Result<(), Fail
 }
 
 #[test]
+fn the_usage_has_an_example_that_runs(rt: HostRuntime) -> Result<(), Fail> {
+    let Some((_, example)) = USAGE.split_once("as in: solr_split ") else {
+        return Err(Fail::from("no example"));
+    };
+    let Some((arguments, _)) = example.split_once(" <") else {
+        return Err(Fail::from("no input"));
+    };
+    let mut asked = Vec::new(rt.alloc());
+    for argument in arguments.split(' ') {
+        asked.push(argument)?;
+    }
+    let (written, status) = ran(rt.alloc(), asked.as_slice(), &[ADD], 7, &[], &[])?;
+    assert_eq!(rt; written.as_slice(), ADDED.as_bytes());
+    assert_eq!(rt; status, 0);
+    Ok(())
+}
+
+#[test]
+fn each_status_but_0_has_its_line(rt: HostRuntime) {
+    let lines = [
+        (
+            2,
+            "usage: solr_split script [--clock MILLISECONDS], as in: solr_split script --clock 1000 < requests",
+        ),
+        (
+            3,
+            "the input ended inside a request, or was no request that can be read",
+        ),
+        (4, "reading from standard input failed"),
+        (5, "writing to standard output failed"),
+        (6, "out of memory"),
+    ];
+    for (status, line) in lines {
+        assert_eq!(rt; meaning(status), line, "{status}");
+    }
+}
+
+#[test]
 fn the_clock_is_that_of_the_arguments_or_the_one_handed_in(rt: HostRuntime) -> Result<(), Fail> {
     let cases: [(&[&str], &str); 3] = [
         (&["script"], "[\"abc\",2097152000]"),
@@ -236,10 +274,10 @@ fn each_read_and_each_write_that_fails_ends_the_run(rt: HostRuntime) -> Result<(
         assert!(rt; whole.as_slice().starts_with(written.as_slice()), "{call}");
         assert!(rt; status == expected, "{call}: {status}");
     }
-    // a head and a body for each answer
+    // one write for each answer
     for call in 0..8 {
         let (written, status) = ran(rt.alloc(), &asked, &[ADD, GET], 7, &[], &[call])?;
-        let expected = if call < 4 { 5 } else { 0 };
+        let expected = if call < 2 { 5 } else { 0 };
         assert!(rt; whole.as_slice().starts_with(written.as_slice()), "{call}");
         assert!(rt; status == expected, "{call}: {status}");
     }

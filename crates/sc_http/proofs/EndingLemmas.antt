@@ -1,6 +1,6 @@
 -- Bytes have one ending, and none where they begin with a request.
-use Rattle.std.proofs.Common.{◌≡◌, ◌≢◌, ℕ, ◌+◌, ◌-◌, ◌<◌, ◌≤◌, ◌⊎◌, inl, inr, Bool, IsTrue, true, false, All, List, [], ◌∷◌, ◌++◌, length, take, drop, cond, min, Ok, Err, Result, refl, sym, ap, ◌∙◌, subst, arith, append_assoc, append-nil, length-append, length-take}
-use Rattle.std.specs.Prelude.{nat_le, IsUtf8, if◌then◌else◌}
+use Rattle.std.proofs.Common.{◌≡◌, ℕ, ◌+◌, ◌<◌, ◌≤◌, ◌⊎◌, inl, inr, Bool, IsTrue, true, false, List, [], ◌∷◌, ◌++◌, length, drop, cond, Ok, Err, Result, refl, sym, ap, ◌∙◌, subst, arith, append_assoc, length-append, length-take}
+use Rattle.std.specs.Prelude.{nat_le, IsUtf8}
 use Rattle.std.proofs.lemmas.Bool.{cases_lt}
 use Rattle.std.proofs.lemmas.Bool.Decides.{nat_tests}
 use Rattle.std.proofs.lemmas.List.{take_all, take-append-drop}
@@ -10,11 +10,9 @@ use Rattle.std.proofs.lemmas.Str.Ascii.{IsAscii-from_all}
 use Rattle.httparse.specs.Grammar.{AllPass, LineEnd, lf, print_blank, print_version, IsToken, RequestHead, print_request, ReadsRequest, HasNoRequest, NeverHasRequest, MayBecomeRequest, is_token_byte, is_uri_byte}
 use Rattle.httparse.proofs.GrammarLemmas.{print_request-append, request_unique}
 use Rattle.sc_model.specs.Heads.{LengthFault, malformed_length, too_large_length, head_limit, line_limit, is_coded, body_length}
-use Rattle.sc_model.specs.Messages.{HasHead, window, ReadsMessage, Ending, done, cut, bad_head, too_large, not_built, HasTooManyLines, EndsInHead, HasMalformedHead, HasLongHead, EndsSo}
-use Rattle.sc_model.specs.declared.message.Incoming.{Incoming}
+use Rattle.sc_model.specs.Messages.{HasHead, window, Ending, done, cut, bad_head, too_large, not_built, HasTooManyLines, EndsInHead, HasMalformedHead, HasLongHead, EndsSo}
 use Rattle.sc_http.specs.Laws.{NoEndingOfRequest, OneEnding, EndsInInvalidTarget, MayEndInTwoWays, open_ending}
 use Rattle.sc_http.proofs.HeadEndLemmas.{head_splits, but_last}
-use Rattle.sc_http.proofs.LineEndLemmas.{ends_more}
 use Rattle.sc_http.proofs.LineLimitLemmas.{begins_longer, exceeds_ends, few_in_head}
 use Rattle.sc_http.proofs.MessageLemmas.{exceeds-append}
 
@@ -38,12 +36,12 @@ nothing_read bytes h rest none reads =
     omega (arith, a, b, c, d)
 
 -- what begins the bytes begins their window, if it is no longer
-window_begins : (bytes front rest : List ℕ) → bytes ≡ front ++ rest → length front ≤ head_limit → (more : List ℕ) × (window bytes ≡ front ++ more)
-window_begins bytes front rest split short =
+window_begins : (bytes prefix rest : List ℕ) → bytes ≡ prefix ++ rest → length prefix ≤ head_limit → (more : List ℕ) × (window bytes ≡ prefix ++ more)
+window_begins bytes prefix rest split short =
     let a = length-take head_limit bytes in
     let b = ap length split in
-    let c = length-append front rest in
-    begins_longer (window bytes) (drop head_limit bytes) front rest (take-append-drop head_limit bytes ∙ split) (omega (arith, a, b, c, short))
+    let c = length-append prefix rest in
+    begins_longer (window bytes) (drop head_limit bytes) prefix rest (take-append-drop head_limit bytes ∙ split) (omega (arith, a, b, c, short))
 
 module _ (bytes : List ℕ) (h : RequestHead) (rest : List ℕ) (has : HasHead bytes h rest) where
   head_in_window : HasNoRequest (window bytes) → ⊥
@@ -62,18 +60,19 @@ module _ (bytes : List ℕ) (h : RequestHead) (rest : List ℕ) (has : HasHead b
 
 -- a malformed head has no more header lines than may be before it is malformed
 malformed_few : (bytes : List ℕ) → HasMalformedHead bytes → HasTooManyLines (window bytes) → ⊥
-malformed_few bytes malformed (front, rest, split, h, reads, many) = by_length (cases_lt (length malformed.prefix) (length front))
+malformed_few bytes malformed (prefix, rest, split, h, reads, many) = by_length (cases_lt (length malformed.prefix) (length prefix))
   where
-    whole : malformed.prefix ++ malformed.begins.0 ≡ front ++ (rest ++ drop head_limit bytes)
-    whole = malformed.begins.1 ∙ sym (take-append-drop head_limit bytes) ∙ ap (λ xs. xs ++ drop head_limit bytes) split ∙ append_assoc front rest (drop head_limit bytes)
-    by_length : (length malformed.prefix < length front) ⊎ (length front ≤ length malformed.prefix) → ⊥
+    whole : malformed.prefix ++ malformed.begins.0 ≡ prefix ++ (rest ++ drop head_limit bytes)
+    whole = malformed.begins.1 ∙ sym (take-append-drop head_limit bytes) ∙ ap (λ xs. xs ++ drop head_limit bytes) split ∙ append_assoc prefix rest (drop head_limit bytes)
+
+    by_length : (length malformed.prefix < length prefix) ⊎ (length prefix ≤ length malformed.prefix) → ⊥
     by_length (inl less) =
-        let part = begins_longer front (rest ++ drop head_limit bytes) malformed.prefix malformed.begins.0 (sym whole) (omega (arith, less)) in
+        let part = begins_longer prefix (rest ++ drop head_limit bytes) malformed.prefix malformed.begins.0 (sym whole) (omega (arith, less)) in
         malformed.never (part.0 ++ 10 ∷ []) h []
         (subst (λ (xs : List ℕ). ReadsRequest xs h []) (ap (λ xs. xs ++ 10 ∷ []) part.1 ∙ append_assoc malformed.prefix part.0 (10 ∷ [])) reads)
     by_length (inr more) =
-        let part = begins_longer malformed.prefix malformed.begins.0 front (rest ++ drop head_limit bytes) whole more in
-        malformed.few_lines (front, part.0, part.1, h, reads, many)
+        let part = begins_longer malformed.prefix malformed.begins.0 prefix (rest ++ drop head_limit bytes) whole more in
+        malformed.few_lines (prefix, part.0, part.1, h, reads, many)
 
 slash_utf8 : IsUtf8 (47 ∷ [])
 slash_utf8 = IsUtf8-from_ascii (47 ∷ []) (IsAscii-from_all (47 ∷ []) (All-cons (λ b. b < 128) 47 [] (omega arith) (All-nil (λ b. b < 128))))
@@ -101,6 +100,7 @@ open_target bytes never (inr (blank, method, target, token, uri, split)) = recor
   where
     cons-append : (x : ℕ) (a b : List ℕ) → (x ∷ a) ++ b ≡ x ∷ (a ++ b)
     cons-append x a b = refl
+
     regroup : (a b c d e : List ℕ) → (a ++ (b ++ 32 ∷ c)) ++ (d ++ 47 ∷ e) ≡ a ++ (b ++ 32 ∷ (((c ++ d) ++ 47 ∷ []) ++ e))
     regroup a b c d e = simp (append_assoc, cons-append)
 

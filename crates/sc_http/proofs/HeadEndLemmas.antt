@@ -183,10 +183,10 @@ part_is_open h bytes more is whole some found =
     let same = ap length whole in
     let n = length (but_last h) - length bytes in
     let split : length (but_last h) ≡ length bytes + n = omega (arith, total, parts, same) in
-    let front : but_last h ≡ bytes ++ take n more =
+    let prefix : but_last h ≡ bytes ++ take n more =
     sym (take_at (but_last h) (10 ∷ []) (length (but_last h)) refl) ∙ ap (take (length (but_last h))) (sym whole)
     ∙ ap (λ k. take k (bytes ++ more)) split ∙ take-append-add bytes more n in
-    feed_open h.last (sym (but_last_place h is) ∙ ap (place_after places.Before) front ∙ after-append places.Before places.End bytes (take n more) found ∙ end_stays (take n more))
+    feed_open h.last (sym (but_last_place h is) ∙ ap (place_after places.Before) prefix ∙ after-append places.Before places.End bytes (take n more) found ∙ end_stays (take n more))
 
 -- bytes that are no head yet, and may become one, have no end of a head
 pub open_not_found : (bytes : List ℕ) → HasNoRequest bytes → MayBecomeRequest bytes → place_after places.Before bytes ≡ places.End → ⊥

@@ -81,21 +81,21 @@ pub values_none : {X : Type 0} (name : List ℕ) (h : X → List ℕ × List ℕ
     → values_in name (map h xs) ≡ []
 values_none name h xs none = values_in-map name h xs ∙ ap (map (λ x. (h x).1)) (filter_none (λ x. is_named name (h x)) xs none)
 
--- what a first value states, by whether it is a number, it is too great, and others follow
+-- what a first value states, by whether it is a number, it is too large, and others follow
 abbrev stated : Bool → Bool → Bool → ℕ → Result ℕ LengthFault
-stated digits great others number =
+stated digits large others number =
     if not digits then Err malformed_length
-    else (if great then Err too_large_length
+    else (if large then Err too_large_length
     else (if others then Err malformed_length else Ok number))
 
-stated_fault : (digits great others : Bool) (number : ℕ) (fault : LengthFault) → stated digits great false number ≡ Err fault → stated digits great others number ≡ Err fault
-stated_fault false great others number fault e = e
+stated_fault : (digits large others : Bool) (number : ℕ) (fault : LengthFault) → stated digits large false number ≡ Err fault → stated digits large others number ≡ Err fault
+stated_fault false large others number fault e = e
 stated_fault true true others number fault e = e
 stated_fault true false others number fault e = cc
 
-stated_number : (digits great others : Bool) (number length_is : ℕ) → stated digits great false number ≡ Ok length_is
-    → stated digits great others number ≡ (if others then Err malformed_length else Ok length_is)
-stated_number false great others number length_is e = cc
+stated_number : (digits large others : Bool) (number length_is : ℕ) → stated digits large false number ≡ Ok length_is
+    → stated digits large others number ≡ (if others then Err malformed_length else Ok length_is)
+stated_number false large others number length_is e = cc
 stated_number true true others number length_is e = cc
 stated_number true false true number length_is e = refl
 stated_number true false false number length_is e = e

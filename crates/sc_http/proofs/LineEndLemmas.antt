@@ -1,17 +1,15 @@
 -- How many lines of a head have ended.
-use Rattle.std.proofs.Common.{◌≡◌, ◌≢◌, ℕ, ◌+◌, ◌-◌, ◌<◌, ◌≤◌, ◌⊎◌, inl, inr, suc, Bool, IsTrue, ◌==◌, cond, true, false, All, List, [], ◌∷◌, ◌++◌, length, take, drop, get_or, zero, refl, sym, ap, ◌∙◌, subst, arith, append_assoc, append-nil, length-append}
+use Rattle.std.proofs.Common.{◌≡◌, ℕ, ◌+◌, ◌<◌, ◌≤◌, suc, Bool, IsTrue, ◌==◌, cond, true, false, All, List, [], ◌∷◌, ◌++◌, length, take, drop, get_or, zero, refl, sym, ap, ◌∙◌, arith, append_assoc}
 use Rattle.std.specs.List.{flat_map, count_by, prefix_len}
 use Rattle.std.proofs.lemmas.List.{take_all, take_more, drop-take, get_or-drop, length-drop}
 use Rattle.std.proofs.lemmas.List.Sums.{sum_by-append}
 use Rattle.std.proofs.lemmas.List.Elements.{All-head, All-tail}
-use Rattle.std.proofs.lemmas.Bool.{cases_lt, ne_eqb, false≢true}
-use Rattle.httparse.specs.Grammar.{AllPass, LineEnd, crlf, lf, print_end, print_blank, print_version, Field, IsField, print_field, print_section, RequestHead, print_request, ReadsRequest, IsRequestHead, HasNoRequest, NeverHasRequest, is_token_byte, is_uri_byte, is_value_byte}
+use Rattle.std.proofs.lemmas.Bool.{ne_eqb}
+use Rattle.httparse.specs.Grammar.{AllPass, LineEnd, crlf, lf, print_end, print_blank, print_version, Field, IsField, print_field, RequestHead, IsRequestHead, is_token_byte, is_uri_byte, is_value_byte}
 use Rattle.httparse.specs.Pieces.{is_newline}
-use Rattle.httparse.specs.Spans.{RequestExceeds}
-use Rattle.httparse.proofs.GrammarLemmas.{print_request-append}
 use Rattle.httparse.proofs.PieceLemmas.{token_is_no_newline}
-use Rattle.sc_http.specs.LineEnds.{from_request_line, line_ends, EndsLine}
-use Rattle.sc_http.proofs.HeadEndLemmas.{IsPlain, plain_by, plain_token, but_last, head_splits, before_feed}
+use Rattle.sc_http.specs.LineEnds.{line_ends, EndsLine}
+use Rattle.sc_http.proofs.HeadEndLemmas.{IsPlain, plain_by, plain_token, but_last, before_feed}
 
 -- how many line feeds there are
 abbrev pub feeds : List ℕ → ℕ
@@ -172,6 +170,7 @@ prefix_len_take p (x ∷ xs) i = by_test (prefix_len_take p xs i) (p x) refl
     first : (n : ℕ) → p x ≡ false → prefix_len p (take n (x ∷ xs)) ≡ 0
     first zero e = refl
     first (suc n) e = rw e refl
+
     by_test : prefix_len p (take (prefix_len p xs + i) xs) ≡ prefix_len p xs → (b : Bool) → p x ≡ b
         → prefix_len p (take (prefix_len p (x ∷ xs) + i) (x ∷ xs)) ≡ prefix_len p (x ∷ xs)
     by_test later true e =

@@ -1,5 +1,5 @@
 -- Bytes that may become a head and end with a header line above the most have too many of them.
-use Rattle.std.proofs.Common.{◌≡◌, ◌≢◌, ℕ, ◌+◌, ◌<◌, ◌≤◌, ◌⊎◌, inl, inr, true, All, List, [], ◌∷◌, ◌++◌, length, refl, sym, ap, ◌∙◌, subst, arith, append_assoc, append-nil, length-append}
+use Rattle.std.proofs.Common.{◌≡◌, ℕ, ◌+◌, ◌<◌, ◌⊎◌, inl, inr, true, All, List, [], ◌∷◌, ◌++◌, length, refl, sym, ap, ◌∙◌, subst, arith, append_assoc, append-nil, length-append}
 use Rattle.std.specs.List.{flat_map}
 use Rattle.std.proofs.lemmas.List.Elements.{All-head, All-tail, All-cons, All-nil}
 use Rattle.httparse.specs.Grammar.{LineEnd, crlf, lf, print_end, print_blank, print_version, Field, IsField, print_field, RequestHead, print_request, ReadsRequest, IsRequestHead, HasNoRequest, MayBecomeRequest, is_value_byte, is_uri_byte}
@@ -14,7 +14,7 @@ use Rattle.sc_http.proofs.LineEndLemmas.{feeds, feeds-append, feeds_plain, feeds
 cons-append : (x : ℕ) (a b : List ℕ) → (x ∷ a) ++ b ≡ x ∷ (a ++ b)
 cons-append x a b = refl
 
--- the first line feed is the one that was meant, or it stands before that one
+-- the first line feed is the one that was meant, or it comes before that one
 line_split : (line after before more : List ℕ) → feeds line ≡ 0 → before ++ 10 ∷ more ≡ line ++ 10 ∷ after
     → ((before ≡ line) × (more ≡ after)) ⊎ ((left : List ℕ) × (before ≡ line ++ 10 ∷ left) × (left ++ 10 ∷ more ≡ after))
 line_split [] after [] more none same = inl (refl, cc)
@@ -70,9 +70,9 @@ one_more_kept f before left is same (kept, all, count, lines) = (
   f ∷ kept,
   All-cons IsField f kept is all,
   (let a : feeds before ≡ feeds (field_line f ++ 10 ∷ left) = ap feeds same in
-  let b = feeds-append (field_line f) (10 ∷ left) in
-  let c = feeds-append (10 ∷ []) left in
-  omega (arith, a, b, c, feeds_field_line f is, count)),
+      let b = feeds-append (field_line f) (10 ∷ left) in
+      let c = feeds-append (10 ∷ []) left in
+      omega (arith, a, b, c, feeds_field_line f is, count)),
   ap (λ xs. xs ++ 10 ∷ []) same ∙ append_assoc (field_line f) (10 ∷ left) (10 ∷ [])
       ∙ ap (λ xs. field_line f ++ 10 ∷ xs) lines
       ∙ sym (append_assoc (field_line f) (10 ∷ []) (flat_map print_field kept))

@@ -3,7 +3,7 @@ use Rattle.std.proofs.Common.{◌≡◌, ◌≢◌, ℕ, ◌+◌, ◌-◌, ◌<�
 use Rattle.std.proofs.lemmas.Bool.{cases_lt}
 use Rattle.std.proofs.lemmas.List.{take_all, take_at, take-append-le, drop_at}
 use Rattle.std.proofs.Math.Seq.{take-append-add}
-use Rattle.httparse.specs.Grammar.{RequestHead, HasNoRequest, NeverHasRequest, MayBecomeRequest}
+use Rattle.httparse.specs.Grammar.{RequestHead, HasNoRequest, MayBecomeRequest}
 use Rattle.httparse.specs.Spans.{RequestExceeds}
 use Rattle.httparse.proofs.GrammarLemmas.{ReadsRequest-append, request_unique, request_prefix_free}
 use Rattle.sc_model.specs.Heads.{head_limit, line_limit, body_length, request_of}
@@ -53,13 +53,13 @@ pub no_message_yet : (bytes : List ℕ) → place_after places.Before bytes ≢ 
 no_message_yet bytes open_ request rest (h, body, has, plain, long, is) = open_ (end_of_head bytes h (body ++ rest) has.reads)
 
 -- nor where the body has not come whole
-pub no_message_in_body : (bytes : List ℕ) (head : RequestHead) (front : List ℕ) (whole : ℕ) → HasHead bytes head front
-    → body_length head ≡ Ok whole → length front < whole → HasNoMessage bytes
-no_message_in_body bytes head front whole has length_of short request rest (h, body, has', plain, long, is) =
-    let same = request_unique bytes head h front (body ++ rest) has.reads has'.reads in
+pub no_message_in_body : (bytes : List ℕ) (head : RequestHead) (prefix : List ℕ) (whole : ℕ) → HasHead bytes head prefix
+    → body_length head ≡ Ok whole → length prefix < whole → HasNoMessage bytes
+no_message_in_body bytes head prefix whole has length_of short request rest (h, body, has', plain, long, is) =
+    let same = request_unique bytes head h prefix (body ++ rest) has.reads has'.reads in
     let lengths : Ok whole ≡ Ok (length body) = sym length_of ∙ ap body_length same.0 ∙ long in
     let equal : whole ≡ length body = cc in
-    let fits : length front ≡ length body + length rest = ap length same.1 ∙ length-append body rest in
+    let fits : length prefix ≡ length body + length rest = ap length same.1 ∙ length-append body rest in
     omega arith
 
 malformed-append : (bytes more : List ℕ) → HasMalformedHead bytes → HasMalformedHead (bytes ++ more)
@@ -72,8 +72,8 @@ malformed-append bytes more malformed = record {
 }
 
 pub exceeds-append : (bytes more : List ℕ) → RequestExceeds line_limit bytes → RequestExceeds line_limit (bytes ++ more)
-exceeds-append bytes more (front, rest, split, head, reads, many) =
-    (front, rest ++ more, ap (λ xs. xs ++ more) split ∙ append_assoc front rest more, head, reads, many)
+exceeds-append bytes more (prefix, rest, split, head, reads, many) =
+    (prefix, rest ++ more, ap (λ xs. xs ++ more) split ∙ append_assoc prefix rest more, head, reads, many)
 
 exceeds-window : (bytes more : List ℕ) → RequestExceeds line_limit (window bytes) → RequestExceeds line_limit (window (bytes ++ more))
 exceeds-window bytes more exceeds =

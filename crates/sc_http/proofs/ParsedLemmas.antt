@@ -51,7 +51,7 @@ module _ (bytes : List ℕ) (headers : List HeaderSpan) (spans : RequestSpans) (
       rw (e) (is ∙ ap (λ ps. list_any says_close (values_in (codes "connection") ps)) (lines_are lines same)
       ∙ ap (list_any says_close) (sym (values_of_head (codes "connection") h)))
 
-  -- the head stands first, within its limits
+  -- the head comes first, within its limits
   pub head_is : IsRequestWithin bytes headers spans → length bytes ≤ head_limit → spans.headers ≤ line_limit → HasHead bytes h (drop spans.len bytes)
   head_is within size room =
       let count = sym (length-map h.fields name_and_value) ∙ ap length (sym at.fields) ∙ length-map (take spans.headers headers) (header_bytes bytes) in

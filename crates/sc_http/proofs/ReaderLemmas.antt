@@ -41,26 +41,26 @@ judged_ends (Err ends.NotBuilt) left more judged e in_head = ends-append left mo
 judged_ends (Err ends.ReadFault) left more judged e in_head = tt
 judged_ends (Err ends.Memory) left more judged e in_head = tt
 
-untold : (r : Result Head MessageEnd) → IfErr r (λ end. IfSome (ending_of end) (λ ending. Unit {0}))
-untold (Ok head) = tt
-untold (Err ends.Done) = tt
-untold (Err ends.Cut) = tt
-untold (Err ends.BadHead) = tt
-untold (Err ends.TooLarge) = tt
-untold (Err ends.NotBuilt) = tt
-untold (Err ends.ReadFault) = tt
-untold (Err ends.Memory) = tt
+unreported : (r : Result Head MessageEnd) → IfErr r (λ end. IfSome (ending_of end) (λ ending. Unit {0}))
+unreported (Ok head) = tt
+unreported (Err ends.Done) = tt
+unreported (Err ends.Cut) = tt
+unreported (Err ends.BadHead) = tt
+unreported (Err ends.TooLarge) = tt
+unreported (Err ends.NotBuilt) = tt
+unreported (Err ends.ReadFault) = tt
+unreported (Err ends.Memory) = tt
 
 -- the end of a reading of a head, of the connection's bytes
 pub head_ends : (r : Result Head MessageEnd) (left before : List ℕ) (old new : Option (List ℕ)) → KeepsBytes [] left before old new
     → IsJudged left ⊎ HasEnded old new → IfErr r (λ end. IfSome (ending_of end) (EndsSo left)) → (r ≡ Err ends.Cut → EndsInHead left)
     → IfErr r (λ end. IfSome (ending_of end) (λ ending. IfSome old (λ bytes. EndsSo (before ++ bytes) ending)))
-head_ends r left before None new given state e in_head = untold r
+head_ends r left before None new given state e in_head = unreported r
 head_ends r left before (Some bytes) new given (inl judged) e in_head =
     subst (λ (xs : List ℕ). IfErr r (λ end. IfSome (ending_of end) (EndsSo xs)))
     (sym (whole_is left before given.piece bytes given.gives.more given.whole given.gives.whole)) (judged_ends r left given.gives.more judged e in_head)
 head_ends r left before (Some bytes) new given (inr ended) e in_head =
-    let told : Some given.gives.more ≡ Some [] = sym given.gives.left ∙ ended in
+    let reported : Some given.gives.more ≡ Some [] = sym given.gives.left ∙ ended in
     let none : given.gives.more ≡ [] = cc in
     subst (λ (xs : List ℕ). IfErr r (λ end. IfSome (ending_of end) (EndsSo xs)))
     (sym (whole_is left before given.piece bytes given.gives.more given.whole given.gives.whole ∙ ap (λ xs. left ++ xs) none ∙ append-nil left)) e
@@ -90,7 +90,7 @@ body_cut kept left before None mid new given of short ended = tt
 body_cut kept left before (Some bytes) mid new given of short ended =
     let second : Gives short.piece (Some given.gives.more) new = subst (λ (o : Option (List ℕ)). Gives short.piece o new) given.gives.left short.gives in
     let ending : HasEnded (Some given.gives.more) new = subst (λ (o : Option (List ℕ)). HasEnded o new) given.gives.left ended in
-    let told : Some second.more ≡ Some [] = sym second.left ∙ ending in
+    let reported : Some second.more ≡ Some [] = sym second.left ∙ ending in
     let none : second.more ≡ [] = cc in
     let last : given.gives.more ≡ short.piece = second.whole ∙ ap (λ xs. short.piece ++ xs) none ∙ append-nil short.piece in
     let whole = whole_is left before given.piece bytes given.gives.more given.whole given.gives.whole in
@@ -128,7 +128,7 @@ head_unfinished left before (Some bytes) new given none =
     subst (λ (o : Option (List ℕ)). IfSome o (λ more. HasNoMessageBefore more (before ++ bytes))) (sym given.gives.left)
     (left, whole_is left before given.piece bytes given.gives.more given.whole given.gives.whole, none)
 
--- where no body was read, a front was given out
+-- where no body was read, a prefix was given out
 pub body_order : (size : ℕ) (left before rest : List ℕ) (old mid new : Option (List ℕ)) → KeepsBytes [] left before old mid
     → LeavesSuffix rest (drop size left) mid new → IfSome old (λ bytes. IfSome new (λ more. IsSuffix (rest ++ more) (before ++ bytes)))
 body_order size left before rest None mid new given (out, given') = tt

@@ -3,10 +3,10 @@ use Rattle.std.proofs.Common.{◌≡◌, ℕ, ◌+◌, ◌-◌, ◌<◌, ◌≤�
 use Rattle.std.proofs.lemmas.Bool.{cases_lt}
 use Rattle.std.proofs.lemmas.List.{drop-drop, drop-take, drop_all, take_all, take-append-drop, length-take, take-take, take-append-le, length-take-le}
 use Rattle.std.proofs.Math.Seq.{take-append-add}
-use Rattle.sc_http.specs.Stream.{Gives, Grows, KeepsBytes, FallsShort, ReadsWhile, LeavesSuffix, HasEnded}
+use Rattle.sc_http.specs.Stream.{Gives, Grows, KeepsBytes, FallsShort, ReadsWhile, LeavesSuffix}
 
-drop-take_front : (n m : ℕ) (xs : List ℕ) → drop n (take m xs) ≡ take (m - n) (drop n xs)
-drop-take_front n m xs = by_order (cases_lt m n)
+drop-take_prefix : (n m : ℕ) (xs : List ℕ) → drop n (take m xs) ≡ take (m - n) (drop n xs)
+drop-take_prefix n m xs = by_order (cases_lt m n)
   where
     by_order : (m < n) ⊎ (n ≤ m) → drop n (take m xs) ≡ take (m - n) (drop n xs)
     by_order (inl less) =
@@ -18,10 +18,10 @@ drop-take_front n m xs = by_order (cases_lt m n)
         ap (λ k. drop n (take k xs)) whole ∙ drop-take n (m - n) xs
 
 -- a part of a list without its first bytes
-pub drop_front : (xs : List ℕ) (start end n : ℕ) → take (end - (start + n)) (drop (start + n) xs) ≡ drop n (take (end - start) (drop start xs))
-drop_front xs start end n =
+pub drop_prefix : (xs : List ℕ) (start end n : ℕ) → take (end - (start + n)) (drop (start + n) xs) ≡ drop n (take (end - start) (drop start xs))
+drop_prefix xs start end n =
     let less : end - (start + n) ≡ end - start - n = omega arith in
-    rw (drop-take_front n (end - start) (drop start xs), drop-drop n start xs, less) refl
+    rw (drop-take_prefix n (end - start) (drop start xs), drop-drop n start xs, less) refl
 
 -- what was read into the room after the first bytes
 pub read_after : (old m into post tail : List ℕ) (filled count len : ℕ) → take filled m ≡ take filled old → filled ≤ length m
@@ -47,12 +47,6 @@ gives_both p q None b c first second = tt
 gives_both p q (Some bytes) b c first second =
     let next : Gives q (Some first.more) c = subst (λ (o : Option (List ℕ)). Gives q o c) first.left second in
     record { more = next.more; whole = first.whole ∙ ap (λ ys. p ++ ys) next.whole ∙ sym (append_assoc p q next.more); left = next.left }
-
--- whether a source tells its bytes stays
-pub gives_ended : (p : List ℕ) (a b c : Option (List ℕ)) → Gives p a b → HasEnded b c → HasEnded a c
-gives_ended p None b c first second = tt
-gives_ended p (Some bytes) b c first second =
-    subst (λ (o : Option (List ℕ)). HasEnded o c) first.left second
 
 -- the bytes that were there are given out
 pub gives_out_all : (bytes : List ℕ) (rest : Option (List ℕ)) → KeepsBytes bytes [] bytes rest rest
@@ -119,19 +113,19 @@ reads_after P Q first a b c came later step = record {
 }
 
 -- the first bytes are given out, and the others left
-pub given_front : (front left before : List ℕ) (n : ℕ) (rest : Option (List ℕ)) → front ≡ take n before → left ≡ drop n before
-    → KeepsBytes front left before rest rest
-given_front front left before n rest first others = record {
+pub given_prefix : (prefix left before : List ℕ) (n : ℕ) (rest : Option (List ℕ)) → prefix ≡ take n before → left ≡ drop n before
+    → KeepsBytes prefix left before rest rest
+given_prefix prefix left before n rest first others = record {
   piece = [];
   whole = rw (first, others) (take-append-drop n before ∙ sym (append-nil before));
   gives = gives_none rest;
 }
 
 -- all that was there is given out, and more
-pub given_whole : (out front left before : List ℕ) (n : ℕ) (a b : Option (List ℕ)) → front ≡ take n before → left ≡ drop n before
-    → length before ≤ n → KeepsBytes out [] front a b → KeepsBytes out left before a b
-given_whole out front left before n a b first others short given =
-    let all : front ≡ before = first ∙ take_all n before short in
+pub given_whole : (out prefix left before : List ℕ) (n : ℕ) (a b : Option (List ℕ)) → prefix ≡ take n before → left ≡ drop n before
+    → length before ≤ n → KeepsBytes out [] prefix a b → KeepsBytes out left before a b
+given_whole out prefix left before n a b first others short given =
+    let all : prefix ≡ before = first ∙ take_all n before short in
     let none : left ≡ [] = others ∙ drop_all n before short in
     record {
       piece = given.piece;
@@ -140,9 +134,9 @@ given_whole out front left before n a b first others short given =
     }
 
 -- where too few bytes came, none is left
-pub left_none : (front left before : List ℕ) (n wanted : ℕ) (a b : Option (List ℕ)) → left ≡ drop n before → length before ≤ n
-    → FallsShort front wanted a b → LeavesSuffix left before a b
-left_none front left before n wanted a b others short falls =
+pub left_none : (prefix left before : List ℕ) (n wanted : ℕ) (a b : Option (List ℕ)) → left ≡ drop n before → length before ≤ n
+    → FallsShort prefix wanted a b → LeavesSuffix left before a b
+left_none prefix left before n wanted a b others short falls =
     let none : left ≡ [] = others ∙ drop_all n before short in (
       before ++ falls.piece,
       record {

@@ -4,7 +4,7 @@ use Rattle.sc_model.specs.Heads.{head_limit}
 use Rattle.sc_http.specs.declared.head_end.Place.{Place}
 use Rattle.sc_http.specs.declared.head_end.Place.TheVariants as places
 
--- the place after one byte more: 10 ends a line, and 13 may stand before it
+-- the place after one byte more: 10 ends a line, and 13 may come before it
 abbrev pub next_place : Place → ℕ → Place
 next_place places.Before byte = if byte == 10 then places.Before else (if byte == 13 then places.Before else places.Text)
 next_place places.Text byte = if byte == 10 then places.LineStart else places.Text

@@ -1,4 +1,4 @@
--- What a call took from a source, where the source tells its bytes.
+-- What a call took from a source, where the source reports its bytes.
 use Rattle.std.specs.Prelude.{◌≡◌, ◌<◌, ℕ, List, [], ◌++◌, length, Option, Some, IfSome}
 use Rattle.sc_io.specs.Pieces.{TakesPrefix}
 use Rattle.sc_model.specs.Messages.{HasNoMessage}
@@ -30,7 +30,7 @@ pub record FallsShort (before : List ℕ) (wanted : ℕ) (old new : Option (List
 abbrev pub LeavesSuffix : List ℕ → List ℕ → Option (List ℕ) → Option (List ℕ) → Type 0
 LeavesSuffix left before old new = (out : List ℕ) × KeepsBytes out left before old new
 
--- a source that tells its bytes has no more of them
+-- a source that reports its bytes has no more of them
 abbrev pub HasEnded : Option (List ℕ) → Option (List ℕ) → Type 0
 HasEnded old new = IfSome old (λ bytes. new ≡ Some [])
 

@@ -60,7 +60,7 @@ impl Buffer {
     }
 
     /// Reads the next bytes after those that are there, up to `limit` in all. What is left of earlier bytes is moved to
-    /// the front first.
+    /// the first places before that.
     pub(crate) fn fill<S: Source>(&mut self, source: &mut S, limit: usize) -> Result<(), Stopped>
         requires below { length self.old < limit }
         requires small { limit ≤ 2 ^ 32 }

@@ -1,6 +1,6 @@
 //! Requests as they come over a connection, and replies as they go back (HTTP/1.0 and HTTP/1.1: RFC 9112).
 //!
-//! It may stand on the sources and sinks of `sc_io`, on the model of requests in `sc_model`, and on
+//! It may depend on the sources and sinks of `sc_io`, on the model of requests in `sc_model`, and on
 //! `httparse` and `form_urlencoded`. The layer above uses the clauses of `Reader::next_message`: the
 //! request that comes first of a connection's bytes, however these are cut into pieces, or why there
 //! is none; and that of `write_reply`: the bytes that a reply is.

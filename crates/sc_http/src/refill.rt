@@ -43,7 +43,7 @@ pub(crate) fn refill<S: Source>(
     }
 }
 
-/// Makes the vector longer, to twice its length where `limit` allows that. What it has stays its front.
+/// Makes the vector longer, to twice its length where `limit` allows that. What it has stays its prefix.
 fn make_room(bytes: &mut Vec<u8>, limit: usize) -> Result<(), AllocError>
     requires below { vec_len bytes.old < limit }
     requires small { limit ≤ 2 ^ 32 }

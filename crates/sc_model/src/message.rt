@@ -40,7 +40,7 @@ impl Bytes {
     }
 }
 
-/// The method of a request (RFC 9110, section 9), as far as it is told apart.
+/// The method of a request (RFC 9110, section 9), as far as it is distinguished.
 #[derive(Clone, Copy, Debug, PartialEq, Eq)]
 pub enum Method {
     Get,

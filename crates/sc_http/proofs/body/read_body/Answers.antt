@@ -2,7 +2,7 @@
 use Rattle.std.proofs.Common.{◌≡◌, ◌≤◌, length, take, arith}
 use Rattle.std.proofs.lemmas.Grind.{common_steps}
 use Rattle.std.proofs.lemmas.Result.{err_from_is_err_and}
-use Rattle.sc_http.proofs.StreamLemmas.{given_front, given_whole, left_none}
+use Rattle.sc_http.proofs.StreamLemmas.{given_prefix, given_whole, left_none}
 use Rattle.sc_http.proofs.body.read_body.Goals as goal
 use Rattle.sc_http.proofs.body.read_body.Goals.{then-have-whole+in_ok-read_rest, else-have-whole}
 
@@ -14,10 +14,10 @@ returns-in_err-read_rest-clause-order g c =
 
 pub returns-clause-body : goal.returns-clause-body
 returns-clause-body g c =
-    let front : c.in-Ok.body.items ≡ take c.min-2.result c.args.buffer.now = cc (c.in-Ok.ensures.items) in
+    let prefix : c.in-Ok.body.items ≡ take c.min-2.result c.args.buffer.now = cc (c.in-Ok.ensures.items) in
     elim c.if-have-whole.branch [
       | then-have-whole+in_ok-read_rest w ↦
           let short : length c.args.buffer.now ≤ c.min-2.result = grind (arith, common_steps) in
-          rw (w.body-is, w.source-is) (given_whole _ _ _ _ c.min-2.result _ _ front c.give.ensures short w.in_ok-read_rest.ensures.body)
-      | else-have-whole w ↦ rw (w.body-is, w.source-is) (given_front _ _ _ c.min-2.result _ front c.give.ensures)
+          rw (w.body-is, w.source-is) (given_whole _ _ _ _ c.min-2.result _ _ prefix c.give.ensures short w.in_ok-read_rest.ensures.body)
+      | else-have-whole w ↦ rw (w.body-is, w.source-is) (given_prefix _ _ _ c.min-2.result _ prefix c.give.ensures)
     ]

@@ -1,5 +1,5 @@
 -- What is said of the part that is judged is said of all bytes.
-use Rattle.std.proofs.Common.{◌≡◌, ◌≢◌, ◌⊎◌, ◌<◌, List, ℕ, Option, None, ◌++◌, arith, length, take, drop, Ok, Err, inl, inr, sym, ap, subst, ◌∙◌, append_assoc}
+use Rattle.std.proofs.Common.{◌≢◌, ◌⊎◌, ◌<◌, List, ℕ, None, ◌++◌, arith, length, take, drop, Ok, Err, inl, inr, sym, ap, subst, ◌∙◌}
 use Rattle.std.specs.Prelude.{IfErr, IfSome}
 use Rattle.std.proofs.lemmas.Bool.Decides.{nat_tests}
 use Rattle.std.proofs.lemmas.Result.{IfOk-weaker}

@@ -1,6 +1,5 @@
 -- The line feeds are counted from the request line on.
-use Rattle.std.proofs.Common.{◌≡◌, ◌<◌, ◌-◌, ◌+◌, ◌==◌, length, take, drop, get_or, arith, sym, ◌∙◌}
-use Rattle.std.specs.List.{count_by}
+use Rattle.std.proofs.Common.{◌==◌, arith, sym, ◌∙◌}
 use Rattle.std.proofs.lemmas.Bool.{eq-eqb, ne_eqb}
 use Rattle.std.proofs.lemmas.List.{take_rest}
 use Rattle.std.proofs.lemmas.List.Sums.{count_by_more_yes, count_by_more_no}

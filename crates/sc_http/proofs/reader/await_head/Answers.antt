@@ -1,5 +1,5 @@
 -- What was searched before is not searched again.
-use Rattle.std.proofs.Common.{◌≡◌, ◌<◌, [], List, ℕ, length, arith, ap, sym, refl, subst, ◌∙◌, length-append, inl, inr}
+use Rattle.std.proofs.Common.{◌<◌, [], List, ℕ, length, arith, ap, sym, refl, subst, ◌∙◌, length-append, inl, inr}
 use Rattle.std.proofs.lemmas.Bool.{false≢true}
 use Rattle.std.proofs.lemmas.Result.{err_from_is_err_and}
 use Rattle.sc_http.proofs.HeadEndLemmas.{search_goes_on, place_kept}

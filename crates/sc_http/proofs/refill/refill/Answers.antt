@@ -1,4 +1,4 @@
--- What was read stands after what was there.
+-- What was read comes after what was there.
 use Rattle.std.proofs.Common.{◌≡◌, take, arith}
 use Rattle.std.proofs.lemmas.Grind.{common_steps}
 use Rattle.std.proofs.lemmas.List.{length-take-le}

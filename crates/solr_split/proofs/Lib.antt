@@ -1,3 +1,3 @@
--- The lemmas of this crate, lowest first.
+-- What the proofs of the arguments and of a run share.
 pub mod RunLemmas
 pub mod DigitLemmas

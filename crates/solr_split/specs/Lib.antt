@@ -1,3 +1,3 @@
--- The definitions that the contracts of this crate cite, lowest first.
+-- What the arguments ask for, and what a run leaves.
 pub mod Arguments
 pub mod Running

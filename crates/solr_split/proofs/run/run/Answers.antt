@@ -1,4 +1,4 @@
--- A run is one connection over a journal that begins empty, and its status is that of the end.
+-- What a script was answered is what its connection was served.
 use Rattle.std.proofs.Common.{◌≡◌, map, Some, string_bytes, sym, subst, inl}
 use Rattle.sc_model.specs.Served.{IsServed}
 use Rattle.sc_session.specs.declared.plain.Plain.{Plain}

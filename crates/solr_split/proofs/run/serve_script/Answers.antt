@@ -1,4 +1,4 @@
--- A connection with the clock of a script.
+-- A script that names a timestamp is served with a clock that stands still.
 use Rattle.std.proofs.Common.{ℕ, Option, refl, sym, subst}
 use Rattle.sc_model.specs.Served.{IsServed}
 use Rattle.sc_session.specs.Table.{journals, own_places}

@@ -1,5 +1,5 @@
 //! The bodies of the answers that take no memory.
-#![tactic(auto, unfolding(crate::proofs::Texts::texts_on_literals))]
+#![tactic(auto, unfolding(crate::proofs::TextLemmas::texts_on_literals))]
 
 ghost use Rattle.std.specs.Prelude.{◌≡◌, false, []};
 ghost use Rattle.sc_model.specs.Replies as replies;

@@ -2,9 +2,8 @@
 
 ghost use Rattle.std.specs.Prelude.{◌≤◌};
 
-use crate::{CutFault, cut, tiles};
+use crate::{CutFault, cut};
 use sc_hash::{Range, parse_range, range_text};
-use sc_record::List;
 use std::alloc::{AllocError, Global};
 use std::process::Abort;
 use std::test::Fail;
@@ -136,38 +135,5 @@ fn small_parts_are_even_shares(rt: HostRuntime) -> Result<(), Fail> {
         message.as_str(),
         "the range has fewer hashes than it is to have parts"
     );
-    Ok(())
-}
-
-// Whether ranges, written with spaces between them, tile the hashes from 0 to ff.
-fn tile_256(alloc: Global, ranges: &str) -> Result<bool, Fail> {
-    let mut parts = List::new(alloc);
-    for text in ranges.split_ascii_whitespace() {
-        parts.push(parse_range(text).ok_or("no range")?)?;
-    }
-    let whole = Range::new(0, 255).ok_or("no range")?;
-    Ok(tiles(&parts, &whole))
-}
-
-#[test]
-fn ranges_tile_in_any_order(rt: HostRuntime) -> Result<(), Fail> {
-    let alloc = rt.alloc();
-    for ranges in ["0-ff", "0-7f 80-ff", "80-ff 0-7f", "81-ff 0-0 1-80"] {
-        assert!(rt; tile_256(alloc, ranges)?, "{ranges}");
-    }
-    for ranges in [
-        "",
-        "0-fe",
-        "1-ff",
-        "0-100",
-        "ffffffff-ff",
-        "0-7f 81-ff",
-        "0-80 80-ff",
-        "0-7f 0-7f 80-ff",
-        "0-ff ff-ff",
-        "100-100 0-ff",
-    ] {
-        assert!(rt; !tile_256(alloc, ranges)?, "{ranges}");
-    }
     Ok(())
 }

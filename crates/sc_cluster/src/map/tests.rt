@@ -1,4 +1,4 @@
-ghost use Rattle.std.specs.Prelude.{◌≡◌, ◌<◌, [], IfOk, OnOk, Contains};
+ghost use Rattle.std.specs.Prelude.{◌≡◌, [], IfOk, OnOk, Contains};
 ghost use Rattle.sc_cluster.specs.declared.slice.Slice.{Slice};
 ghost use Rattle.sc_cluster.specs.declared.slice.State.TheVariants as states;
 ghost use Rattle.sc_cluster.specs.Slices.{forming};
@@ -11,7 +11,7 @@ use crate::parts::{CutFault, cut};
 use crate::plan::SplitPlan;
 use crate::slice::State;
 use sc_hash::{Range, range_text};
-use sc_record::{CloneIn, List, SliceId, SubSlice, Text};
+use sc_record::{CloneIn, SliceId};
 use std::alloc::Global;
 use std::process::Abort;
 use std::test::Fail;
@@ -155,67 +155,6 @@ fn a_copy_is_equal_and_goes_to_other_threads(rt: HostRuntime) -> Result<(), Fail
     assert!(rt; map.allows(&plan) && copy.allows(&plan));
     let first = map.get(0).ok_or("no slice")?;
     assert_eq!(rt; copied(alloc, &copied(alloc, first)?.name)?, first.name);
-    Ok(())
-}
-
-// The plan with another first sub.
-fn with_first(
-    alloc: Global,
-    plan: &SplitPlan,
-    name: &str,
-    id: u32,
-    node: u32,
-) -> Result<SplitPlan, Fail>
-    requires { 0 < node }
-{
-    let mut subs = List::new(alloc);
-    for (i, sub) in plan.subs.iter().enumerate() {
-        let sub = copied(alloc, sub)?;
-        if i == 0 {
-            let SubSlice {
-                min,
-                max,
-                replicas,
-                ..
-            } = sub;
-            subs.push(SubSlice {
-                id: SliceId(id),
-                name: Text::new(alloc, name)?,
-                min,
-                max,
-                replicas,
-                node,
-            })?;
-        } else {
-            subs.push(sub)?;
-        }
-    }
-    Ok(SplitPlan {
-        parent: plan.parent,
-        subs,
-    })
-}
-
-#[test]
-fn a_map_allows_no_other_plan(rt: HostRuntime) -> Result<(), Fail> {
-    let alloc = rt.alloc();
-    let mut map = ClusterMap::new(alloc, 2, 1, 1)?;
-    let plan = planned(&rt, alloc, &map, "shard1")?;
-    for (name, id, node, allowed) in [
-        ("shard1_0", 2, 1, true),
-        ("shard1_00", 2, 1, false),
-        ("shard1_1", 2, 1, false),
-        ("shard1", 2, 1, false),
-        ("shard2_0", 2, 1, false),
-        ("shard1_0", 1, 1, false),
-        ("shard1_0", 4, 1, false),
-        ("shard1_0", 2, 2, false),
-    ] {
-        let other = with_first(alloc, &plan, name, id, node)?;
-        assert_eq!(rt; map.allows(&other), allowed, "{name} {id} {node}");
-    }
-    map.begin(&plan)?;
-    assert!(rt; !map.allows(&plan) && !map.is_idle());
     Ok(())
 }
 

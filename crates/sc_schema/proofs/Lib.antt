@@ -1,0 +1,4 @@
+pub mod FitLemmas
+pub mod PartLemmas
+pub mod RawLemmas
+pub mod ValueLemmas

@@ -1,0 +1,5 @@
+-- What a document's members may be, and the order that they ask for.
+pub mod Documents
+pub mod Raw
+pub mod Terms
+pub mod Values

@@ -1,0 +1,186 @@
+ghost use Rattle.std.specs.Prelude.{◌≡◌, IfOk, IfErr, Ok, option_copied, codes, filter_map, IsTrue};
+ghost use Rattle.std.specs.List.{list_any};
+ghost use Rattle.sc_record.specs.Orders.{IsChange};
+ghost use Rattle.sc_record.specs.declared.order.Order.{Order};
+ghost use Rattle.sc_schema.specs.declared.raw.RawField.{RawField};
+ghost use Rattle.sc_schema.specs.Documents.{asked, change_of, changed_by, condition_of, condition_text, document_order, field_of, id_of, id_text, is_field_name, is_object, IsFaultOf, member, NamesFields, part_of, parts_of};
+
+use crate::change::how_of;
+use crate::fault::DocFault;
+use crate::raw::{RawDoc, RawField, RawFlat, RawOne, RawValue};
+use crate::value::number_text;
+use sc_record::{Change, Doc, Field, FieldChange, How, Id, IdFault, List, Order, Text, kind_of};
+use std::alloc::{AllocError, Global};
+
+/// The order that a document's members ask for, or the first of their faults.
+pub fn check_doc(alloc: Global, raw: &RawDoc) -> Result<Order, DocFault>
+    ensures ok { IfOk result (λ order. document_order raw.now.fields ≡ Ok (asked order)) }
+    ensures fault { IfErr result (IsFaultOf (document_order raw.now.fields)) }
+    ensures names { IfOk result (λ order. NamesFields raw.now.fields order.change) }
+{
+    let fields = raw.fields.as_slice();
+    let id = id_of(alloc, member(fields, "id"))?;
+    let condition = condition_of(alloc, member(fields, "_version_"))?;
+    let parts = parts_of(alloc, fields)?;
+    let change = change_of(alloc, raw, parts)?;
+    Ok(Order {
+        id,
+        condition,
+        change,
+    })
+}
+
+/// The value of the member of this name.
+fn member<'a>(fields: &'a [RawField], name: &str) -> Option<&'a RawValue>
+    ensures { option_copied result ≡ member fields.now name.now }
+{
+    for field in fields {
+        if field.name.as_str() == name {
+            return Some(&field.value);
+        }
+    }
+    None
+}
+
+/// The id of a document, by the value of its member `id`.
+fn id_of(alloc: Global, value: Option<&RawValue>) -> Result<Id, DocFault>
+    ensures ok { IfOk result (λ id. id_of (option_copied value.entry) ≡ Ok id) }
+    ensures fault { IfErr result (IsFaultOf (id_of (option_copied value.entry))) }
+{
+    match value {
+        None | Some(RawValue::Plain(RawFlat::One(RawOne::Null))) => Err(DocFault::NoId),
+        Some(RawValue::Plain(RawFlat::One(RawOne::Text(text)))) => id_text(alloc, text.as_str()),
+        Some(RawValue::Plain(RawFlat::One(RawOne::Number(number)))) => {
+            let text = number.to_string(alloc)?;
+            id_text(alloc, text.as_str())
+        }
+        Some(_) => Err(DocFault::WrongValue(Text::new(alloc, "id")?)),
+    }
+}
+
+/// The text as an id.
+fn id_text(alloc: Global, text: &str) -> Result<Id, DocFault>
+    ensures ok { IfOk result (λ id. id_text text.now ≡ Ok id) }
+    ensures fault { IfErr result (IsFaultOf (id_text text.now)) }
+{
+    match Id::new(alloc, text) {
+        Ok(id) => Ok(id),
+        Err(IdFault::Empty) => Err(DocFault::NoId),
+        Err(IdFault::TooLong) => Err(DocFault::IdTooLong),
+        Err(IdFault::Memory) => Err(DocFault::Memory),
+    }
+}
+
+/// The condition of a document, by the value of its member `_version_`.
+fn condition_of(alloc: Global, value: Option<&RawValue>) -> Result<i64, DocFault>
+    ensures ok { IfOk result (λ condition. condition_of (option_copied value.entry) ≡ Ok condition) }
+    ensures fault { IfErr result (IsFaultOf (condition_of (option_copied value.entry))) }
+{
+    match value {
+        None => Ok(0),
+        Some(RawValue::Plain(RawFlat::One(RawOne::Number(number)))) => Ok(*number),
+        Some(RawValue::Plain(RawFlat::One(RawOne::Text(text)))) => {
+            condition_text(alloc, text.as_str())
+        }
+        Some(_) => Err(DocFault::WrongValue(Text::new(alloc, "_version_")?)),
+    }
+}
+
+/// The changes of fields that the members ask for, or the first fault of a field.
+fn parts_of(alloc: Global, fields: &[RawField]) -> Result<List<FieldChange>, DocFault>
+    ensures ok { IfOk result (λ parts. parts_of fields.now ≡ Ok parts) }
+    ensures fault { IfErr result (IsFaultOf (parts_of fields.now)) }
+{
+    let mut parts = List::new(alloc);
+    for field in fields {
+        if is_field_name(field.name.as_str()) {
+            parts.push(part_of(alloc, field)?)?;
+        }
+    }
+    Ok(parts)
+}
+
+/// Whether the name is neither that of the id nor that of the version.
+fn is_field_name(name: &str) -> bool
+    ensures { result ≡ is_field_name name.now }
+{
+    name != "id" && name != "_version_"
+}
+
+/// The change of a field that a member asks for.
+fn part_of(alloc: Global, field: &RawField) -> Result<FieldChange, DocFault>
+    ensures ok { IfOk result (λ part. part_of field.now ≡ Ok part) }
+    ensures fault { IfErr result (IsFaultOf (part_of field.now)) }
+{
+    let name = Text::new(alloc, field.name.as_str())?;
+    let Some((kind, many)) = kind_of(name.as_str()) else {
+        return Err(DocFault::UnknownField(name));
+    };
+    match how_of(alloc, kind, many, &field.value)? {
+        Some(how) => Ok(FieldChange { name, how }),
+        None => Err(DocFault::WrongValue(name)),
+    }
+}
+
+/// The condition that a version's text states, which is just its decimal text.
+fn condition_text(alloc: Global, text: &str) -> Result<i64, DocFault>
+    ensures ok { IfOk result (λ condition. condition_text text.now ≡ Ok condition) }
+    ensures fault { IfErr result (IsFaultOf (condition_text text.now)) }
+{
+    let Some(number) = number_text(text) else {
+        return Err(DocFault::WrongValue(Text::new(alloc, "_version_")?));
+    };
+    let canonical = number.to_string(alloc)?;
+    if canonical.as_str() == text {
+        return Ok(number);
+    }
+    Err(DocFault::WrongValue(Text::new(alloc, "_version_")?))
+}
+
+/// The change that the document asks for.
+fn change_of(alloc: Global, raw: &RawDoc, parts: List<FieldChange>) -> Result<Change, AllocError>
+    requires { parts_of raw.now.fields ≡ Ok parts }
+    ensures value { IfOk result (λ change. change ≡ change_of raw.now.fields parts) }
+    ensures lawful { IfOk result IsChange }
+{
+    if is_update(raw.fields.as_slice()) {
+        return Ok(Change::Parts(parts));
+    }
+    Ok(Change::Whole(Doc::new(set_fields(alloc, parts)?)))
+}
+
+/// Whether the value of a member is an object.
+fn is_update(fields: &[RawField]) -> bool
+    ensures { result ≡ list_any (λ (field : RawField). is_object field.value) fields.now }
+{
+    fields
+        .iter()
+        .any(|field| matches!(field.value, RawValue::Change { .. }))
+}
+
+/// The fields of a new document that these changes make.
+fn set_fields(alloc: Global, parts: List<FieldChange>) -> Result<List<Field>, AllocError>
+    ensures { IfOk result (λ fields. fields ≡ filter_map field_of parts) }
+{
+    let mut fields = List::new(alloc);
+    for part in parts.into_vec() {
+        if let Some(field) = set_field(part) {
+            fields.push(field)?;
+        }
+    }
+    Ok(fields)
+}
+
+/// The field of a new document that this change makes.
+fn set_field(part: FieldChange) -> Option<Field>
+    ensures { result ≡ field_of part }
+{
+    let FieldChange { name, how } = part;
+    let How::Set(values) = how else {
+        return None;
+    };
+    if values.is_empty() {
+        return None;
+    }
+    Some(Field { name, values })
+}

@@ -1,0 +1,34 @@
+//! Which documents the collection takes: the kinds of its fields by their names, the values of each kind, the changes of an
+//! atomic update, and the terms by which a document is found (Solr Reference Guide, "Dynamic Fields", "Atomic Updates").
+//!
+//! It may depend on the documents and orders of `sc_record`, and on Unicode's word breaks and case folding. The layers above
+//! read a document's members into a `RawDoc`, and use the clause of `check_doc`: the order that the members ask for, or the
+//! first fault that they have; and that of `terms_of`, the terms that a query's leaf is compared with.
+#![tactic(auto)]
+
+// Documents as they come.
+mod raw;
+
+// Why one can't be taken.
+mod fault;
+
+// What values are to a field of their kind.
+mod value;
+mod values;
+
+// What members change, and the order that they ask for together.
+mod change;
+mod document;
+
+// What a document is found by.
+mod terms;
+mod word;
+
+pub use document::check_doc;
+pub use fault::DocFault;
+pub use raw::{RawDoc, RawField, RawFlat, RawOne, RawValue};
+pub use terms::terms_of;
+pub use word::fold_word;
+
+#[cfg(test)]
+mod tests;

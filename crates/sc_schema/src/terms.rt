@@ -1,0 +1,81 @@
+ghost use Rattle.std.specs.Prelude.{◌≡◌, ◌++◌, codes, flat_map, map, IfOk, OnOk};
+ghost use Rattle.sc_record.specs.Fields.{kind_of};
+ghost use Rattle.sc_schema.specs.Terms.{by_words, field_terms, found_by, keys_of, term, AreTerms};
+
+use crate::word::{push_term, push_words};
+use sc_record::{Doc, Field, Id, Kind, List, Term, Text, Value, kind_of};
+use std::alloc::{AllocError, Global};
+
+/// The terms by which a document of this id is found. A field of words is found by each of its words, whatever their case,
+/// and any other one by its whole values.
+pub fn terms_of(alloc: Global, id: &Id, doc: &Doc) -> Result<List<Term>, AllocError>
+    ensures { IfOk result (AreTerms id.now doc.now) }
+{
+    let mut terms = found_by(alloc, id, doc.fields())?.into_vec();
+    terms.sort_unstable();
+    terms.dedup();
+    Ok(List::from_vec(terms))
+}
+
+/// What a document is found by, in the order of its fields.
+fn found_by(alloc: Global, id: &Id, fields: &[Field]) -> Result<List<Term>, AllocError>
+    ensures { IfOk result (λ terms. terms ≡ found_by id.now fields.now) }
+{
+    let mut terms = List::new(alloc);
+    push_term(alloc, &mut terms, "id", Text::new(alloc, id.as_str())?)?;
+    for field in fields {
+        push_field(alloc, &mut terms, field)?;
+    }
+    Ok(terms)
+}
+
+/// Puts the terms of a field at the end.
+fn push_field(alloc: Global, terms: &mut List<Term>, field: &Field) -> Result<(), AllocError>
+    ensures { OnOk result (terms.new ≡ terms.old ++ field_terms field.now) }
+{
+    let name = field.name.as_str();
+    let split = is_found_by_words(name);
+    for value in field.values.as_slice() {
+        push_value(alloc, terms, name, split, value)?;
+    }
+    Ok(())
+}
+
+/// Whether the field of this name is found word by word.
+fn is_found_by_words(name: &str) -> bool
+    ensures { result ≡ by_words (kind_of name.now) }
+{
+    matches!(kind_of(name), Some((Kind::Words, _)))
+}
+
+/// Puts the terms of a value at the end.
+fn push_value(
+    alloc: Global,
+    terms: &mut List<Term>,
+    field: &str,
+    split: bool,
+    value: &Value,
+) -> Result<(), AllocError>
+    ensures { OnOk result (terms.new ≡ terms.old ++ map (term field.now) (keys_of split value.now)) }
+{
+    match value {
+        Value::Text(text) if split => push_words(alloc, terms, field, text.as_str()),
+        Value::Text(text) => push_term(alloc, terms, field, Text::new(alloc, text.as_str())?),
+        Value::Int(number) => push_term(
+            alloc,
+            terms,
+            field,
+            Text::from_string(number.to_string(alloc)?),
+        ),
+        Value::Long(number) => push_term(
+            alloc,
+            terms,
+            field,
+            Text::from_string(number.to_string(alloc)?),
+        ),
+        Value::Flag(flag) => {
+            let name = if *flag { "true" } else { "false" };
+            push_term(alloc, terms, field, Text::new(alloc, name)?)
+        }
+    }
+}

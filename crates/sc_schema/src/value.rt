@@ -1,0 +1,86 @@
+ghost use Rattle.std.specs.Prelude.{◌≡◌, IfOk};
+ghost use Rattle.sc_schema.specs.Values.{text_of, number_text, number_of, flag_named, flag_of, int_value, value_of};
+
+use crate::raw::RawOne;
+use sc_record::{Kind, Text, Value};
+use std::alloc::{AllocError, Global};
+
+/// The value that a field of this kind keeps of it. `None` where it does not fit.
+pub fn value_of(alloc: Global, kind: Kind, one: &RawOne) -> Result<Option<Value>, AllocError>
+    ensures { IfOk result (λ value. value ≡ value_of kind one.now) }
+{
+    match kind {
+        Kind::Str | Kind::Words => Ok(text_of(alloc, one)?.map(Value::Text)),
+        Kind::Int => Ok(number_of(one).and_then(int_value)),
+        Kind::Long => Ok(number_of(one).map(Value::Long)),
+        Kind::Flag => Ok(flag_of(one).map(Value::Flag)),
+    }
+}
+
+/// The number, where it has 32 bits.
+fn int_value(number: i64) -> Option<Value>
+    ensures { result ≡ int_value number }
+{
+    if number < i64::from(i32::MIN) || number > i64::from(i32::MAX) {
+        return None;
+    }
+    Some(Value::Int(number as i32))
+}
+
+/// The text that the value is.
+fn text_of(alloc: Global, one: &RawOne) -> Result<Option<Text>, AllocError>
+    ensures { IfOk result (λ text. text ≡ text_of one.now) }
+{
+    match one {
+        RawOne::Null | RawOne::Other => Ok(None),
+        RawOne::Flag(flag) => {
+            let name = if *flag { "true" } else { "false" };
+            Ok(Some(Text::new(alloc, name)?))
+        }
+        RawOne::Number(number) => Ok(Some(Text::from_string(number.to_string(alloc)?))),
+        RawOne::Text(text) => Ok(Some(Text::new(alloc, text.as_str())?)),
+    }
+}
+
+/// The whole number that the value is.
+pub fn number_of(one: &RawOne) -> Option<i64>
+    ensures { result ≡ number_of one.now }
+{
+    match one {
+        RawOne::Null | RawOne::Flag(_) | RawOne::Other => None,
+        RawOne::Number(number) => Some(*number),
+        RawOne::Text(text) => number_text(text.as_str()),
+    }
+}
+
+/// The number that a decimal text writes, where it has 64 bits. Leading zeros may stand, a plus sign may not.
+pub fn number_text(text: &str) -> Option<i64>
+    ensures { result ≡ number_text text.now }
+{
+    if text.starts_with('+') {
+        return None;
+    }
+    text.parse::<i64>().ok()
+}
+
+/// The truth value that the value is.
+fn flag_of(one: &RawOne) -> Option<bool>
+    ensures { result ≡ flag_of one.now }
+{
+    match one {
+        RawOne::Null | RawOne::Number(_) | RawOne::Other => None,
+        RawOne::Flag(flag) => Some(*flag),
+        RawOne::Text(text) => flag_named(text.as_str()),
+    }
+}
+
+/// The truth value of this name.
+fn flag_named(text: &str) -> Option<bool>
+    ensures { result ≡ flag_named text.now }
+{
+    match text {
+        "true" => Some(true),
+        "false" => Some(false),
+        _ => None,
+    }
+}

@@ -1,0 +1,4 @@
+-- Which value a body has, what its members are, and which value a document is.
+pub mod Bodies
+pub mod RawDocs
+pub mod Documents

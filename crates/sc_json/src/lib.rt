@@ -1,0 +1,22 @@
+//! JSON (RFC 8259): the value that a body is, a document as a request gives it, and a document as it is shown.
+//!
+//! It may depend on the documents of `sc_record` and `sc_schema`, and on the parser and printer of `serde_json`, which does
+//! all reading, printing and escaping. The layers above use the clauses of `read` and `raw_doc`, which say which value a body
+//! has and what its members are, and those of `doc_value` and `print`, which say which text a document has.
+#![tactic(auto)]
+
+// A body's value, and the members of an object.
+mod body;
+mod raw;
+
+// A document's value, and a value's text.
+mod document;
+mod text;
+
+pub use body::{JsonFault, read};
+pub use document::doc_value;
+pub use raw::{RawFault, raw_doc, raw_one};
+pub use text::print;
+
+#[cfg(test)]
+mod tests;

@@ -1,0 +1,4 @@
+pub mod TextLemmas
+pub mod FloatLemmas
+pub mod LiveLemmas
+pub mod PutLemmas

@@ -1,0 +1,3 @@
+-- The bodies of answers and the messages of refusals.
+pub mod Bodies
+pub mod Causes

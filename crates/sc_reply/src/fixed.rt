@@ -1,0 +1,22 @@
+//! The bodies of answers that take no memory.
+#![tactic(auto, unfolding(crate::proofs::TextLemmas::texts_on_literals))]
+
+ghost use Rattle.std.specs.Prelude.{◌≡◌, false, []};
+ghost use Rattle.sc_reply.specs.Bodies.{update_text, error_text};
+ghost use Rattle.sc_reply.specs.Causes.{message_of, status_of};
+ghost use Rattle.sc_reply.specs.declared.cause.Cause.TheVariants as causes;
+
+/// The body of the answer to an update that was done and shows no versions.
+pub fn ok_body() -> &'static str
+    ensures { result.now ≡ update_text [] [] false }
+{
+    r#"{"responseHeader":{"QTime":0,"status":0}}"#
+}
+
+/// The body of the refusal where memory ran out.
+pub fn memory_body() -> &'static str
+    ensures { result.now
+        ≡ error_text (status_of causes.Memory) (message_of causes.Memory) [] [] false }
+{
+    r#"{"error":{"code":503,"msg":"out of memory"},"responseHeader":{"QTime":0,"status":503}}"#
+}

@@ -1,0 +1,25 @@
+//! What is answered: the bodies of all answers to updates, gets and searches, and the status and the message of each cause of
+//! a refusal (RFC 8259; Solr Reference Guide, "Response Writers").
+//!
+//! It may depend on `sc_record` and `sc_json`, which shows documents and prints. The layers above use the clauses that give
+//! each body's whole text, and those of `Cause::status` and `Cause::message`.
+#![tactic(auto)]
+
+// Why a request is refused.
+mod cause;
+
+// The members of answers.
+mod parts;
+
+// The bodies of answers.
+mod documents;
+mod fixed;
+mod update;
+
+pub use cause::Cause;
+pub use documents::{get_body, ids_body, select_body};
+pub use fixed::{memory_body, ok_body};
+pub use update::{error_body, update_body};
+
+#[cfg(test)]
+mod tests;

@@ -1,0 +1,130 @@
+-- The orders of commands, one after another and one list after another.
+use Rattle.std.proofs.Common.{◌≡◌, ℕ, suc, ◌+◌, ◌<◌, ◌≤◌, List, [], ◌∷◌, ◌++◌, length, get_or, drop, map, Result, Ok, Err, refl, sym, ap, ◌∙◌, inl, inr, append_assoc, subst, arith, drop-cons, length-append}
+use Rattle.std.proofs.lemmas.List.{length-map}
+use Rattle.serde_json.specs.View.{view}
+use Rattle.serde_json.specs.declared.value.Value.{Value}
+use Rattle.sc_record.specs.declared.order.Order.{Order}
+use Rattle.sc_schema.specs.Raw.{AscendByName}
+use Rattle.sc_schema.specs.Documents.{Asked, asked, and_then, found_map, IsFaultOf}
+use Rattle.sc_schema.specs.declared.fault.DocFault.{DocFault}
+use Rattle.sc_schema.specs.declared.raw.RawField.{RawField}
+use Rattle.std.specs.List.Sorted.{IsStrictlySortedBy}
+use Rattle.sc_commands.specs.Commands.{Command}
+use Rattle.sc_commands.specs.Listed.{command_of, listed}
+use Rattle.sc_commands.specs.Updates.{order_of, orders_of}
+use Rattle.sc_commands.specs.declared.forms.Action.{Action}
+use Rattle.sc_commands.specs.declared.forms.Action.TheVariants as actions
+
+-- orders, and those that follow
+abbrev pub then_more : Result (List Asked) DocFault → Result (List Asked) DocFault → Result (List Asked) DocFault
+then_more first later = and_then (λ orders. found_map (λ more. orders ++ more) later) first
+
+one_more : (first : Result Asked DocFault) (rest later : Result (List Asked) DocFault)
+    → and_then (λ order. found_map (λ orders. order ∷ orders) (then_more rest later)) first
+    ≡ then_more (and_then (λ order. found_map (λ orders. order ∷ orders) rest) first) later
+one_more (Err fault) rest later = refl
+one_more (Ok order) (Err fault) later = refl
+one_more (Ok order) (Ok orders) (Err fault) = refl
+one_more (Ok order) (Ok orders) (Ok more) = refl
+
+none_before : (later : Result (List Asked) DocFault) → later ≡ found_map (λ more. [] ++ more) later
+none_before (Ok more) = refl
+none_before (Err fault) = refl
+
+-- the orders of two lists
+pub orders-append : (xs ys : List Command) → orders_of (xs ++ ys) ≡ then_more (orders_of xs) (orders_of ys)
+orders-append [] ys = none_before (orders_of ys)
+orders-append (x ∷ xs) ys =
+    ap (λ rest. and_then (λ order. found_map (λ orders. order ∷ orders) rest) (order_of x)) (orders-append xs ys) ∙ one_more (order_of x) (orders_of xs) (orders_of ys)
+
+-- the orders that were read, and those of the values that are left
+abbrev pub with_rest : Action → List Asked → List Value → Result (List Asked) DocFault
+with_rest action read values = found_map (λ more. read ++ more) (orders_of (listed action values))
+
+put_one : (read : List Asked) (order : Asked) (rest : Result (List Asked) DocFault)
+    → found_map (λ more. read ++ more) (found_map (λ orders. order ∷ orders) rest) ≡ found_map (λ more. (read ++ order ∷ []) ++ more) rest
+put_one read order (Err fault) = refl
+put_one read order (Ok more) = ap (λ all. Ok all) (sym (append_assoc read (order ∷ []) more))
+
+asked-append : (orders : List Order) (order : Order) → map asked (orders ++ order ∷ []) ≡ map asked orders ++ asked order ∷ []
+asked-append [] order = refl
+asked-append (first ∷ orders) order = ap (λ rest. asked first ∷ rest) (asked-append orders order)
+
+-- the order of the next value goes after those that were read
+pub next_order : (action : Action) (values : List Value) (i : ℕ) (d : Value) (old new : List Order) (order : Order) → i < length values
+    → order_of (command_of action (view (get_or values i d))) ≡ Ok (asked order) → new ≡ old ++ order ∷ []
+    → with_rest action (map asked old) (drop i values) ≡ with_rest action (map asked new) (drop (i + 1) values)
+next_order action values i d old new order within here pushed =
+    let place : suc i ≡ i + 1 = omega arith in
+    ap (λ left. with_rest action (map asked old) left) (drop-cons values i d within)
+    ∙ ap (λ found. found_map (λ more. map asked old ++ more) (and_then (λ o. found_map (λ orders. o ∷ orders) (orders_of (listed action (drop (suc i) values)))) found)) here
+    ∙ put_one (map asked old) (asked order) (orders_of (listed action (drop (suc i) values)))
+    ∙ ap (λ read. with_rest action read (drop (suc i) values)) (sym (ap (λ orders. map asked orders) pushed ∙ asked-append old order))
+    ∙ ap (λ n. with_rest action (map asked new) (drop n values)) place
+
+fault_first : (read : List Asked) (whole : Result (List Asked) DocFault) (fault : DocFault) → found_map (λ more. read ++ more) whole ≡ Err fault → whole ≡ Err fault
+fault_first read (Ok orders) fault e = cc
+fault_first read (Err other) fault e = e
+
+-- the fault of the next value is the first of all
+pub next_fault : (action : Action) (values : List Value) (i : ℕ) (d : Value) (first read : List Asked) (fault : DocFault) → i < length values
+    → with_rest action first values ≡ with_rest action read (drop i values)
+    → IsFaultOf (order_of (command_of action (view (get_or values i d)))) fault → IsFaultOf (orders_of (listed action values)) fault
+next_fault action values i d first read fault within same (inl memory) = inl memory
+next_fault action values i d first read fault within same (inr found) =
+    inr (fault_first first (orders_of (listed action values)) fault
+    (same ∙ ap (λ left. with_rest action read left) (drop-cons values i d within)
+    ∙ ap (λ order. found_map (λ more. read ++ more) (and_then (λ o. found_map (λ orders. o ∷ orders) (orders_of (listed action (drop (suc i) values)))) order)) found))
+
+-- the fields of one name ascend
+pub alone_ascends : (field : RawField) → AscendByName (field ∷ [])
+unfolding IsStrictlySortedBy
+alone_ascends field = (tt, tt)
+
+-- a fault of the first list is the fault of both
+pub fault_before : (xs ys : List Command) (fault : DocFault) → IsFaultOf (orders_of xs) fault → IsFaultOf (orders_of (xs ++ ys)) fault
+fault_before xs ys fault (inl memory) = inl memory
+fault_before xs ys fault (inr found) = inr (orders-append xs ys ∙ ap (λ first. then_more first (orders_of ys)) found)
+
+read_first : (xs : List Command) (none : List Order) (first : List Asked) → none ≡ [] → found_map (λ more. map asked none ++ more) (orders_of xs) ≡ Ok first → orders_of xs ≡ Ok first
+read_first xs none first empty read =
+    none_before (orders_of xs) ∙ ap (λ (orders : List Order). found_map (λ more. map asked orders ++ more) (orders_of xs)) (sym empty) ∙ read
+
+-- the orders of both lists
+pub read_both : (xs ys : List Command) (none : List Order) (first all : List Asked) → none ≡ [] → found_map (λ more. map asked none ++ more) (orders_of xs) ≡ Ok first
+    → found_map (λ more. first ++ more) (orders_of ys) ≡ Ok all → orders_of (xs ++ ys) ≡ Ok all
+read_both xs ys none first all empty read later =
+    orders-append xs ys ∙ ap (λ found. then_more found (orders_of ys)) (read_first xs none first empty read) ∙ later
+
+-- a fault of the second list, where the first has none, is the fault of both
+pub fault_after : (xs ys : List Command) (none : List Order) (first : List Asked) (fault : DocFault) → none ≡ [] → found_map (λ more. map asked none ++ more) (orders_of xs) ≡ Ok first
+    → IsFaultOf (orders_of ys) fault → IsFaultOf (orders_of (xs ++ ys)) fault
+fault_after xs ys none first fault empty read (inl memory) = inl memory
+fault_after xs ys none first fault empty read (inr found) =
+    inr (orders-append xs ys ∙ ap (λ before. then_more before (orders_of ys)) (read_first xs none first empty read) ∙ ap (λ later. found_map (λ more. first ++ more) later) found)
+
+-- so many orders, where there are orders
+abbrev pub Counts : ℕ → Result (List Asked) DocFault → Type 0
+Counts n (Ok orders) = length orders ≡ n
+Counts n (Err fault) = Unit {0}
+
+counts_more : (n : ℕ) (first : Result Asked DocFault) (rest : Result (List Asked) DocFault) → Counts n rest → Counts (suc n) (and_then (λ order. found_map (λ orders. order ∷ orders) rest) first)
+counts_more n (Err fault) rest h = tt
+counts_more n (Ok order) (Err fault) h = tt
+counts_more n (Ok order) (Ok orders) h = ap suc h
+
+counts_orders : (commands : List Command) → Counts (length commands) (orders_of commands)
+counts_orders [] = refl
+counts_orders (command ∷ commands) = counts_more (length commands) (order_of command) (orders_of commands) (counts_orders commands)
+
+-- there are as many orders as commands
+pub few_orders : (adds deletes : List Value) (orders : List Order) (limit : ℕ) → orders_of (listed actions.Add adds ++ listed actions.Delete deletes) ≡ Ok (map asked orders)
+    → length adds + length deletes ≤ limit → length orders ≤ limit
+few_orders adds deletes orders limit found small =
+    let both = listed actions.Add adds ++ listed actions.Delete deletes in
+    let counted : length (map asked orders) ≡ length both = subst (Counts (length both)) found (counts_orders both) in
+    let orders_same : length (map asked orders) ≡ length orders = length-map orders asked in
+    let parts : length both ≡ length (listed actions.Add adds) + length (listed actions.Delete deletes) = length-append (listed actions.Add adds) (listed actions.Delete deletes) in
+    let first : length (listed actions.Add adds) ≡ length adds = length-map adds (λ value. command_of actions.Add (view value)) in
+    let second : length (listed actions.Delete deletes) ≡ length deletes = length-map deletes (λ value. command_of actions.Delete (view value)) in
+    omega arith

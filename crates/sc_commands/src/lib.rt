@@ -1,0 +1,25 @@
+//! The body of an update, read in every form that it may have (Solr Reference Guide, "JSON Formatted Index Updates"): an array
+//! of documents, or an object that adds, deletes and commits.
+//!
+//! It may depend on `sc_json`, which reads JSON, and on `sc_schema`, which checks documents. The layers above use the clauses
+//! of `read_update`: the batch of orders that a body asks for, or the first cause why it is refused.
+#![tactic(auto)]
+
+// What was asked for, and why it is refused.
+mod batch;
+mod fault;
+
+// The forms of a body, and the orders of its commands.
+mod forms;
+mod keys;
+mod orders;
+
+// The body.
+mod update;
+
+pub use batch::{Batch, Flags};
+pub use fault::CommandFault;
+pub use update::read_update;
+
+#[cfg(test)]
+mod tests;

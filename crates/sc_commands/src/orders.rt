@@ -1,0 +1,104 @@
+//! The orders of commands.
+
+ghost use Rattle.std.specs.Prelude.{◌≡◌, ◌∷◌, ◌++◌, [], codes, map, Ok, IfOk, IfErr};
+ghost use Rattle.serde_json.specs.View.{view};
+ghost use Rattle.sc_schema.specs.Documents.{asked, found_map, IsFaultOf};
+ghost use Rattle.sc_schema.specs.declared.raw.RawFlat.TheVariants.{One};
+ghost use Rattle.sc_schema.specs.declared.raw.RawValue.TheVariants.{Plain};
+ghost use Rattle.sc_json.specs.RawDocs.{raw_one as one_of};
+ghost use Rattle.sc_commands.specs.Commands.{fields_of};
+ghost use Rattle.sc_commands.specs.Listed.{command_of, listed};
+ghost use Rattle.sc_commands.specs.Updates as updates;
+ghost use Rattle.sc_commands.specs.declared.forms.Action.TheVariants as actions;
+
+use crate::forms::{Action, Commands};
+use sc_json::{RawFault, raw_doc, raw_one};
+use sc_record::{Change, List, Order, Text};
+use sc_schema::{DocFault, RawDoc, RawField, RawFlat, RawValue, check_doc};
+use serde_json::Value;
+use std::alloc::{AllocError, Global};
+
+/// The orders of all commands, or the first fault of the first that has one.
+pub(crate) fn orders_of(alloc: Global, commands: &Commands<'_>) -> Result<List<Order>, DocFault>
+    ensures ok { IfOk result (λ orders. updates.orders_of
+        (listed actions.Add commands.now.adds.now ++ listed actions.Delete commands.now.deletes.now)
+        ≡ Ok (map asked orders)) }
+    ensures fault { IfErr result (IsFaultOf (updates.orders_of
+        (listed actions.Add commands.now.adds.now ++ listed actions.Delete commands.now.deletes.now))) }
+{
+    let orders = with_orders(alloc, List::new(alloc), commands.adds, Action::Add)?;
+    with_orders(alloc, orders, commands.deletes, Action::Delete)
+}
+
+/// The orders with those of the values after them.
+fn with_orders(
+    alloc: Global,
+    mut orders: List<Order>,
+    values: &[Value],
+    action: Action,
+) -> Result<List<Order>, DocFault>
+    ensures ok { IfOk result
+        (λ all. found_map (λ more. map asked orders ++ more) (updates.orders_of (listed action values.now))
+        ≡ Ok (map asked all)) }
+    ensures fault { IfErr result (IsFaultOf (updates.orders_of (listed action values.now))) }
+{
+    for value in values {
+        let order = order_of(alloc, value, action)?;
+        orders.push(order)?;
+    }
+    Ok(orders)
+}
+
+/// The order of one value.
+fn order_of(alloc: Global, value: &Value, action: Action) -> Result<Order, DocFault>
+    ensures ok { IfOk result (λ order.
+        updates.order_of (command_of action (view value.now)) ≡ Ok (asked order)) }
+    ensures fault { IfErr result
+        (IsFaultOf (updates.order_of (command_of action (view value.now)))) }
+{
+    let document = document_of(alloc, value)?;
+    let order = check_doc(alloc, &document)?;
+    match action {
+        Action::Add => Ok(order),
+        Action::Delete => Ok(deletion(order)),
+    }
+}
+
+/// The deletion of the document that an order names, under its condition.
+fn deletion(order: Order) -> Order
+    ensures { asked result ≡ updates.as_deletion (asked order) }
+{
+    let Order { id, condition, .. } = order;
+    Order {
+        id,
+        condition,
+        change: Change::Delete,
+    }
+}
+
+/// The document of an object, or that of the id which a value is.
+fn document_of(alloc: Global, value: &Value) -> Result<RawDoc, AllocError>
+    ensures { IfOk result (λ document. document.fields ≡ fields_of (view value.now)) }
+{
+    if !value.is_object() {
+        return id_alone(alloc, value);
+    }
+    match raw_doc(alloc, value) {
+        Ok(document) => Ok(document),
+        Err(RawFault::NotObject) => unreachable!(),
+        Err(RawFault::Memory) => Err(AllocError),
+    }
+}
+
+/// A document of an id and no field.
+fn id_alone(alloc: Global, value: &Value) -> Result<RawDoc, AllocError>
+    ensures { IfOk result (λ document. document.fields
+        ≡ record { name = codes "id"; value = Plain (One (one_of (view value.now))) } ∷ []) }
+{
+    let mut fields = List::new(alloc);
+    fields.push(RawField {
+        name: Text::new(alloc, "id")?,
+        value: RawValue::Plain(RawFlat::One(raw_one(alloc, value)?)),
+    })?;
+    Ok(RawDoc { fields })
+}

@@ -1,0 +1,77 @@
+ghost use Rattle.std.specs.Prelude.{◌≡◌, ◌≤◌, ◌-◌, ◌^◌, length, min, Some, Ok, IfOk, IfErr};
+ghost use Rattle.serde_json.specs.View.{view};
+ghost use Rattle.sc_commands.specs.Updates as updates;
+ghost use Rattle.sc_commands.specs.declared.fault.CommandFault.TheVariants as faults;
+
+use crate::batch::{Batch, Flags};
+use crate::fault::CommandFault;
+use crate::forms::commands_of;
+use crate::orders::orders_of;
+use sc_json::{JsonFault, read};
+use sc_record::List;
+use sc_schema::DocFault;
+use serde_json::Value;
+use std::alloc::Global;
+
+/// The most orders of a body.
+const MAX_ORDERS: usize = 4096;
+
+/// The orders that the body of an update asks for (Solr Reference Guide, "Indexing with Update Handlers"), with what the
+/// request's parameters set: an array of documents, or an object that may `add`, `delete` and `commit`, which is done in this
+/// order. A body of no bytes asks for nothing.
+pub fn read_update(alloc: Global, body: &[u8], flags: &Flags) -> Result<Batch, CommandFault>
+    ensures ok { IfOk result
+        (λ batch. updates.asked_by flags.now body.now ≡ Ok (updates.update_of batch)) }
+    ensures fault { IfErr result (updates.IsFaultOf (updates.asked_by flags.now body.now)) }
+    ensures few { IfOk result (λ batch. length batch.orders ≤ updates.order_limit) }
+{
+    if body.is_empty() {
+        return Ok(Batch {
+            orders: List::new(alloc),
+            flags: *flags,
+        });
+    }
+    match read(alloc, body) {
+        Ok(value) => read_value(alloc, &value, flags),
+        Err(JsonFault::Bad) => Err(CommandFault::BadJson),
+        Err(JsonFault::Memory) => Err(CommandFault::Memory),
+    }
+}
+
+/// The orders that a body's value asks for.
+fn read_value(alloc: Global, value: &Value, flags: &Flags) -> Result<Batch, CommandFault>
+    ensures ok { IfOk result
+        (λ batch. updates.read_value flags.now (Some (view value.now)) ≡ Ok (updates.update_of batch)) }
+    ensures fault { IfErr result
+        (updates.IsFaultOf (updates.read_value flags.now (Some (view value.now)))) }
+    ensures few { IfOk result (λ batch. length batch.orders ≤ updates.order_limit) }
+{
+    let commands = match commands_of(value) {
+        Ok(commands) => commands,
+        Err(at) => return Err(bad_shape(at)),
+    };
+    if commands.adds.len() + commands.deletes.len() > MAX_ORDERS {
+        return Err(CommandFault::TooMany);
+    }
+    match orders_of(alloc, &commands) {
+        Ok(orders) => Ok(Batch {
+            orders,
+            flags: Flags {
+                commit: flags.commit || commands.commit,
+                versions: flags.versions,
+                fail_on_conflict: flags.fail_on_conflict,
+            },
+        }),
+        Err(DocFault::Memory) => Err(CommandFault::Memory),
+        Err(fault) => Err(CommandFault::Doc(fault)),
+    }
+}
+
+/// The fault of a form that is none, after so many orders.
+fn bad_shape(at: usize) -> CommandFault
+    ensures { result ≡ faults.BadShape (min at (2 ^ 32 - 1)) }
+{
+    CommandFault::BadShape {
+        at: at.min(u32::MAX as usize) as u32,
+    }
+}

@@ -1,4 +1,4 @@
-ghost use Rattle.std.specs.Prelude.{◌≡◌, ◌+◌, ◌-◌, ◌/◌, ◌^◌, ◌<◌, ◌≤◌, List, [], ◌++◌, Some, length, take, min, ⊤, IfOk, IfSome, OnOk, OnErr};
+ghost use Rattle.std.specs.Prelude.{◌≡◌, ◌+◌, ◌-◌, ◌/◌, ◌^◌, ◌<◌, ◌≤◌, List, [], ◌++◌, Some, None, length, take, min, ⊤, IfOk, IfSome, OnOk, OnErr};
 ghost use Rattle.std.specs.Duration.{as_nanos};
 ghost use Rattle.sc_io.specs.Pieces.{AddsPrefix, TakesPrefix};
 
@@ -12,6 +12,9 @@ use std::time::{Duration, SystemTime};
 
 /// A reader of the machine's, as standard input. A read that was interrupted or refused has failed, and
 /// may be made again. It reads straight into the caller's buffer, and keeps nothing back.
+///
+/// As a source it reports no bytes: std does not say that a reader that reports none goes on so after a failed read.
+/// What `read` takes from a reader that reports its bytes is said by clauses of its own.
 #[derive(Drop)]
 pub struct StdSource<I: Read> {
     pub input: I,
@@ -31,7 +34,7 @@ impl<I: Read> StdSource<I> {
 }
 
 impl<I: Read> Source for StdSource<I> {
-    ghost rest = { λ s. I.remaining s.input };
+    ghost rest = { λ _. None };
 
     ghost faults = { λ s. s.faults };
 

@@ -1,4 +1,4 @@
-ghost use Rattle.std.specs.Prelude.{◌≡◌, ℕ, ◌<◌, ◌≤◌, List, [], Option, Some, length, take, IfOk, IfSome, OnOk, OnErr};
+ghost use Rattle.std.specs.Prelude.{◌≡◌, ℕ, ◌<◌, ◌≤◌, List, [], Option, length, take, IfOk, IfSome, OnOk, OnErr};
 ghost use Rattle.sc_io.specs.Pieces.{TakesPrefix};
 
 use crate::fault::Failed;
@@ -19,7 +19,7 @@ pub trait Source {
         ensures taken { IfOk result (λ n. IfSome (rest self.old)
             (λ bytes. TakesPrefix (take n into.new) bytes (rest self.new))) }
         ensures end { result ≡ Ok 0 → IfSome (rest self.old) (λ bytes. bytes ≡ []) }
-        ensures failed { OnErr result (IfSome (rest self.old) (λ bytes. rest self.new ≡ Some bytes)) }
+        ensures failed { OnErr result (rest self.new ≡ rest self.old) }
         ensures steady { OnOk result (faults self.new ≡ faults self.old) }
         ensures cause { OnErr result (faults self.old < faults self.new) }
         ensures no_fall { faults self.old ≤ faults self.new };

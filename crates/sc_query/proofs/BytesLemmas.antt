@@ -2,7 +2,21 @@
 use Rattle.std.proofs.Common.{◌≡◌, ◌≢◌, ℕ, ◌+◌, ◌<◌, ◌≤◌, Bool, true, false, ◌⊎◌, inl, inr, cond, eqb, List, [], ◌∷◌, length, get_or, drop, refl, ap, ◌∙◌, arith, eq-eqb}
 use Rattle.std.proofs.lemmas.Bool.{ne_eqb}
 use Rattle.std.proofs.lemmas.List.{drop_more, drop_all}
-use Rattle.sc_query.specs.Tokens.{up_to, plain, is_cut_short}
+use Rattle.sc_query.specs.declared.lexeme.Part.{Part}
+use Rattle.sc_query.specs.declared.lexeme.Part.TheVariants.{Field, Run, Quoted}
+use Rattle.sc_query.specs.Tokens.{up_to, plain, is_cut_short, ends_field, ends_run, ends_quoted}
+
+-- which bytes end a part of a leaf
+abbrev pub ends_of : Part → ℕ → Bool
+ends_of Field = ends_field
+ends_of Run = ends_run
+ends_of Quoted = ends_quoted
+
+-- what is said of each part is said of the one that it is
+pub ended : (part : Part) (ends : Bool) (byte : ℕ) → (part ≡ Field → ends ≡ ends_field byte) → (part ≡ Run → ends ≡ ends_run byte) → (part ≡ Quoted → ends ≡ ends_quoted byte) → ends ≡ ends_of part byte
+ended Field ends byte field run quoted = field refl
+ended Run ends byte field run quoted = run refl
+ended Quoted ends byte field run quoted = quoted refl
 
 -- the byte at a place and the byte after it begin what is left
 pub drop_two : (bs : List ℕ) (i : ℕ) → i + 1 < length bs → drop i bs ≡ get_or bs i 0 ∷ get_or bs (i + 1) 0 ∷ drop (i + 2) bs

@@ -2,9 +2,9 @@
 use Rattle.std.proofs.Common.{◌≡◌, ℕ, suc, ◌+◌, ◌-◌, ◌<◌, Bool, Option, Some, None, Result, Ok, Err, if◌then◌else◌, List, [], ◌∷◌, refl, ap, ◌∙◌, arith, add-one}
 use Rattle.std.proofs.lemmas.Bool.{lt-ltb}
 use Rattle.sc_query.specs.Tokens.{Placed}
-use Rattle.sc_query.specs.Tree.{Tree}
+use Rattle.sc_query.specs.Tree.{Tree, negated}
 use Rattle.sc_query.specs.Grammar.{Rule, Reads, IsQuery}
-use Rattle.sc_query.specs.Reading.{Before, Reader, negated, and_with, or_with, empty, with_operand, opened}
+use Rattle.sc_query.proofs.Reading.{Before, Reader, and_with, or_with, empty, with_operand, opened}
 use Rattle.sc_query.proofs.Runs.{goes_on, run}
 
 -- after the tokens that a rule reads the reader has its tree

@@ -2,9 +2,9 @@
 use Rattle.std.proofs.Common.{◌≡◌, ℕ, Bool, true, false, Option, Result, Ok, Err, nat_lt, if◌then◌else◌, List, [], ◌∷◌, ◌++◌, ◌⊎◌, inl, inr, refl, sym, ap, ◌∙◌, append_assoc}
 use Rattle.std.proofs.lemmas.List.{append-nil}
 use Rattle.sc_query.specs.Tokens.{Token, Placed, placed}
-use Rattle.sc_query.specs.Tree.{Tree}
+use Rattle.sc_query.specs.Tree.{Tree, negated}
 use Rattle.sc_query.specs.Grammar.{BeginsQuery, StopsAt, EndsEarly}
-use Rattle.sc_query.specs.Reading.{Before, Reader, negated, and_with, or_with, empty, closed, operand_step, operator_step, step, finish}
+use Rattle.sc_query.proofs.Reading.{Before, Reader, and_with, or_with, empty, closed, operand_step, operator_step, step, finish}
 use Rattle.sc_query.proofs.Runs.{goes_on, run}
 use Rattle.sc_query.proofs.SoundLemmas.{sound}
 use Rattle.sc_query.proofs.CompleteLemmas.{complete}

@@ -1,4 +1,5 @@
 -- The lemmas of the query language, the lowest first.
+pub mod Reading
 pub mod Runs
 pub mod WorkLemmas
 pub mod BytesLemmas
@@ -9,4 +10,5 @@ pub mod SoundLemmas
 pub mod CompleteLemmas
 pub mod FaultsLemmas
 pub mod OutcomeLemmas
+pub mod StepsLemmas
 pub mod EnclosedLemmas

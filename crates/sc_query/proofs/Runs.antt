@@ -2,7 +2,7 @@
 use Rattle.std.proofs.Common.{ℕ, Result, Ok, Err, List, [], ◌∷◌, length}
 use Rattle.sc_query.specs.Tokens.{Placed, tokens}
 use Rattle.sc_query.specs.Tree.{Tree}
-use Rattle.sc_query.specs.Reading.{Reader, empty, step, finish}
+use Rattle.sc_query.proofs.Reading.{Reader, empty, step, finish}
 
 -- a step, and what comes after it where it stops at no fault
 abbrev pub goes_on : Result Reader ℕ → (Reader → Result Tree ℕ) → Result Tree ℕ

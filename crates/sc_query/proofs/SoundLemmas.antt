@@ -2,9 +2,9 @@
 use Rattle.std.proofs.Common.{◌≡◌, ℕ, suc, zero, ◌+◌, ◌-◌, ◌<◌, Bool, true, false, Option, Some, None, Result, Ok, Err, nat_lt, if◌then◌else◌, List, [], ◌∷◌, refl, sym, subst, arith, add-one}
 use Rattle.std.proofs.lemmas.Bool.{ltb-true}
 use Rattle.sc_query.specs.Tokens.{Token, Placed, placed}
-use Rattle.sc_query.specs.Tree.{Tree}
+use Rattle.sc_query.specs.Tree.{Tree, negated}
 use Rattle.sc_query.specs.Grammar.{Rule, Reads, IsQuery}
-use Rattle.sc_query.specs.Reading.{Before, Reader, negated, and_with, or_with, empty, with_operand, closed, operand_step, operator_step, step, finish}
+use Rattle.sc_query.proofs.Reading.{Before, Reader, and_with, or_with, empty, with_operand, closed, operand_step, operator_step, step, finish}
 use Rattle.sc_query.proofs.Runs.{goes_on, run}
 
 -- what stands before an OR, if there is one

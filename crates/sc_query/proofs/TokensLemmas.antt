@@ -1,11 +1,11 @@
 -- How the tokens of a text begin.
 use Rattle.std.proofs.Common.{◌≡◌, ◌≢◌, ℕ, suc, zero, ◌+◌, ◌-◌, ◌<◌, ◌≤◌, Bool, true, false, ◌||◌, ◌==◌, cond, eqb, Result, Ok, Err, List, [], ◌∷◌, length, get_or, drop, refl, sym, ap, ◌∙◌, subst, arith}
 use Rattle.std.proofs.lemmas.Bool.{eqb-false, eqb-true}
-use Rattle.std.proofs.lemmas.List.{length-drop, get_or-drop}
-use Rattle.std.proofs.lemmas.Str.{IsCharBoundary-after_ascii, IsCharBoundary-end}
+use Rattle.std.proofs.lemmas.List.{length-drop, get_or-drop, drop-drop, drop_more, drop_all}
+use Rattle.std.proofs.lemmas.Str.{IsCharBoundary-after_ascii, IsCharBoundary-end, IsCharBoundary-from_rest}
 use Rattle.std.specs.Str.{IsCharBoundary, IsUtf8}
 use Rattle.sc_query.specs.Tokens.{Token, Placed, placed, up_to, plain, is_space, ends_run, ends_field, ends_quoted, opens_quoted, quoted_leaf, run_token, word_at, token_at, tokens_from}
-use Rattle.sc_query.specs.Reading.{Reader, step, finish}
+use Rattle.sc_query.proofs.Reading.{Reader, step, finish}
 use Rattle.sc_query.proofs.Runs.{goes_on, run}
 use Rattle.sc_query.proofs.CutsLemmas.{up_to-stops, up_to-boundary, quoted_ascii, run_ascii, quoted-boundary, none_true}
 
@@ -87,7 +87,7 @@ word_cut field c rest u h = go (opens_quoted (drop (length field) (c ∷ rest)))
     go false e = (not_empty c rest h, up_to-boundary ends_run run_ascii (c ∷ rest))
 
 -- the first token takes some of the text, which may be cut after it
-pub token_cut : (c : ℕ) (rest : List ℕ) → IsUtf8 (c ∷ rest) → is_space c ≡ false → Cuts (c ∷ rest) (token_at (c ∷ rest)).1
+token_cut : (c : ℕ) (rest : List ℕ) → IsUtf8 (c ∷ rest) → is_space c ≡ false → Cuts (c ∷ rest) (token_at (c ∷ rest)).1
 token_cut c rest u s = go (eqb c 40) (eqb c 41) refl refl
   where
     first : c < 128 → Cuts (c ∷ rest) 1
@@ -99,34 +99,49 @@ token_cut c rest u s = go (eqb c 40) (eqb c 41) refl refl
     go false false e f = word_cut (up_to ends_field (c ∷ rest)) c rest u (ap (λ (x : Bool). x || eqb c 40 || eqb c 41) s ∙ (ap (λ (x : Bool). x || eqb c 41) e ∙ f))
 
 -- the same of a text that is not written out
-pub rest_cut : (rest : List ℕ) → 0 < length rest → IsUtf8 rest → is_space (get_or rest 0 0) ≡ false → Cuts rest (token_at rest).1
+rest_cut : (rest : List ℕ) → 0 < length rest → IsUtf8 rest → is_space (get_or rest 0 0) ≡ false → Cuts rest (token_at rest).1
 rest_cut [] l u s = absurd (omega (arith, l))
 rest_cut (c ∷ rest) l u s = token_cut c rest u s
 
 -- a space is passed over
-pub tokens-space : (end : ℕ) (rest next : List ℕ) → length rest ≤ end → 0 < length rest → is_space (get_or rest 0 0) ≡ true → next ≡ drop 1 rest → tokens_from 0 (end - length rest) rest ≡ tokens_from 0 (end - length next) next
-tokens-space end [] next l k s e = absurd (omega (arith, k))
-tokens-space end (c ∷ rest) next l k s e =
-    let shorter : length next ≡ length rest = ap length e in
-    let place : end - length (c ∷ rest) + 1 ≡ end - length next = omega (arith, l, shorter) in
-    tokens_from-space (end - length (c ∷ rest)) c rest s ∙ (ap (λ (n : ℕ). tokens_from 0 n rest) place ∙ ap (λ (xs : List ℕ). tokens_from 0 (end - length next) xs) (sym e))
+pub tokens-space : (text : List ℕ) (at : ℕ) → at < length text → is_space (get_or text at 0) ≡ true → tokens_from 0 at (drop at text) ≡ tokens_from 0 (at + 1) (drop (at + 1) text)
+tokens-space text at l s = ap (λ (xs : List ℕ). tokens_from 0 at xs) (drop_more text at 0 l) ∙ tokens_from-space at (get_or text at 0) (drop (at + 1) text) s
 
 -- a token is read, and the rest after it
-pub tokens-token : (end k : ℕ) (rest next : List ℕ) → length rest ≤ end → 0 < length rest → IsUtf8 rest → is_space (get_or rest 0 0) ≡ false → k ≡ (token_at rest).1 → next ≡ drop k rest → tokens_from 0 (end - length rest) rest ≡ placed (end - length rest) (token_at rest).0 ∷ tokens_from 0 (end - length next) next
-tokens-token end k [] next l m u s e h = absurd (omega (arith, m))
-tokens-token end k (c ∷ rest) next l m u s e h =
-    let text : List ℕ = c ∷ rest in
+tokens-token : (at : ℕ) (rest : List ℕ) → 0 < length rest → IsUtf8 rest → is_space (get_or rest 0 0) ≡ false → tokens_from 0 at rest ≡ placed at (token_at rest).0 ∷ tokens_from 0 (at + (token_at rest).1) (drop (token_at rest).1 rest)
+tokens-token at [] some u s = absurd (omega (arith, some))
+tokens-token at (c ∷ rest) some u s =
     let cut = token_cut c rest u s in
-    let after : next ≡ drop (token_at text).1 text = h ∙ ap (λ (n : ℕ). drop n text) e in
-    let shorter : length next ≡ length text - (token_at text).1 = ap length after ∙ length-drop (token_at text).1 text in
-    let place : end - length text + (token_at text).1 ≡ end - length next = omega (arith, l, shorter, cut.1.0) in
-    tokens_from-token (end - length text) c rest s cut.0 cut.1.0
-    ∙ ap (λ (ts : List Placed). placed (end - length text) (token_at text).0 ∷ ts) (ap (λ (n : ℕ). tokens_from 0 n (drop (token_at text).1 text)) place ∙ ap (λ (xs : List ℕ). tokens_from 0 (end - length next) xs) (sym after))
+    tokens_from-token at c rest s cut.0 cut.1.0
 
-pub tokens-end : (at : ℕ) (rest : List ℕ) → length rest ≡ 0 → tokens_from 0 at rest ≡ []
+-- at a place of a text begins a token of so many bytes
+pub record HasToken (text : List ℕ) (at len : ℕ) (token : Token) : Type 0 where
+  pub some : 0 < len
+  pub boundary : IsCharBoundary text (at + len)
+  pub tokens : tokens_from 0 at (drop at text) ≡ placed at token ∷ tokens_from 0 (at + len) (drop (at + len) text)
+
+-- a byte that is no space begins one
+pub has_token : {text bytes rest : List ℕ} {at len : ℕ} {token : Token} {space : Bool} → bytes ≡ text → at < length bytes → space ≡ is_space (get_or bytes at 0) → space ≡ false → rest ≡ drop at text → IsUtf8 rest → token ≡ (token_at rest).0 → len ≡ (token_at rest).1 → HasToken text at len token
+has_token {text} {bytes} {rest} {at} {len} {token} {space} same inside test no_space_is rest_is u token_is len_is =
+    let k = (token_at rest).1 in
+    let l : at < length text = omega (arith, ap length same, inside) in
+    let begins : rest ≡ get_or text at 0 ∷ drop (at + 1) text = rest_is ∙ drop_more text at 0 l in
+    let some : 0 < length rest = omega (arith, ap length begins) in
+    let no_space : is_space (get_or rest 0 0) ≡ false = ap (λ (xs : List ℕ). is_space (get_or xs 0 0)) begins ∙ (ap (λ (xs : List ℕ). is_space (get_or xs at 0)) (sym same) ∙ (sym test ∙ no_space_is)) in
+    let cut = rest_cut rest some u no_space in
+    record {
+      some = omega (arith, cut.0, len_is);
+      boundary = IsCharBoundary-from_rest text at len (omega (arith, l)) (subst (λ (xs : List ℕ). IsCharBoundary xs len) rest_is (subst (λ (n : ℕ). IsCharBoundary rest n) (sym len_is) cut.1));
+      tokens = ap (λ (xs : List ℕ). tokens_from 0 at xs) (sym rest_is)
+          ∙ (tokens-token at rest some u no_space
+          ∙ (ap (λ (xs : List ℕ). placed at (token_at rest).0 ∷ tokens_from 0 (at + k) xs) (ap (λ (xs : List ℕ). drop k xs) rest_is ∙ drop-drop k at text)
+          ∙ (ap (λ (n : ℕ). placed at (token_at rest).0 ∷ tokens_from 0 (at + n) (drop (at + n) text)) (sym len_is)
+          ∙ ap (λ (t : Token). placed at t ∷ tokens_from 0 (at + len) (drop (at + len) text)) (sym token_is))));
+    }
+
+pub tokens-end : (text : List ℕ) (at : ℕ) → length text ≤ at → tokens_from 0 at (drop at text) ≡ []
 unfolding tokens_from
-tokens-end at [] e = refl
-tokens-end at (c ∷ rest) e = absurd (omega (arith, e))
+tokens-end text at l = ap (λ (xs : List ℕ). tokens_from 0 at xs) (drop_all at text l)
 
 pub run-step : (end : ℕ) (reader next : Reader) (token : Token) (at : ℕ) (ts : List Placed) → step reader token at ≡ Ok next → run end reader (placed at token ∷ ts) ≡ run end next ts
 unfolding run

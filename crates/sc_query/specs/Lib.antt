@@ -2,4 +2,3 @@
 pub mod Tokens
 pub mod Tree
 pub mod Grammar
-pub mod Reading

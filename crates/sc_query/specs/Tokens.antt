@@ -1,6 +1,8 @@
 -- The tokens of a query text, by cases on its bytes.
 use Rattle.std.specs.Prelude.{ℕ, suc, zero, ◌+◌, ◌-◌, Bool, false, ◌&&◌, ◌||◌, ◌==◌, if◌then◌else◌, List, [], ◌∷◌, length, drop, codes}
 use Rattle.std.specs.Str.{bytes_eq}
+use Rattle.sc_query.specs.declared.lexeme.Lexeme.{Lexeme}
+use Rattle.sc_query.specs.declared.lexeme.Lexeme.TheVariants as lexeme
 
 -- a space of the language: SP, TAB, CR and LF
 abbrev pub is_space : ℕ → Bool
@@ -49,6 +51,17 @@ pub data Token : Type 0 where
   Every : Token
   Leaf : (field value : List ℕ) → Token
   Broken : Token
+
+-- the token that a lexeme of the code is
+abbrev pub token_of : Lexeme → Token
+token_of lexeme.Open = Open
+token_of lexeme.Close = Close
+token_of lexeme.And = And
+token_of lexeme.Or = Or
+token_of lexeme.Not = Not
+token_of lexeme.Every = Every
+token_of (lexeme.Leaf field value) = Leaf field.now (plain value.now)
+token_of lexeme.Broken = Broken
 
 -- a colon and a quote stand here
 abbrev pub opens_quoted : List ℕ → Bool

@@ -1,5 +1,5 @@
 -- What a query means to its readers: a tree, whichever boxes hold it.
-use Rattle.std.specs.Prelude.{ℕ, ◌+◌, List}
+use Rattle.std.specs.Prelude.{ℕ, zero, suc, ◌+◌, List}
 use Rattle.sc_query.specs.declared.query.Query.{Query}
 use Rattle.sc_query.specs.declared.query.Query.TheVariants.{All as AllQuery, Leaf as LeafQuery, Not', And', Or'}
 
@@ -18,6 +18,11 @@ tree_of (LeafQuery field value at) = Tree.Leaf field value at
 tree_of (Not' p operand) = Tree.Not (tree_of operand)
 tree_of (And' p left q right) = Tree.And (tree_of left) (tree_of right)
 tree_of (Or' p left q right) = Tree.Or (tree_of left) (tree_of right)
+
+-- the tree under so many NOTs
+abbrev pub negated : ℕ → Tree → Tree
+negated zero t = t
+negated (suc n) t = negated n (Tree.Not t)
 
 -- the tree with each leaf a place further on
 abbrev pub moved : Tree → Tree

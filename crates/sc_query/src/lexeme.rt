@@ -1,10 +1,10 @@
 //! The tokens of a text, one at a time.
 
-ghost use Rattle.std.specs.Prelude.{◌≡◌, ◌<◌, ◌≤◌, length, drop, IfOk, string_bytes};
+ghost use Rattle.std.specs.Prelude.{◌≡◌, ◌<◌, ◌≤◌, [], ◌∷◌, length, drop, IfOk, IfNone, IfSome, string_bytes};
+ghost use Rattle.std.specs.Str.{IsCharBoundary};
 ghost use Rattle.sc_query.specs.Tokens.{is_space, ends_run, ends_field, ends_quoted, up_to, plain};
 ghost use Rattle.sc_query.specs.Tokens.{is_cut_short, opens_quoted, opens_value};
-ghost use Rattle.sc_query.specs.Tokens.{run_token, quoted_leaf, word_at, token_at};
-ghost use Rattle.sc_query.specs.Reading.{token_of, ends_of};
+ghost use Rattle.sc_query.specs.Tokens.{token_of, run_token, quoted_leaf, word_at, token_at, placed, tokens_from};
 
 use std::alloc::{AllocError, Global};
 
@@ -21,6 +21,14 @@ pub enum Lexeme<'a> {
     Broken,
 }
 
+/// A lexeme of a text, with the place of its first byte and of the byte after its last.
+#[derive(Clone, Copy)]
+pub struct Found<'a> {
+    pub lexeme: Lexeme<'a>,
+    pub at: u32,
+    pub after: usize,
+}
+
 // A part of a text that goes up to a byte that ends it.
 #[derive(Clone, Copy)]
 enum Part {
@@ -29,7 +37,7 @@ enum Part {
     Quoted,
 }
 
-pub fn is_space(byte: u8) -> bool
+fn is_space(byte: u8) -> bool
     ensures { result ≡ is_space byte }
 {
     byte == b' ' || byte == b'\t' || byte == b'\r' || byte == b'\n'
@@ -42,7 +50,9 @@ fn ends_run(byte: u8) -> bool
 }
 
 fn ends(part: Part, byte: u8) -> bool
-    ensures { result ≡ ends_of part byte }
+    ensures field { part ≡ Part.Field → result ≡ ends_field byte }
+    ensures run { part ≡ Part.Run → result ≡ ends_run byte }
+    ensures quoted { part ≡ Part.Quoted → result ≡ ends_quoted byte }
 {
     match part {
         Part::Field => byte == b':' || byte == b'"' || byte == b'\\' || ends_run(byte),
@@ -53,7 +63,9 @@ fn ends(part: Part, byte: u8) -> bool
 
 // How many bytes come before the first that ends the part.
 fn len_up_to(part: Part, bytes: &[u8]) -> usize
-    ensures len { result ≡ length (up_to (ends_of part) bytes.now) }
+    ensures field { part ≡ Part.Field → result ≡ length (up_to ends_field bytes.now) }
+    ensures run { part ≡ Part.Run → result ≡ length (up_to ends_run bytes.now) }
+    ensures quoted { part ≡ Part.Quoted → result ≡ length (up_to ends_quoted bytes.now) }
     ensures within { result ≤ length bytes.now }
 {
     let mut at = 0;
@@ -176,8 +188,8 @@ fn word_at(text: &str) -> (Lexeme<'_>, usize)
     (run_lexeme(field, &text[..len]), len)
 }
 
-/// The token that begins with a text's first byte, which is no space, and how many bytes it takes.
-pub fn lexeme_at(text: &str) -> (Lexeme<'_>, usize)
+// The token that begins with a text's first byte, which is no space, and how many bytes it takes.
+fn lexeme_at(text: &str) -> (Lexeme<'_>, usize)
     requires some { 0 < length text.now }
     requires in_limit { length text.now ≤ 4096 }
     ensures token { token_of result.0 ≡ (token_at text.now).0 }
@@ -188,4 +200,30 @@ pub fn lexeme_at(text: &str) -> (Lexeme<'_>, usize)
         b')' => (Lexeme::Close, 1),
         _ => word_at(text),
     }
+}
+
+/// The first token from a place of a text on; None where only spaces are left.
+pub fn next(text: &str, from: usize) -> Option<Found<'_>>
+    requires in_limit { length text.now ≤ 4096 }
+    requires start { IsCharBoundary text.now from }
+    ensures none { IfNone result (tokens_from 0 from (drop from text.now) ≡ []) }
+    ensures some { IfSome result (λ found. tokens_from 0 from (drop from text.now)
+        ≡ placed found.at (token_of found.lexeme) ∷ tokens_from 0 found.after (drop found.after text.now)) }
+    ensures forward { IfSome result (λ found. from < found.after) }
+    ensures boundary { IfSome result (λ found. IsCharBoundary text.now found.after) }
+{
+    let bytes = text.as_bytes();
+    let mut at = from;
+    while at < bytes.len() {
+        if !is_space(bytes[at]) {
+            let (lexeme, len) = lexeme_at(&text[at..]);
+            return Some(Found {
+                lexeme,
+                at: at as u32,
+                after: at + len,
+            });
+        }
+        at += 1;
+    }
+    None
 }

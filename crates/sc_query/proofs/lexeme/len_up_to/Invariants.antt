@@ -1,7 +1,7 @@
 -- How far a part was passed, and what is left of it.
 use Rattle.std.proofs.Common.{◌≡◌, ◌+◌, ◌-◌, ◌≤◌, length, drop}
 use Rattle.sc_query.specs.Tokens.{up_to}
-use Rattle.sc_query.specs.Reading.{ends_of}
+use Rattle.sc_query.proofs.BytesLemmas.{ends_of}
 use Rattle.sc_query.proofs.lexeme.len_up_to.Given as goal
 
 -- the bytes passed, and those that are left to pass, are all

@@ -1,8 +1,7 @@
 -- One NOT more is one fewer to come.
 use Rattle.std.proofs.Common.{◌≡◌, ℕ, suc, ◌+◌, ◌-◌, ap, ◌∙◌, arith}
-use Rattle.sc_query.specs.Tree.{Tree, tree_of}
+use Rattle.sc_query.specs.Tree.{Tree, tree_of, negated}
 use Rattle.sc_query.specs.declared.query.Query.{Query}
-use Rattle.sc_query.specs.Reading.{negated}
 use Rattle.sc_query.proofs.reader.negated.Goals as goal
 
 pub loop-preserved : goal.loop-preserved

@@ -1,7 +1,6 @@
 -- Which NOTs are still to come.
 use Rattle.std.proofs.Common.{◌≡◌, ◌-◌}
-use Rattle.sc_query.specs.Tree.{tree_of}
-use Rattle.sc_query.specs.Reading.{negated}
+use Rattle.sc_query.specs.Tree.{tree_of, negated}
 use Rattle.sc_query.proofs.reader.negated.Given as goal
 
 -- the NOTs that are left make the whole of what is there

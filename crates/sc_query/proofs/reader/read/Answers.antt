@@ -1,117 +1,244 @@
 -- The loop reads the tokens of the text one by one.
-use Rattle.std.proofs.Common.{◌≡◌, ℕ, ◌-◌, ◌<◌, ◌≤◌, Result, Ok, Err, IfOk, List, ◌∷◌, length, get_or, drop, true, false, refl, sym, ap, subst, ◌∙◌, arith, false-eqb}
+use Rattle.std.proofs.Common.{◌≡◌, ◌+◌, ◌-◌, ◌<◌, Option, Some, None, option_to_list, Err, List, [], ◌∷◌, ◌++◌, length, refl, sym, ap, ◌∙◌, arith, false-eqb}
 use Rattle.std.proofs.lemmas.Bool.{eqb-true}
 use Rattle.std.proofs.lemmas.Result.{err_from_is_err_and}
-use Rattle.std.proofs.lemmas.Str.{IsCharBoundary-after_ascii}
-use Rattle.std.specs.Str.{IsCharBoundary}
+use Rattle.std.proofs.lemmas.Str.{IsCharBoundary-start}
 use Rattle.sc_query.specs.declared.fault.QueryFault.{QueryFault}
-use Rattle.sc_query.specs.declared.fault.QueryFault.TheVariants.{At, Memory}
-use Rattle.sc_query.specs.Tokens.{Token, Placed, placed, is_space, token_at, tokens_from}
-use Rattle.sc_query.specs.Tree.{Tree, tree_of}
-use Rattle.sc_query.specs.Grammar.{HasTree, HasFault}
-use Rattle.sc_query.specs.declared.query.Query.{Query}
-use Rattle.sc_query.proofs.OutcomeLemmas.{tree_found, fault_found}
-use Rattle.sc_query.specs.Reading.{Reader, Gives, Fails, reader_of, step, finish}
-use Rattle.sc_query.proofs.Runs.{run, reading}
-use Rattle.sc_query.proofs.CutsLemmas.{space_ascii}
-use Rattle.sc_query.proofs.TokensLemmas.{rest_cut, tokens-space, tokens-token, tokens-end, run-step, run-stop, run-end}
+use Rattle.sc_query.specs.declared.fault.QueryFault.TheVariants.{At}
+use Rattle.sc_query.specs.declared.query.Query.TheVariants.{All}
+use Rattle.sc_query.specs.declared.reader.Level.{Level}
+use Rattle.sc_query.specs.Tokens.{plain, tokens}
+use Rattle.sc_query.specs.Tree.{tree_of}
+use Rattle.sc_query.proofs.Reading.{Reader, before_of, outer_of, reader_of, empty}
+use Rattle.sc_query.proofs.Runs.{run}
+use Rattle.sc_query.proofs.OutcomeLemmas.{tree_found}
+use Rattle.sc_query.proofs.StepsLemmas.{IsConjunction, IsWhole, read_on, refused, fault_at, ended, still_none, opens_none, step_open, step_not, step_leaf, no_operand, step_and, step_or, step_close, no_level, step_close-none, no_operator, finish-open, finish-whole}
 use Rattle.sc_query.proofs.reader.read.Goals as goal
 
--- what reading gives is what the grammar says of the text
-gives_tree : (r : Result Query QueryFault) (text : List ℕ) → length text ≤ 4096 → Gives tree_of r (reading text) → IfOk r (λ query. HasTree text (tree_of query))
-gives_tree (Ok query) text l h = tree_found text (tree_of query) l h
-gives_tree (Err fault) text l h = tt
-
-gives_fault : (r : Result Query QueryFault) (text : List ℕ) (at : ℕ) → length text ≤ 4096 → Gives tree_of r (reading text) → r ≡ Err (At at) → HasFault text at
-gives_fault (Ok query) text at l h e = absurd (let no : Ok query ≡ Err (At at) = e in cc)
-gives_fault (Err Memory) text at l h e = absurd (let left : Result Query QueryFault = Err Memory in let no : left ≡ Err (At at) = e in cc)
-gives_fault (Err (At place)) text at l h e =
-    let same : place ≡ at = cc in
-    subst (λ (x : ℕ). HasFault text x) same (fault_found text place l h)
-
--- the fault of a step is that of the whole
-fails_whole : (fault : QueryFault) (end : ℕ) (reader : Reader) (token : Token) (at : ℕ) (ts : List Placed) (whole : Result Tree ℕ) → Fails fault (step reader token at) → run end reader (placed at token ∷ ts) ≡ whole → Fails fault whole
-fails_whole Memory end reader token at ts whole h e = tt
-fails_whole (At fault) end reader token at ts whole h e = sym e ∙ run-stop end reader token at fault ts h
-
-pub range_from-rest-requires : goal.range_from-rest-requires
-range_from-rest-requires c =
-    let rest = c.loop-rest.rest.now in
-    let some : 0 < length rest = omega (arith, false-eqb (length rest) 0 c.loop-rest-test.ensures) in
-    let space : is_space (get_or rest 0 0) ≡ true = ap (λ xs. is_space (get_or xs 0 0)) (sym c.as_bytes.ensures.value) ∙ (sym c.is_space.ensures ∙ c.if-is_space.true) in
-    λ _. IsCharBoundary-after_ascii rest 0 c.loop-rest.invariant.text some (space_ascii (get_or rest 0 0) space)
-
-pub loop-rest-preserved-then-is_space : goal.loop-rest-preserved-then-is_space
-loop-rest-preserved-then-is_space c =
-    let rest = c.loop-rest.rest.now in
-    let end = length c.args.text.now in
-    let some : 0 < length rest = omega (arith, c.range_from-rest.ensures.len) in
-    let space : is_space (get_or rest 0 0) ≡ true = ap (λ xs. is_space (get_or xs 0 0)) (sym c.as_bytes.ensures.value) ∙ (sym c.is_space.ensures ∙ c.if-is_space.true) in
+pub loop-lexeme-init : goal.loop-lexeme-init
+loop-lexeme-init c =
+    let text = c.args.text.now in
+    let start = λ (outer : List Level) (level : Level). run (length text)
+    (Reader.Operand (outer_of outer) (before_of level)) (tokens text) in
     record {
-      text = c.range_from-rest.utf8;
-      within = omega (arith, c.loop-rest.invariant.within, c.range_from-rest.ensures.len);
-      same = ap (λ (ts : List Placed). run end (reader_of c.loop-rest.state) ts) (sym (tokens-space end rest c.range_from-rest.result.now c.loop-rest.invariant.within some space c.range_from-rest.ensures.value)) ∙ c.loop-rest.invariant.same;
+      boundary = IsCharBoundary-start text c.utf8.text;
+      same = ap (λ (l : Level). start c.new-outer.result.items l) c.new-level.ensures
+          ∙ ap (λ (xs : List Level). run (length text) (Reader.Operand (outer_of xs) (empty 32)) (tokens text))
+          c.new-outer.ensures.items;
     }
 
-pub range_from-rest-requires-else-is_space : goal.range_from-rest-requires-else-is_space
-range_from-rest-requires-else-is_space c =
-    let rest = c.loop-rest.rest.now in
-    let some : 0 < length rest = omega (arith, false-eqb (length rest) 0 c.loop-rest-test.ensures) in
-    let no_space : is_space (get_or rest 0 0) ≡ false = ap (λ xs. is_space (get_or xs 0 0)) (sym c.as_bytes.ensures.value) ∙ (sym c.is_space.ensures ∙ c.if-is_space.false) in
-    λ _. subst (λ (n : ℕ). IsCharBoundary rest n) (sym c.lexeme_at-len.ensures.len) (rest_cut rest some c.loop-rest.invariant.text no_space).1
+pub returns-in_err-room-in-Open-clause-fault : goal.returns-in_err-room-in-Open-clause-fault
+returns-in_err-room-in-Open-clause-fault c =
+    let outer = c.loop-lexeme.outer.items in
+    let level = c.loop-lexeme.level in
+    let at = c.in-Some.field-0.at in
+    let room = level.room - (level.negations + 1) in
+    let none = opens_none level c.in_err-room-in-Open.field-0.0 room at
+    (Reader.Operand (before_of level ∷ outer_of outer) (empty room)) c.in_err-room-in-Open.ensures in
+    let error = err_from_is_err_and c.from_residual.result c.from_residual.ensures.1 in
+    let given : c.from_residual.result ≡ Err (At at) = error.1
+    ∙ ap (λ (fault : QueryFault). Err fault) (error.2 ∙ none.0) in
+    refused c.args.text.now outer level c.from_residual.result c.requires c.in-Some.ensures.some
+    c.loop-lexeme.invariant.same c.in-None.is c.in-Open.is none.1 given
 
-pub returns-in_err-state : goal.returns-in_err-state
-returns-in_err-state c =
-    let rest = c.loop-rest.rest.now in
-    let end = length c.args.text.now in
-    let k = (token_at rest).1 in
-    let some : 0 < length rest = omega (arith, false-eqb (length rest) 0 c.loop-rest-test.ensures) in
-    let no_space : is_space (get_or rest 0 0) ≡ false = ap (λ xs. is_space (get_or xs 0 0)) (sym c.as_bytes.ensures.value) ∙ (sym c.is_space.ensures ∙ c.if-is_space.false) in
-    let first = tokens-token end k rest (drop k rest) c.loop-rest.invariant.within some c.loop-rest.invariant.text no_space refl refl in
-    let whole : run end (reader_of c.loop-rest.state) (placed (end - length rest) (token_at rest).0 ∷ tokens_from 0 (end - length (drop k rest)) (drop k rest)) ≡ reading c.args.text.now =
-    ap (λ (ts : List Placed). run end (reader_of c.loop-rest.state) ts) (sym first) ∙ c.loop-rest.invariant.same in
-    let stopped : Fails c.in_err-state.field-0.0 (step (reader_of c.loop-rest.state) (token_at rest).0 (end - length rest)) =
-    subst (λ (token : Token). Fails c.in_err-state.field-0.0 (step (reader_of c.loop-rest.state) token (end - length rest))) c.lexeme_at-len.ensures.token c.in_err-state.ensures in
-    let p = err_from_is_err_and c.from_residual.result c.from_residual.ensures.1 in
-    let given : Gives tree_of c.from_residual.result (reading c.args.text.now) = rw (p.1, p.2) (fails_whole c.in_err-state.field-0.0 end (reader_of c.loop-rest.state) (token_at rest).0 (end - length rest) (tokens_from 0 (end - length (drop k rest)) (drop k rest)) (reading c.args.text.now) stopped whole) in
+pub loop-lexeme-preserved-in-Open : goal.loop-lexeme-preserved-in-Open
+loop-lexeme-preserved-in-Open c =
+    let outer = c.loop-lexeme.outer.items in
+    let level = c.loop-lexeme.level in
+    let at = c.in-Some.field-0.at in
+    let levels = c.push.new.self.items in
+    let inner = c.new-level-in-Open.result in
+    let step = step_open outer levels level inner c.in_ok-room-in-Open.room at c.in_ok-room-in-Open.ensures
+    c.in_ok-push-in-Open.ensures.items c.new-level-in-Open.ensures in
     record {
-      tree = gives_tree c.from_residual.result c.args.text.now c.requires given;
-      fault = λ at e. gives_fault c.from_residual.result c.args.text.now at c.requires given e;
+      boundary = c.in-Some.ensures.boundary;
+      same = read_on (length c.args.text.now) outer level (reader_of levels inner c.loop-lexeme.operand)
+          c.in-Some.ensures.some c.loop-lexeme.invariant.same c.in-None.is c.in-Open.is
+          (still_none levels inner c.in-None.is step);
     }
 
-pub loop-rest-smaller : goal.loop-rest-smaller
-loop-rest-smaller c =
-    let rest = c.loop-rest.rest.now in
-    let some : 0 < length rest = omega (arith, false-eqb (length rest) 0 c.loop-rest-test.ensures) in
-    let no_space : is_space (get_or rest 0 0) ≡ false = ap (λ xs. is_space (get_or xs 0 0)) (sym c.as_bytes.ensures.value) ∙ (sym c.is_space.ensures ∙ c.if-is_space.false) in
-    omega (arith, c.range_from-rest-else-is_space.ensures.len, c.lexeme_at-len.ensures.len, (rest_cut rest some c.loop-rest.invariant.text no_space).0)
+pub returns-in_err-level-in-Not-clause-fault : goal.returns-in_err-level-in-Not-clause-fault
+returns-in_err-level-in-Not-clause-fault c =
+    let outer = c.loop-lexeme.outer.items in
+    let level = c.loop-lexeme.level in
+    let at = c.in-Some.field-0.at in
+    let next : Level = record level { negations = level.negations + 1 } in
+    let none = opens_none level c.in_err-level-in-Not.field-0.0 next at
+    (Reader.Operand (outer_of outer) (before_of next)) c.in_err-level-in-Not.ensures in
+    let error = err_from_is_err_and c.from_residual-in_err-level-in-Not.result
+    c.from_residual-in_err-level-in-Not.ensures.1 in
+    let given : c.from_residual-in_err-level-in-Not.result ≡ Err (At at) = error.1
+    ∙ ap (λ (fault : QueryFault). Err fault) (error.2 ∙ none.0) in
+    refused c.args.text.now outer level c.from_residual-in_err-level-in-Not.result c.requires
+    c.in-Some.ensures.some c.loop-lexeme.invariant.same c.in-None.is c.in-Not.is none.1 given
 
-pub loop-rest-preserved : goal.loop-rest-preserved
-loop-rest-preserved c =
-    let rest = c.loop-rest.rest.now in
-    let next = c.range_from-rest-else-is_space.result.now in
-    let end = length c.args.text.now in
-    let some : 0 < length rest = omega (arith, false-eqb (length rest) 0 c.loop-rest-test.ensures) in
-    let no_space : is_space (get_or rest 0 0) ≡ false = ap (λ xs. is_space (get_or xs 0 0)) (sym c.as_bytes.ensures.value) ∙ (sym c.is_space.ensures ∙ c.if-is_space.false) in
-    let first = tokens-token end c.lexeme_at-len.result.1 rest next c.loop-rest.invariant.within some c.loop-rest.invariant.text no_space c.lexeme_at-len.ensures.len c.range_from-rest-else-is_space.ensures.value in
-    let stepped : step (reader_of c.loop-rest.state) (token_at rest).0 (end - length rest) ≡ Ok (reader_of c.in_ok-state.state) =
-    ap (λ (token : Token). step (reader_of c.loop-rest.state) token (end - length rest)) (sym c.lexeme_at-len.ensures.token) ∙ c.in_ok-state.ensures in
+pub loop-lexeme-preserved-in-Not : goal.loop-lexeme-preserved-in-Not
+loop-lexeme-preserved-in-Not c =
+    let outer = c.loop-lexeme.outer.items in
+    let level = c.loop-lexeme.level in
+    let at = c.in-Some.field-0.at in
+    let next = c.in_ok-level-in-Not.level in
+    let step = step_not outer level next at c.in_ok-level-in-Not.ensures in
     record {
-      text = c.range_from-rest-else-is_space.utf8;
-      within = omega (arith, c.loop-rest.invariant.within, c.range_from-rest-else-is_space.ensures.len);
-      same = sym (run-step end (reader_of c.loop-rest.state) (reader_of c.in_ok-state.state) (token_at rest).0 (end - length rest) (tokens_from 0 (end - length next) next) stepped)
-          ∙ (ap (λ (ts : List Placed). run end (reader_of c.loop-rest.state) ts) (sym first) ∙ c.loop-rest.invariant.same);
+      boundary = c.in-Some.ensures.boundary;
+      same = read_on (length c.args.text.now) outer level (reader_of outer next c.loop-lexeme.operand)
+          c.in-Some.ensures.some c.loop-lexeme.invariant.same c.in-None.is c.in-Not.is
+          (still_none outer next c.in-None.is step);
     }
 
-pub returns : goal.returns
-returns c =
-    let rest = c.loop-rest.rest.now in
-    let end = length c.args.text.now in
-    let none : length rest ≡ 0 = eqb-true (length rest) 0 (sym c.loop-rest-test.ensures) in
-    let whole : finish (reader_of c.loop-rest.state) end ≡ reading c.args.text.now =
-    sym (run-end end (reader_of c.loop-rest.state)) ∙ (ap (λ (ts : List Placed). run end (reader_of c.loop-rest.state) ts) (sym (tokens-end (end - length rest) rest none)) ∙ c.loop-rest.invariant.same) in
-    let given : Gives tree_of c.finish.result (reading c.args.text.now) = subst (λ (r : Result Tree ℕ). Gives tree_of c.finish.result r) whole c.finish.ensures in
+pub loop-lexeme-preserved-in-Every : goal.loop-lexeme-preserved-in-Every
+loop-lexeme-preserved-in-Every c =
+    let outer = c.loop-lexeme.outer.items in
+    let level = c.loop-lexeme.level in
     record {
-      tree = gives_tree c.finish.result c.args.text.now c.requires given;
-      fault = λ at e. gives_fault c.finish.result c.args.text.now at c.requires given e;
+      boundary = c.in-Some.ensures.boundary;
+      same = read_on (length c.args.text.now) outer level (reader_of outer level (Some All))
+          c.in-Some.ensures.some c.loop-lexeme.invariant.same c.in-None.is c.in-Every.is refl;
     }
+
+pub loop-lexeme-preserved-in-Leaf : goal.loop-lexeme-preserved-in-Leaf
+loop-lexeme-preserved-in-Leaf c =
+    let outer = c.loop-lexeme.outer.items in
+    let level = c.loop-lexeme.level in
+    let at = c.in-Some.field-0.at in
+    let query = c.in_ok-leaf-in-Leaf.field-0 in
+    let step = step_leaf outer level query c.in-Leaf.field.now (plain c.in-Leaf.value.now) at
+    c.in_ok-leaf-in-Leaf.ensures in
+    record {
+      boundary = c.in-Some.ensures.boundary;
+      same = read_on (length c.args.text.now) outer level (reader_of outer level (Some query))
+          c.in-Some.ensures.some c.loop-lexeme.invariant.same c.in-None.is c.in-Leaf.is step;
+    }
+
+pub returns-in_default-lexeme-clause-fault : goal.returns-in_default-lexeme-clause-fault
+returns-in_default-lexeme-clause-fault c =
+    let outer = c.loop-lexeme.outer.items in
+    let level = c.loop-lexeme.level in
+    let at = c.in-Some.field-0.at in
+    let none = no_operand outer level c.in-Some.field-0.lexeme at c.in_default-lexeme.not-Open
+    c.in_default-lexeme.not-Not c.in_default-lexeme.not-Every c.in_default-lexeme.not-Leaf in
+    refused c.args.text.now outer level (Err (At at)) c.requires c.in-Some.ensures.some
+    c.loop-lexeme.invariant.same c.in-None.is refl none refl
+
+pub loop-lexeme-preserved-in-And : goal.loop-lexeme-preserved-in-And
+loop-lexeme-preserved-in-And c =
+    let outer = c.loop-lexeme.outer.items in
+    let level = c.loop-lexeme.level in
+    let at = c.in-Some.field-0.at in
+    let conjunction : IsConjunction level c.in-Some-operand.query c.in_ok-query-in-Some-operand.query =
+    (c.in_ok-query-in-Some-operand.ensures.alone, c.in_ok-query-in-Some-operand.ensures.joined) in
+    let inner = c.new-level-in-And.result in
+    let step = step_and outer level inner c.in-Some-operand.query c.in_ok-query-in-Some-operand.query at
+    conjunction c.new-level-in-And.ensures in
+    record {
+      boundary = c.in-Some.ensures.boundary;
+      same = read_on (length c.args.text.now) outer level (reader_of outer inner None) c.in-Some.ensures.some
+          c.loop-lexeme.invariant.same c.in-Some-operand.is c.in-And.is step;
+    }
+
+pub loop-lexeme-preserved-in-Or : goal.loop-lexeme-preserved-in-Or
+loop-lexeme-preserved-in-Or c =
+    let outer = c.loop-lexeme.outer.items in
+    let level = c.loop-lexeme.level in
+    let at = c.in-Some.field-0.at in
+    let conjunction : IsConjunction level c.in-Some-operand.query c.in_ok-query-in-Some-operand.query =
+    (c.in_ok-query-in-Some-operand.ensures.alone, c.in_ok-query-in-Some-operand.ensures.joined) in
+    let whole : IsWhole level c.in_ok-query-in-Some-operand.query c.in_ok-query-in-Or.query =
+    (c.in_ok-query-in-Or.ensures.alone, c.in_ok-query-in-Or.ensures.joined) in
+    let inner = c.new-level-in-Or.result in
+    let step = step_or outer level inner c.in-Some-operand.query c.in_ok-query-in-Some-operand.query
+    c.in_ok-query-in-Or.query at conjunction whole c.new-level-in-Or.ensures in
+    record {
+      boundary = c.in-Some.ensures.boundary;
+      same = read_on (length c.args.text.now) outer level (reader_of outer inner None) c.in-Some.ensures.some
+          c.loop-lexeme.invariant.same c.in-Some-operand.is c.in-Or.is step;
+    }
+
+pub returns-in_err-level-in-Close-clause-fault : goal.returns-in_err-level-in-Close-clause-fault
+returns-in_err-level-in-Close-clause-fault c =
+    let outer = c.loop-lexeme.outer.items in
+    let level = c.loop-lexeme.level in
+    let at = c.in-Some.field-0.at in
+    let none = no_level c.pop.result c.in_err-level-in-Close.field-0.0 at c.in_err-level-in-Close.ensures.value in
+    let error = err_from_is_err_and c.from_residual-in_err-level-in-Close.result
+    c.from_residual-in_err-level-in-Close.ensures.1 in
+    let given : c.from_residual-in_err-level-in-Close.result ≡ Err (At at) = error.1
+    ∙ ap (λ (fault : QueryFault). Err fault) (error.2 ∙ none.0) in
+    let cases = rw none.1 at c.pop.ensures.cases in
+    let step = step_close-none outer level c.in-Some-operand.query at (sym c.loop-lexeme.outer.ok.0 ∙ cases.0) in
+    refused c.args.text.now outer level c.from_residual-in_err-level-in-Close.result c.requires
+    c.in-Some.ensures.some c.loop-lexeme.invariant.same c.in-Some-operand.is c.in-Close.is step given
+
+pub loop-lexeme-preserved : goal.loop-lexeme-preserved
+loop-lexeme-preserved c =
+    let outer = c.loop-lexeme.outer.items in
+    let level = c.loop-lexeme.level in
+    let at = c.in-Some.field-0.at in
+    let conjunction : IsConjunction level c.in-Some-operand.query c.in_ok-query-in-Some-operand.query =
+    (c.in_ok-query-in-Some-operand.ensures.alone, c.in_ok-query-in-Some-operand.ensures.joined) in
+    let whole : IsWhole level c.in_ok-query-in-Some-operand.query c.in_ok-or_with-in-Close.field-0 =
+    (c.in_ok-or_with-in-Close.ensures.alone, c.in_ok-or_with-in-Close.ensures.joined) in
+    let levels = c.pop.new.self.items in
+    let before = c.in_ok-level-in-Close.level in
+    let popped : outer ≡ levels ++ before ∷ [] = c.pop.ensures.items
+    ∙ ap (λ (x : Option Level). levels ++ option_to_list x) c.in_ok-level-in-Close.ensures.ok_part in
+    let query = c.in_ok-or_with-in-Close.field-0 in
+    let step = step_close outer levels level before c.in-Some-operand.query c.in_ok-query-in-Some-operand.query
+    query at conjunction whole popped in
+    record {
+      boundary = c.in-Some.ensures.boundary;
+      same = read_on (length c.args.text.now) outer level (reader_of levels before (Some query))
+          c.in-Some.ensures.some c.loop-lexeme.invariant.same c.in-Some-operand.is c.in-Close.is step;
+    }
+
+pub returns-in_default-lexeme-2 : goal.returns-in_default-lexeme-2
+returns-in_default-lexeme-2 c =
+    let outer = c.loop-lexeme.outer.items in
+    let level = c.loop-lexeme.level in
+    let at = c.in-Some.field-0.at in
+    let none = no_operator outer level c.in-Some-operand.query c.in-Some.field-0.lexeme at
+    c.in_default-lexeme-2.not-Close c.in_default-lexeme-2.not-And c.in_default-lexeme-2.not-Or in
+    record {
+      tree = tt;
+      fault = refused c.args.text.now outer level (Err (At at)) c.requires
+          c.in-Some.ensures.some c.loop-lexeme.invariant.same c.in-Some-operand.is refl none refl;
+    }
+
+pub returns-in-None-operand-clause-fault : goal.returns-in-None-operand-clause-fault
+returns-in-None-operand-clause-fault c =
+    let text = c.args.text.now in
+    let end = length text in
+    let outer = c.loop-lexeme.outer in
+    let level = c.loop-lexeme.level in
+    let finished = ended end outer.items level c.in_default.ensures.none c.in-None-operand.is
+    c.loop-lexeme.invariant.same in
+    fault_at text end (Err (At end)) c.requires finished refl
+
+pub returns-then-not-is_empty-clause-fault : goal.returns-then-not-is_empty-clause-fault
+returns-then-not-is_empty-clause-fault c =
+    let text = c.args.text.now in
+    let end = length text in
+    let outer = c.loop-lexeme.outer in
+    let level = c.loop-lexeme.level in
+    let finished = ended end outer.items level c.in_default.ensures.none c.in-Some-operand-2.is
+    c.loop-lexeme.invariant.same in
+    let some : 0 < length outer.items = omega (arith, outer.ok.0, false-eqb outer.len 0 c.if-not-is_empty.ensures) in
+    fault_at text end (Err (At end)) c.requires (finished ∙ finish-open outer.items level
+    c.in-Some-operand-2.query end some) refl
+
+pub returns-clause-tree : goal.returns-clause-tree
+returns-clause-tree c =
+    let text = c.args.text.now in
+    let end = length text in
+    let outer = c.loop-lexeme.outer in
+    let level = c.loop-lexeme.level in
+    let finished = ended end outer.items level c.in_default.ensures.none c.in-Some-operand-2.is
+    c.loop-lexeme.invariant.same in
+    let none : length outer.items ≡ 0 = sym outer.ok.0 ∙ eqb-true outer.len 0 (sym c.if-not-is_empty.ensures) in
+    let conjunction : IsConjunction level c.in-Some-operand-2.query c.in_ok-query-in-Some-operand-2.query =
+    (c.in_ok-query-in-Some-operand-2.ensures.alone, c.in_ok-query-in-Some-operand-2.ensures.joined) in
+    let whole : IsWhole level c.in_ok-query-in-Some-operand-2.query c.in_ok-or_with-in-Some-operand-2.field-0 =
+    (c.in_ok-or_with-in-Some-operand-2.ensures.alone, c.in_ok-or_with-in-Some-operand-2.ensures.joined) in
+    let query = c.in_ok-or_with-in-Some-operand-2.field-0 in
+    tree_found text (tree_of query) c.requires (finished ∙ finish-whole outer.items level
+    c.in-Some-operand-2.query c.in_ok-query-in-Some-operand-2.query query end none conjunction whole)

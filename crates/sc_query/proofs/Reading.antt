@@ -1,34 +1,9 @@
--- What each private step of the reader does: the contracts of private functions alone cite this file, and a reader of the
--- public ones may leave it out.
-use Rattle.std.specs.Prelude.{◌≡◌, ℕ, Bool, suc, zero, ◌+◌, ◌-◌, nat_lt, Option, Some, None, Result, Ok, Err, if◌then◌else◌, List, [], ◌∷◌, map, reverse, option_map}
-use Rattle.sc_query.specs.declared.fault.QueryFault.{QueryFault}
-use Rattle.sc_query.specs.declared.fault.QueryFault.TheVariants.{At, Memory}
-use Rattle.sc_query.specs.declared.lexeme.Lexeme.{Lexeme}
-use Rattle.sc_query.specs.declared.lexeme.Lexeme.TheVariants as lexeme
-use Rattle.sc_query.specs.declared.lexeme.Part.{Part}
-use Rattle.sc_query.specs.declared.lexeme.Part.TheVariants.{Field, Run, Quoted}
+-- The reader as a machine: what a token makes of what was read before it.
+use Rattle.std.proofs.Common.{ℕ, ◌+◌, ◌-◌, nat_lt, Option, Some, None, Result, Ok, Err, if◌then◌else◌, List, [], ◌∷◌, map, reverse, option_map}
+use Rattle.sc_query.specs.declared.query.Query.{Query}
 use Rattle.sc_query.specs.declared.reader.Level.{Level}
-use Rattle.sc_query.specs.declared.reader.State.{State}
-use Rattle.sc_query.specs.declared.reader.State.TheVariants.{Awaits, After}
-use Rattle.sc_query.specs.Tokens.{Token, plain, ends_field, ends_run, ends_quoted}
-use Rattle.sc_query.specs.Tree.{Tree, tree_of}
-
--- the token that a lexeme is
-abbrev pub token_of : Lexeme → Token
-token_of lexeme.Open = Token.Open
-token_of lexeme.Close = Token.Close
-token_of lexeme.And = Token.And
-token_of lexeme.Or = Token.Or
-token_of lexeme.Not = Token.Not
-token_of lexeme.Every = Token.Every
-token_of (lexeme.Leaf field value) = Token.Leaf field.now (plain value.now)
-token_of lexeme.Broken = Token.Broken
-
--- which bytes end a part of a leaf
-abbrev pub ends_of : Part → ℕ → Bool
-ends_of Field = ends_field
-ends_of Run = ends_run
-ends_of Quoted = ends_quoted
+use Rattle.sc_query.specs.Tokens.{Token}
+use Rattle.sc_query.specs.Tree.{Tree, tree_of, negated}
 
 -- what stands before an operand, back to the parenthesis that is open: a left side of OR, one of AND, and NOTs
 pub record Before : Type 0 where
@@ -41,23 +16,6 @@ pub record Before : Type 0 where
 pub data Reader : Type 0 where
   Operand : (outer : List Before) (before : Before) → Reader
   Operator : (outer : List Before) (either : Option Tree) (room : ℕ) (tree : Tree) → Reader
-
--- a level of the code, without where its queries lie in memory
-abbrev pub before_of : Level → Before
-before_of l = record { either = option_map tree_of l.either; both = option_map tree_of l.both; room = l.room; negations = l.negations }
-
--- the levels, the innermost first
-abbrev pub outer_of : List Level → List Before
-outer_of levels = reverse (map before_of levels)
-
-abbrev pub reader_of : State → Reader
-reader_of (Awaits outer level) = Operand (outer_of outer.items) (before_of level)
-reader_of (After outer either room query) = Operator (outer_of outer.items) (option_map tree_of either) room (tree_of query)
-
--- a tree under so many NOTs
-abbrev pub negated : ℕ → Tree → Tree
-negated zero t = t
-negated (suc n) t = negated n (Tree.Not t)
 
 abbrev pub and_with : Option Tree → Tree → Tree
 and_with None t = t
@@ -74,6 +32,19 @@ empty room = record { either = None; both = None; room = room; negations = 0 }
 -- an operand was read
 abbrev pub with_operand : List Before → Before → Tree → Reader
 with_operand outer before t = Operator outer before.either before.room (and_with before.both (negated before.negations t))
+
+-- a level of the code, without where its queries lie in memory
+abbrev pub before_of : Level → Before
+before_of l = record { either = option_map tree_of l.either; both = option_map tree_of l.both; room = l.room; negations = l.negations }
+
+-- the levels, the innermost first
+abbrev pub outer_of : List Level → List Before
+outer_of levels = reverse (map before_of levels)
+
+-- how far the code has read: the levels that are open, the innermost, and the operand that was read last
+abbrev pub reader_of : List Level → Level → Option Query → Reader
+reader_of outer level None = Operand (outer_of outer) (before_of level)
+reader_of outer level (Some operand) = with_operand (outer_of outer) (before_of level) (tree_of operand)
 
 -- one parenthesis or NOT more, or the fault where too many are open
 abbrev pub opened : Before → ℕ → Reader → Result Reader ℕ
@@ -115,12 +86,3 @@ abbrev pub finish : Reader → ℕ → Result Tree ℕ
 finish (Operand outer before) end = Err end
 finish (Operator [] either room t) end = Ok (or_with either t)
 finish (Operator (before ∷ outer) either room t) end = Err end
-
--- what a step returned is what it gives here, unless memory ran out
-abbrev pub Fails : {B : Type 0} → QueryFault → Result B ℕ → Type 0
-Fails Memory expected = Unit {0}
-Fails (At at) expected = expected ≡ Err at
-
-abbrev pub Gives : {A B : Type 0} → (A → B) → Result A QueryFault → Result B ℕ → Type 0
-Gives view (Ok x) expected = expected ≡ Ok (view x)
-Gives view (Err fault) expected = Fails fault expected

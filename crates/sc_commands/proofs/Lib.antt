@@ -1,2 +1,3 @@
+-- Facts on the forms of update bodies and on the orders that they give.
 pub mod FormLemmas
 pub mod OrderLemmas

@@ -1,3 +1,4 @@
+-- Facts on values of JSON, on their numbers and on documents as they come.
 pub mod JsonLemmas
 pub mod FloatLemmas
 pub mod RawLemmas

@@ -142,6 +142,7 @@ fn documents(rt: HostRuntime) -> Result<(), Fail> {
             hash: 0,
             version: VERSION,
             doc: Some(document(alloc, body)?),
+            terms: List::new(alloc),
         };
         let text = print(alloc, &doc_value(alloc, &write)?)?;
         assert!(rt; text.as_str() == want, "{body}");

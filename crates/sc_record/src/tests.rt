@@ -107,6 +107,7 @@ fn write_of(alloc: Global, version: i64, doc: Option<Doc>) -> Result<Cell, Fail>
             hash: 0,
             version,
             doc,
+            terms: List::new(alloc),
         },
     )?)
 }

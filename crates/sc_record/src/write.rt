@@ -2,6 +2,8 @@ ghost use Rattle.std.specs.Prelude.{pos, ◌<ℤ◌};
 
 use crate::document::Doc;
 use crate::id::Id;
+use crate::list::List;
+use crate::term::Term;
 use std::sync::Arc;
 
 /// One write of an id under its version, which is above 0. A write without a document is a deletion.
@@ -12,6 +14,8 @@ pub struct Write {
     pub hash: i32,
     pub version: i64,
     pub doc: Option<Doc>,
+    /// What a search finds the document by; none of a deletion.
+    pub terms: List<Term>,
     pub ghost positive: { pos 0 <ℤ version },
 }
 

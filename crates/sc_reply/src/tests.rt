@@ -43,6 +43,7 @@ fn cell(alloc: Global, id: &str, body: &str) -> Result<Cell, Fail>
         hash: 0,
         version: VERSION,
         doc: Some(document(alloc, body)?),
+        terms: List::new(alloc),
     };
     Ok(Arc::new(alloc, write)?)
 }

@@ -1,3 +1,4 @@
+-- Facts on values, on changes of fields and on documents as they come.
 pub mod FitLemmas
 pub mod PartLemmas
 pub mod RawLemmas

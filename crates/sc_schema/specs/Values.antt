@@ -3,7 +3,7 @@ use Rattle.std.specs.Prelude.{ℕ, ◌-◌, ◌^◌, Bool, true, false, ◌&&◌
 use Rattle.std.specs.Fmt.{signed_decimal}
 use Rattle.std.specs.Str.{all_ascii_digits}
 use Rattle.std.specs.Str.Parse.{starts_with_minus, signed_digits_value}
-use Rattle.sc_record.specs.Orders.{is_int, fits_amount}
+use Rattle.sc_record.specs.Orders.{is_int, is_long, fits_amount}
 use Rattle.sc_record.specs.declared.value.Kind.{Kind}
 use Rattle.sc_record.specs.declared.value.Kind.TheVariants as kinds
 use Rattle.sc_record.specs.declared.value.Value.{Value}
@@ -28,10 +28,6 @@ text_of (ones.Flag flag) = Some (flag_text flag)
 text_of (ones.Number n) = Some (signed_decimal n)
 text_of ones.Other = None
 text_of (ones.Text text) = Some text
-
--- the number has 64 bits
-abbrev pub is_long : ℤ → Bool
-is_long n = int_le (negsuc (2 ^ 63 - 1)) n && int_le n (pos (2 ^ 63 - 1))
 
 -- a text without the minus sign that it may begin with
 abbrev pub without_minus : List ℕ → List ℕ

@@ -10,6 +10,7 @@ ghost use Rattle.sc_session.specs.Asking.{order_view};
 use crate::asked::Order;
 use sc_record::{Cell, Entry, Write, next_version};
 use sc_router::route_hash;
+use sc_schema::terms_of;
 use std::alloc::{AllocError, Global};
 use std::marker::Model;
 use std::sync::Arc;
@@ -97,11 +98,13 @@ impl Plain {
         let version = next_version(now, self.clock);
         self.journal.reserve(2)?;
         let hash = route_hash(order.id.as_str());
+        let terms = terms_of(alloc, &order.id, &order.document)?;
         let write = Write {
             id: order.id,
             hash,
             version,
             doc: Some(order.document),
+            terms,
         };
         let cell = match Arc::new(alloc, write) {
             Ok(cell) => cell,

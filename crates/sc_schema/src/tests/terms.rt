@@ -88,7 +88,7 @@ fn has_words(alloc: Global, text: &str, words: &str) -> Result<bool, AllocError>
 
 #[test]
 fn words_of_texts(rt: HostRuntime) -> Result<(), Fail> {
-    // the folded words, ascending, between bars: by UAX 29 and by CaseFolding.txt, statuses C and F
+    // the folded words, ascending, between bars: as the rules of UAX 29 and of default case folding give them
     let cases = [
         ("", ""),
         (" ,.!? \t\r\n", ""),

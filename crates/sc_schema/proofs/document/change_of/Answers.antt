@@ -1,3 +1,4 @@
+-- The changes of an atomic update are lawful, and what a new document is set to is a document.
 use Rattle.std.proofs.Common.{subst, sym}
 use Rattle.sc_record.specs.Fields.{IsDocument}
 use Rattle.sc_schema.proofs.PartLemmas.{parts-lawful, made-document}

@@ -1,3 +1,4 @@
+-- An atomic update names the members of its document.
 use Rattle.std.proofs.Common.{subst, sym, ap, ◌∙◌}
 use Rattle.std.specs.List.{list_any}
 use Rattle.sc_schema.specs.Documents.{is_object, parts_of, NamesFields}

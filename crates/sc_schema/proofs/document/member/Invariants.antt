@@ -1,3 +1,4 @@
+-- The member is looked for among those that are left.
 use Rattle.std.proofs.Common.{◌≡◌, drop}
 use Rattle.sc_schema.specs.Documents.{member}
 use Rattle.sc_schema.proofs.document.member.Given as goal

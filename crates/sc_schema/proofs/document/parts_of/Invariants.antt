@@ -1,3 +1,4 @@
+-- The changes so far, and then those that the members left ask for.
 use Rattle.std.proofs.Common.{◌≡◌, ◌++◌, drop}
 use Rattle.sc_schema.specs.Documents.{found_map, parts_of}
 use Rattle.sc_schema.proofs.document.parts_of.Given as goal

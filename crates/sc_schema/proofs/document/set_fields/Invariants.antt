@@ -1,3 +1,4 @@
+-- The fields so far, and then those that the changes left make.
 use Rattle.std.proofs.Common.{◌≡◌, ◌++◌}
 use Rattle.std.specs.Prelude.{filter_map}
 use Rattle.std.specs.Vec.Iter.{into_iter_items}

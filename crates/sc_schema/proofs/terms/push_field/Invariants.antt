@@ -1,3 +1,4 @@
+-- The terms so far, and then those of the values left.
 use Rattle.std.proofs.Common.{◌≡◌, ◌++◌, map, drop}
 use Rattle.std.specs.Prelude.{flat_map}
 use Rattle.sc_schema.specs.Terms.{keys_of, term}

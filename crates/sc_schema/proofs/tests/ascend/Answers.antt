@@ -1,3 +1,4 @@
+-- Names each of which is below the next ascend.
 use Rattle.std.proofs.Common.{arith}
 use Rattle.sc_schema.proofs.RawLemmas.{ascend_from_adjacent}
 use Rattle.sc_schema.proofs.tests.ascend.Goals as goal

@@ -1,3 +1,4 @@
+-- The names looked at so far ascend.
 use Rattle.sc_schema.proofs.RawLemmas.{AscendUpTo}
 use Rattle.sc_schema.proofs.tests.ascend.Given as goal
 

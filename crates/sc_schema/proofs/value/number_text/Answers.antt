@@ -1,3 +1,4 @@
+-- What std parses without a plus sign is what a decimal text writes.
 use Rattle.std.proofs.Common.{◌≢◌, ◌≡◌, get_or, ◌∙◌, arith, sym, lit<}
 use Rattle.std.proofs.lemmas.Bool.Decides.{nat_tests}
 use Rattle.sc_schema.proofs.ValueLemmas.{number_text-parsed, plus-no_number}

@@ -1,3 +1,4 @@
+-- The values so far, and then those of the list that is left.
 use Rattle.std.proofs.Common.{◌≡◌, ◌++◌, drop, option_map}
 use Rattle.sc_schema.specs.Values.{values_in}
 use Rattle.sc_schema.proofs.values.values_in.Given as goal

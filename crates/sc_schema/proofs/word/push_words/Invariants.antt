@@ -1,3 +1,4 @@
+-- The terms so far, and then those of the words left.
 use Rattle.std.proofs.Common.{◌≡◌, ◌++◌, map}
 use Rattle.unicode_segmentation.specs.Iter.{unicode_words_left}
 use Rattle.sc_schema.specs.Terms.{folded, term}

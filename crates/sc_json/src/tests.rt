@@ -1,5 +1,5 @@
 use crate::{JsonFault, RawFault, doc_value, print, raw_doc, read};
-use sc_record::{Change, Doc, Id, Order, Write};
+use sc_record::{Change, Doc, Id, List, Order, Write};
 use sc_schema::check_doc;
 use serde_json::Value;
 use std::alloc::Global;

@@ -1,9 +1,11 @@
 ghost use Rattle.std.specs.Prelude.{◌≡◌, option_copied};
 ghost use Rattle.sc_record.specs.Fields.{IsDocument, values_of};
 
+use crate::copy::CloneIn;
 use crate::list::List;
 use crate::text::Text;
 use crate::value::Value;
+use std::alloc::{AllocError, Global};
 use std::marker::Model;
 
 /// A field's name and its values, in the order in which they were given.
@@ -11,6 +13,15 @@ use std::marker::Model;
 pub struct Field {
     pub name: Text,
     pub values: List<Value>,
+}
+
+impl CloneIn for Field {
+    fn clone_in(&self, alloc: Global) -> Result<Field, AllocError> {
+        Ok(Field {
+            name: self.name.clone_in(alloc)?,
+            values: self.values.clone_in(alloc)?,
+        })
+    }
 }
 
 /// A document without its id and its version, which contracts see as its fields. Their names

@@ -1,0 +1,164 @@
+ghost use Rattle.std.specs.Prelude.{◌≡◌, ◌<◌, ◌≤◌, ◌+◌, ◌-◌, [], map, insert, max, min, length, int_lt};
+ghost use Rattle.std.specs.Prelude.{vec_len, vec_capacity, IsOk, OnOk, OnErr, option_copied};
+ghost use Rattle.std.specs.Option.{option_map};
+ghost use Rattle.std.specs.Arc.{arc_value};
+ghost use Rattle.std.specs.Slice.Iter.{iter_rest};
+ghost use Rattle.sc_record.specs.Writes.{write_of, AscendById};
+ghost use Rattle.sc_replica.specs.Places.{IsPlace};
+
+use sc_record::{Cell, Id};
+use std::alloc::{AllocError, Global};
+use std::marker::Model;
+use std::slice;
+
+/// The cells of a core, which contracts see as the list of their writes, ascending by the ids' bytes, and the number of
+/// new ids for which there is room.
+#[derive(Debug, Drop)]
+pub struct Cells {
+    cells: Vec<Cell>,
+    // how many more cells fit, as far as callers have asked for room
+    spare: usize,
+}
+
+impl Model for Cells {
+    ghost use Rattle.std.specs.Prelude.{◌+◌, ◌≤◌, map, vec_len, vec_capacity};
+    ghost use Rattle.std.specs.Arc.{arc_value};
+    ghost use Rattle.sc_record.specs.Writes.{AscendById};
+    ghost use Rattle.sc_replica.specs.Cells.{CellsState};
+
+    ghost Value = { CellsState };
+
+    ghost view = { λ a. record { writes = map arc_value a.cells.items; spare = a.spare } };
+
+    ghost invariant = { λ a. AscendById (map arc_value a.cells.items)
+        × (vec_len a.cells + a.spare ≤ vec_capacity a.cells) };
+}
+
+impl Cells {
+    ghost use Rattle.sc_replica.specs.Cells.{put, applied, spare_after};
+
+    /// No cells and no room for any. It takes no memory.
+    pub(crate) fn new(alloc: Global) -> Cells
+        ensures { result ≡ record { writes = []; spare = 0 } }
+    {
+        Cells {
+            cells: Vec::new(alloc),
+            spare: 0,
+        }
+    }
+
+    pub fn len(&self) -> usize
+        ensures len { result ≡ length self.now.writes }
+        ensures ascends { AscendById self.now.writes }
+    {
+        self.cells.len()
+    }
+
+    /// For how many new ids there is room.
+    pub(crate) fn spare(&self) -> usize
+        ensures { result ≡ self.now.spare }
+    {
+        self.spare
+    }
+
+    /// The cell of the id: one binary search.
+    pub fn get(&self, id: &Id) -> Option<&Cell>
+        ensures cell { option_map arc_value (option_copied result) ≡ write_of self.now.writes id.now }
+        ensures ascends { AscendById self.now.writes }
+    {
+        match place(&self.cells, id) {
+            Ok(place) => Some(&self.cells[place]),
+            Err(_) => None,
+        }
+    }
+
+    /// The cells by the ids' bytes.
+    pub fn iter(&self) -> slice::Iter<'_, Cell>
+        ensures cells { map arc_value (iter_rest result) ≡ self.now.writes }
+        ensures ascends { AscendById self.now.writes }
+    {
+        self.cells.iter()
+    }
+
+    /// Makes room for at least `n` new ids. An error means out of memory.
+    pub(crate) fn reserve(&mut self, n: usize) -> Result<(), AllocError>
+        ensures ok { OnOk result (self.new ≡ record self.old { spare = max self.old.spare n }) }
+        ensures err { OnErr result (self.new ≡ self.old) }
+        ensures has_room { n ≤ self.old.spare → IsOk result }
+    {
+        if n > self.spare {
+            self.cells.reserve(n)?;
+            self.spare = n;
+        }
+        Ok(())
+    }
+
+    /// Gives up the room above that for `n` new ids.
+    pub(crate) fn limit_spare(&mut self, n: usize)
+        ensures { self.new ≡ record self.old { spare = min self.old.spare n } }
+    {
+        self.spare = self.spare.min(n);
+    }
+
+    /// Puts the write in the place of its id's cell, or in order where its id has none: one binary search, and at most
+    /// one move of the cells after it.
+    pub(crate) fn put(&mut self, write: Cell)
+        requires { 0 < self.old.spare }
+        ensures { self.new ≡ record {
+          writes = put self.old.writes (arc_value write);
+          spare = spare_after self.old.writes self.old.spare (arc_value write);
+        } }
+    {
+        match place(&self.cells, &write.id) {
+            Ok(place) => self.cells[place] = write,
+            Err(place) => insert_reserved(&mut self.cells, &mut self.spare, place, write),
+        }
+    }
+
+    /// Puts the write in, or drops it where its version isn't greater than that of its id's cell: one binary search.
+    pub(crate) fn apply(&mut self, write: Cell)
+        requires { 0 < self.old.spare }
+        ensures { self.new ≡ record {
+          writes = applied self.old.writes (arc_value write);
+          spare = spare_after self.old.writes self.old.spare (arc_value write);
+        } }
+    {
+        match place(&self.cells, &write.id) {
+            Ok(place) => {
+                if is_above(&self.cells[place], &write) {
+                    self.cells[place] = write;
+                }
+            }
+            Err(place) => insert_reserved(&mut self.cells, &mut self.spare, place, write),
+        }
+    }
+}
+
+// Where the id's cell is, or else where it would be put in: one binary search.
+fn place(cells: &[Cell], id: &Id) -> Result<usize, usize>
+    requires { AscendById (map arc_value cells.now) }
+    ensures { IsPlace (map arc_value cells.now) id.now result }
+{
+    cells.binary_search_by(|cell| cell.id.cmp(id))
+}
+
+// Puts the write in before the cell at this place, in the room that there is, and takes one place of it.
+fn insert_reserved(cells: &mut Vec<Cell>, spare: &mut usize, place: usize, write: Cell)
+    requires place { place ≤ vec_len cells.old }
+    requires some { 0 < spare.old }
+    requires room { vec_len cells.old + spare.old ≤ vec_capacity cells.old }
+    ensures items { cells.new.items ≡ insert cells.old.items place write }
+    ensures spare { spare.new ≡ spare.old - 1 }
+    ensures room { vec_len cells.new + spare.new ≤ vec_capacity cells.new }
+{
+    let inserted = cells.insert(place, write);
+    prove!(inserted.is_ok());
+    *spare -= 1;
+}
+
+// Whether the write's version is greater than the cell's.
+fn is_above(cell: &Cell, write: &Cell) -> bool
+    ensures { result ≡ int_lt (arc_value cell.now).version (arc_value write.now).version }
+{
+    cell.version < write.version
+}

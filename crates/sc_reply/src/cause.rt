@@ -1,6 +1,7 @@
 ghost use Rattle.std.specs.Prelude.{◌≡◌, ◌++◌, IfOk, codes, decimal};
 ghost use Rattle.std.specs.Fmt.{signed_decimal};
-ghost use Rattle.sc_reply.specs.Causes.{status_of, message_of};
+ghost use Rattle.sc_reply.specs.Refusals.{status_of, message_of};
+ghost use Rattle.sc_reply.specs.Causes.{refusal_of};
 
 use sc_record::Text;
 use std::alloc::{AllocError, Global};
@@ -87,7 +88,7 @@ pub enum Cause<'a> {
 impl<'a> Cause<'a> {
     /// The status of the refusal (RFC 9110, section 15).
     pub fn status(&self) -> u16
-        ensures { result ≡ status_of self.now }
+        ensures { result ≡ status_of (refusal_of self.now) }
     {
         match self {
             Cause::TooLarge => 413,
@@ -105,7 +106,7 @@ impl<'a> Cause<'a> {
 
     /// The message of the refusal, in the words of Solr where Solr has them.
     pub fn message(&self, alloc: Global) -> Result<Text, AllocError>
-        ensures { IfOk result (λ text. text ≡ message_of self.now) }
+        ensures { IfOk result (λ text. text ≡ message_of (refusal_of self.now)) }
     {
         match self {
             Cause::BadHead => Text::new(alloc, "bad request"),

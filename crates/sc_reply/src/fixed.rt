@@ -3,8 +3,7 @@
 
 ghost use Rattle.std.specs.Prelude.{◌≡◌, false, []};
 ghost use Rattle.sc_reply.specs.Bodies.{update_text, error_text};
-ghost use Rattle.sc_reply.specs.Causes.{message_of, status_of};
-ghost use Rattle.sc_reply.specs.declared.cause.Cause.TheVariants as causes;
+ghost use Rattle.sc_reply.specs.Refusals.{message_of, status_of, memory};
 
 /// The body of the answer to an update that was done and shows no versions.
 pub fn ok_body() -> &'static str
@@ -16,7 +15,7 @@ pub fn ok_body() -> &'static str
 /// The body of the refusal where memory ran out.
 pub fn memory_body() -> &'static str
     ensures { result.now
-        ≡ error_text (status_of causes.Memory) (message_of causes.Memory) [] [] false }
+        ≡ error_text (status_of memory) (message_of memory) [] [] false }
 {
     r#"{"error":{"code":503,"msg":"out of memory"},"responseHeader":{"QTime":0,"status":503}}"#
 }

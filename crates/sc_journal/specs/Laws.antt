@@ -1,0 +1,45 @@
+-- Laws of journals, above their definitions.
+use Rattle.std.specs.Prelude.{◌≡◌, ◌<ℤ◌, ℕ, ◌+◌, List, [], ◌∷◌, ◌++◌, Some, None}
+use Rattle.sc_record.specs.declared.write.Write.{Write}
+use Rattle.sc_record.specs.declared.slice.SliceId.{SliceId}
+use Rattle.sc_record.specs.declared.entry.Entry.{Entry}
+use Rattle.sc_record.specs.declared.entry.Entry.TheVariants as entry
+use Rattle.sc_cluster.specs.declared.slice.Slice.{Slice}
+use Rattle.sc_cluster.specs.Slices.{forming}
+use Rattle.sc_cluster.specs.Map.{IsMap}
+use Rattle.sc_cluster.specs.Changes.{IsSplit}
+use Rattle.sc_journal.specs.Journal.{writes_of}
+use Rattle.sc_journal.specs.Splits.{map_after, open_split, owed}
+use Rattle.sc_journal.specs.Legal.{MayFollow, IsLegal}
+
+-- a journal with no entries is legal, and so is a legal one with an entry more that may follow it
+abbrev pub GrowsByWhatMayFollow : Type 0
+GrowsByWhatMayFollow = (first : List Slice) → IsLegal first []
+    × ((journal : List Entry) (one : Entry) → IsLegal first journal → MayFollow first journal one → IsLegal first (journal ++ one ∷ []))
+
+-- a prefix of a legal journal is legal
+abbrev pub HasLegalPrefixes : Type 0
+HasLegalPrefixes = (first : List Slice) (journal more : List Entry) → IsLegal first (journal ++ more) → IsLegal first journal
+
+-- of two writes of an id the later one has the greater version
+abbrev pub AscendsInVersions : Type 0
+AscendsInVersions = (first : List Slice) (journal : List Entry) (id : List ℕ) (before between after : List Write) (one other : Write)
+    → IsLegal first journal → writes_of journal id ≡ before ++ one ∷ between ++ other ∷ after → one.version <ℤ other.version
+
+-- a write makes one more entry owed
+abbrev pub OwesOneForAWrite : Type 0
+OwesOneForAWrite = (first : List Slice) (journal : List Entry) (cell : _) → IsLegal first (journal ++ entry.Write cell ∷ [])
+    → owed first (journal ++ entry.Write cell ∷ []) ≡ owed first journal + 1
+
+-- and the entry that settles it one less
+abbrev pub OwesOneLessSettled : Type 0
+OwesOneLessSettled = (first : List Slice) (journal : List Entry) (place : ℕ) → IsLegal first (journal ++ entry.Settled place ∷ [])
+    → owed first (journal ++ entry.Settled place ∷ []) + 1 ≡ owed first journal
+
+-- the slices after a legal journal are those of a cluster, and those that are being made are the subs of the slice whose
+-- split is open
+abbrev pub KeepsAMap : Type 0
+KeepsAMap = (first : List Slice) (journal : List Entry) → IsMap first → forming first ≡ [] → IsLegal first journal
+    → IsMap (map_after first journal)
+    × (open_split journal ≡ None → forming (map_after first journal) ≡ [])
+    × ((parent : SliceId) → open_split journal ≡ Some parent → IsSplit (map_after first journal) parent)

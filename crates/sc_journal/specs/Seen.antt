@@ -1,0 +1,71 @@
+-- What is seen of a collection: the journals of its buckets, that of its board, and which of their entries are one's own.
+use Rattle.std.specs.Prelude.{◌≡◌, ◌≤◌, ◌<◌, ℕ, ◌+◌, ◌==◌, List, [], ◌∷◌, ◌++◌, length, map, filter, take, if◌then◌else◌, ⊤}
+use Rattle.std.specs.List.{AllByRecursion}
+use mathlib.Core.List.{IsPrefix}
+use Rattle.sc_record.specs.declared.entry.Entry.{Entry}
+use Rattle.sc_cluster.specs.declared.slice.Slice.{Slice}
+use Rattle.sc_journal.specs.Legal.{IsLegal}
+use Rattle.sc_journal.specs.declared.board.BoardEntry.{BoardEntry}
+use Rattle.sc_journal.specs.declared.stop.Stop.{Stop}
+
+-- how a collection is laid out, which nothing changes: its buckets, its nodes, the map with which each bucket began, and how many
+-- entries a journal may have
+pub record Layout : Type 0 where
+  pub buckets : ℕ
+  pub nodes : ℕ
+  pub first : List Slice
+  pub limit : ℕ
+
+-- What was seen: the journal of each bucket, by the number of the lock that guards it, and that of the board, whose lock comes
+-- after those of the buckets; and by lock the places of the entries that are one's own.
+pub record Seen : Type 0 where
+  pub journals : ℕ → List Entry
+  pub board : List BoardEntry
+  pub own : ℕ → List ℕ
+
+-- how many entries a journal has after a stop
+abbrev pub place_after : Stop → ℕ
+place_after stop = if stop.made then stop.place + 1 else stop.place
+
+-- the journal at a stop
+abbrev pub journal_at : Seen → Stop → List Entry
+journal_at seen stop = take stop.place (seen.journals stop.lock)
+
+-- the journal at a stop, with the stop's own entry
+abbrev pub journal_after : Seen → Stop → List Entry
+journal_after seen stop = take (place_after stop) (seen.journals stop.lock)
+
+-- the places ascend from there on, and each stop comes after the entry that the one before it made
+abbrev pub ComeInOrder : ℕ → List Stop → Type 0
+ComeInOrder from [] = ⊤
+ComeInOrder from (stop ∷ stops) = (from ≤ stop.place) × ComeInOrder (place_after stop) stops
+
+-- the stops at one lock
+abbrev pub stops_at : ℕ → List Stop → List Stop
+stops_at lock stops = filter (λ (stop : Stop). stop.lock == lock) stops
+
+-- the places of the entries that were made at one lock
+abbrev pub made_at : ℕ → List Stop → List ℕ
+made_at lock stops = map (λ (stop : Stop). stop.place) (filter (λ (stop : Stop). stop.made) (stops_at lock stops))
+
+-- how many entries were seen of the journal that a lock guards
+abbrev pub entries_at : Layout → Seen → ℕ → ℕ
+entries_at layout seen lock = if lock == layout.buckets then length seen.board else length (seen.journals lock)
+
+-- the lock is that of a bucket or of the board, and the entries up to the stop, with its own if it made one, were seen there
+pub record IsWithin (layout : Layout) (seen : Seen) (stop : Stop) : Type 0 where
+  pub lock : stop.lock ≤ layout.buckets
+  pub place : place_after stop ≤ entries_at layout seen stop.lock
+
+-- What was seen before is a prefix of what was seen after these stops. Of the entries between, exactly those that the stops made
+-- are one's own, and the stops come in order.
+pub record Extends (layout : Layout) (old new : Seen) (stops : List Stop) : Type 0 where
+  pub seen : (lock : ℕ) → IsPrefix (old.journals lock) (new.journals lock)
+  pub board : IsPrefix old.board new.board
+  pub own : (lock : ℕ) → new.own lock ≡ old.own lock ++ made_at lock stops
+  pub ascend : (lock : ℕ) → ComeInOrder (entries_at layout old lock) (stops_at lock stops)
+  pub within : AllByRecursion (IsWithin layout new) stops
+
+-- each journal that was seen is legal
+abbrev pub AreLegal : Layout → Seen → Type 0
+AreLegal layout seen = (lock : ℕ) → lock < layout.buckets → IsLegal layout.first (seen.journals lock)

@@ -1,0 +1,53 @@
+-- What a journal says of its bucket's slices, and the entries that it has still to get.
+use Rattle.std.specs.Prelude.{ℕ, ◌+◌, Bool, true, false, List, length, fold, filter_map, count_by, Option, Some, None}
+use Rattle.sc_record.specs.declared.slice.SliceId.{SliceId}
+use Rattle.sc_record.specs.declared.entry.Entry.{Entry}
+use Rattle.sc_record.specs.declared.entry.Entry.TheVariants as entry
+use Rattle.sc_cluster.specs.declared.slice.State.{State}
+use Rattle.sc_cluster.specs.declared.slice.State.TheVariants as states
+use Rattle.sc_cluster.specs.declared.slice.Slice.{Slice}
+use Rattle.sc_cluster.specs.Changes.{Change}
+use Rattle.sc_cluster.specs.Histories.{after_all}
+use Rattle.sc_journal.specs.Journal.{unsettled}
+
+-- how an entry changes the bucket's map of slices, if it does
+abbrev pub change_of : Entry → Option Change
+change_of (entry.Begun parent subs) = Some (Change.Begun parent subs)
+change_of (entry.Switched parent) = Some (Change.Switched parent)
+change_of (entry.Failed parent) = Some (Change.Failed parent)
+change_of (entry.Dropped slice) = Some (Change.Dropped slice)
+change_of _ = None
+
+-- the map after a journal, from the first map on
+abbrev pub map_after : List Slice → List Entry → List Slice
+map_after first journal = after_all first (filter_map change_of journal)
+
+-- the slice that is being split after an entry, if there is one; the other is the one before it
+abbrev pub split_after : Option SliceId → Entry → Option SliceId
+split_after split (entry.Begun parent subs) = Some parent
+split_after split (entry.Switched parent) = None
+split_after split (entry.Failed parent) = None
+split_after split _ = split
+
+-- the slice whose split is open in a journal: the last entry that begins or ends one begins it
+abbrev pub open_split : List Entry → Option SliceId
+open_split journal = fold split_after None journal
+
+-- the state is that of a slice whose subs have taken its place
+abbrev pub is_inactive_state : State → Bool
+is_inactive_state states.Inactive = true
+is_inactive_state _ = false
+
+abbrev pub is_inactive : Slice → Bool
+is_inactive slice = is_inactive_state slice.state
+
+-- what an open split has still to get: its end, and that of its parent
+abbrev pub owed_by_split : Option SliceId → ℕ
+owed_by_split None = 0
+owed_by_split (Some parent) = 2
+
+-- How many entries a journal has still to get, whose first map is this: one that settles each write that is not settled,
+-- those of an open split, and one that drops each inactive slice.
+abbrev pub owed : List Slice → List Entry → ℕ
+owed first journal =
+    length (unsettled journal) + owed_by_split (open_split journal) + count_by is_inactive (map_after first journal)

@@ -1,0 +1,21 @@
+//! Laws of journals, above their definitions.
+
+ghost use Rattle.sc_journal.specs.Laws.{GrowsByWhatMayFollow, HasLegalPrefixes, AscendsInVersions, OwesOneForAWrite, OwesOneLessSettled, KeepsAMap};
+
+/// Whatever a bucket's journal gets, each entry where it may follow.
+pub fn journals_stay_legal()
+    ensures grows { GrowsByWhatMayFollow }
+    ensures prefixes { HasLegalPrefixes }
+    ensures versions { AscendsInVersions }
+{}
+
+/// How many entries a legal journal has still to get.
+pub fn journals_owe_entries()
+    ensures write { OwesOneForAWrite }
+    ensures settled { OwesOneLessSettled }
+{}
+
+/// What a legal journal makes of the slices.
+pub fn journals_keep_a_map()
+    ensures { KeepsAMap }
+{}

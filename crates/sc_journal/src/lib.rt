@@ -1,0 +1,11 @@
+//! What a bucket's journal is, which journals can be, and what an order is answered by one. The definitions stand in
+//! `specs/`; the layers above cite them, and use the facts of `proofs/`.
+#![tactic(auto)]
+
+mod board;
+mod laws;
+mod stop;
+
+pub use board::BoardEntry;
+pub use laws::{journals_keep_a_map, journals_owe_entries, journals_stay_legal};
+pub use stop::Stop;

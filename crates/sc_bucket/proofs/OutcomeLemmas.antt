@@ -1,0 +1,110 @@
+-- What an order is answered by a bucket.
+use Rattle.std.proofs.Common.{◌≡◌, ℕ, ◌+◌, ◌<◌, ◌≤◌, Bool, true, false, ℤ, List, [], ◌∷◌, ◌++◌, length, Option, Some, None, Ok, Err, refl, sym, ap, ◌∙◌, subst, slice_get, arith}
+use Rattle.std.specs.Prelude.{IsSome}
+use Rattle.std.specs.declared.sync.Arc.{Arc}
+use Rattle.std.specs.declared.alloc.Global.{Global}
+use Rattle.sc_record.specs.Versions.{found_version, shown_version, meets}
+use Rattle.sc_record.specs.Writes.{write_of}
+use Rattle.sc_record.specs.declared.write.Write.{Write}
+use Rattle.sc_record.specs.declared.order.Order.{Order}
+use Rattle.sc_record.specs.declared.order.Change.{Change}
+use Rattle.sc_record.specs.declared.entry.Entry.{Entry}
+use Rattle.sc_record.specs.declared.entry.Entry.TheVariants as entry
+use Rattle.sc_router.specs.Route.{route_hash}
+use Rattle.sc_cluster.specs.declared.slice.Slice.{Slice}
+use Rattle.sc_replica.specs.Core.{Core}
+use Rattle.sc_partial.specs.Resolved.{IsRefusalOf}
+use Rattle.sc_partial.specs.declared.fault.PartialFault.{PartialFault}
+use Rattle.sc_partial.specs.declared.fault.PartialFault.TheVariants as partial
+use Rattle.sc_journal.specs.Journal.{write_at, is_settled, last_write, found}
+use Rattle.sc_journal.specs.Outcomes.{accepted, refused, IsMet, IsFitting, HasRoom, IsWriteOf, IsOutcome}
+use Rattle.sc_journal.proofs.JournalLemmas.{write_at-push_end}
+use Rattle.sc_journal.proofs.SettledLemmas.{is_settled-push_other}
+use Rattle.sc_journal.proofs.LegalLemmas.{end_is_open}
+use Rattle.sc_bucket.specs.declared.bucket.Bucket.{Bucket}
+use Rattle.sc_bucket.specs.declared.accept.AcceptFault.{AcceptFault}
+use Rattle.sc_bucket.specs.declared.accept.AcceptFault.TheVariants as faults
+use Rattle.sc_bucket.specs.Accepting.{accept_fault, IsPut}
+use Rattle.sc_bucket.specs.Cores.{IsLeaderAt}
+use Rattle.sc_bucket.specs.Events.{IsSameBut, Accepts, outcome_of}
+use Rattle.sc_bucket.specs.Sound.{IsSound}
+use Rattle.sc_bucket.proofs.SoundLemmas.{leader_reads}
+use Rattle.sc_bucket.proofs.PlaceLemmas.{IsLeaderAt-same_cores, AreSameCores-led}
+
+-- Where the cell of the id was read from the core that leads its hash, and the order's condition was tested on it: the cell
+-- is the last write of the id, and the condition is met or not as tested.
+pub condition_tested : (b : Bucket) (order : Order) (hash : ℤ) (at : ℕ) (core : Core) (last : Option Write) (condition version : ℤ)
+    (met : Bool) → IsSound b → hash ≡ route_hash order.id → IsLeaderAt b.map b.replicas hash at
+    → slice_get b.replicas at ≡ Some core → last ≡ write_of core.cells order.id → condition ≡ order.condition
+    → version ≡ found_version last → met ≡ meets condition version
+    → (last ≡ last_write b.journal.entries order.id) × (meets order.condition (found b.journal.entries order.id) ≡ met)
+condition_tested b order hash at core last condition version met sound hashed leader there read condition_is version_is tested =
+    let last_is : last ≡ last_write b.journal.entries order.id = read ∙ leader_reads b hash at core order.id sound leader there hashed in
+    let found_is : version ≡ found b.journal.entries order.id = version_is ∙ ap found_version last_is in
+    (last_is, ap (λ c. meets c (found b.journal.entries order.id)) (sym condition_is) ∙ ap (meets condition) (sym found_is) ∙ sym tested)
+
+-- an order whose change makes no document is refused by the name of the field, or since memory ran out
+pub partial_outcome : (limit : ℕ) (first : List Slice) (before after : List Entry) (order : Order) (now : ℕ) (last : Option Write)
+    (refusal : PartialFault) (fault : AcceptFault) → last ≡ last_write before order.id → IsMet before order
+    → IsRefusalOf (refused last order.change) refusal → fault ≡ accept_fault refusal
+    → IsOutcome limit first before order now (outcome_of (Err fault)) after
+partial_outcome limit first before after order now last (partial.Field name) fault last_is met refusal is =
+    rw is (met, ap (λ (w : Option Write). refused w order.change) (sym last_is) ∙ refusal)
+partial_outcome limit first before after order now last partial.Memory fault last_is met refusal is = rw is met
+
+-- memory may run out where the condition is met
+pub memory_outcome : (limit : ℕ) (first : List Slice) (before after : List Entry) (order : Order) (now : ℕ) (fault : AcceptFault)
+    → IsMet before order → fault ≡ faults.Memory → IsOutcome limit first before order now (outcome_of (Err fault)) after
+memory_outcome limit first before after order now fault met is = rw is met
+
+-- an order is accepted where its write is put into the bucket, which is as it was but for room
+pub Accepts-put : (old roomy new : Bucket) (order : Order) (now : ℕ) (version : ℤ) (cell : Arc Write Global) (at : ℕ)
+    → IsSameBut old roomy → IsPut roomy cell at new → IsFitting old.journal.entries order → HasRoom old.limit old.first old.journal.entries
+    → IsWriteOf old.journal.entries order now cell.value → version ≡ shown_version cell.value
+    → IsLeaderAt old.map old.replicas cell.value.hash at → Accepts old order now version new
+Accepts-put old roomy new order now version cell at same put fitting room write shown leader =
+    let roomy_leader = IsLeaderAt-same_cores old.map old.replicas roomy.replicas cell.value.hash at same.cores leader in
+    let led_once = AreSameCores-led old.replicas roomy.replicas at leader.core roomy_leader.core cell.value same.cores leader.found roomy_leader.found in
+    record {
+      name = record { first = put.name.first ∙ same.name.first; limit = put.name.limit ∙ same.name.limit };
+      map_is = put.map_is ∙ same.map_is;
+      fitting = fitting;
+      room = room;
+      cell = cell;
+      write = write;
+      shown = shown;
+      entries = put.entries ∙ ap (λ journal. journal ++ entry.Write cell ∷ []) same.entries;
+      leader = (
+        at,
+        leader.core,
+        leader.slice,
+        leader.leads,
+        leader.found,
+        leader.leader.0,
+        leader.leader.1,
+        put.cores roomy_leader.core roomy_leader.found ∙ led_once,
+      );
+    }
+
+-- and so it is answered
+pub accepted_outcome : (old new : Bucket) (order : Order) (now : ℕ) (version : ℤ) → Accepts old order now version new
+    → IsOutcome old.limit old.first old.journal.entries order now (accepted version) new.journal.entries
+accepted_outcome old new order now version accepts =
+    let at_end : write_at new.journal.entries (length old.journal.entries) ≡ Some accepts.cell.value =
+    ap (λ journal. write_at journal (length old.journal.entries)) accepts.entries
+    ∙ write_at-push_end old.journal.entries (entry.Write accepts.cell) in
+    (accepts.fitting, accepts.room, (accepts.cell.value, at_end, accepts.write, accepts.shown))
+
+-- its write stands at the end, where no entry settles it yet
+pub accepted_is_unsettled : (old new : Bucket) (order : Order) (now : ℕ) (version : ℤ) → IsSound old → Accepts old order now version new
+    → IsSome (write_at new.journal.entries (length old.journal.entries))
+    × (is_settled new.journal.entries (length old.journal.entries) ≡ false)
+accepted_is_unsettled old new order now version sound accepts =
+    let place = length old.journal.entries in
+    let written : write_at new.journal.entries place ≡ Some accepts.cell.value =
+    ap (λ journal. write_at journal place) accepts.entries ∙ write_at-push_end old.journal.entries (entry.Write accepts.cell) in
+    let open_end : is_settled new.journal.entries place ≡ false =
+    ap (λ journal. is_settled journal place) accepts.entries
+    ∙ is_settled-push_other old.journal.entries (entry.Write accepts.cell) place (λ _. refl)
+    ∙ end_is_open old.first old.journal.entries sound.journal.legal in
+    (subst IsSome (sym written) refl, open_end)

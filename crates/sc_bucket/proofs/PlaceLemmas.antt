@@ -1,0 +1,142 @@
+-- Cores at the places of a list: what doesn't depend on their room, and which core is at which place.
+use Rattle.std.proofs.Common.{◌≡◌, ◌≢◌, ℕ, ℤ, zero, suc, ◌<◌, ◌⊎◌, inl, inr, List, [], ◌∷◌, length, map, get_or, set, Some, refl, sym, ap, ◌∙◌, subst, All, slice_get, arith}
+use Rattle.std.specs.List.Sorted.{IsStrictlyIncreasing}
+use Rattle.std.specs.Option.{option_map}
+use Rattle.std.proofs.Math.Seq.{map-set_same}
+use Rattle.std.proofs.lemmas.Bool.{cases_eq, cases_order}
+use Rattle.std.proofs.lemmas.Grind.{get_or-set_at}
+use Rattle.std.proofs.lemmas.List.{get_or-set_same, get_or-set_other, length-map, length-set, get_or-map, map-set}
+use Rattle.std.proofs.lemmas.List.Kept.{AllPairs-from_increasing}
+use Rattle.std.proofs.lemmas.Option.{slice_get_within, slice_get-get_or, slice_get-map, get_or_from_slice_get, same_Some}
+use Rattle.std.proofs.lemmas.Simd.{map-map}
+use Rattle.sc_record.specs.declared.write.Write.{Write}
+use Rattle.sc_record.specs.declared.slice.SliceId.{SliceId}
+use Rattle.sc_record.specs.declared.slice.CoreId.{CoreId}
+use Rattle.sc_cluster.specs.declared.slice.Slice.{Slice}
+use Rattle.sc_cluster.specs.Map.{IsMap}
+use Rattle.sc_replica.specs.Core.{Core, led}
+use Rattle.sc_bucket.specs.Cores.{core_key, core_keys, with_room, IsLeaderAt}
+use Rattle.sc_bucket.specs.Events.{without_room, AreSameCores}
+use Rattle.sc_bucket.proofs.CoreLemmas.{leader_key}
+
+-- there is an element at each place of a list
+pub some_at : {X : Type 0} (xs : List X) (k : ℕ) → k < length xs → (x : X) × (slice_get xs k ≡ Some x)
+some_at [] k within = absurd (omega arith)
+some_at (x ∷ xs) zero within = (x, refl)
+some_at (x ∷ xs) (suc k) within = some_at xs k (omega arith)
+
+-- the element that was written
+pub slice_get-set : {X : Type 0} (xs : List X) (k : ℕ) (y : X) → k < length xs → slice_get (set xs k y) k ≡ Some y
+slice_get-set xs k y within =
+    slice_get-get_or (set xs k y) k y (omega (arith, length-set xs k y)) ∙ ap (λ x. Some x) (get_or-set_same xs k y y within)
+
+-- what holds of an element that is written, and of each at another place, holds of each
+pub All-set_apart : {X : Type 0} (P : X → Type 0) (xs : List X) (at : ℕ) (y : X) → P y
+    → ((k : ℕ) (x : X) → k ≢ at → slice_get xs k ≡ Some x → P x) → All P (set xs at y)
+All-set_apart {X} P xs at y here others k d below = by (cases_eq k at) where
+  within : k < length xs
+  within = omega (arith, length-set xs at y)
+
+  by : (k ≡ at) ⊎ (k ≢ at) → P (get_or (set xs at y) k d)
+  by (inl same) = subst P (sym (get_or-set_at xs at k y d same (omega (arith, within)))) here
+  by (inr other) =
+      subst P (sym (get_or-set_other xs at k y d other)) (others k (get_or xs k d) other (slice_get-get_or xs k d within))
+
+-- the number of a core's slice
+abbrev slice_of : Core → ℕ
+slice_of core = core.core.slice.0
+
+abbrev id_of : Slice → ℕ
+id_of slice = slice.id.0
+
+abbrev first_of : ℕ × ℕ → ℕ
+first_of pair = pair.0
+
+-- the numbers of the cores' slices ascend
+slices_ascend : (cores : List Core) (slices : List Slice) → IsMap slices → map core_key cores ≡ core_keys slices
+    → IsStrictlyIncreasing (map slice_of cores)
+slices_ascend cores slices is_map keys =
+    let same : map slice_of cores ≡ map id_of slices =
+    sym (map-map first_of core_key cores) ∙ ap (map first_of) keys ∙ map-map first_of leader_key slices in
+    subst IsStrictlyIncreasing (sym same) is_map.ids
+
+-- two cores of one slice are at one place
+pub core_alone : (cores : List Core) (slices : List Slice) (i j : ℕ) (one other : Core) → IsMap slices
+    → map core_key cores ≡ core_keys slices → slice_get cores i ≡ Some one → slice_get cores j ≡ Some other
+    → one.core.slice ≡ other.core.slice → i ≡ j
+core_alone cores slices i j one other is_map keys at_i at_j same = by (cases_order i j) where
+  up : IsStrictlyIncreasing (map slice_of cores)
+  up = slices_ascend cores slices is_map keys
+
+  slice_at : (k : ℕ) (core : Core) → slice_get cores k ≡ Some core → get_or (map slice_of cores) k 0 ≡ slice_of core
+  slice_at k core at =
+      get_or-map slice_of cores k core 0 (slice_get_within cores k core at)
+      ∙ ap slice_of (get_or_from_slice_get cores k core core at)
+
+  within : (k : ℕ) (core : Core) → slice_get cores k ≡ Some core → k < length (map slice_of cores)
+  within k core at = let inside = slice_get_within cores k core at in omega (arith, length-map cores slice_of)
+
+  same_slice : slice_of one ≡ slice_of other
+  same_slice = ap (λ (id : SliceId). id.0) same
+
+  by : (i ≡ j) ⊎ ((i < j) ⊎ (j < i)) → i ≡ j
+  by (inl equal) = equal
+  by (inr (inl less)) =
+      let apart : get_or (map slice_of cores) i 0 < get_or (map slice_of cores) j 0 =
+      AllPairs-from_increasing (map slice_of cores) up i j 0 less (within j other at_j) in
+      absurd (omega (arith, slice_at i one at_i, slice_at j other at_j, same_slice, apart))
+  by (inr (inr more)) =
+      let apart : get_or (map slice_of cores) j 0 < get_or (map slice_of cores) i 0 =
+      AllPairs-from_increasing (map slice_of cores) up j i 0 more (within i one at_i) in
+      absurd (omega (arith, slice_at i one at_i, slice_at j other at_j, same_slice, apart))
+
+-- a write that a core leads leaves the names of the cores
+pub keys-led : (cores : List Core) (at : ℕ) (core : Core) (write : Write) → slice_get cores at ≡ Some core
+    → map core_key (set cores at (led core write)) ≡ map core_key cores
+keys-led cores at core write there =
+    map-set_same core_key cores at (led core write) core (ap core_key (sym (get_or_from_slice_get cores at core core there)))
+
+-- at each place of the same cores are cores that differ in their room alone
+pub same_core_at : (one other : List Core) (at : ℕ) (core other_core : Core) → AreSameCores one other
+    → slice_get one at ≡ Some core → slice_get other at ≡ Some other_core → without_room other_core ≡ without_room core
+same_core_at one other at core other_core same there other_there =
+    same_Some (without_room other_core) (without_room core)
+    (sym (slice_get-map without_room other at ∙ ap (option_map without_room) other_there)
+    ∙ ap (λ (cores : List Core). slice_get cores at) same ∙ slice_get-map without_room one at ∙ ap (option_map without_room) there)
+
+-- and there are as many
+pub length-same_cores : (one other : List Core) → AreSameCores one other → length other ≡ length one
+length-same_cores one other same = sym (length-map other without_room) ∙ ap length same ∙ length-map one without_room
+
+-- a core with more room is the same core
+pub AreSameCores-with_room : (cores : List Core) (at n : ℕ) (core : Core) → slice_get cores at ≡ Some core
+    → AreSameCores cores (set cores at (with_room n core))
+AreSameCores-with_room cores at n core there =
+    map-set_same without_room cores at (with_room n core) core (ap without_room (sym (get_or_from_slice_get cores at core core there)))
+
+-- the core that leads a hash is at the same place
+pub IsLeaderAt-same_cores : (slices : List Slice) (one other : List Core) (hash : ℤ) (at : ℕ) → AreSameCores one other
+    → IsLeaderAt slices one hash at → IsLeaderAt slices other hash at
+IsLeaderAt-same_cores slices one other hash at same leader =
+    let inside = slice_get_within one at leader.core leader.found in
+    let there = some_at other at (omega (arith, length-same_cores one other same)) in
+    let alike = same_core_at one other at leader.core there.0 same leader.found there.1 in
+    let named : there.0.core ≡ leader.core.core = ap (λ (core : Core). core.core) alike in
+    record {
+      slice = leader.slice;
+      core = there.0;
+      leads = leader.leads;
+      found = there.1;
+      leader = (ap (λ (id : CoreId). id.slice) named ∙ leader.leader.0, ap (λ (id : CoreId). id.replica) named ∙ leader.leader.1);
+    }
+
+-- once they led a write at the same place they are the same again
+pub AreSameCores-led : (one other : List Core) (at : ℕ) (core other_core : Core) (write : Write) → AreSameCores one other
+    → slice_get one at ≡ Some core → slice_get other at ≡ Some other_core
+    → AreSameCores (set one at (led core write)) (set other at (led other_core write))
+AreSameCores-led one other at core other_core write same there other_there =
+    let alike = same_core_at one other at core other_core same there other_there in
+    let led_alike : without_room (led other_core write) ≡ without_room (led core write) =
+    ap (λ (c : Core). without_room (led c write)) alike in
+    map-set without_room other at (led other_core write) ∙ ap (λ (cores : List Core). set cores at (without_room (led other_core write))) same
+    ∙ ap (set (map without_room one) at) led_alike ∙ sym (map-set without_room one at (led core write))

@@ -1,0 +1,145 @@
+-- The write of an order, or why there is none.
+use Rattle.std.proofs.Common.{◌≡◌, ◌<◌, ◌≤◌, ◌+◌, ◌<ℤ◌, ℕ, ℤ, pos, Ok, Err, List, length, slice_get, Some, None, Option, to_z, of_z, w32, w64, true, false, refl, sym, ap, ◌∙◌, subst, arith}
+use Rattle.std.specs.Prelude.{option_copied}
+use Rattle.std.specs.Option.{option_map}
+use Rattle.std.specs.Arc.{arc_value}
+use Rattle.std.proofs.lemmas.Int.{ints}
+use Rattle.std.proofs.lemmas.Option.{same_Some}
+use Rattle.std.proofs.lemmas.Result.{err_from_is_err_and}
+use Rattle.sc_record.specs.Versions.{found_version, version_after}
+use Rattle.sc_record.specs.Writes.{write_of}
+use Rattle.sc_record.specs.declared.write.Write.{Write}
+use Rattle.sc_record.proofs.VersionLemmas.{version_after-above_clock, version_after-above_zero}
+use Rattle.sc_router.specs.Route.{route_hash}
+use Rattle.sc_replica.specs.Core.{Core}
+use Rattle.sc_journal.specs.Journal.{last_write}
+use Rattle.sc_journal.specs.Legal.{HasTerms}
+use Rattle.sc_journal.specs.Outcomes.{Makes, refused, IsMet, IsFitting, IsWriteOf}
+use Rattle.sc_bucket.proofs.WriteLemmas.{write_may_follow, clock_can_rise, core_clock}
+use Rattle.sc_bucket.proofs.SoundLemmas.{leader_reads}
+use Rattle.sc_bucket.proofs.OutcomeLemmas.{condition_tested, partial_outcome, memory_outcome}
+use Rattle.sc_bucket.proofs.bucket.Bucket.write_for.Goals as goal
+
+pub returns-then-not-meets-clause-refused : goal.returns-then-not-meets-clause-refused
+returns-then-not-meets-clause-refused c =
+    let back : to_z w64 (of_z w64 c.found-found.result) ≡ c.found-found.result = omega (arith, ints) in
+    let condition : to_z w64 (of_z w64 c.args.order.now.condition) ≡ c.args.order.now.condition = omega (arith, ints) in
+    let known = condition_tested c.args.self.now c.args.order.now c.args.hash c.args.leader c.get-replica.result.now _ _ _ _ c.requires.sound
+    c.requires.hash c.requires.leader c.get-replica.ensures c.cell-last.ensures.value condition (back ∙ c.found-found.ensures)
+    (sym c.if-not-meets.true ∙ c.meets.ensures) in
+    (known.1, back ∙ c.found-found.ensures ∙ ap found_version known.0)
+
+pub returns-in_err-doc-clause-refused : goal.returns-in_err-doc-clause-refused
+returns-in_err-doc-clause-refused c =
+    let back : to_z w64 (of_z w64 c.found-found.result) ≡ c.found-found.result = omega (arith, ints) in
+    let condition : to_z w64 (of_z w64 c.args.order.now.condition) ≡ c.args.order.now.condition = omega (arith, ints) in
+    let known = condition_tested c.args.self.now c.args.order.now c.args.hash c.args.leader c.get-replica.result.now _ _ _ _ c.requires.sound
+    c.requires.hash c.requires.leader c.get-replica.ensures c.cell-last.ensures.value condition (back ∙ c.found-found.ensures)
+    (sym c.if-not-meets.false ∙ c.meets.ensures) in
+    let p = err_from_is_err_and c.from_residual.result c.from_residual.ensures.1 in
+    rw p.1 (partial_outcome c.args.self.now.limit c.args.self.now.first c.args.self.now.journal.entries c.args.self.now.journal.entries
+    c.args.order.now c.args.now _ c.in_err-doc.field-0.0 p.0 known.0 known.1 c.in_err-doc.ensures.refused p.2)
+
+pub returns-then-self-entries-clause-refused : goal.returns-then-self-entries-clause-refused
+returns-then-self-entries-clause-refused c =
+    let back : to_z w64 (of_z w64 c.found-found.result) ≡ c.found-found.result = omega (arith, ints) in
+    let condition : to_z w64 (of_z w64 c.args.order.now.condition) ≡ c.args.order.now.condition = omega (arith, ints) in
+    let known = condition_tested c.args.self.now c.args.order.now c.args.hash c.args.leader c.get-replica.result.now _ _ _ _ c.requires.sound
+    c.requires.hash c.requires.leader c.get-replica.ensures c.cell-last.ensures.value condition (back ∙ c.found-found.ensures)
+    (sym c.if-not-meets.false ∙ c.meets.ensures) in (
+      record { met = known.1; taken = ap (λ (w : Option Write). refused w c.args.order.now.change) (sym known.0) ∙ c.in_ok-doc.ensures.taken },
+      omega (arith, c.if-self-entries.true, c.entries.ensures, c.requires.sound.journal.owed_is),
+    )
+
+pub returns-in_err-copy_of_id-clause-refused : goal.returns-in_err-copy_of_id-clause-refused
+returns-in_err-copy_of_id-clause-refused c =
+    let back : to_z w64 (of_z w64 c.found-found.result) ≡ c.found-found.result = omega (arith, ints) in
+    let condition : to_z w64 (of_z w64 c.args.order.now.condition) ≡ c.args.order.now.condition = omega (arith, ints) in
+    let known = condition_tested c.args.self.now c.args.order.now c.args.hash c.args.leader c.get-replica.result.now _ _ _ _ c.requires.sound
+    c.requires.hash c.requires.leader c.get-replica.ensures c.cell-last.ensures.value condition (back ∙ c.found-found.ensures)
+    (sym c.if-not-meets.false ∙ c.meets.ensures) in
+    let p = err_from_is_err_and c.from_residual-in_err-copy_of_id.result c.from_residual-in_err-copy_of_id.ensures.1 in
+    rw p.1 (memory_outcome c.args.self.now.limit c.args.self.now.first c.args.self.now.journal.entries c.args.self.now.journal.entries
+    c.args.order.now c.args.now p.0 known.1 p.2)
+
+pub next_version-requires-clause-can_rise : goal.next_version-requires-clause-can_rise
+next_version-requires-clause-can_rise c =
+    let back : to_z w64 (of_z w64 c.clock.result) ≡ c.clock.result = omega (arith, ints) in
+    let rises = clock_can_rise c.args.self.now c.get-replica.result.now.clock c.requires.sound.journal
+    (core_clock c.args.self.now c.args.leader c.get-replica.result.now c.requires.sound c.get-replica.ensures) in
+    omega (arith, ints, rises, back, c.clock.ensures.value)
+
+pub returns-in_err-terms_for-clause-refused : goal.returns-in_err-terms_for-clause-refused
+returns-in_err-terms_for-clause-refused c =
+    let back : to_z w64 (of_z w64 c.found-found.result) ≡ c.found-found.result = omega (arith, ints) in
+    let condition : to_z w64 (of_z w64 c.args.order.now.condition) ≡ c.args.order.now.condition = omega (arith, ints) in
+    let known = condition_tested c.args.self.now c.args.order.now c.args.hash c.args.leader c.get-replica.result.now _ _ _ _ c.requires.sound
+    c.requires.hash c.requires.leader c.get-replica.ensures c.cell-last.ensures.value condition (back ∙ c.found-found.ensures)
+    (sym c.if-not-meets.false ∙ c.meets.ensures) in
+    let p = err_from_is_err_and c.from_residual-in_err-terms_for.result c.from_residual-in_err-terms_for.ensures.1 in
+    rw p.1 (memory_outcome c.args.self.now.limit c.args.self.now.first c.args.self.now.journal.entries c.args.self.now.journal.entries
+    c.args.order.now c.args.now p.0 known.1 p.2)
+
+pub invariant_of-result : goal.invariant_of-result
+invariant_of-result c =
+    let clock : to_z w64 (of_z w64 c.clock.result) ≡ c.clock.result = omega (arith, ints) in
+    let kept : to_z w64 (of_z w64 c.next_version.result) ≡ c.next_version.result = omega (arith, ints) in
+    let version : to_z w64 (of_z w64 c.next_version.result) ≡ version_after c.args.now c.get-replica.result.now.clock =
+    kept ∙ c.next_version.ensures ∙ ap (version_after c.args.now) (clock ∙ c.clock.ensures.value) in
+    record {
+      positive = subst (λ v. pos 0 <ℤ v) (sym version)
+          (version_after-above_zero c.args.now c.get-replica.result.now.clock c.clock.ensures.core.from_zero);
+    }
+
+pub returns-clause-fitting : goal.returns-clause-fitting
+returns-clause-fitting c =
+    let back : to_z w64 (of_z w64 c.found-found.result) ≡ c.found-found.result = omega (arith, ints) in
+    let condition : to_z w64 (of_z w64 c.args.order.now.condition) ≡ c.args.order.now.condition = omega (arith, ints) in
+    let known = condition_tested c.args.self.now c.args.order.now c.args.hash c.args.leader c.get-replica.result.now _ _ _ _ c.requires.sound
+    c.requires.hash c.requires.leader c.get-replica.ensures c.cell-last.ensures.value condition (back ∙ c.found-found.ensures)
+    (sym c.if-not-meets.false ∙ c.meets.ensures) in
+    record { met = known.1; taken = ap (λ (w : Option Write). refused w c.args.order.now.change) (sym known.0) ∙ c.in_ok-doc.ensures.taken }
+
+pub returns-clause-made : goal.returns-clause-made
+returns-clause-made c =
+    let back : to_z w64 (of_z w64 c.found-found.result) ≡ c.found-found.result = omega (arith, ints) in
+    let condition : to_z w64 (of_z w64 c.args.order.now.condition) ≡ c.args.order.now.condition = omega (arith, ints) in
+    let known = condition_tested c.args.self.now c.args.order.now c.args.hash c.args.leader c.get-replica.result.now _ _ _ _ c.requires.sound
+    c.requires.hash c.requires.leader c.get-replica.ensures c.cell-last.ensures.value condition (back ∙ c.found-found.ensures)
+    (sym c.if-not-meets.false ∙ c.meets.ensures) in
+    let clock : to_z w64 (of_z w64 c.clock.result) ≡ c.clock.result = omega (arith, ints) in
+    let kept : to_z w64 (of_z w64 c.next_version.result) ≡ c.next_version.result = omega (arith, ints) in
+    let version : to_z w64 (of_z w64 c.next_version.result) ≡ version_after c.args.now c.get-replica.result.now.clock =
+    kept ∙ c.next_version.ensures ∙ ap (version_after c.args.now) (clock ∙ c.clock.ensures.value) in
+    record {
+      id = c.in_ok-copy_of_id.ensures;
+      document = subst (λ (w : Option Write). Makes w c.args.order.now.change c.in_ok-doc.doc) known.0 c.in_ok-doc.ensures.made;
+      version = (c.get-replica.result.now.clock, core_clock c.args.self.now c.args.leader c.get-replica.result.now c.requires.sound c.get-replica.ensures, version);
+    }
+
+pub returns-clause-next : goal.returns-clause-next
+returns-clause-next c =
+    let hash : to_z w32 (of_z w32 c.args.hash) ≡ c.args.hash = omega (arith, ints) in
+    let clock : to_z w64 (of_z w64 c.clock.result) ≡ c.clock.result = omega (arith, ints) in
+    let kept : to_z w64 (of_z w64 c.next_version.result) ≡ c.next_version.result = omega (arith, ints) in
+    let version : to_z w64 (of_z w64 c.next_version.result) ≡ version_after c.args.now c.get-replica.result.now.clock =
+    kept ∙ c.next_version.ensures ∙ ap (version_after c.args.now) (clock ∙ c.clock.ensures.value) in
+    let id : c.in_ok-copy_of_id.field-0 ≡ c.args.order.now.id = c.in_ok-copy_of_id.ensures in
+    let last : write_of c.get-replica.result.now.cells c.args.order.now.id ≡ last_write c.args.self.now.journal.entries c.args.order.now.id =
+    leader_reads c.args.self.now c.args.hash c.args.leader c.get-replica.result.now c.args.order.now.id c.requires.sound c.requires.leader c.get-replica.ensures c.requires.hash in
+    write_may_follow c.args.self.now.first c.args.self.now.journal.entries c.get-replica.result.now _ c.args.now c.requires.sound.journal.legal
+    c.clock.ensures.core (core_clock c.args.self.now c.args.leader c.get-replica.result.now c.requires.sound c.get-replica.ensures)
+    (subst (λ i. write_of c.get-replica.result.now.cells i ≡ last_write c.args.self.now.journal.entries i) (sym id) last)
+    (hash ∙ c.requires.hash ∙ ap route_hash (sym id))
+    (subst (λ i. HasTerms i c.in_ok-doc.doc c.in_ok-terms_for.field-0) (sym id) c.in_ok-terms_for.ensures) version
+
+pub returns-clause-above : goal.returns-clause-above
+returns-clause-above c core there =
+    let clock : to_z w64 (of_z w64 c.clock.result) ≡ c.clock.result = omega (arith, ints) in
+    let kept : to_z w64 (of_z w64 c.next_version.result) ≡ c.next_version.result = omega (arith, ints) in
+    let version : to_z w64 (of_z w64 c.next_version.result) ≡ version_after c.args.now c.get-replica.result.now.clock =
+    kept ∙ c.next_version.ensures ∙ ap (version_after c.args.now) (clock ∙ c.clock.ensures.value) in
+    let same : core ≡ c.get-replica.result.now = same_Some core c.get-replica.result.now (sym there ∙ c.get-replica.ensures) in
+    let clock_is : core.clock ≡ c.get-replica.result.now.clock = ap (λ (one : Core). one.clock) same in
+    let above = version_after-above_clock c.args.now c.get-replica.result.now.clock in
+    omega (arith, ints, clock_is, version, above)

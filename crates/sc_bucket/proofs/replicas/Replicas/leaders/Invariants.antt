@@ -1,0 +1,10 @@
+-- So far each slice has its leader.
+use Rattle.std.proofs.Common.{◌≡◌, All, map, take}
+use Rattle.sc_bucket.specs.Cores.{core_key, core_keys, IsNew}
+use Rattle.sc_bucket.proofs.replicas.Replicas.leaders.Given as goal
+
+abbrev pub invariant-loop-at : goal.invariant-loop-at
+invariant-loop-at l = record {
+  keys : map core_key l.replicas.items ≡ core_keys (take l.at l.slices);
+  new : All IsNew l.replicas.items;
+}

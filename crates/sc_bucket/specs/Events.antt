@@ -1,0 +1,73 @@
+-- What each event of a bucket changes, and that all else stays.
+use Rattle.std.specs.Prelude.{◌≡◌, ℕ, ◌∷◌, ◌++◌, ℤ, [], List, map, slice_get, slice_set, Some, Result, Ok, Err, IsSome, false}
+use Rattle.std.specs.declared.sync.Arc.{Arc}
+use Rattle.std.specs.declared.alloc.Global.{Global}
+use Rattle.sc_record.specs.Versions.{shown_version}
+use Rattle.sc_record.specs.declared.write.Write.{Write}
+use Rattle.sc_record.specs.declared.order.Order.{Order}
+use Rattle.sc_record.specs.declared.entry.Entry.TheVariants as entry
+use Rattle.sc_cluster.specs.declared.slice.Slice.{Slice}
+use Rattle.sc_cluster.specs.Map.{Leads}
+use Rattle.sc_replica.specs.Core.{Core, led}
+use Rattle.sc_journal.specs.Journal.{write_at, is_settled}
+use Rattle.sc_journal.specs.Outcomes.{Outcome, accepted, conflict, partial, log_full, out_of_memory, IsFitting, HasRoom, IsWriteOf}
+use Rattle.sc_bucket.specs.declared.bucket.Bucket.{Bucket}
+use Rattle.sc_bucket.specs.declared.accept.Accepted.{Accepted}
+use Rattle.sc_bucket.specs.declared.accept.AcceptFault.{AcceptFault}
+use Rattle.sc_bucket.specs.declared.accept.AcceptFault.TheVariants as faults
+
+-- a core without its room
+abbrev pub without_room : Core → Core
+without_room core = record core { cell_spare = 0; buffer_spare = 0 }
+
+-- the cores are the same but for their room
+abbrev pub AreSameCores : List Core → List Core → Type 0
+AreSameCores old new = map without_room new ≡ map without_room old
+
+-- what no event changes: the first map and the limit
+pub record HasSameName (old new : Bucket) : Type 0 where
+  pub first : new.first ≡ old.first
+  pub limit : new.limit ≡ old.limit
+
+-- nothing was changed but room
+pub record IsSameBut (old new : Bucket) : Type 0 where
+  pub name : HasSameName old new
+  pub map_is : new.map ≡ old.map
+  pub entries : new.journal.entries ≡ old.journal.entries
+  pub cores : AreSameCores old.replicas new.replicas
+
+-- An order is accepted at a timestamp: its write comes to the end of the journal, and the leader of its hash leads it.
+pub record Accepts (old : Bucket) (order : Order) (now : ℕ) (version : ℤ) (new : Bucket) : Type 0 where
+  pub name : HasSameName old new
+  pub map_is : new.map ≡ old.map
+  pub fitting : IsFitting old.journal.entries order
+  pub room : HasRoom old.limit old.first old.journal.entries
+  pub cell : Arc Write Global
+  pub write : IsWriteOf old.journal.entries order now cell.value
+  pub shown : version ≡ shown_version cell.value
+  pub entries : new.journal.entries ≡ old.journal.entries ++ entry.Write cell ∷ []
+  pub leader : (at : ℕ) × (core : Core) × (slice : Slice) × Leads old.map cell.value.hash slice
+      × (slice_get old.replicas at ≡ Some core) × (core.core.slice ≡ slice.id) × (core.core.replica ≡ 1)
+      × (map without_room new.replicas ≡ map without_room (slice_set old.replicas at (led core cell.value)))
+
+-- the write at the place is settled
+pub record Settles (old : Bucket) (place : ℕ) (new : Bucket) : Type 0 where
+  pub name : HasSameName old new
+  pub map_is : new.map ≡ old.map
+  pub entries : new.journal.entries ≡ old.journal.entries ++ entry.Settled place ∷ []
+  pub cores : AreSameCores old.replicas new.replicas
+
+-- one event of a bucket, or none
+pub data IsStep (old new : Bucket) : Type 0 where
+  stays : IsSameBut old new → IsStep old new
+  accepts : {order : Order} {now : ℕ} {version : ℤ} → Accepts old order now version new → IsStep old new
+  settles : {place : ℕ} → IsSome (write_at old.journal.entries place) → is_settled old.journal.entries place ≡ false
+      → Settles old place new → IsStep old new
+
+-- what an accept answered
+abbrev pub outcome_of : Result Accepted AcceptFault → Outcome
+outcome_of (Ok result) = accepted result.version
+outcome_of (Err (faults.Conflict found)) = conflict found
+outcome_of (Err (faults.Partial name)) = partial name
+outcome_of (Err faults.LogFull) = log_full
+outcome_of (Err faults.Memory) = out_of_memory

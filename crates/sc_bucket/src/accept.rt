@@ -1,0 +1,245 @@
+ghost use Rattle.std.specs.Prelude.{◌≡◌, ◌<◌, ◌≤◌, ◌+◌, ◌<ℤ◌, Ok, Err, IfOk, IfErr, OnOk, OnErr, length, slice_get, Some, None, option_copied};
+ghost use Rattle.std.specs.Option.{option_map};
+ghost use Rattle.std.specs.Arc.{arc_value};
+ghost use Rattle.sc_record.specs.Orders.{IsChange};
+ghost use Rattle.sc_router.specs.Route.{route_hash};
+ghost use Rattle.sc_replica.specs.Core.{Core};
+ghost use Rattle.sc_partial.specs.Resolved.{IsRefusalOf, fields_of};
+ghost use Rattle.sc_journal.specs.Legal.{HasTerms, MayWrite};
+ghost use Rattle.sc_journal.specs.Outcomes.{Makes, refused, HasRoom, IsWriteOf, IsFitting, IsOutcome, live_fields};
+ghost use Rattle.sc_bucket.specs.Cores.{IsLeaderAt};
+ghost use Rattle.sc_bucket.specs.Sound.{IsSound};
+ghost use Rattle.sc_bucket.specs.Events.{Accepts, IsSameBut, outcome_of};
+ghost use Rattle.sc_bucket.specs.Accepting.{HasMemory, IsPut};
+
+use crate::bucket::Bucket;
+use sc_partial::{PartialFault, resolve};
+use sc_record::{
+    Cell, Change, Doc, Entry, Id, List, Order, Term, Text, Write, clone_items, found, meets,
+    next_version,
+};
+use sc_router::route_hash;
+use sc_schema::terms_of;
+use std::alloc::{AllocError, Global};
+use std::sync::Arc;
+use thiserror::Error;
+
+/// What an order that was accepted got: the version of its write as it is shown, a deletion's as its negative, and the place
+/// of the write in the journal.
+#[derive(Clone, Copy, Debug, PartialEq, Eq)]
+pub struct Accepted {
+    pub version: i64,
+    pub place: u64,
+}
+
+/// Why an order was not accepted. The bucket is as it was.
+#[derive(Debug, Drop, Error)]
+pub enum AcceptFault {
+    /// The order's condition is not met by the version that was found.
+    #[error("the version is {found}")]
+    Conflict { found: i64 },
+    /// The field of this name can't take its change.
+    #[error("field '{0}' can't take this change")]
+    Partial(Text),
+    /// The journal has no room for the write and the entry that settles it.
+    #[error("the update log is full")]
+    LogFull,
+    #[error("out of memory")]
+    Memory,
+}
+
+impl From<AllocError> for AcceptFault {
+    ghost use Rattle.std.specs.Prelude.{◌≡◌};
+    ghost use Rattle.sc_bucket.specs.declared.accept.AcceptFault.TheVariants as faults;
+
+    ghost from_gives = { λ _ fault. fault ≡ faults.Memory };
+
+    fn from(_: AllocError) -> AcceptFault {
+        AcceptFault::Memory
+    }
+}
+
+impl From<PartialFault> for AcceptFault {
+    ghost use Rattle.std.specs.Prelude.{◌≡◌};
+    ghost use Rattle.sc_bucket.specs.Accepting.{accept_fault};
+
+    ghost from_gives = { λ refusal fault. fault ≡ accept_fault refusal };
+
+    fn from(refusal: PartialFault) -> AcceptFault {
+        match refusal {
+            PartialFault::Field(name) => AcceptFault::Partial(name),
+            PartialFault::Memory => AcceptFault::Memory,
+        }
+    }
+}
+
+impl Bucket {
+    /// Carries out an order at this timestamp, in milliseconds (Solr Reference Guide, "Optimistic Concurrency", "Atomic
+    /// Updates"). The first cause of a refusal counts, in the order of `AcceptFault`; out of memory never stands in the place
+    /// of a conflict. After a refusal the bucket is as it was.
+    pub fn accept(
+        &mut self,
+        alloc: Global,
+        order: &Order,
+        now: u64,
+    ) -> Result<Accepted, AcceptFault>
+        requires sound { IsSound self.old }
+        ensures sound { IsSound self.new }
+        ensures accepted { IfOk result (λ accepted. Accepts self.old order.now now accepted.version self.new) }
+        ensures place { IfOk result (λ accepted. accepted.place ≡ length self.old.journal.entries) }
+        ensures refused { OnErr result (IsSameBut self.old self.new) }
+        ensures outcome { IsOutcome self.old.limit self.old.first self.old.journal.entries order.now now (outcome_of result) self.new.journal.entries }
+    {
+        let hash = route_hash(order.id.as_str());
+        let leader = self.leader(hash);
+        let write = self.write_for(alloc, order, now, hash, leader)?;
+        let accepted = Accepted {
+            version: write.shown(),
+            place: self.entries(),
+        };
+        let (entry, cell) = shares(alloc, write)?;
+        self.make_room(leader)?;
+        self.put_in(leader, entry, cell);
+        Ok(accepted)
+    }
+
+    // The write that the order makes, whose id has the hash that the core at this place leads. The bucket is only read.
+    fn write_for(
+        &self,
+        alloc: Global,
+        order: &Order,
+        now: u64,
+        hash: i32,
+        leader: usize,
+    ) -> Result<Write, AcceptFault>
+        requires sound { IsSound self.now }
+        requires hash { hash ≡ route_hash order.now.id }
+        requires leader { IsLeaderAt self.now.map self.now.replicas hash leader }
+        requires within { leader < length self.now.replicas }
+        ensures fitting { OnOk result (IsFitting self.now.journal.entries order.now) }
+        ensures room { OnOk result (HasRoom self.now.limit self.now.first self.now.journal.entries) }
+        ensures made { IfOk result (IsWriteOf self.now.journal.entries order.now now) }
+        ensures next { IfOk result (MayWrite self.now.journal.entries) }
+        ensures hash { IfOk result (λ write. write.hash ≡ hash) }
+        ensures above { IfOk result (λ write. (core : Core) → slice_get self.now.replicas leader ≡ Some core → core.clock <ℤ write.version) }
+        ensures refused { IfErr result (λ fault. IsOutcome self.now.limit self.now.first self.now.journal.entries order.now now (outcome_of (Err fault)) self.now.journal.entries) }
+    {
+        let replica = self.replicas.get(leader);
+        let last = replica.cell(&order.id);
+        let found = found(last);
+        if !meets(order.condition, found) {
+            return Err(AcceptFault::Conflict { found });
+        }
+        let doc = document_after(alloc, last, &order.change)?;
+        if self.limit < self.entries() + self.owed + 2 {
+            return Err(AcceptFault::LogFull);
+        }
+        Ok(Write {
+            id: copy_of_id(alloc, &order.id)?,
+            hash,
+            version: next_version(now, replica.clock()),
+            terms: terms_for(alloc, &order.id, &doc)?,
+            doc,
+        })
+    }
+
+    // Makes room for a write that the core at this place leads, and for the entries that are owed with it.
+    fn make_room(&mut self, leader: usize) -> Result<(), AllocError>
+        requires sound { IsSound self.old }
+        requires within { leader < length self.old.replicas }
+        ensures sound { IsSound self.new }
+        ensures same { IsSameBut self.old self.new }
+        ensures memory { OnOk result (HasMemory self.new leader) }
+    {
+        self.journal.reserve(self.owed as usize + 2)?;
+        self.unsettled.reserve(1)?;
+        self.replicas.reserve(leader, 1)?;
+        Ok(())
+    }
+
+    // Puts a write, of which there are two shares, into the journal and into the core at this place. It takes no memory.
+    fn put_in(&mut self, leader: usize, entry: Cell, cell: Cell)
+        requires sound { IsSound self.old }
+        requires memory { HasMemory self.old leader }
+        requires within { leader < length self.old.replicas }
+        requires leader { IsLeaderAt self.old.map self.old.replicas (arc_value entry).hash leader }
+        requires shares { arc_value cell ≡ arc_value entry }
+        requires next { MayWrite self.old.journal.entries (arc_value entry) }
+        requires room { HasRoom self.old.limit self.old.first self.old.journal.entries }
+        requires above { (core : Core) → slice_get self.old.replicas leader ≡ Some core → core.clock <ℤ (arc_value entry).version }
+        ensures sound { IsSound self.new }
+        ensures put { IsPut self.old entry leader self.new }
+    {
+        self.unsettled.append(self.journal.len());
+        self.journal.append(Entry::Write(entry));
+        self.replicas.lead(leader, cell);
+        self.owed += 1;
+    }
+}
+
+// Two shares of a write.
+fn shares(alloc: Global, write: Write) -> Result<(Cell, Cell), AllocError>
+    ensures { IfOk result (λ shares. (arc_value shares.0 ≡ write) × (arc_value shares.1 ≡ write)) }
+{
+    let Ok(cell) = Arc::new(alloc, write) else {
+        return Err(AllocError);
+    };
+    let share = Arc::try_clone(&cell)?;
+    Ok((cell, share))
+}
+
+// What a change makes of the document whose last write this is: none by a deletion.
+fn document_after(
+    alloc: Global,
+    last: Option<&Cell>,
+    change: &Change,
+) -> Result<Option<Doc>, PartialFault>
+    requires { IsChange change.now }
+    ensures made { IfOk result (Makes (option_map arc_value (option_copied last.entry)) change.now) }
+    ensures taken { OnOk result (refused (option_map arc_value (option_copied last.entry)) change.now ≡ None) }
+    ensures refused { IfErr result (IsRefusalOf (refused (option_map arc_value (option_copied last.entry)) change.now)) }
+{
+    match change {
+        Change::Whole(doc) => Ok(Some(copy_of(alloc, doc)?)),
+        Change::Parts(parts) => Ok(Some(resolve(alloc, live(last), parts)?)),
+        Change::Delete => Ok(None),
+    }
+}
+
+// The document of an id whose last write this is, where it is live.
+fn live(last: Option<&Cell>) -> Option<&Doc>
+    ensures { live_fields (option_map arc_value (option_copied last.entry)) ≡ fields_of (option_copied result) }
+{
+    match last {
+        Some(write) => write.doc.as_ref(),
+        None => None,
+    }
+}
+
+// A copy of a document.
+fn copy_of(alloc: Global, doc: &Doc) -> Result<Doc, AllocError>
+    ensures { IfOk result (λ copy. copy ≡ doc.now) }
+{
+    Ok(Doc::new(List::from_vec(clone_items(alloc, doc.fields())?)))
+}
+
+// A copy of an id.
+fn copy_of_id(alloc: Global, id: &Id) -> Result<Id, AllocError>
+    ensures { IfOk result (λ copy. copy ≡ id.now) }
+{
+    Id::new(alloc, id.as_str()).map_err(|_| AllocError)
+}
+
+// What a search finds the document by; nothing where there is none.
+fn terms_for(alloc: Global, id: &Id, doc: &Option<Doc>) -> Result<List<Term>, AllocError>
+    ensures { IfOk result (HasTerms id.now doc.now) }
+{
+    match doc {
+        Some(doc) => {
+            let mut terms = terms_of(alloc, id, doc)?.into_vec();
+            terms.shrink_to_fit();
+            Ok(List::from_vec(terms))
+        }
+        None => Ok(List::new(alloc)),
+    }
+}

@@ -1,0 +1,93 @@
+use crate::journal::Journal;
+use crate::replicas::Replicas;
+use crate::unsettled::Unsettled;
+use sc_cluster::ClusterMap;
+use sc_record::{Cell, CloneIn, Id};
+use sc_router::route_hash;
+use std::alloc::{AllocError, Global};
+
+/// One bucket. Its fields are public, since the events of a split work on them too; what `IsSound` says of them is asked for
+/// and given back by each event.
+#[derive(Drop)]
+pub struct Bucket {
+    /// The map with which it was made.
+    pub first: ClusterMap,
+    /// The map after its journal.
+    pub map: ClusterMap,
+    pub journal: Journal,
+    /// The places of the writes that are not settled.
+    pub unsettled: Unsettled,
+    /// The leader of each slice, in the order of the map.
+    pub replicas: Replicas,
+    /// How many entries the journal has still to get.
+    pub owed: u64,
+    /// How many entries the journal may have.
+    pub limit: u64,
+}
+
+impl Bucket {
+    ghost use Rattle.std.specs.Prelude.{◌≡◌, ◌<◌, ◌≤◌, ◌^◌, [], length, IfOk, IsSome, option_copied};
+    ghost use Rattle.std.specs.Option.{option_map};
+    ghost use Rattle.std.specs.Arc.{arc_value};
+    ghost use Rattle.sc_journal.specs.Journal.{last_write, write_at, is_settled};
+    ghost use Rattle.sc_bucket.specs.Cores.{IsLeaderAt};
+    ghost use Rattle.sc_bucket.specs.Sound.{AreActive, IsSound};
+
+    /// A bucket with an empty journal, whose first map is this, with a core for each slice. Its journal may have `limit`
+    /// entries. An error means out of memory.
+    pub fn new(alloc: Global, map: &ClusterMap, limit: u64) -> Result<Bucket, AllocError>
+        requires active { AreActive map.now }
+        requires least { 16 ≤ limit }
+        requires most { limit ≤ 2 ^ 24 }
+        ensures sound { IfOk result IsSound }
+        ensures first { IfOk result (λ bucket. bucket.first ≡ map.now) }
+        ensures map_is { IfOk result (λ bucket. bucket.map ≡ map.now) }
+        ensures journal { IfOk result (λ bucket. bucket.journal.entries ≡ []) }
+        ensures limit { IfOk result (λ bucket. bucket.limit ≡ limit) }
+    {
+        Ok(Bucket {
+            first: map.clone_in(alloc)?,
+            map: map.clone_in(alloc)?,
+            journal: Journal::new(alloc),
+            unsettled: Unsettled::new(alloc),
+            replicas: Replicas::leaders(alloc, map)?,
+            owed: 0,
+            limit,
+        })
+    }
+
+    /// How many entries the journal has.
+    pub fn entries(&self) -> u64
+        ensures { result ≡ length self.now.journal.entries }
+    {
+        self.journal.len()
+    }
+
+    /// The last write of an id, a deletion too; none exactly where the id was never written. It is the cell of the leader that
+    /// serves the id's hash, committed or not (Solr Reference Guide, "RealTime Get").
+    pub fn read(&self, id: &Id) -> Option<&Cell>
+        requires { IsSound self.now }
+        ensures { option_map arc_value (option_copied result) ≡ last_write self.now.journal.entries id.now }
+    {
+        let leader = self.leader(route_hash(id.as_str()));
+        self.replicas.get(leader).cell(id)
+    }
+
+    /// Whether an entry settles the write at the place.
+    pub fn is_settled(&self, place: u64) -> bool
+        requires sound { IsSound self.now }
+        requires written { IsSome (write_at self.now.journal.entries place) }
+        ensures { result ≡ is_settled self.now.journal.entries place }
+    {
+        !self.unsettled.contains(place)
+    }
+
+    /// The place of the core that serves the hash: the leader of the active slice that has it.
+    pub(crate) fn leader(&self, hash: i32) -> usize
+        requires { IsSound self.now }
+        ensures leader { IsLeaderAt self.now.map self.now.replicas hash result }
+        ensures within { result < length self.now.replicas }
+    {
+        self.replicas.position(self.map.leads(hash)).unwrap()
+    }
+}

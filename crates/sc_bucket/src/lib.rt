@@ -1,0 +1,22 @@
+//! One bucket: the journal of its ids, its own copy of the cluster's map, and the cells of its cores. Each event of it is
+//! one call, which keeps what `IsSound` says of every bucket, and changes what its own definition in `specs/Events` says.
+#![tactic(auto)]
+
+// What a bucket keeps.
+mod journal;
+mod replicas;
+mod unsettled;
+
+// The bucket, and its events.
+mod accept;
+mod bucket;
+mod settle;
+
+pub use accept::{AcceptFault, Accepted};
+pub use bucket::Bucket;
+pub use journal::Journal;
+pub use replicas::Replicas;
+pub use unsettled::Unsettled;
+
+#[cfg(test)]
+mod tests;

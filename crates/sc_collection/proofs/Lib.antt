@@ -1,0 +1,7 @@
+-- What the proofs of this crate share.
+pub mod SlotLemmas
+pub mod PlaceLemmas
+pub mod AloneLemmas
+pub mod HoldLemmas
+pub mod GiveLemmas
+pub mod ReplaceLemmas

@@ -1,0 +1,90 @@
+-- A bucket may be given back after each event that a holder of it may do.
+use Rattle.std.proofs.Common.{◌≡◌, ℕ, ℤ, List, [], ◌∷◌, ◌++◌, false, refl, sym, ◌∙◌, subst}
+use Rattle.std.specs.Prelude.{IsSome, Result, Ok, Err, IfOk, OnErr}
+use Rattle.std.specs.Arc.{arc_value}
+use Rattle.std.specs.List.{AllByRecursion}
+use Rattle.sc_record.specs.declared.write.Write.{Write}
+use Rattle.sc_record.specs.declared.order.Order.{Order}
+use Rattle.sc_record.specs.declared.entry.Entry.{Entry}
+use Rattle.sc_record.specs.declared.entry.Entry.TheVariants as entry
+use Rattle.sc_router.specs.Route.{bucket_of}
+use Rattle.sc_journal.specs.Journal.{writes, write_at, is_settled}
+use Rattle.sc_journal.specs.Seen.{Layout}
+use Rattle.sc_journal.proofs.JournalLemmas.{writes-push_write, writes-push_other}
+use Rattle.sc_bucket.specs.declared.accept.Accepted.{Accepted}
+use Rattle.sc_bucket.specs.declared.accept.AcceptFault.{AcceptFault}
+use Rattle.sc_bucket.specs.declared.bucket.Bucket.{Bucket}
+use Rattle.sc_bucket.specs.Sound.{IsSound}
+use Rattle.sc_bucket.specs.Events.{IsStep, IsSameBut, HasSameName, Accepts, Settles}
+use Rattle.sc_collection.specs.Desks.{Held, IsBucketOf, MayReplace}
+
+-- the ids of the writes belong to the bucket of this number
+abbrev AreOf : ℕ → ℕ → List Write → Type 0
+AreOf buckets number = AllByRecursion (λ (write : Write). bucket_of write.id buckets ≡ number)
+
+-- one more that does
+AreOf-push : (buckets number : ℕ) (earlier : List Write) (write : Write) → AreOf buckets number earlier
+    → bucket_of write.id buckets ≡ number → AreOf buckets number (earlier ++ write ∷ [])
+AreOf-push buckets number [] write are is = (is, tt)
+AreOf-push buckets number (first ∷ earlier) write are is = (are.0, AreOf-push buckets number earlier write are.1 is)
+
+module _ (layout : Layout) (held : Held) (given : Bucket)
+    (is : IsBucketOf layout held.number held.bucket) (sound : IsSound given) where
+  -- the same bucket, by its writes
+  same_bucket : HasSameName held.bucket given → AreOf layout.buckets held.number (writes given.journal.entries)
+      → IsBucketOf layout held.number given
+  same_bucket name ids = record { first = name.first ∙ is.first; limit = name.limit ∙ is.limit; ids = ids }
+
+  -- nothing was done
+  pub unchanged_may_replace : IsSameBut held.bucket given → MayReplace layout held given
+  unchanged_may_replace same = record {
+    sound = sound;
+    is_of = same_bucket same.name
+        (subst (λ (journal : List Entry). AreOf layout.buckets held.number (writes journal)) (sym same.entries) is.ids);
+    step = IsStep.stays same;
+  }
+
+  -- an order of one of the bucket's ids was accepted
+  pub accepted_may_replace : (order : Order) (now : ℕ) (version : ℤ) → bucket_of order.id layout.buckets ≡ held.number
+      → Accepts held.bucket order now version given → MayReplace layout held given
+  accepted_may_replace order now version own accepted = record {
+    sound = sound;
+    is_of = same_bucket accepted.name ids;
+    step = IsStep.accepts accepted;
+  } where
+    write : Write
+    write = arc_value accepted.cell
+
+    write_own : bucket_of write.id layout.buckets ≡ held.number
+    write_own = subst (λ (id : List ℕ). bucket_of id layout.buckets ≡ held.number) (sym accepted.write.id) own
+
+    ids : AreOf layout.buckets held.number (writes given.journal.entries)
+    ids =
+        subst (λ (journal : List Entry). AreOf layout.buckets held.number (writes journal)) (sym accepted.entries)
+        (subst (AreOf layout.buckets held.number) (sym (writes-push_write held.bucket.journal.entries accepted.cell))
+        (AreOf-push layout.buckets held.number (writes held.bucket.journal.entries) write is.ids write_own))
+
+  -- an order of one of the bucket's ids was accepted or refused
+  pub answered_may_replace : (order : Order) (now : ℕ) (answer : Result Accepted AcceptFault)
+      → bucket_of order.id layout.buckets ≡ held.number
+      → IfOk answer (λ accepted. Accepts held.bucket order now accepted.version given)
+      → OnErr answer (IsSameBut held.bucket given)
+      → MayReplace layout held given
+  answered_may_replace order now (Ok answer) own accepted refused =
+      accepted_may_replace order now answer.version own accepted
+  answered_may_replace order now (Err fault) own accepted refused = unchanged_may_replace refused
+
+  -- a write was settled
+  pub settled_may_replace : (place : ℕ) → IsSome (write_at held.bucket.journal.entries place)
+      → is_settled held.bucket.journal.entries place ≡ false → Settles held.bucket place given
+      → MayReplace layout held given
+  settled_may_replace place written still settled = record {
+    sound = sound;
+    is_of = same_bucket settled.name ids;
+    step = IsStep.settles written still settled;
+  } where
+    ids : AreOf layout.buckets held.number (writes given.journal.entries)
+    ids =
+        subst (λ (journal : List Entry). AreOf layout.buckets held.number (writes journal)) (sym settled.entries)
+        (subst (AreOf layout.buckets held.number)
+        (sym (writes-push_other held.bucket.journal.entries (entry.Settled place) refl)) is.ids)

@@ -1,0 +1,15 @@
+-- A desk of new buckets, on which nothing happened.
+use Rattle.std.proofs.Common.{sym, subst}
+use Rattle.sc_router.specs.Route.{IsBucketCount}
+use Rattle.sc_collection.proofs.AloneLemmas.{new_is_desk, new_sees_nothing}
+use Rattle.sc_collection.proofs.alone.Alone.new.Goals as goal
+
+pub invariant_of-result : goal.invariant_of-result
+invariant_of-result c =
+    new_is_desk _ _ _ _ _ (subst IsBucketCount (sym c.in_ok-new_slots.ensures.count) c.requires.buckets)
+    c.requires.nodes_from c.in_ok-new_slots.ensures.each c.new-2.ensures
+
+pub returns-clause-seen : goal.returns-clause-seen
+returns-clause-seen c =
+    new_sees_nothing c.in_ok-new_slots.field-0.items c.args.shape.now.nodes c.in_ok-first.first
+    c.args.shape.now.log_limit c.new-2.result.items c.in_ok-new_slots.ensures.each

@@ -1,0 +1,23 @@
+-- What is taken back stands in its slot.
+use Rattle.sc_collection.proofs.AloneLemmas.{desk_is_legal}
+use Rattle.sc_collection.proofs.GiveLemmas.{give_of_fields}
+use Rattle.sc_collection.proofs.alone.AloneDesk.give.Goals as goal
+
+pub invariant_of-self : goal.invariant_of-self
+invariant_of-self c =
+    let out = c.requires.is_out in
+    (give_of_fields c.self.inside _ c.args.self.now c.args.b c.args.bucket out.0
+    c.self.view_is c.self.invariant out.1 out.2 out.3 c.new-self-inside.ensures).is
+
+pub returns : goal.returns
+returns c =
+    let out = c.requires.is_out in
+    let give =
+    give_of_fields c.self.inside _ c.args.self.now c.args.b c.args.bucket out.0
+    c.self.view_is c.self.invariant out.1 out.2 out.3 c.new-self-inside.ensures in
+    record {
+      seen = give.sees;
+      out = give.out;
+      legal = desk_is_legal _ give.is;
+      layout = give.layout;
+    }

@@ -1,0 +1,6 @@
+-- How a desk hands out the buckets of a collection, and what a trail keeps.
+pub mod Kept
+pub mod Shapes
+pub mod Desks
+pub mod Places
+pub mod Alone

@@ -1,0 +1,14 @@
+/// How a collection is laid out.
+#[derive(Clone, Copy, Debug, PartialEq, Eq)]
+pub struct Shape {
+    /// How many nodes there are, from 1 to 16.
+    pub nodes: u32,
+    /// Into how many shards the hashes are cut at first, from 1 to 64.
+    pub shards: u32,
+    /// How many replicas each shard has, from 1 to 4.
+    pub replicas: u8,
+    /// Over how many buckets the ids are spread: a power of two from 1 to 256.
+    pub buckets: u32,
+    /// How many entries the journal of a bucket may have, from 16 to 2^24.
+    pub log_limit: u64,
+}

@@ -1,0 +1,85 @@
+ghost use Rattle.std.specs.Prelude.{◌≡◌, ◌+◌, ◌<◌, [], ◌∷◌, ◌++◌, length, IfOk};
+ghost use Rattle.sc_collection.specs.Kept.{Kept};
+
+use sc_journal::Stop;
+use std::alloc::{AllocError, Global};
+use std::marker::Model;
+
+/// The most requests of a connection.
+pub const MAX_REQUESTS: u32 = 1_000;
+
+/// The number of stops after which a connection takes no further request.
+pub const MAX_STOPS: usize = 65_536;
+
+/// How many stops a trail has room for: those after which a connection takes no further request, two for each of the 4,096
+/// orders that one update may have, and one for each of 256 buckets.
+pub const ROOM: usize = MAX_STOPS + 2 * 4_096 + 256;
+
+/// The stops of a connection, in order, and how many requests it has answered. All its memory is taken when it is made.
+#[derive(Debug, Drop)]
+pub struct Trail {
+    stops: Vec<Stop>,
+    requests: u32,
+}
+
+impl Model for Trail {
+    ghost use Rattle.std.specs.Prelude.{◌≤◌, vec_len, vec_capacity};
+    ghost use Rattle.sc_collection.specs.Kept.{Kept};
+    ghost use Rattle.sc_collection.specs.declared.trail.TheConstants.{ROOM};
+
+    ghost Value = { Kept };
+
+    ghost view = { λ a. record { stops = a.stops.items; requests = a.requests } };
+
+    ghost invariant = { λ a. ROOM ≤ vec_capacity a.stops };
+}
+
+impl Trail {
+    /// An empty trail, with its room.
+    pub fn new(alloc: Global) -> Result<Trail, AllocError>
+        ensures { IfOk result (λ trail. trail ≡ record { stops = []; requests = 0 }) }
+    {
+        Ok(Trail {
+            stops: Vec::with_capacity(alloc, ROOM)?,
+            requests: 0,
+        })
+    }
+
+    /// Forgets the stops and the requests. The room stays.
+    pub fn clear(&mut self)
+        ensures { self.new ≡ record { stops = []; requests = 0 } }
+    {
+        self.stops.clear();
+        self.requests = 0;
+    }
+
+    /// The stops that were kept, in order.
+    pub fn stops(&self) -> &[Stop]
+        ensures { result.now ≡ self.now.stops }
+    {
+        self.stops.as_slice()
+    }
+
+    /// How many requests were answered.
+    pub fn requests(&self) -> u32
+        ensures { result ≡ self.now.requests }
+    {
+        self.requests
+    }
+
+    /// Keeps one more stop.
+    pub fn keep(&mut self, stop: Stop)
+        requires { length self.old.stops < ROOM }
+        ensures { self.new ≡ record { stops = self.old.stops ++ stop ∷ []; requests = self.old.requests } }
+    {
+        self.stops.push_reserved(stop);
+    }
+
+    /// Counts one more request.
+    pub fn count_request(&mut self)
+        requires { self.old.requests < MAX_REQUESTS }
+        ensures { self.new ≡ record { stops = self.old.stops; requests = self.old.requests + 1 } }
+    {
+        self.requests += 1;
+    }
+}

@@ -1,0 +1,8 @@
+-- Facts on updates.
+pub mod SeenLemmas
+pub mod StepLemmas
+pub mod OrderLemmas
+pub mod AnswerLemmas
+pub mod OnceLemmas
+pub mod BatchLemmas
+pub mod TakeLemmas

@@ -1,0 +1,81 @@
+-- Of the entries that stops made, the writes are those of the orders that were accepted.
+use Rattle.std.proofs.Common.{◌≡◌, ℕ, Bool, true, false, List, [], ◌∷◌, ◌++◌, length, take, Option, Some, None, cond, refl, sym, ap, ◌∙◌, subst, zero, suc, inl, inr}
+use Rattle.std.specs.Option.{option_map}
+use Rattle.std.specs.List.{filter_map, cons_option}
+use Rattle.std.proofs.lemmas.List.Elements.{filter_map-append}
+use Rattle.sc_record.specs.declared.ack.Ack.{Ack}
+use Rattle.sc_record.specs.declared.entry.Entry.{Entry}
+use Rattle.sc_record.specs.declared.order.Order.{Order}
+use Rattle.sc_record.specs.declared.write.Write.{Write}
+use Rattle.sc_journal.specs.Journal.{write_at}
+use Rattle.sc_journal.specs.Outcomes.{Outcome, accepted, conflict, partial, log_full, out_of_memory, IsOutcome}
+use Rattle.sc_journal.specs.Seen.{Layout, Seen, journal_at}
+use Rattle.sc_journal.specs.Batches.{OrderAnswer, AnswersOrders, HasStops, WritesOnce, ack_made, ack_of, ack_written, acknowledged, stops_of}
+use Rattle.sc_journal.specs.declared.stop.Stop.{Stop}
+
+-- what stands at the end of a prefix stands at its length
+at_end : (journal : List Entry) (place : ℕ) (write : Write) → write_at journal (length (take place journal)) ≡ Some write
+    → write_at journal place ≡ Some write
+at_end [] zero write h = h
+at_end [] (suc place) write h = absurd (cc)
+at_end (one ∷ journal) zero write h = h
+at_end (one ∷ journal) (suc place) write h = at_end journal place write h
+
+-- a stop that made no entry made no write
+unmade : (seen : Seen) (stop : Stop) → stop.made ≡ false → ack_made seen stop ≡ None
+unmade seen stop made = ap (λ b. cond b (option_map ack_written (write_at (seen.journals stop.lock) stop.place)) None) made
+
+-- a stop whose entry is no write made none
+no_write_made : (seen : Seen) (stop : Stop) (made : Bool) → stop.made ≡ made
+    → (stop.made ≡ true → write_at (seen.journals stop.lock) stop.place ≡ None) → ack_made seen stop ≡ None
+no_write_made seen stop false is none = unmade seen stop is
+no_write_made seen stop true is none =
+    ap (λ b. cond b (option_map ack_written (write_at (seen.journals stop.lock) stop.place)) None) is ∙ ap (option_map ack_written) (none is)
+
+alone : (seen : Seen) (stops : List Stop) (first : Stop) → (first.made ≡ false) × (stops ≡ first ∷ [])
+    → filter_map (ack_made seen) stops ≡ []
+alone seen stops first has =
+    ap (filter_map (ack_made seen)) has.1 ∙ ap (λ (o : Option Ack). cons_option o []) (unmade seen first has.0)
+
+-- an order has one write where it was accepted, and else none
+one_by : (layout : Layout) (seen : Seen) (order : Order) (timestamp : ℕ) (outcome : Outcome) (stops : List Stop) (first : Stop)
+    → IsOutcome layout.limit layout.first (journal_at seen first) order timestamp outcome (seen.journals first.lock)
+    → HasStops seen outcome stops first
+    → filter_map (ack_made seen) stops ≡ cons_option (acknowledged order.id outcome) []
+one_by layout seen order timestamp (accepted version) stops first is has =
+    let write : Write = is.2.0 in
+    let second : Stop = has.1.0 in
+    let same : ack_written write ≡ record { id = order.id; version = version } =
+    ap (λ id. let ack : Ack = record { id = id; version = (ack_written write).version } in ack) is.2.2.id
+    ∙ ap (λ v. let ack : Ack = record { id = order.id; version = v } in ack) (sym is.2.3) in
+    let here : ack_made seen first ≡ Some (record { id = order.id; version = version }) =
+    ap (λ b. cond b (option_map ack_written (write_at (seen.journals first.lock) first.place)) None) has.0
+    ∙ ap (option_map ack_written) (at_end (seen.journals first.lock) first.place write is.2.1) ∙ ap Some same in
+    let none : ack_made seen second ≡ None = no_write_made seen second second.made refl has.1.2.no_write in
+    ap (filter_map (ack_made seen)) has.1.1
+    ∙ ap (λ (o : Option Ack). cons_option o (cons_option (ack_made seen second) [])) here
+    ∙ ap (λ (o : Option Ack). record { id = order.id; version = version } ∷ cons_option o []) none
+one_by layout seen order timestamp (conflict version) stops first is has = alone seen stops first has
+one_by layout seen order timestamp (partial name) stops first is has = alone seen stops first has
+one_by layout seen order timestamp log_full stops first is has = alone seen stops first has
+one_by layout seen order timestamp out_of_memory stops first is has = alone seen stops first has
+
+-- what holds of two parts holds of both together
+once-append : (seen : Seen) (xs ys : List Stop) (these those : List OrderAnswer) → WritesOnce seen xs these → WritesOnce seen ys those
+    → WritesOnce seen (xs ++ ys) (these ++ those)
+once-append seen xs ys these those one two =
+    filter_map-append (ack_made seen) xs ys ∙ ap (λ (acks : List Ack). acks ++ filter_map (ack_made seen) ys) one
+    ∙ ap (λ (acks : List Ack). filter_map ack_of these ++ acks) two ∙ sym (filter_map-append ack_of these those)
+
+-- so the orders of one request
+pub orders_once : (layout : Layout) (seen : Seen) (fail : Bool) (orders : List Order) (answers : List OrderAnswer)
+    → AnswersOrders layout seen fail orders answers → WritesOnce seen (stops_of answers) answers
+orders_once layout seen fail orders [] h = refl
+orders_once layout seen fail [] (answer ∷ answers) h = absurd h
+orders_once layout seen fail (order ∷ orders) (answer ∷ answers) h =
+    once-append seen answer.stops (stops_of answers) (answer ∷ []) answers
+    (one_by layout seen answer.order answer.timestamp answer.outcome answer.stops h.1.first h.1.outcome h.1.stops)
+    (elim h.2 [
+      | inl more ↦ orders_once layout seen fail orders answers more.1
+      | inr end ↦ subst (λ (those : List OrderAnswer). WritesOnce seen (stops_of those) those) (sym end.1) refl
+    ])

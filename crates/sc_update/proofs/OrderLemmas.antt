@@ -1,0 +1,203 @@
+-- What an order is answered at its stops, by what is seen later.
+use Rattle.std.proofs.Common.{◌≡◌, ℕ, ◌+◌, ◌<◌, Bool, true, false, cond, List, [], ◌∷◌, ◌++◌, length, take, Some, None, Option, Result, Ok, Err, refl, sym, ap, ◌∙◌, subst, arith, length-append}
+use Rattle.std.specs.Prelude.{◌||◌, IsSome, IfOk, OnErr, is_ok}
+use Rattle.std.specs.List.{AllByRecursion}
+use Rattle.std.specs.Arc.{arc_value}
+use Rattle.std.proofs.lemmas.Bool.{eq-eqb}
+use Rattle.std.proofs.lemmas.List.{append-nil}
+use Rattle.std.proofs.Math.Seq.{take-append_seam}
+use mathlib.Core.List.{IsPrefix}
+use Rattle.sc_record.specs.declared.entry.Entry.{Entry}
+use Rattle.sc_record.specs.declared.entry.Entry.TheVariants as entry
+use Rattle.sc_record.specs.declared.write.Write.{Write}
+use Rattle.sc_record.specs.declared.order.Order.{Order}
+use Rattle.sc_router.specs.Route.{bucket_of}
+use Rattle.sc_journal.specs.Journal.{write_at, writes, settles, is_settled}
+use Rattle.sc_journal.specs.Outcomes.{Outcome, accepted, conflict, partial, log_full, out_of_memory, IsOutcome}
+use Rattle.sc_journal.specs.Seen.{Layout, Seen}
+use Rattle.sc_journal.specs.Batches.{IsSettling}
+use Rattle.sc_journal.specs.declared.stop.Stop.{Stop}
+use Rattle.sc_journal.proofs.JournalLemmas.{writes-push_write, writes-push_other, write_at-push_end, write_at-append, write_at_within}
+use Rattle.sc_journal.proofs.SettledLemmas.{is_settled-push}
+use Rattle.sc_bucket.specs.declared.bucket.Bucket.{Bucket}
+use Rattle.sc_bucket.specs.declared.accept.Accepted.{Accepted}
+use Rattle.sc_bucket.specs.declared.accept.AcceptFault.{AcceptFault}
+use Rattle.sc_bucket.specs.Sound.{IsSound}
+use Rattle.sc_bucket.specs.Events.{Accepts, IsSameBut, IsStep, outcome_of}
+use Rattle.sc_collection.specs.Desks.{Held, IsBucketOf, MayReplace, SeesGiven}
+use Rattle.sc_update.specs.Updated.{SeesMore}
+use Rattle.sc_update.specs.Steps.{Tries, SettlesWhere}
+use Rattle.sc_update.proofs.SeenLemmas.{IsPrefix-then}
+use Rattle.std.proofs.ByRecursion.{All-append}
+use Rattle.sc_update.proofs.StepLemmas.{stop_at}
+
+-- a journal with a prefix has it there
+pub take-prefix : (journal later : List Entry) → IsPrefix journal later → take (length journal) later ≡ journal
+take-prefix journal later begins = ap (take (length journal)) (sym begins.1) ∙ take-append_seam journal begins.0
+
+-- a write stays where it is
+pub write_at-later : (journal later : List Entry) (place : ℕ) → IsPrefix journal later → place < length journal
+    → write_at later place ≡ write_at journal place
+write_at-later journal later place begins below =
+    ap (λ (all : List Entry). write_at all place) (sym begins.1) ∙ write_at-append journal begins.0 place below
+
+pub written-later : (journal later : List Entry) (place : ℕ) → IsPrefix journal later → IsSome (write_at journal place)
+    → IsSome (write_at later place)
+written-later journal later place begins written =
+    subst (λ (w : Option Write). IsSome w) (sym (write_at-later journal later place begins (write_at_within journal place written))) written
+
+-- what an order is answered stays so
+outcome-later : (limit : ℕ) (first : _) (before : List Entry) (order : Order) (now : ℕ) (outcome : Outcome) (after later : List Entry)
+    → IsPrefix after later → IsOutcome limit first before order now outcome after → IsOutcome limit first before order now outcome later
+outcome-later limit first before order now (accepted version) after later begins is =
+    let write : Write = is.2.0 in
+    let there : write_at after (length before) ≡ Some write = is.2.1 in
+    let some : IsSome (write_at after (length before)) = subst (λ (w : Option Write). IsSome w) (sym there) refl in
+    (is.0, is.1, (write, write_at-later after later (length before) begins (write_at_within after (length before) some) ∙ there, is.2.2, is.2.3))
+outcome-later limit first before order now (conflict version) after later begins is = is
+outcome-later limit first before order now (partial name) after later begins is = is
+outcome-later limit first before order now log_full after later begins is = is
+outcome-later limit first before order now out_of_memory after later begins is = is
+
+-- a bucket in which an order was carried out may be given back
+pub MayReplace-accepted : (layout : Layout) (number : ℕ) (old new : Bucket) (order : Order) (now : ℕ) (answer : Result Accepted AcceptFault)
+    → IsBucketOf layout number old → IsSound new → number ≡ bucket_of order.id layout.buckets
+    → IfOk answer (λ accepted. Accepts old order now accepted.version new) → OnErr answer (IsSameBut old new)
+    → MayReplace layout (record { number = number; bucket = old }) new
+MayReplace-accepted layout number old new order now (Ok got) of sound of_id accepts same = record {
+  sound = sound;
+  is_of = record {
+    first = accepts.name.first ∙ of.first;
+    limit = accepts.name.limit ∙ of.limit;
+    ids = subst (AllByRecursion (λ (write : Write). bucket_of write.id layout.buckets ≡ number)) (sym (ap writes accepts.entries ∙ writes-push_write old.journal.entries accepts.cell))
+        (All-append (λ (write : Write). bucket_of write.id layout.buckets ≡ number) (writes old.journal.entries) (arc_value accepts.cell ∷ []) of.ids
+        (ap (λ id. bucket_of id layout.buckets) accepts.write.id ∙ sym of_id, tt));
+  };
+  step = IsStep.accepts accepts;
+}
+MayReplace-accepted layout number old new order now (Err fault) of sound of_id accepts same = record {
+  sound = sound;
+  is_of = record {
+    first = same.name.first ∙ of.first;
+    limit = same.name.limit ∙ of.limit;
+    ids = subst (λ (entries : List Entry). AllByRecursion (λ (write : Write). bucket_of write.id layout.buckets ≡ number) (writes entries)) (sym same.entries) of.ids;
+  };
+  step = IsStep.stays same;
+}
+
+-- the entries that an order adds: its write where it is accepted
+pub accepted-entries : (old new : Bucket) (order : Order) (now : ℕ) (answer : Result Accepted AcceptFault)
+    → IfOk answer (λ accepted. Accepts old order now accepted.version new) → OnErr answer (IsSameBut old new)
+    → (more : List Entry) × (new.journal.entries ≡ old.journal.entries ++ more) × (length more ≡ cond (is_ok answer) 1 0)
+accepted-entries old new order now (Ok got) accepts same = (entry.Write accepts.cell ∷ [], accepts.entries, refl)
+accepted-entries old new order now (Err fault) accepts same = ([], same.entries ∙ sym (append-nil old.journal.entries), refl)
+
+-- and an order is answered at that stop
+pub tries : (layout : Layout) (old new : Seen) (held : Held) (given : Bucket) (order : Order) (now : ℕ) (answer : Result Accepted AcceptFault)
+    → IsBucketOf layout held.number held.bucket → held.number ≡ bucket_of order.id layout.buckets
+    → IfOk answer (λ accepted. Accepts held.bucket order now accepted.version given) → OnErr answer (IsSameBut held.bucket given)
+    → IsOutcome held.bucket.limit held.bucket.first held.bucket.journal.entries order now (outcome_of answer) given.journal.entries
+    → SeesGiven held given old new
+    → Tries layout old new order now (stop_at held.number held.bucket.journal.entries (is_ok answer)) answer
+tries layout old new held given order now answer of of_id accepts same outcome sees =
+    let added = accepted-entries held.bucket given order now answer accepts same in
+    record {
+      lock = of_id;
+      made = refl;
+      written = written answer accepts;
+      outcome = λ later more.
+          let begins : IsPrefix given.journal.entries (later.journals held.number) = subst (λ (entries : List Entry). IsPrefix entries (later.journals held.number)) sees.journal (more held.number) in
+          let before : take (length journal) (later.journals held.number) ≡ journal = take-prefix journal (later.journals held.number) (IsPrefix-then journal given.journal.entries (later.journals held.number) (added.0, sym added.1) begins) in
+          subst (λ (entries : List Entry). IsOutcome layout.limit layout.first entries order now (outcome_of answer) (later.journals held.number)) (sym before)
+          (subst (λ n. IsOutcome n layout.first journal order now (outcome_of answer) (later.journals held.number)) of.limit
+          (subst (λ (slices : _). IsOutcome held.bucket.limit slices journal order now (outcome_of answer) (later.journals held.number)) of.first
+          (outcome-later held.bucket.limit held.bucket.first journal order now (outcome_of answer) given.journal.entries (later.journals held.number) begins outcome)));
+    }
+  where
+    journal : List Entry
+    journal = held.bucket.journal.entries
+
+    written : (one : Result Accepted AcceptFault) → IfOk one (λ accepted. Accepts held.bucket order now accepted.version given)
+        → IfOk one (λ accepted. IsSome (write_at (new.journals held.number) (length journal)))
+    written (Ok got) ok =
+        let here : write_at (new.journals held.number) (length journal) ≡ Some (arc_value ok.cell) =
+        ap (λ (entries : List Entry). write_at entries (length journal)) (sees.journal ∙ ok.entries) ∙ write_at-push_end journal (entry.Write ok.cell) in
+        subst (λ (w : Option Write). IsSome w) (sym here) refl
+    written (Err fault) ok = tt
+
+-- a bucket in which a write was settled may be given back
+pub MayReplace-settled : (layout : Layout) (number place : ℕ) (made : Bool) (old new : Bucket)
+    → IsBucketOf layout number old → IsSound new → IsSome (write_at old.journal.entries place) → SettlesWhere made old place new
+    → MayReplace layout (record { number = number; bucket = old }) new
+MayReplace-settled layout number place true old new of sound written settles = record {
+  sound = sound;
+  is_of = record {
+    first = settles.0.name.first ∙ of.first;
+    limit = settles.0.name.limit ∙ of.limit;
+    ids = subst (AllByRecursion (λ (write : Write). bucket_of write.id layout.buckets ≡ number)) (sym (ap writes settles.0.entries ∙ writes-push_other old.journal.entries (entry.Settled place) refl)) of.ids;
+  };
+  step = IsStep.settles written settles.1 settles.0;
+}
+MayReplace-settled layout number place false old new of sound written settles =
+    subst (λ (bucket : Bucket). MayReplace layout (record { number = number; bucket = old }) bucket) (sym settles.0) (record {
+      sound = subst IsSound settles.0 sound;
+      is_of = of;
+      step = IsStep.stays (record { name = record { first = refl; limit = refl }; map_is = refl; entries = refl; cores = refl });
+    })
+
+-- the entries that this adds
+pub settled-entries : (place : ℕ) (made : Bool) (old new : Bucket) → SettlesWhere made old place new
+    → (more : List Entry) × (new.journal.entries ≡ old.journal.entries ++ more) × (length more ≡ cond made 1 0)
+settled-entries place true old new settles = (entry.Settled place ∷ [], settles.0.entries, refl)
+settled-entries place false old new settles =
+    ([], ap (λ (bucket : Bucket). bucket.journal.entries) settles.0 ∙ sym (append-nil old.journal.entries), refl)
+
+or-true : (b : Bool) → (b || true) ≡ true
+or-true true = refl
+or-true false = refl
+
+-- a journal that ends in the entry that settles a write has it settled
+settled-push : (journal : List Entry) (place : ℕ) → is_settled (journal ++ entry.Settled place ∷ []) place ≡ true
+settled-push journal place = is_settled-push journal (entry.Settled place) place ∙ ap (λ b. is_settled journal place || b) (eq-eqb place place refl) ∙ or-true (is_settled journal place)
+
+-- and the write of the first stop is settled there
+pub settling : (old new : Seen) (held : Held) (given : Bucket) (first : Stop) (made : Bool) → first.lock ≡ held.number
+    → IsSome (write_at held.bucket.journal.entries first.place) → SettlesWhere made held.bucket first.place given → SeesGiven held given old new
+    → (later : Seen) → SeesMore new later → IsSettling later first (stop_at held.number held.bucket.journal.entries made)
+settling old new held given first made same written settles sees later more =
+    let begins : IsPrefix given.journal.entries (later.journals held.number) =
+    subst (λ (entries : List Entry). IsPrefix entries (later.journals held.number)) sees.journal (more held.number) in
+    record {
+      lock = sym same;
+      later = write_at_within held.bucket.journal.entries place written;
+      no_write = no_write made settles begins;
+      settled = settled made settles begins;
+    }
+  where
+    place : ℕ
+    place = first.place
+
+    journal : List Entry
+    journal = held.bucket.journal.entries
+
+    no_write : (b : Bool) → SettlesWhere b held.bucket place given → IsPrefix given.journal.entries (later.journals held.number)
+        → b ≡ true → write_at (later.journals held.number) (length journal) ≡ None
+    no_write true did begins is =
+        let below : length journal < length given.journal.entries = omega (arith, ap length did.0.entries, length-append journal (entry.Settled place ∷ [])) in
+        write_at-later given.journal.entries (later.journals held.number) (length journal) begins below
+        ∙ ap (λ (entries : List Entry). write_at entries (length journal)) did.0.entries
+        ∙ write_at-push_end journal (entry.Settled place)
+    no_write false did begins is = absurd (cc)
+
+    settled : (b : Bool) → SettlesWhere b held.bucket place given → IsPrefix given.journal.entries (later.journals held.number)
+        → is_settled (take (cond b (length journal + 1) (length journal)) (later.journals held.number)) place ≡ true
+    settled true did begins =
+        let long : length journal + 1 ≡ length given.journal.entries = omega (arith, ap length did.0.entries, length-append journal (entry.Settled place ∷ [])) in
+        ap (λ n. is_settled (take n (later.journals held.number)) place) long
+        ∙ ap (λ (entries : List Entry). is_settled entries place) (take-prefix given.journal.entries (later.journals held.number) begins ∙ did.0.entries)
+        ∙ settled-push journal place
+    settled false did begins =
+        let same : given.journal.entries ≡ journal = ap (λ (bucket : Bucket). bucket.journal.entries) did.0 in
+        ap (λ (entries : List Entry). is_settled (take (length entries) (later.journals held.number)) place) (sym same)
+        ∙ ap (λ (entries : List Entry). is_settled entries place) (take-prefix given.journal.entries (later.journals held.number) begins ∙ same)
+        ∙ did.1

@@ -1,0 +1,48 @@
+-- One hold in which an order is carried out.
+use Rattle.std.proofs.Common.{[], ◌∷◌, refl, sym, ap, subst}
+use Rattle.sc_journal.specs.Seen.{Layout, Seen}
+use Rattle.sc_journal.specs.declared.stop.Stop.{Stop}
+use Rattle.sc_collection.specs.Kept.{Kept}
+use Rattle.sc_collection.specs.Desks.{Held, SeesGiven, MayReplace}
+use Rattle.sc_update.specs.Steps.{GoesOn, Tries}
+use Rattle.sc_update.proofs.StepLemmas.{stop_is, GoesOn-held}
+use Rattle.sc_update.proofs.OrderLemmas.{MayReplace-accepted, accepted-entries, tries}
+use Rattle.sc_update.proofs.order.accept_at.Goals as goal
+
+pub give-requires : goal.give-requires
+give-requires g c =
+    let held : Held = record { number = c.args.b; bucket = c.hold-bucket.result } in
+    record {
+      is_out = (
+        held,
+        c.hold-bucket.ensures.out,
+        refl,
+        subst (λ (layout : Layout). MayReplace layout held c.accept-answer.new.self) (sym c.hold-bucket.ensures.layout)
+            (MayReplace-accepted (g.D.Desk.layout c.args.desk.now) c.args.b c.hold-bucket.result c.accept-answer.new.self c.args.order.now c.args.now c.accept-answer.result
+            c.hold-bucket.ensures.is_of c.accept-answer.ensures.sound c.requires.bucket c.accept-answer.ensures.accepted c.accept-answer.ensures.refused),
+      );
+    }
+
+pub returns-clause-is_stop : goal.returns-clause-is_stop
+returns-clause-is_stop g c =
+    let held : Held = record { number = c.args.b; bucket = c.hold-bucket.result } in
+    let sees : SeesGiven held c.accept-answer.new.self (g.D.Desk.seen c.args.desk.now) (g.D.Desk.seen c.give.new.self) =
+    subst (λ (seen : Seen). SeesGiven held c.accept-answer.new.self seen (g.D.Desk.seen c.give.new.self)) c.hold-bucket.ensures.seen (c.give.ensures.seen held c.hold-bucket.ensures.out) in
+    let added = accepted-entries c.hold-bucket.result c.accept-answer.new.self c.args.order.now c.args.now c.accept-answer.result c.accept-answer.ensures.accepted c.accept-answer.ensures.refused in
+    record {
+      goes = subst (λ (stop : Stop). GoesOn (g.D.Desk.layout c.args.desk.now) (g.D.Desk.seen c.args.desk.now) (g.D.Desk.seen c.give.new.self) (stop ∷ []))
+          (stop_is c.args.b c.entries-place.result c.hold-bucket.result.journal.entries c.is_ok.result _ c.entries-place.ensures c.is_ok.ensures.value)
+          (GoesOn-held (g.D.Desk.layout c.args.desk.now) (g.D.Desk.seen c.args.desk.now) (g.D.Desk.seen c.give.new.self) held c.accept-answer.new.self _ added.0
+          c.requires.within c.hold-bucket.ensures.extends added.1 added.2 sees);
+      kept = ap (λ (k : Kept). k.stops) c.keep.ensures;
+    }
+
+pub returns-clause-tried : goal.returns-clause-tried
+returns-clause-tried g c =
+    let held : Held = record { number = c.args.b; bucket = c.hold-bucket.result } in
+    let sees : SeesGiven held c.accept-answer.new.self (g.D.Desk.seen c.args.desk.now) (g.D.Desk.seen c.give.new.self) =
+    subst (λ (seen : Seen). SeesGiven held c.accept-answer.new.self seen (g.D.Desk.seen c.give.new.self)) c.hold-bucket.ensures.seen (c.give.ensures.seen held c.hold-bucket.ensures.out) in
+    subst (λ (stop : Stop). Tries (g.D.Desk.layout c.args.desk.now) (g.D.Desk.seen c.args.desk.now) (g.D.Desk.seen c.give.new.self) c.args.order.now c.args.now stop c.accept-answer.result)
+    (stop_is c.args.b c.entries-place.result c.hold-bucket.result.journal.entries c.is_ok.result _ c.entries-place.ensures c.is_ok.ensures.value)
+    (tries (g.D.Desk.layout c.args.desk.now) (g.D.Desk.seen c.args.desk.now) (g.D.Desk.seen c.give.new.self) held c.accept-answer.new.self c.args.order.now c.args.now c.accept-answer.result
+    c.hold-bucket.ensures.is_of c.requires.bucket c.accept-answer.ensures.accepted c.accept-answer.ensures.refused c.accept-answer.ensures.outcome sees)

@@ -1,0 +1,3 @@
+-- What an update leaves.
+pub mod Updated
+pub mod Steps

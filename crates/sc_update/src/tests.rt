@@ -1,0 +1,113 @@
+use crate::update;
+use sc_collection::{Alone, Shape, Trail};
+use sc_commands::{Batch, Flags};
+use sc_io::MemClock;
+use sc_record::{Change, Doc, Id, List, Order};
+use std::alloc::Global;
+use std::test::Fail;
+
+// An order for an empty document of this id under a condition, or for its deletion.
+fn order(alloc: Global, id: &str, condition: i64, deletion: bool) -> Result<Order, Fail> {
+    let id = Id::new(alloc, id)?;
+    if deletion {
+        return Ok(Order {
+            id,
+            condition,
+            change: Change::Delete,
+        });
+    }
+    Ok(Order {
+        id,
+        condition,
+        change: Change::Whole(Doc::new(List::new(alloc))),
+    })
+}
+
+// What such orders come to on a new collection of one bucket, at these timestamps: the additions and the deletions that are
+// shown, what stopped the orders, and how many stops were kept.
+fn told(
+    alloc: Global,
+    moments: &[u64],
+    orders: &[(&str, i64, bool)],
+    fail_on_conflict: bool,
+) -> Result<String, Fail> {
+    let shape = Shape {
+        nodes: 1,
+        shards: 1,
+        replicas: 1,
+        buckets: 1,
+        log_limit: 64,
+    };
+    let mut desk = Alone::new(alloc, &shape)?;
+    let mut trail = Trail::new(alloc)?;
+    let moments = Vec::from_slice(alloc, moments)?;
+    let mut list = Vec::new(alloc);
+    for (id, condition, deletion) in orders {
+        list.push(order(alloc, id, *condition, *deletion)?)?;
+    }
+    if moments.is_empty() || list.len() > 8 {
+        return Err("a timestamp, and at most eight orders".into());
+    }
+    let mut clock = MemClock::new(List::from_vec(moments));
+    let batch = Batch {
+        orders: List::from_vec(list),
+        flags: Flags {
+            commit: false,
+            versions: true,
+            fail_on_conflict,
+        },
+    };
+    let end = update(alloc, &mut desk, &mut clock, &mut trail, &batch);
+    let mut text = String::new(alloc);
+    for ack in end.adds.as_slice() {
+        text.push_str(format!(in alloc; "{} {} ", ack.id.as_str(), ack.version)?.as_str())?;
+    }
+    for ack in end.deletes.as_slice() {
+        text.push_str(format!(in alloc; "-{} {} ", ack.id.as_str(), ack.version)?.as_str())?;
+    }
+    text.push_str(format!(in alloc; "{:?} {}", end.stop, trail.stops().len())?.as_str())?;
+    Ok(text)
+}
+
+#[test]
+fn batches_end_at_a_conflict_or_pass_over_it(rt: HostRuntime) -> Result<(), Fail> {
+    let alloc = rt.alloc();
+    let three = [("abc", 0, false), ("hello", 5, false), ("test", 0, false)];
+    assert_eq!(rt;
+        told(alloc, &[1_000], &three, true)?.as_str(),
+        "abc 1048576000 Some(Conflict { order: 1, actual: -1 }) 3"
+    );
+    assert_eq!(rt;
+        told(alloc, &[1_000], &three, false)?.as_str(),
+        "abc 1048576000 test 1048576001 None 5"
+    );
+    Ok(())
+}
+
+#[test]
+fn versions_ascend(rt: HostRuntime) -> Result<(), Fail> {
+    let alloc = rt.alloc();
+    // a clock that goes back
+    assert_eq!(rt;
+        told(
+            alloc,
+            &[1_000, 500],
+            &[("abc", 0, false), ("hello", 0, false)],
+            true
+        )?
+        .as_str(),
+        "abc 1048576000 hello 1048576001 None 4"
+    );
+    // two orders for one id
+    assert_eq!(rt;
+        told(
+            alloc,
+            &[1_000],
+            &[("abc", 0, false), ("abc", 1_048_576_000, true)],
+            true
+        )?
+        .as_str(),
+        "abc 1048576000 -abc -1048576001 None 4"
+    );
+    Ok(())
+}

@@ -137,6 +137,18 @@ any_close {X} name h (x ∷ xs) = by_name (any_close name h xs) (is_named name (
     by_name later true e = rw (e, later, ← says_close_is (h x).1) refl
     by_name later false e = rw (e, later) refl
 
+-- whether a value of a header of a name passes a test, line by line
+pub any_value : {X : Type 0} (p : List ℕ → Bool) (name : List ℕ) (h : X → List ℕ × List ℕ) (xs : List X)
+    → list_any p (values_in name (map h xs)) ≡ list_any (λ x. is_named name (h x) && p (h x).1) xs
+any_value p name h [] = refl
+any_value {X} p name h (x ∷ xs) = by_name (any_value p name h xs) (is_named name (h x)) refl
+  where
+    by_name : list_any p (values_in name (map h xs)) ≡ list_any (λ y. is_named name (h y) && p (h y).1) xs
+        → (b : Bool) → is_named name (h x) ≡ b
+        → list_any p (values_in name (map h (x ∷ xs))) ≡ list_any (λ y. is_named name (h y) && p (h y).1) (x ∷ xs)
+    by_name later true e = rw (e, later) refl
+    by_name later false e = rw (e, later) refl
+
 -- the name of the header that states a body's length
 abbrev pub length_name : List ℕ
 length_name = codes "content-length"

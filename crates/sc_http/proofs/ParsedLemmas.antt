@@ -14,7 +14,7 @@ use Rattle.httparse.specs.declared.Status.TheVariants as statuses
 use Rattle.httparse.specs.Spans.{header_bytes, name_and_value, IsRequestAt, IsRequestOf, IsRequestWithin, RequestExceeds}
 use Rattle.httparse.specs.declared.spans.HeaderSpan.{HeaderSpan}
 use Rattle.httparse.specs.declared.spans.RequestSpans.{RequestSpans}
-use Rattle.sc_model.specs.Heads.{head_limit, line_limit, has_header, body_length, length_by, asks_close, says_close}
+use Rattle.sc_model.specs.Heads.{head_limit, line_limit, has_header, body_length, length_by, asks_close, says_close, is_coding, is_encoded}
 use Rattle.sc_model.specs.Messages.{HasHead, window, HasTooManyLines, EndsInHead, EndsSo, bad_head, too_large, not_built}
 use Rattle.sc_http.specs.Ends.{ending_of}
 use Rattle.sc_http.specs.Lines.{has_line, values_in, IsHeadOf}
@@ -39,6 +39,12 @@ module _ (bytes : List ℕ) (headers : List HeaderSpan) (spans : RequestSpans) (
   pub length_said : (lines : List HeaderSpan) → lines ≡ take spans.headers headers
       → length_by (values_in length_name (map (header_bytes bytes) lines)) ≡ body_length h
   length_said lines e = ap (λ ps. length_by (values_in length_name ps)) (lines_are lines e) ∙ ap length_by (sym (values_of_head length_name h))
+
+  pub encoded_said : (lines : List HeaderSpan) → lines ≡ take spans.headers headers → (r : Bool)
+      → r ≡ list_any is_coding (values_in (codes "content-encoding") (map (header_bytes bytes) lines)) → r ≡ is_encoded h
+  encoded_said lines e r is =
+      is ∙ ap (λ ps. list_any is_coding (values_in (codes "content-encoding") ps)) (lines_are lines e)
+      ∙ ap (list_any is_coding) (sym (values_of_head (codes "content-encoding") h))
 
   -- HTTP/1.0 closes
   pub old_closes : spans.version ≡ 0 → true ≡ asks_close h

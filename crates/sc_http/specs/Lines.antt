@@ -3,7 +3,7 @@ use Rattle.std.specs.Prelude.{◌≡◌, ◌≤◌, ℕ, Bool, false, not, List,
 use Rattle.std.specs.List.{list_any}
 use Rattle.std.specs.Str.{str_eq_ignore_ascii_case}
 use Rattle.httparse.specs.Grammar.{RequestHead, trim_ows}
-use Rattle.sc_model.specs.Heads.{LengthFault, malformed_length, too_large_length, has_header, is_coded, body_length, method_of, path_of, params_of, asks_close}
+use Rattle.sc_model.specs.Heads.{LengthFault, malformed_length, too_large_length, has_header, is_coded, is_encoded, body_length, method_of, path_of, params_of, asks_close}
 use Rattle.sc_model.specs.Messages.{HasHead}
 use Rattle.sc_http.specs.declared.head.Head.{Head}
 use Rattle.sc_http.specs.declared.lines.LengthError.{LengthError}
@@ -40,7 +40,7 @@ pub record Describes (kept : Head) (head : RequestHead) : Type 0 where
   pub method : kept.method ≡ method_of head.method
   pub path : kept.path ≡ path_of head.target
   pub params : kept.params ≡ params_of head.target
-  pub encoded : kept.encoded ≡ has_header (codes "content-encoding") head
+  pub encoded : kept.encoded ≡ is_encoded head
   pub lengthless : kept.lengthless ≡ not (has_header (codes "content-length") head)
   pub close : kept.close ≡ asks_close head
   pub plain : is_coded head ≡ false

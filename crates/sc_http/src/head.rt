@@ -7,7 +7,7 @@ ghost use Rattle.sc_http.specs.Lines.{IsHeadOf};
 
 use crate::end::MessageEnd;
 use crate::line_ends::end_of_line;
-use crate::lines::{LengthError, asks_close, has_line, stated_length};
+use crate::lines::{LengthError, asks_close, has_line, is_encoded, stated_length};
 use crate::target::{method_of, split_target};
 use httparse::Status;
 use httparse::spans::{EMPTY_HEADER_SPAN, HeaderSpan, RequestSpans, parse_request};
@@ -100,7 +100,7 @@ fn describe(
         method: method_of(spans.method.of(window)),
         path,
         params,
-        encoded: has_line(window, lines, b"content-encoding"),
+        encoded: is_encoded(window, lines),
         lengthless: !has_line(window, lines, b"content-length"),
         close: spans.version == 0 || asks_close(window, lines),
         body_length,

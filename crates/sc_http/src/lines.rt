@@ -4,7 +4,7 @@ ghost use Rattle.std.specs.Str.{str_eq_ignore_ascii_case};
 ghost use Rattle.std.specs.Char.{is_ascii_digit, digit_value};
 ghost use Rattle.httparse.specs.Spans.{span_bytes, header_bytes, IsHeaderWithin};
 ghost use Rattle.httparse.specs.Grammar.{is_ows, trim_ows};
-ghost use Rattle.sc_model.specs.Heads.{body_limit, comma, says_close, length_by};
+ghost use Rattle.sc_model.specs.Heads.{body_limit, comma, says_close, is_coding, length_by};
 ghost use Rattle.sc_http.specs.Lines.{is_named, values_in, has_line, length_is, is_close};
 
 use httparse::spans::HeaderSpan;
@@ -87,6 +87,27 @@ fn digit_of(byte: u8) -> Option<u64>
         b'0'..=b'9' => Some(u64::from(byte - b'0')),
         _ => None,
     }
+}
+
+/// Whether the body has a content coding.
+pub(crate) fn is_encoded(head: &[u8], lines: &[HeaderSpan]) -> bool
+    requires { All (IsHeaderWithin (length head.now)) lines.now }
+    ensures { result ≡ list_any is_coding (values_in (codes "content-encoding") (map (header_bytes head.now) lines.now)) }
+{
+    for line in lines {
+        if line_encodes(head, line) {
+            return true;
+        }
+    }
+    false
+}
+
+fn line_encodes(head: &[u8], line: &HeaderSpan) -> bool
+    requires { IsHeaderWithin (length head.now) line.now }
+    ensures { result ≡ (is_named (codes "content-encoding") (header_bytes head.now line.now)
+        && is_coding (span_bytes head.now line.now.value)) }
+{
+    is_named(head, line, b"content-encoding") && line.value.of(head) != b"identity".as_slice()
 }
 
 /// Whether a Connection header asks to close.

@@ -57,6 +57,14 @@ body_length head = length_by (values_of (codes "content-length") head)
 abbrev pub is_coded : RequestHead → Bool
 is_coded head = has_header (codes "transfer-encoding") head
 
+-- the value names a content coding: it is not `identity`
+abbrev pub is_coding : List ℕ → Bool
+is_coding value = not (bytes_eq value (codes "identity"))
+
+-- the body has a content coding (RFC 9110, section 8.4)
+abbrev pub is_encoded : RequestHead → Bool
+is_encoded head = list_any is_coding (values_of (codes "content-encoding") head)
+
 -- the method, as far as it is distinguished
 abbrev pub method_of : List ℕ → Method
 method_of name =
@@ -97,7 +105,7 @@ request_of head body = record {
   path = path_of head.target;
   params = params_of head.target;
   body = body;
-  encoded = has_header (codes "content-encoding") head;
+  encoded = is_encoded head;
   lengthless = not (has_header (codes "content-length") head);
   close = asks_close head;
 }

@@ -1,11 +1,4 @@
--- The definitions that the promises of the crates above cite, lowest first.
-pub mod Journal
-pub mod Legal
-pub mod Orders
+-- The definitions of HTTP's messages that the promises of the crates above cite, lowest first.
 pub mod Heads
 pub mod Messages
-pub mod Requests
 pub mod Replies
-pub mod Answers
-pub mod Connection
-pub mod Served

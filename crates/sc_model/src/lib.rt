@@ -1,12 +1,7 @@
-//! What the promises of the crates above speak of: requests, stops in a journal, the limits and the ends of a connection.
+//! What the promises of the crates above speak of where they speak of HTTP (RFC 9110, RFC 9112): requests, the heads and the
+//! bodies of messages, and the text of a reply.
 #![tactic(auto)]
 
-mod connection;
-mod limits;
 mod message;
-mod stop;
 
-pub use connection::End;
-pub use limits::{MAX_ORDERS, MAX_REQUESTS, MAX_STOPS};
 pub use message::{Bytes, Incoming, Method, Param};
-pub use stop::Stop;

@@ -64,7 +64,7 @@ pub struct Incoming {
     /// The parameters of the target, in order.
     pub params: List<Param>,
     pub body: Bytes,
-    /// Whether there is a `Content-Encoding` header.
+    /// Whether a `Content-Encoding` header names a coding other than `identity`.
     pub encoded: bool,
     /// Whether the head states no length of a body.
     pub lengthless: bool,

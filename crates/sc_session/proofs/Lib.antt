@@ -1,14 +1,8 @@
--- The lemmas of this crate, lowest first.
-pub mod JsonLemmas
-pub mod MemberLemmas
-pub mod ItemLemmas
+-- Facts on connections, lowest first.
 pub mod TextLemmas
-pub mod NoFloatLemmas
-pub mod TableLemmas
-pub mod StepLemmas
-pub mod BatchLemmas
-pub mod BatchStepLemmas
+pub mod SeenLemmas
 pub mod AnswerLemmas
+pub mod ExtendsLemmas
 pub mod OpenLemmas
 pub mod ServeLemmas
 pub mod EndLemmas

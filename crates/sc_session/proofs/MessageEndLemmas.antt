@@ -5,7 +5,7 @@ use Rattle.sc_http.specs.declared.end.MessageEnd.{MessageEnd}
 use Rattle.sc_http.specs.declared.end.MessageEnd.TheVariants as reads
 use Rattle.sc_http.specs.Ends.{ending_of}
 use Rattle.sc_http.specs.Stream.{HasNoMessageBefore}
-use Rattle.sc_model.specs.Connection.{EndsWith}
+use Rattle.sc_session.specs.Connection.{EndsWith}
 use Rattle.sc_model.specs.Messages.{EndsSo}
 use Rattle.sc_session.specs.Ends.{last_without_request}
 use Rattle.sc_session.proofs.EndLemmas.{IsPlain}

@@ -1,42 +1,50 @@
 -- What the answer to one request leaves.
-use Rattle.std.specs.Prelude.{◌≡◌, ◌⊎◌, ℕ, ℤ, Bool, List, [], ◌∷◌, ◌++◌, Option, Some, None}
+use Rattle.std.specs.Prelude.{◌≡◌, ◌⊎◌, ℕ, List, [], ◌∷◌, ◌++◌, map, false, Option, Some, ⊤}
 use Rattle.std.specs.Cow.{cow_str_bytes}
 use mathlib.Core.List.{IsPrefix}
-use Rattle.sc_record.specs.declared.entry.Entry.{Entry}
-use Rattle.sc_model.specs.declared.stop.Stop.{Stop}
-use Rattle.sc_model.specs.Answers.{Trace, IsReply, IsOutOfMemory}
+use Rattle.sc_record.specs.declared.order.Order.{Order}
+use Rattle.sc_reply.specs.Refusals.{Refusal}
+use Rattle.sc_commands.specs.declared.batch.Batch.{Batch}
 use Rattle.sc_model.specs.Replies as model
-use Rattle.sc_model.specs.Orders.{Outcome, accepted, log_full, no_memory}
-use Rattle.sc_model.specs.Requests.{Asked, get}
-use Rattle.sc_model.specs.Served.{GivesTimestamps}
-use Rattle.sc_session.specs.Steps.{GoesOn}
-use Rattle.sc_session.specs.Table.{journals}
+use Rattle.sc_journal.specs.Seen.{Layout, Seen, Extends}
+use Rattle.sc_journal.specs.Batches.{OrderAnswer, GivesTimestamps, WritesOnce, goes_on}
+use Rattle.sc_journal.specs.declared.stop.Stop.{Stop}
+use Rattle.sc_update.specs.Updated.{SeesMore, Shows, EndsAs}
+use Rattle.sc_update.specs.declared.end.BatchEnd.{BatchEnd}
+use Rattle.sc_update.specs.declared.end.BatchStop.{BatchStop}
+use Rattle.sc_session.specs.Answers.{Trace, IsReply, IsOutOfMemory, IsUpdateReply, refusal_of, memory_reply}
+use Rattle.sc_session.specs.Requests.{Asked}
 use Rattle.sc_session.specs.declared.reply.Reply.{Reply}
 
 -- a reply as the definitions see it
 abbrev pub reply_of : Reply → model.Reply
 reply_of reply = record { status = reply.status; body = cow_str_bytes reply.body }
 
--- The journal went on by the stops of a trace, which were kept, and the clock was read; the reply is that to what was
--- asked, by each journal of which this one is a prefix.
-pub record AnswersAsked {C : Type 0} (gives : C → ℕ → C → Type 0) (limit : ℕ) (asked : Asked) (old new : List Entry) (old_clock new_clock : C) (old_stops new_stops : List Stop) (reply : model.Reply) : Type 0 where
+-- What was seen went on by the stops of a trace, which were kept, and the clock was read; the reply is that to what was
+-- asked, by all that is seen later, and the writes that were made are those that were accepted.
+pub record AnswersAsked {C : Type 0} (gives : C → ℕ → C → Type 0) (layout : Layout) (asked : Asked) (old new : Seen) (old_clock new_clock : C) (old_stops new_stops : List Stop) (reply : model.Reply) : Type 0 where
   pub trace : Trace
-  pub steps : GoesOn old new trace.stops
+  pub extends : Extends layout old new trace.stops
   pub kept : new_stops ≡ old_stops ++ trace.stops
   pub given : GivesTimestamps gives old_clock trace.timestamps new_clock
-  pub answered : (later : List Entry) → IsPrefix new later → IsReply limit (journals later) asked trace reply ⊎ IsOutOfMemory limit (journals later) asked trace reply
+  pub answered : (later : Seen) → SeesMore new later → IsReply layout later asked trace reply ⊎ IsOutOfMemory layout later asked trace reply
+  pub once : (later : Seen) → SeesMore new later → WritesOnce later trace.stops trace.answers
 
--- the document of an id was read at one stop
-pub record GetsDocument (limit : ℕ) (id : List ℕ) (journal : List Entry) (old_stops new_stops : List Stop) (reply : model.Reply) : Type 0 where
-  pub trace : Trace
-  pub no_timestamps : trace.timestamps ≡ []
-  pub steps : GoesOn journal journal trace.stops
-  pub kept : new_stops ≡ old_stops ++ trace.stops
-  pub answered : (later : List Entry) → IsPrefix journal later → IsReply limit (journals later) (get id) trace reply ⊎ IsOutOfMemory limit (journals later) (get id) trace reply
+-- a clock that is not read: it gives no timestamp
+abbrev pub unread : ⊤ → ℕ → ⊤ → Type 0
+unread old timestamp new = ⊥
 
--- the reply to what orders came to, of which these were accepted: it says so unless memory ran out
-abbrev pub ReportsEnd : Bool → List (List ℕ × ℤ) → Option Outcome → model.Reply → Type 0
-ReportsEnd versions shown None reply = (reply ≡ model.update_reply versions shown) ⊎ (reply ≡ model.memory_reply)
-ReportsEnd versions shown (Some log_full) reply = (reply ≡ model.log_full_reply versions shown) ⊎ (reply ≡ model.memory_reply)
-ReportsEnd versions shown (Some no_memory) reply = reply ≡ model.memory_reply
-ReportsEnd versions shown (Some (accepted version)) reply = ⊥
+-- What stopped the orders of a batch, or that nothing did, is so by these answers, which are to its first orders.
+pub record StopsBy (batch : Batch) (answers : List OrderAnswer) (stop : Option BatchStop) : Type 0 where
+  pub orders : IsPrefix (map (λ (answer : OrderAnswer). answer.order) answers) batch.orders
+  pub ends : EndsAs batch.flags.fail_on_conflict batch.orders answers stop
+
+-- the orders ended at the last of these answers, for this reason
+abbrev pub EndsFor : Batch → List OrderAnswer → Refusal → Type 0
+EndsFor batch answers refusal =
+    (before : List OrderAnswer) × (last : OrderAnswer) × (answers ≡ before ++ last ∷ [])
+    × (goes_on batch.flags.fail_on_conflict last.outcome ≡ false) × (refusal_of last ≡ Some refusal)
+
+-- the reply is that to a batch whose orders were answered so, or memory ran out
+abbrev pub RepliesTo : Batch → List OrderAnswer → model.Reply → Type 0
+RepliesTo batch answers reply = IsUpdateReply batch.flags batch.orders answers reply ⊎ (reply ≡ memory_reply)

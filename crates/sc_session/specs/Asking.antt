@@ -1,20 +1,27 @@
--- What a request asks for, as the definitions see it.
-use Rattle.std.specs.Prelude.{map}
-use Rattle.sc_model.specs.Orders as model
-use Rattle.sc_model.specs.Requests as asking
-use Rattle.sc_session.specs.declared.asked.Order.{Order}
+-- What the code reads of a request, as the definitions see it.
+use Rattle.std.specs.Prelude.{◌≡◌, ◌≤◌, false, length, ⊤}
+use Rattle.sc_reply.specs.Refusals as refusals
+use Rattle.sc_commands.specs.Updates.{update_of, order_limit}
+use Rattle.sc_session.specs.Requests as asking
 use Rattle.sc_session.specs.declared.asked.Asked.{Asked}
-use Rattle.sc_session.specs.declared.asked.Asked.TheVariants as variants
+use Rattle.sc_session.specs.declared.asked.Asked.TheVariants as asks
+use Rattle.sc_session.specs.declared.asked.Refused.{Refused}
+use Rattle.sc_session.specs.declared.asked.Refused.TheVariants as refuses
 
--- an order as the definitions see it
-abbrev pub order_view : Order → model.Order
-order_view order = record { id = order.id; fields = order.document }
+-- why a request is refused
+abbrev pub refused_of : Refused → refusals.Refusal
+refused_of refuses.NotFound = refusals.not_found
+refused_of (refuses.BadParam name) = refusals.bad_param name.now
+refused_of (refuses.Command fault) = asking.command_refusal fault
 
--- what was asked as the definitions see it
+-- what a request asks for
 abbrev pub asked_of : Asked → asking.Asked
-asked_of variants.NotFound = asking.not_found
-asked_of variants.NotBuilt = asking.not_built
-asked_of variants.BadJson = asking.bad_json
-asked_of variants.NoId = asking.no_id
-asked_of (variants.Add orders versions) = asking.add (map order_view orders.items) versions
-asked_of (variants.Get id) = asking.get id
+asked_of asks.NotBuilt = asking.not_built
+asked_of (asks.Refused refused) = asking.refused (refused_of refused)
+asked_of (asks.Update batch) = asking.update (update_of batch)
+asked_of (asks.Get id) = asking.get id
+
+-- a batch that was asked for has no more orders than may be, and no commit
+abbrev pub IsWithinLimits : Asked → Type 0
+IsWithinLimits (asks.Update batch) = (length batch.orders ≤ order_limit) × (batch.flags.commit ≡ false)
+IsWithinLimits asked = ⊤

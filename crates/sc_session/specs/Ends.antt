@@ -1,7 +1,7 @@
 -- How a connection ends where no request was read.
 use Rattle.sc_http.specs.declared.end.MessageEnd.{MessageEnd}
 use Rattle.sc_http.specs.declared.end.MessageEnd.TheVariants as reads
-use Rattle.sc_model.specs.Connection.{Last, ended, out_of_memory, read_failed}
+use Rattle.sc_session.specs.Connection.{Last, ended, out_of_memory, read_failed}
 use Rattle.sc_model.specs.Messages.{done, cut, bad_head, too_large, not_built}
 
 -- what comes last where no request was read

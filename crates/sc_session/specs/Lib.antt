@@ -1,11 +1,9 @@
--- The definitions that the contracts of this crate cite, lowest first.
+-- What a request asks for, what it is answered, and what a whole connection is.
+pub mod Requests
+pub mod Answers
+pub mod Connection
+pub mod Served
 pub mod Asking
-pub mod Documents
-pub mod Replying
-pub mod Table
-pub mod Kept
-pub mod Steps
-pub mod Batch
 pub mod Answering
 pub mod Serving
 pub mod Ends

@@ -1,18 +1,16 @@
 -- What one step of a connection leaves.
 use Rattle.std.specs.Prelude.{◌≡◌, ◌⊎◌, ℕ, ◌+◌, Bool, true, false, ◌||◌, List, ◌++◌, length, nat_le, Option, Some, None, IfSome}
-use mathlib.Core.List.{IsPrefix}
 use Rattle.sc_io.specs.Pieces.{AddsPrefix}
-use Rattle.sc_record.specs.declared.entry.Entry.{Entry}
-use Rattle.sc_model.specs.declared.limits.TheConstants.{MAX_REQUESTS, MAX_STOPS}
-use Rattle.sc_model.specs.declared.connection.End.{End}
-use Rattle.sc_model.specs.declared.connection.End.TheVariants as ends
+use Rattle.sc_collection.specs.declared.trail.TheConstants.{MAX_REQUESTS, MAX_STOPS}
+use Rattle.sc_collection.specs.Kept.{Kept}
+use Rattle.sc_journal.specs.Seen.{Layout, Seen, Extends}
+use Rattle.sc_journal.specs.Batches.{GivesTimestamps, WritesOnce}
+use Rattle.sc_update.specs.Updated.{SeesMore}
+use Rattle.sc_session.specs.declared.end.End.{End}
+use Rattle.sc_session.specs.declared.end.End.TheVariants as ends
 use Rattle.sc_model.specs.declared.message.Incoming.{Incoming}
-use Rattle.sc_model.specs.Connection.{Exchange, IsAnswered, answered, end_of, is_out_of_memory}
+use Rattle.sc_session.specs.Connection.{Exchange, IsAnswered, answered, end_of, is_out_of_memory}
 use Rattle.sc_model.specs.Replies.{Reply, text_of}
-use Rattle.sc_model.specs.Served.{GivesTimestamps}
-use Rattle.sc_session.specs.Kept.{Kept}
-use Rattle.sc_session.specs.Steps.{GoesOn}
-use Rattle.sc_session.specs.Table.{journals}
 
 -- the text was written, where the sink reports it
 abbrev pub Writes : List ℕ → Option (List ℕ) → Option (List ℕ) → Type 0
@@ -42,12 +40,13 @@ Replies (Some end) expected reply close old new =
     ⊎ ((end ≡ ends.WriteFault) × WritesPrefix (text_of reply close) old new)
 
 -- one request was answered
-pub record Exchanges {C : Type 0} (gives : C → ℕ → C → Type 0) (limit : ℕ) (request : Incoming) (old new : List Entry) (old_clock new_clock : C) (old_kept new_kept : Kept) (old_written new_written : Option (List ℕ)) (end : Option End) : Type 0 where
+pub record Exchanges {C : Type 0} (gives : C → ℕ → C → Type 0) (layout : Layout) (request : Incoming) (old new : Seen) (old_clock new_clock : C) (old_kept new_kept : Kept) (old_written new_written : Option (List ℕ)) (end : Option End) : Type 0 where
   pub exchange : Exchange
   pub asked : exchange.request ≡ request
-  pub steps : GoesOn old new exchange.trace.stops
+  pub extends : Extends layout old new exchange.trace.stops
   pub kept : new_kept.stops ≡ old_kept.stops ++ exchange.trace.stops
   pub counted : new_kept.requests ≡ old_kept.requests + 1
   pub given : GivesTimestamps gives old_clock exchange.trace.timestamps new_clock
-  pub is_answered : (later : List Entry) → IsPrefix new later → IsAnswered limit (journals later) exchange
+  pub is_answered : (later : Seen) → SeesMore new later → IsAnswered layout later exchange
+  pub once : (later : Seen) → SeesMore new later → WritesOnce later exchange.trace.stops exchange.trace.answers
   pub replies : Replies end (end_of (answered exchange)) exchange.reply (closes_by exchange new_kept) old_written new_written

@@ -1,108 +1,157 @@
-ghost use Rattle.std.specs.Prelude.{◌≡◌, ◌+◌, ◌*◌, ◌≤◌, length, map, IsSome};
+ghost use Rattle.std.specs.Prelude.{◌≡◌, ◌≢◌, ◌⊎◌, ◌+◌, ◌*◌, ◌<◌, ◌≤◌, List, length, IsSome, Some, None, IfOk, IfErr, option_copied};
+ghost use Rattle.std.specs.Option.{option_map};
+ghost use Rattle.std.specs.Arc.{arc_value};
 ghost use Rattle.sc_model.specs.Replies as replies;
-ghost use Rattle.sc_model.specs.Requests as asking;
-ghost use Rattle.sc_model.specs.declared.limits.TheConstants.{MAX_ORDERS};
-ghost use Rattle.sc_session.specs.Asking.{order_view};
-ghost use Rattle.sc_session.specs.Answering.{AnswersAsked, GetsDocument, ReportsEnd, reply_of};
-ghost use Rattle.sc_session.specs.Batch.{outcome_of, stop_of};
-ghost use Rattle.sc_session.specs.declared.trail.TheConstants.{ROOM};
-ghost use Rattle.sc_session.specs.Replying.{ack_view};
+ghost use Rattle.sc_router.specs.Route.{IsBucketCount};
+ghost use Rattle.sc_reply.specs.Bodies as bodies;
+ghost use Rattle.sc_reply.specs.Causes as causes;
+ghost use Rattle.sc_collection.specs.declared.trail.TheConstants.{ROOM};
+ghost use Rattle.sc_journal.specs.Seen.{AreLegal};
+ghost use Rattle.sc_journal.specs.Batches.{OrderAnswer};
+ghost use Rattle.sc_update.specs.Updated.{Shows};
+ghost use Rattle.sc_update.specs.declared.end.BatchStop.TheVariants as stops;
+ghost use Rattle.sc_session.specs.Answers.{live, memory_reply};
+ghost use Rattle.sc_session.specs.Requests as asking;
+ghost use Rattle.sc_session.specs.Answering.{AnswersAsked, StopsBy, EndsFor, RepliesTo, unread, reply_of};
 
-use crate::asked::{Asked, Order};
-use crate::batch::{BatchEnd, add_all};
-use crate::plain::{AddFault, Plain};
-use crate::reply::document::get_body;
-use crate::reply::update::{error_body, update_body};
-use crate::reply::{Reply, fixed};
-use crate::trail::Trail;
+use crate::asked::Asked;
+use crate::reply::Reply;
+use sc_collection::{Desk, Stop, Trail};
+use sc_commands::Batch;
+use sc_http::Incoming;
 use sc_io::Clock;
-use sc_model::{Incoming, Stop};
-use sc_record::{Ack, Id};
-use std::alloc::Global;
+use sc_record::{Cell, Id, List};
+use sc_reply::{Cause, get_body, ok_body, update_body};
+use sc_router::bucket_of;
+use sc_update::{BatchEnd, BatchStop, update};
+use std::alloc::{AllocError, Global};
 
-/// The reply to a request, with what it leaves of the table and of the clock. Its stops are kept.
-pub(crate) fn answer<C: Clock>(
+/// The reply to a request, with what it leaves of the desk and of the clock. Its stops are kept.
+pub(crate) fn answer<D: Desk, C: Clock>(
     alloc: Global,
-    table: &mut Plain,
+    desk: &mut D,
     clock: &mut C,
     trail: &mut Trail,
     request: &Incoming,
 ) -> Reply
-    requires { length trail.old.stops + 2 * MAX_ORDERS ≤ ROOM }
-    ensures answers { AnswersAsked C.gives table.old.limit (asking.asked request.now) table.old.journal table.new.journal
+    requires nothing_out { D.out desk.old ≡ None }
+    requires room { length trail.old.stops + 2 * 4096 ≤ ROOM }
+    ensures answers { AnswersAsked C.gives (D.layout desk.old) (asking.asked request.now) (D.seen desk.old) (D.seen desk.new)
         clock.old clock.new trail.old.stops trail.new.stops (reply_of result) }
     ensures status { IsSome (replies.reason_of result.status) }
-    ensures limit { table.new.limit ≡ table.old.limit }
+    ensures legal { AreLegal (D.layout desk.new) (D.seen desk.new) }
+    ensures layout { D.layout desk.new ≡ D.layout desk.old }
+    ensures nothing_out { D.out desk.new ≡ None }
     ensures requests { trail.new.requests ≡ trail.old.requests }
 {
+    let buckets = desk.buckets();
     match Asked::of(alloc, request) {
         Err(_) => Reply::memory(),
-        Ok(Asked::NotFound) => Reply::not_found(),
         Ok(Asked::NotBuilt) => Reply::not_built(),
-        Ok(Asked::BadJson) => Reply::bad_json(),
-        Ok(Asked::NoId) => Reply::no_id(),
-        Ok(Asked::Get(id)) => get(alloc, table, trail, &id),
-        Ok(Asked::Add { orders, versions }) => add(alloc, table, clock, trail, orders, versions),
+        Ok(Asked::Refused(refused)) => {
+            let none = List::new(alloc);
+            Reply::refused(alloc, &refused.cause(), &none, &none, false)
+        }
+        Ok(Asked::Get(id)) => get(alloc, desk, trail, &id, buckets),
+        Ok(Asked::Update(batch)) => {
+            let end = update(alloc, desk, clock, trail, &batch);
+            let _ = desk.buckets(); // by it the proof knows that what was seen is legal
+            update_reply(alloc, &batch, &end)
+        }
     }
 }
 
-/// The document of an id, by its last write.
-fn get(alloc: Global, table: &Plain, trail: &mut Trail, id: &Id) -> Reply
-    requires { length trail.old.stops + 1 ≤ ROOM }
-    ensures answers { GetsDocument table.now.limit id.now table.now.journal trail.old.stops trail.new.stops (reply_of result) }
+/// The document of an id, by its last write. It is printed once the bucket was given back.
+fn get<D: Desk>(alloc: Global, desk: &mut D, trail: &mut Trail, id: &Id, buckets: u32) -> Reply
+    requires nothing_out { D.out desk.old ≡ None }
+    requires room { length trail.old.stops < ROOM }
+    requires count { buckets ≡ (D.layout desk.old).buckets }
+    requires power { IsBucketCount buckets }
+    ensures answers { AnswersAsked unread (D.layout desk.old) (asking.get id.now) (D.seen desk.old) (D.seen desk.new)
+        tt tt trail.old.stops trail.new.stops (reply_of result) }
     ensures status { IsSome (replies.reason_of result.status) }
+    ensures legal { AreLegal (D.layout desk.new) (D.seen desk.new) }
+    ensures layout { D.layout desk.new ≡ D.layout desk.old }
+    ensures nothing_out { D.out desk.new ≡ None }
     ensures requests { trail.new.requests ≡ trail.old.requests }
 {
+    let b = bucket_of(id.as_str(), buckets);
+    let bucket = desk.hold(b);
     trail.keep(Stop {
-        lock: 0,
-        place: table.entries(),
+        lock: b,
+        place: bucket.entries(),
         made: false,
     });
-    Reply::made(200, get_body(alloc, table.read(id.as_str())))
+    let found = share_live(bucket.read(id));
+    desk.give(b, bucket);
+    get_reply(alloc, &found)
 }
 
-/// The versions of documents that were added.
-fn add<C: Clock>(
-    alloc: Global,
-    table: &mut Plain,
-    clock: &mut C,
-    trail: &mut Trail,
-    orders: Vec<Order>,
-    versions: bool,
-) -> Reply
-    requires { length trail.old.stops + 2 * length orders.items ≤ ROOM }
-    ensures answers { AnswersAsked C.gives table.old.limit (asking.add (map order_view orders.items) versions) table.old.journal table.new.journal
-        clock.old clock.new trail.old.stops trail.new.stops (reply_of result) }
-    ensures status { IsSome (replies.reason_of result.status) }
-    ensures limit { table.new.limit ≡ table.old.limit }
-    ensures requests { trail.new.requests ≡ trail.old.requests }
+/// A share of the write, where there is one that is no deletion.
+fn share_live(write: Option<&Cell>) -> Result<Option<Cell>, AllocError>
+    ensures { IfOk result (λ found. option_map arc_value found ≡ live (option_map arc_value (option_copied write.entry))) }
 {
-    let end = add_all(alloc, table, clock, trail, orders, versions);
-    update_reply(alloc, &end, versions)
-}
-
-/// The reply to what orders came to.
-fn update_reply(alloc: Global, end: &BatchEnd, versions: bool) -> Reply
-    ensures reply { ReportsEnd versions (map ack_view end.now.adds.items) (stop_of end.now.stop) (reply_of result) }
-    ensures status { IsSome (replies.reason_of result.status) }
-{
-    match end.stop {
-        None if !versions => Reply::fixed(200, fixed::ok_body()),
-        None => Reply::made(200, update_body(alloc, end.adds.as_slice(), versions)),
-        Some(fault) => refused(alloc, fault, end.adds.as_slice(), versions),
+    match write {
+        Some(cell) if cell.doc.is_some() => Ok(Some(cell.clone()?)),
+        _ => Ok(None),
     }
 }
 
-/// The reply to orders that this stopped.
-fn refused(alloc: Global, fault: AddFault, adds: &[Ack], versions: bool) -> Reply
-    ensures reply { ReportsEnd versions (map ack_view adds.now) (Some (outcome_of fault)) (reply_of result) }
+/// The reply to a get that found this.
+fn get_reply(alloc: Global, found: &Result<Option<Cell>, AllocError>) -> Reply
+    requires { IfOk found.now (λ found. bodies.IsLiveOrNone (option_map arc_value found)) }
+    ensures found { IfOk found.now (λ cell. (reply_of result ≡ record { status = 200; body = bodies.get_text (option_map arc_value cell) })
+        ⊎ (reply_of result ≡ memory_reply)) }
+    ensures memory { IfErr found.now (λ _. reply_of result ≡ memory_reply) }
     ensures status { IsSome (replies.reason_of result.status) }
 {
-    match fault {
-        AddFault::LogFull => Reply::made(
-            507,
-            error_body(alloc, 507, "update log is full", adds, versions),
+    match found {
+        Ok(cell) => Reply::made(200, get_body(alloc, cell.as_ref())),
+        Err(_) => Reply::memory(),
+    }
+}
+
+/// The reply to what the orders of a batch came to.
+fn update_reply(alloc: Global, batch: &Batch, end: &BatchEnd) -> Reply
+    requires { (answers : List OrderAnswer) × StopsBy batch.now answers end.now.stop }
+    ensures reply { (answers : List OrderAnswer) → StopsBy batch.now answers end.now.stop
+        → Shows batch.now.flags.versions answers end.now → RepliesTo batch.now answers (reply_of result) }
+    ensures status { IsSome (replies.reason_of result.status) }
+{
+    let versions = batch.flags.versions;
+    match &end.stop {
+        None if !versions => Reply::fixed(200, ok_body()),
+        None => Reply::made(200, update_body(alloc, &end.adds, &end.deletes, versions)),
+        Some(BatchStop::Memory) => Reply::memory(),
+        Some(stop) => Reply::refused(
+            alloc,
+            &stop_cause(batch, stop),
+            &end.adds,
+            &end.deletes,
+            versions,
         ),
-        AddFault::Memory => Reply::memory(),
+    }
+}
+
+/// Why the orders of a batch ended where this stopped them.
+fn stop_cause<'a>(batch: &'a Batch, stop: &'a BatchStop) -> Cause<'a>
+    requires { (answers : List OrderAnswer) × StopsBy batch.now answers (Some stop.now) }
+    ensures { (answers : List OrderAnswer) → StopsBy batch.now answers (Some stop.now) → stop.now ≢ stops.Memory
+        → EndsFor batch.now answers (causes.refusal_of result) }
+{
+    match stop {
+        BatchStop::Conflict { order, actual } => {
+            let order = &batch.orders.as_slice()[*order];
+            Cause::Conflict {
+                id: order.id.as_str(),
+                expected: order.condition,
+                actual: *actual,
+            }
+        }
+        BatchStop::Partial { field, .. } => Cause::Partial {
+            name: field.as_str(),
+        },
+        BatchStop::LogFull => Cause::LogFull,
+        BatchStop::Memory => Cause::Memory,
     }
 }

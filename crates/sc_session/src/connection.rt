@@ -1,45 +1,47 @@
-ghost use Rattle.std.specs.Prelude.{◌≡◌, ◌≢◌, ◌↔◌, ◌<◌, [], length, true, ◌||◌, if◌then◌else◌, Some, IsSome};
-ghost use Rattle.std.specs.Cow.{cow_str_bytes};
-ghost use Rattle.sc_model.specs.Connection.{end_of, last_text};
-ghost use Rattle.sc_model.specs.declared.limits.TheConstants.{MAX_REQUESTS, MAX_STOPS};
-ghost use Rattle.sc_model.specs.Legal.{IsLegal};
+ghost use Rattle.std.specs.Prelude.{◌≡◌, ◌≢◌, ◌↔◌, ◌<◌, [], length, true, ◌||◌, if◌then◌else◌, Some, None, IsSome};
 ghost use Rattle.sc_model.specs.Replies as replies;
-ghost use Rattle.sc_model.specs.Served.{IsServed};
+ghost use Rattle.sc_journal.specs.Seen.{AreLegal};
+ghost use Rattle.sc_collection.specs.declared.trail.TheConstants.{MAX_REQUESTS, MAX_STOPS};
+ghost use Rattle.sc_session.specs.Connection.{end_of, last_text};
+ghost use Rattle.sc_session.specs.Served.{IsServed};
 ghost use Rattle.sc_session.specs.Ends.{last_without_request};
-ghost use Rattle.sc_session.specs.Serving.{EndsWriting, Exchanges, Replies};
+ghost use Rattle.sc_session.specs.Serving.{EndsWriting, Exchanges, Replies, is_at_end};
 ghost use Rattle.sc_session.specs.Answering.{reply_of};
-ghost use Rattle.sc_session.specs.Table.{journals, own_places};
 
 use crate::answer::answer;
-use crate::plain::Plain;
-use crate::reply::{Reply, fixed};
-use crate::trail::Trail;
+use crate::end::End;
+use crate::fixed;
+use crate::reply::Reply;
+use sc_collection::{Desk, MAX_REQUESTS, MAX_STOPS, Trail};
 use sc_http::{Incoming, MessageEnd, Reader, write_reply};
 use sc_io::{Clock, Sink, Source};
-use sc_model::End;
+use sc_reply::memory_body;
 use std::alloc::Global;
 
-/// Serves one connection: reads its requests, answers each over the table and writes the answers, up
-/// to its end. The trail keeps the stops at which it read and wrote.
-pub fn serve<C: Clock, S: Source, W: Sink>(
+/// Serves one connection: reads its requests, answers each over the desk and writes the answers, up to its end. The trail keeps
+/// the stops at which it read and wrote.
+pub fn serve<D: Desk, C: Clock, S: Source, W: Sink>(
     alloc: Global,
-    table: &mut Plain,
+    desk: &mut D,
     clock: &mut C,
     source: &mut S,
     sink: &mut W,
     trail: &mut Trail,
 ) -> End
-    requires { trail.old ≡ record { stops = []; requests = 0 } }
-    ensures connection { IsServed C.gives table.old.limit (journals table.old.journal) (journals table.new.journal)
-        (own_places table.old.journal) (own_places table.new.journal) clock.old clock.new
-        (S.rest source.old) (S.rest source.new) (W.written sink.old) (W.written sink.new) trail.new.stops result }
-    ensures limit { table.new.limit ≡ table.old.limit }
+    requires trail { trail.old ≡ record { stops = []; requests = 0 } }
+    requires nothing_out { D.out desk.old ≡ None }
+    ensures connection { IsServed C.gives (D.layout desk.old)
+        (record { seen = D.seen desk.old; clock = clock.old; unread = S.rest source.old; written = W.written sink.old })
+        (record { seen = D.seen desk.new; clock = clock.new; unread = S.rest source.new; written = W.written sink.new })
+        trail.new.stops result }
+    ensures layout { D.layout desk.new ≡ D.layout desk.old }
+    ensures nothing_out { D.out desk.new ≡ None }
     ensures read_fault { result ≡ End.ReadFault → S.faults source.old < S.faults source.new }
     ensures no_read_fault { result ≢ End.ReadFault → S.faults source.new ≡ S.faults source.old }
     ensures write_fault { result ≡ End.WriteFault → W.faults sink.old < W.faults sink.new }
     ensures no_write_fault { result ≢ End.WriteFault → W.faults sink.new ≡ W.faults sink.old }
 {
-    let _ = table.entries(); // by it the proof knows that the journal is legal
+    let _ = desk.buckets(); // by it the proof knows that what was seen is legal
     let mut reader = match Reader::new(alloc) {
         Ok(reader) => reader,
         Err(_) => return end_with(sink, MessageEnd::Memory),
@@ -47,7 +49,7 @@ pub fn serve<C: Clock, S: Source, W: Sink>(
     loop {
         match reader.next_message(alloc, source) {
             Ok(request) => {
-                if let Some(end) = exchange(alloc, table, clock, sink, trail, &request) {
+                if let Some(end) = exchange(alloc, desk, clock, sink, trail, &request) {
                     return end;
                 }
             }
@@ -57,30 +59,38 @@ pub fn serve<C: Clock, S: Source, W: Sink>(
 }
 
 /// Answers one request. Reports the connection's end where it ends after the reply.
-fn exchange<C: Clock, W: Sink>(
+fn exchange<D: Desk, C: Clock, W: Sink>(
     alloc: Global,
-    table: &mut Plain,
+    desk: &mut D,
     clock: &mut C,
     sink: &mut W,
     trail: &mut Trail,
     request: &Incoming,
 ) -> Option<End>
+    requires nothing_out { D.out desk.old ≡ None }
     requires requests { trail.old.requests < MAX_REQUESTS }
     requires stops { length trail.old.stops < MAX_STOPS }
-    ensures exchange { Exchanges C.gives table.old.limit request.now table.old.journal table.new.journal clock.old clock.new trail.old trail.new
+    ensures exchange { Exchanges C.gives (D.layout desk.old) request.now (D.seen desk.old) (D.seen desk.new) clock.old clock.new trail.old trail.new
         (W.written sink.old) (W.written sink.new) result }
-    ensures legal { IsLegal table.new.journal }
-    ensures limit { table.new.limit ≡ table.old.limit }
+    ensures legal { AreLegal (D.layout desk.new) (D.seen desk.new) }
+    ensures layout { D.layout desk.new ≡ D.layout desk.old }
+    ensures nothing_out { D.out desk.new ≡ None }
     ensures read_fault { result ≢ Some End.ReadFault }
     ensures write_fault { result ≡ Some End.WriteFault → W.faults sink.old < W.faults sink.new }
     ensures no_write_fault { result ≢ Some End.WriteFault → W.faults sink.new ≡ W.faults sink.old }
 {
-    let reply = answer(alloc, table, clock, trail, request);
+    let reply = answer(alloc, desk, clock, trail, request);
     trail.count_request();
     let memory = reply.is_out_of_memory();
-    let _ = table.entries(); // by it the proof knows that the journal is legal
-    let close = closes(memory, request.close, trail.is_full());
+    let close = closes(memory, request.close, is_full(trail));
     respond(sink, &reply, close, end_after(memory, request.close))
+}
+
+/// Whether the connection takes no further request.
+fn is_full(trail: &Trail) -> bool
+    ensures { result ≡ is_at_end trail.now }
+{
+    trail.requests() >= MAX_REQUESTS || trail.stops().len() >= MAX_STOPS
 }
 
 /// Whether a connection is closed after a reply.
@@ -133,7 +143,7 @@ fn end_with<W: Sink>(sink: &mut W, end: MessageEnd) -> End
         MessageEnd::BadHead => last_reply(sink, 400, fixed::bad_head_body(), End::BadHead),
         MessageEnd::TooLarge => last_reply(sink, 413, fixed::too_large_body(), End::TooLarge),
         MessageEnd::NotBuilt => last_reply(sink, 501, fixed::not_built_body(), End::BadHead),
-        MessageEnd::Memory => last_reply(sink, 503, fixed::memory_body(), End::Memory),
+        MessageEnd::Memory => last_reply(sink, 503, memory_body(), End::Memory),
     }
 }
 

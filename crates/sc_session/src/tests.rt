@@ -1,56 +1,57 @@
-use crate::{End, Plain, Trail, serve};
+ghost use Rattle.std.specs.Prelude.{◌≡◌, None};
+
+use crate::{End, serve};
+use sc_collection::{Alone, Desk, Shape, Trail};
 use sc_io::{Fixed, MemSink, MemSource};
 use sc_record::List;
 use std::alloc::Global;
-use std::str;
 use std::test::Fail;
 
-/// The paths, parameters and bodies of updates, one a line, and before each the status of its answer.
-const UPDATES: &str = r#"200 ?versions=true [{"id":"a","t_s":"x"},{"id":"\"\u00e9\n"}]
-200 ?versions=false [{"id":"a","z_s":"2","B_s":"1","_s":"\u0000\ud83d\ude00","t_s":"x"}]
-200  [ ]
-200  [{"id":"b","id":"c","t_s":1,"t_s":"last"}]
-400  {
-400  [1,]
-400  [{"id":"a"},]
-400  [01]
-400  ["\ud800"]
-400  [] []
+/// Updates, one a line: the status of the answer, what follows the path, and the body.
+const UPDATES: &str = r#"200  
+200 ?versions=true [{"id":"abc","t_s":"x"},{"id":"hello","n_i":1}]
+200 /json?versions=false {"add":{"doc":{"id":"\"\u00e9\n","t_s":"\ud83d\ude00"}}}
+200  [{"id":"hello","n_i":{"inc":2}}]
+200 ?failOnVersionConflicts=false [{"id":"abc","_version_":5},{"id":"gone","_version_":-1}]
+200  {"delete":"gone"}
+409  [{"id":"abc","_version_":5},{"id":"next"}]
+400  [{"id":"abc","t_s":{"inc":1}}]
+400  [{"id":"abc","foo":1}]
 400  [{"t_s":"x"}]
-400  [{"id":"a"},{"id":""}]
-501  5
-501  {"add":{"doc":{"id":"a"}}}
-501  [{"id":1}]
-501  [{"id":"a","n_i":1}]
-501  [{"id":"a","t_s":["x"]}]
-501  [{"id":"a","_version_":"1"}]
-501  [{"t_s":"x"},5]
-501 ?commit=true {
+400  5
+400  {
+400 ?commit=true {
+501 ?commit=true []
+501  {"commit":{}}
 404 /csv []
-501 /json []
 "#;
 
-/// The bodies of the answers to a get of the ids that the updates added, and of one that they didn't.
-const DOCUMENTS: &str =
-    r#"a {"doc":{"B_s":"1","_s":"\u0000😀","_version_":1048576002,"id":"a","t_s":"x","z_s":"2"}}
-%22%C3%A9%0A {"doc":{"_version_":1048576001,"id":"\"é\n"}}
-c {"doc":{"_version_":1048576003,"id":"c","t_s":"last"}}
-b {"doc":null}
+/// The bodies of the answers to gets, by the parameters of each.
+const GETS: &str = r#"id=abc {"doc":{"_version_":1048576000,"id":"abc","t_s":"x"}}
+id=hello&id=abc {"doc":{"_version_":1048576001,"id":"hello","n_i":3}}
+id=%22%C3%A9%0A {"doc":{"_version_":1048576001,"id":"\"é\n","t_s":"😀"}}
+id=gone {"doc":null}
+id=next {"doc":null}
+id= {"error":{"code":400,"msg":"bad parameter 'id'"},"responseHeader":{"QTime":0,"status":400}}
+ids=abc {"error":{"code":501,"msg":"not built yet"},"responseHeader":{"QTime":0,"status":501}}
 "#;
 
 /// What a connection writes at the timestamp 1000 for this request.
-fn reply(
+fn reply<D: Desk>(
     alloc: Global,
-    table: &mut Plain,
+    desk: &mut D,
     trail: &mut Trail,
     request: String,
-) -> Result<List<u8>, Fail> {
+) -> Result<List<u8>, Fail>
+    requires nothing_out { D.out desk.old ≡ None }
+    ensures nothing_out { D.out desk.new ≡ None }
+{
     let bytes = List::from_vec(request.into_bytes());
     let mut source = MemSource::new(bytes, 4096, List::new(alloc));
     let mut sink = MemSink::new(alloc, List::new(alloc));
     let mut clock = Fixed { moment: 1000 };
     trail.clear();
-    match serve(alloc, table, &mut clock, &mut source, &mut sink, trail) {
+    match serve(alloc, desk, &mut clock, &mut source, &mut sink, trail) {
         End::Done => Ok(sink.bytes),
         _ => Err("the connection did not end with its input".into()),
     }
@@ -59,7 +60,14 @@ fn reply(
 #[test]
 fn updates_and_gets_are_answered(rt: HostRuntime) -> Result<(), Fail> {
     let alloc = rt.alloc();
-    let mut table = Plain::new(alloc, 1024)?;
+    let shape = Shape {
+        nodes: 1,
+        shards: 1,
+        replicas: 1,
+        buckets: 2,
+        log_limit: 1024,
+    };
+    let mut desk = Alone::new(alloc, &shape)?;
     let mut trail = Trail::new(alloc)?;
     for line in UPDATES.lines() {
         let (status, rest) = line.split_once(' ').ok_or("a status")?;
@@ -68,18 +76,17 @@ fn updates_and_gets_are_answered(rt: HostRuntime) -> Result<(), Fail> {
             "POST /solr/docs/update{target} HTTP/1.1\r\nHost: a\r\nContent-Length: {}\r\n\r\n{body}",
             body.len()
         )?;
-        let written = reply(alloc, &mut table, &mut trail, request)?;
+        let written = reply(alloc, &mut desk, &mut trail, request)?;
         let head = format!(in alloc; "HTTP/1.1 {status} ")?;
         assert!(rt; written.as_slice().starts_with(head.as_bytes()), "{line}");
     }
-    for line in DOCUMENTS.lines() {
-        let (id, body) = line.split_once(' ').ok_or("a body")?;
-        let request = format!(in alloc; "GET /solr/docs/get?id={id} HTTP/1.1\r\nHost: a\r\n\r\n")?;
-        let written = reply(alloc, &mut table, &mut trail, request)?;
+    for line in GETS.lines() {
+        let (params, body) = line.split_once(' ').ok_or("a body")?;
+        let request = format!(in alloc; "GET /solr/docs/get?{params} HTTP/1.1\r\nHost: a\r\n\r\n")?;
+        let written = reply(alloc, &mut desk, &mut trail, request)?;
         assert!(rt; written.as_slice().ends_with(body.as_bytes()), "{line}");
     }
-    assert_eq!(rt; table.entries(), 8);
-    assert_eq!(rt; trail.stops().len(), 1);
+    assert!(rt; trail.stops().is_empty());
     assert_eq!(rt; trail.requests(), 1);
     Ok(())
 }

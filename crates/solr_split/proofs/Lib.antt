@@ -1,3 +1,5 @@
 -- What the proofs of the arguments and of a run share.
 pub mod RunLemmas
 pub mod DigitLemmas
+pub mod SettingLemmas
+pub mod ShapeLemmas

@@ -2,11 +2,12 @@
 use Rattle.std.proofs.Common.{◌≡◌, ◌<◌, ℕ, List, [], ◌∷◌, Option, Some, refl, ap, ◌∙◌, arith}
 use Rattle.std.specs.Prelude.{◌≢◌, ◌↔◌}
 use Rattle.sc_io.specs.declared.memory.Fixed.{Fixed}
-use Rattle.sc_model.specs.Answers.{Journals}
-use Rattle.sc_model.specs.Served.{GivesTimestamps, IsServed}
-use Rattle.sc_model.specs.declared.connection.End.{End}
-use Rattle.sc_model.specs.declared.connection.End.TheVariants as ends
-use Rattle.sc_model.specs.declared.stop.Stop.{Stop}
+use Rattle.sc_journal.specs.Batches.{GivesTimestamps}
+use Rattle.sc_journal.specs.Seen.{Layout, Seen}
+use Rattle.sc_journal.specs.declared.stop.Stop.{Stop}
+use Rattle.sc_session.specs.Served.{IsServed}
+use Rattle.sc_session.specs.declared.end.End.{End}
+use Rattle.sc_session.specs.declared.end.End.TheVariants as ends
 use Rattle.solr_split.specs.Running.{clock_of, status_of}
 
 -- the timestamps of a fixed clock are those of a script that names one
@@ -16,17 +17,18 @@ fixed_timestamps gives timestamp clock [] old new e g = refl
 fixed_timestamps gives timestamp clock (now ∷ timestamps) old new e g = (clock, (g.1.0 ∙ e, refl), fixed_timestamps gives timestamp clock timestamps g.0 new (ap (λ (f : Fixed). f.moment) g.1.1 ∙ e) g.2)
 
 -- what was served with a fixed clock was served with the clock of a script that names its timestamp
-pub served_at : {C : Type 0} (gives : C → ℕ → C → Type 0) (timestamp : ℕ) (clock : C) (limit : ℕ) (old new : Journals) (old_own new_own : ℕ → List ℕ) (a b : Fixed) (old_unread new_unread old_written new_written : Option (List ℕ)) (stops : List Stop) (end : End) → a.moment ≡ timestamp
-    → IsServed (λ (s : Fixed) (now : ℕ) (t : Fixed). (now ≡ s.moment) × (t ≡ s)) limit old new old_own new_own a b old_unread new_unread old_written new_written stops end
-    → IsServed (clock_of (Some timestamp) gives) limit old new old_own new_own clock clock old_unread new_unread old_written new_written stops end
-served_at gives timestamp clock limit old new old_own new_own a b old_unread new_unread old_written new_written stops end e s = record {
+pub served_at : {C : Type 0} (gives : C → ℕ → C → Type 0) (timestamp : ℕ) (layout : Layout) (old_seen new_seen : Seen) (a b : Fixed) (clock : C) (old_unread new_unread old_written new_written : Option (List ℕ)) (stops : List Stop) (end : End) → a.moment ≡ timestamp
+    → IsServed (λ (s : Fixed) (now : ℕ) (t : Fixed). (now ≡ s.moment) × (t ≡ s)) layout (record { seen = old_seen; clock = a; unread = old_unread; written = old_written }) (record { seen = new_seen; clock = b; unread = new_unread; written = new_written }) stops end
+    → IsServed (clock_of (Some timestamp) gives) layout (record { seen = old_seen; clock = clock; unread = old_unread; written = old_written }) (record { seen = new_seen; clock = clock; unread = new_unread; written = new_written }) stops end
+served_at gives timestamp layout old_seen new_seen a b clock old_unread new_unread old_written new_written stops end e s = record {
   exchanges = s.exchanges;
   last = s.last;
   timestamps = s.timestamps;
   journals = s.journals;
+  legal = s.legal;
   answers = s.answers;
   given = fixed_timestamps gives timestamp clock s.timestamps a b e s.given;
-  carries = s.carries;
+  carries = record { requests = s.carries.requests; replies = s.carries.replies; end_is = s.carries.end_is };
 }
 
 steady : (old new : ℕ) → new ≡ old → old < new → ⊥
@@ -54,3 +56,15 @@ write_status ends.TooLarge old new rose same = (λ e. absurd (omega arith), λ l
 write_status ends.ReadFault old new rose same = (λ e. absurd (omega arith), λ l. absurd (steady old new (same (λ e. absurd (cc))) l))
 write_status ends.WriteFault old new rose same = (λ e. rose refl, λ l. refl)
 write_status ends.Memory old new rose same = (λ e. absurd (omega arith), λ l. absurd (steady old new (same (λ e. absurd (cc))) l))
+
+-- no connection ends with the status of bad arguments
+pub status_not_2 : (end : End) → status_of end ≡ 2 → ⊥
+status_not_2 ends.Done e = absurd (omega arith)
+status_not_2 ends.Closed e = absurd (omega arith)
+status_not_2 ends.Limit e = absurd (omega arith)
+status_not_2 ends.Cut e = absurd (omega arith)
+status_not_2 ends.BadHead e = absurd (omega arith)
+status_not_2 ends.TooLarge e = absurd (omega arith)
+status_not_2 ends.ReadFault e = absurd (omega arith)
+status_not_2 ends.WriteFault e = absurd (omega arith)
+status_not_2 ends.Memory e = absurd (omega arith)

@@ -1,16 +1,13 @@
 -- What a run of the program leaves.
-use Rattle.std.specs.Prelude.{◌≡◌, ℕ, List, [], Option, Some, None}
-use Rattle.sc_record.specs.declared.entry.Entry.{Entry}
-use Rattle.sc_model.specs.declared.stop.Stop.{Stop}
-use Rattle.sc_model.specs.declared.connection.End.{End}
-use Rattle.sc_model.specs.declared.connection.End.TheVariants as ends
-use Rattle.sc_model.specs.Served.{IsServed}
-use Rattle.sc_session.specs.Table.{journals, own_places}
-use Rattle.solr_split.specs.Arguments.{Script}
-
--- the most entries of the journal
-abbrev pub log_limit : ℕ
-log_limit = 1048576
+use Rattle.std.specs.Prelude.{◌≡◌, ℕ, List, Option, Some, None}
+use Rattle.sc_journal.specs.Seen.{Seen}
+use Rattle.sc_journal.specs.declared.stop.Stop.{Stop}
+use Rattle.sc_collection.specs.Alone.{AloneState, seen_of}
+use Rattle.sc_collection.specs.Shapes.{HasShape, SeesNothing}
+use Rattle.sc_session.specs.declared.end.End.{End}
+use Rattle.sc_session.specs.declared.end.End.TheVariants as ends
+use Rattle.sc_session.specs.Served.{IsServed, Moment}
+use Rattle.solr_split.specs.declared.arguments.Script.{Script}
 
 -- the exit status by how the connection ended
 abbrev pub status_of : End → ℕ
@@ -25,14 +22,30 @@ status_of ends.WriteFault = 5
 status_of ends.Memory = 6
 
 -- the clock of a script: the one that was handed in, or one that stands still and leaves that as it was
-abbrev pub clock_of : {C : Type 0} → Script → (C → ℕ → C → Type 0) → C → ℕ → C → Type 0
+abbrev pub clock_of : {C : Type 0} → Option ℕ → (C → ℕ → C → Type 0) → C → ℕ → C → Type 0
 clock_of None gives = gives
 clock_of (Some timestamp) gives = λ old now new. (now ≡ timestamp) × (new ≡ old)
 
--- One connection was served over a journal that began empty, and the status is that of its end.
-pub record RunsScript {C : Type 0} (script : Script) (gives : C → ℕ → C → Type 0) (old_clock new_clock : C) (old_unread new_unread old_written new_written : Option (List ℕ)) (status : ℕ) : Type 0 where
-  pub journal : List Entry
+-- The outside at one moment: the clock, the bytes that the source has still to give and those that the sink was given, where they
+-- report them.
+pub record Outside (C : Type 0) : Type 0 where
+  pub clock : C
+  pub unread : Option (List ℕ)
+  pub written : Option (List ℕ)
+
+-- what stands beside a connection, by what was seen of its collection
+abbrev pub moment_of : {C : Type 0} → Seen → Outside C → Moment C
+moment_of seen outside = record { seen = seen; clock = outside.clock; unread = outside.unread; written = outside.written }
+
+-- One connection was served over a collection of the script's shape in which nothing had happened, and the status is that of its
+-- end. What was seen after it is all that happened: each entry that an update made was made at one of the stops.
+pub record RunsScript {C : Type 0} (script : Script) (gives : C → ℕ → C → Type 0) (before after : Outside C) (status : ℕ) : Type 0 where
+  pub began : AloneState
+  pub ended : AloneState
   pub stops : List Stop
   pub end : End
+  pub shape : HasShape script.shape began.layout
+  pub empty : SeesNothing (seen_of began)
+  pub layout : ended.layout ≡ began.layout
+  pub served : IsServed (clock_of script.clock gives) began.layout (moment_of (seen_of began) before) (moment_of (seen_of ended) after) stops end
   pub status_is : status ≡ status_of end
-  pub served : IsServed (clock_of script gives) log_limit (journals []) (journals journal) (own_places []) (own_places journal) old_clock new_clock old_unread new_unread old_written new_written stops end

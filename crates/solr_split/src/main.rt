@@ -1,8 +1,9 @@
-//! `solr_split`: a document table behind HTTP, in one process.
+//! `solr_split`: one SolrCloud collection behind HTTP, in one process.
 //!
 //! `run` is all that the program does, and its contract is what it promises: which bytes it writes for
 //! those that it reads, and its status. `main` hands it the machine's streams and clock, and says to a
-//! person what a status other than 0 means. It depends on `sc_session`, whose `serve` it calls.
+//! person what a status other than 0 means. It depends on `sc_session`, whose `serve` it calls, and on `sc_collection`, whose
+//! `Alone` keeps the collection.
 #![tactic(auto)]
 
 mod arguments;
@@ -16,9 +17,14 @@ use std::alloc::AllocError;
 use std::process::ExitCode;
 use std::{env, io};
 
-/// The usage, with an example.
-const USAGE: &str =
-    "usage: solr_split script [--clock MILLISECONDS], as in: solr_split script --clock 1000 < requests";
+/// The usage: each option with its range and its default, and an example.
+const USAGE: &str = "usage: solr_split script [OPTION VALUE | OPTION=VALUE]...
+  --nodes      1 to 16 nodes (1)
+  --shards     1 to 64 shards (1)
+  --buckets    a power of two from 1 to 256 (64)
+  --log-limit  16 to 16777216 entries in the journal of a bucket (1048576)
+  --clock      a timestamp from 0 to 18446744073709551615, in milliseconds, at which the clock stands still (the machine's clock)
+as in: solr_split script --buckets=1 --clock 1000 < requests";
 
 fn main(rt: HostRuntime) -> ExitCode {
     let mut input = StdSource::new(rt.stdin());

@@ -1,20 +1,19 @@
 ghost use Rattle.std.specs.Prelude.{◌≡◌, ◌≢◌, ◌⊎◌, ◌<◌, ◌↔◌, [], map, IfOk, IfSome, None, string_bytes};
-ghost use Rattle.sc_model.specs.Served.{IsServed};
-ghost use Rattle.sc_session.specs.Table.{journals, own_places};
-ghost use Rattle.solr_split.specs.Running.{RunsScript, clock_of, log_limit, status_of};
+ghost use Rattle.sc_session.specs.Served.{IsServed};
+ghost use Rattle.sc_collection.specs.Alone.{seen_of};
+ghost use Rattle.sc_collection.specs.Shapes.{IsShape, HasShape, SeesNothing};
+ghost use Rattle.solr_split.specs.Running.{RunsScript, clock_of, moment_of, status_of};
 ghost use Rattle.solr_split.specs.Arguments.{script_of};
 
-use crate::arguments::{Script, script_of};
+use crate::arguments::script_of;
+use sc_collection::{Alone, Desk, Shape, Trail};
 use sc_io::{Clock, Fixed, Sink, Source};
-use sc_model::End;
-use sc_session::{Plain, Trail, serve};
+use sc_session::{End, serve};
 use std::alloc::{AllocError, Global};
 
-/// The most entries of the journal.
-const LOG_LIMIT: u64 = 1_048_576;
-
-/// All that the program does: `script` serves one connection over the source and the sink, with the
-/// clock that is handed in or, with `--clock N`, one that stands still at N milliseconds.
+/// All that the program does: `script` serves one connection over the source and the sink, and a new collection of the
+/// shape that its options ask for. Its clock is the one that is handed in or, with `--clock`, one that stands still at
+/// that many milliseconds.
 ///
 /// The status is 0 where the connection came to its end, 2 for arguments that ask for nothing, 3 where it
 /// ended in a message that can't be read, 4 where the source failed, 5 where the sink did, and 6 where
@@ -33,7 +32,9 @@ pub fn run<S: Source, W: Sink, C: Clock>(
 
     // A script serves one connection, unless memory ran out before it began.
     ensures script { IfSome (script_of (map string_bytes arguments.now)) (λ script.
-        RunsScript script C.gives clock.old clock.new (S.rest source.old) (S.rest source.new) (W.written sink.old) (W.written sink.new) result
+        RunsScript script C.gives
+        (record { clock = clock.old; unread = S.rest source.old; written = W.written sink.old })
+        (record { clock = clock.new; unread = S.rest source.new; written = W.written sink.new }) result
         ⊎ ((result ≡ 6) × (source.new ≡ source.old) × (sink.new ≡ sink.old) × (clock.new ≡ clock.old))) }
     ensures read_fault { (result ≡ 4) ↔ (S.faults source.old < S.faults source.new) }
     ensures write_fault { (result ≡ 5) ↔ (W.faults sink.old < W.faults sink.new) }
@@ -41,44 +42,59 @@ pub fn run<S: Source, W: Sink, C: Clock>(
     let Some(script) = script_of(arguments) else {
         return 2;
     };
-    let (mut table, mut trail) = match memory_of(alloc) {
+    let (mut desk, mut trail) = match memory_of(alloc, &script.shape) {
         Ok(memory) => memory,
         Err(_) => return 6,
     };
-    let end = serve_script(alloc, script, &mut table, source, sink, clock, &mut trail);
+    let end = serve_script(
+        alloc,
+        script.clock,
+        &mut desk,
+        source,
+        sink,
+        clock,
+        &mut trail,
+    );
     status_of(end)
 }
 
-/// Serves one connection with the clock of the script.
-fn serve_script<S: Source, W: Sink, C: Clock>(
+/// Serves one connection over a desk, with the clock that is handed in or with one that stands still at a timestamp.
+fn serve_script<D: Desk, S: Source, W: Sink, C: Clock>(
     alloc: Global,
-    script: Script,
-    table: &mut Plain,
+    timestamp: Option<u64>,
+    desk: &mut D,
     source: &mut S,
     sink: &mut W,
     clock: &mut C,
     trail: &mut Trail,
 ) -> End
-    requires { trail.old ≡ record { stops = []; requests = 0 } }
-    ensures served { IsServed (clock_of script.clock C.gives) table.old.limit (journals table.old.journal) (journals table.new.journal)
-        (own_places table.old.journal) (own_places table.new.journal) clock.old clock.new
-        (S.rest source.old) (S.rest source.new) (W.written sink.old) (W.written sink.new) trail.new.stops result }
+    requires trail { trail.old ≡ record { stops = []; requests = 0 } }
+    requires nothing_out { D.out desk.old ≡ None }
+    ensures served { IsServed (clock_of timestamp C.gives) (D.layout desk.old)
+        (moment_of (D.seen desk.old) (record { clock = clock.old; unread = S.rest source.old; written = W.written sink.old }))
+        (moment_of (D.seen desk.new) (record { clock = clock.new; unread = S.rest source.new; written = W.written sink.new }))
+        trail.new.stops result }
+    ensures layout { D.layout desk.new ≡ D.layout desk.old }
     ensures read_fault { result ≡ End.ReadFault → S.faults source.old < S.faults source.new }
     ensures no_read_fault { result ≢ End.ReadFault → S.faults source.new ≡ S.faults source.old }
     ensures write_fault { result ≡ End.WriteFault → W.faults sink.old < W.faults sink.new }
     ensures no_write_fault { result ≢ End.WriteFault → W.faults sink.new ≡ W.faults sink.old }
 {
-    match script.clock {
-        None => serve(alloc, table, clock, source, sink, trail),
-        Some(moment) => serve(alloc, table, &mut Fixed { moment }, source, sink, trail),
+    match timestamp {
+        None => serve(alloc, desk, clock, source, sink, trail),
+        Some(moment) => serve(alloc, desk, &mut Fixed { moment }, source, sink, trail),
     }
 }
 
-/// What a connection needs: an empty table and an empty trail.
-fn memory_of(alloc: Global) -> Result<(Plain, Trail), AllocError>
-    ensures { IfOk result (λ memory. (memory.0 ≡ record { journal = []; limit = log_limit }) × (memory.1 ≡ record { stops = []; requests = 0 })) }
+/// What a connection needs: a collection of the shape in which nothing happened yet, and an empty trail.
+fn memory_of(alloc: Global, shape: &Shape) -> Result<(Alone, Trail), AllocError>
+    requires shape { IsShape shape.now }
+    ensures layout { IfOk result (λ memory. HasShape shape.now memory.0.layout) }
+    ensures seen { IfOk result (λ memory. SeesNothing (seen_of memory.0)) }
+    ensures out { IfOk result (λ memory. memory.0.out ≡ None) }
+    ensures trail { IfOk result (λ memory. memory.1 ≡ record { stops = []; requests = 0 }) }
 {
-    Ok((Plain::new(alloc, LOG_LIMIT)?, Trail::new(alloc)?))
+    Ok((Alone::new(alloc, shape)?, Trail::new(alloc)?))
 }
 
 /// The exit status by how the connection ended.

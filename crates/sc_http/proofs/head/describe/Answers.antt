@@ -4,7 +4,7 @@ use Rattle.std.specs.Prelude.{not}
 use Rattle.std.proofs.lemmas.Bool.{eq-eqb}
 use Rattle.sc_model.specs.Heads.{method_of, path_of, params_of, asks_close}
 use Rattle.sc_http.specs.Lines.{fault_of}
-use Rattle.sc_http.proofs.ParsedLemmas.{has_said, length_said, old_closes, close_said, head_is}
+use Rattle.sc_http.proofs.ParsedLemmas.{has_said, encoded_said, length_said, old_closes, close_said, head_is}
 use Rattle.sc_http.proofs.head.describe.Goals.{then-spans-eq0, else-spans-eq0}
 use Rattle.sc_http.proofs.head.describe.Goals as goal
 
@@ -66,8 +66,8 @@ returns-clause-head c =
         method = c.method_of.ensures ∙ ap method_of (c.of-2.ensures ∙ at.method);
         path = c.in-Ok-split_target.ensures.path ∙ ap path_of target;
         params = c.in-Ok-split_target.ensures.params ∙ ap params_of target;
-        encoded = has_said c.args.window.now c.args.headers.now c.args.spans.now h at _ same (codes "content-encoding") c.has_line-2.result c.has_line-2.ensures;
-        lengthless = ap not (has_said c.args.window.now c.args.headers.now c.args.spans.now h at _ same (codes "content-length") c.has_line-3.result c.has_line-3.ensures);
+        encoded = encoded_said c.args.window.now c.args.headers.now c.args.spans.now h at _ same c.is_encoded.result c.is_encoded.ensures;
+        lengthless = ap not (has_said c.args.window.now c.args.headers.now c.args.spans.now h at _ same (codes "content-length") c.has_line-2.result c.has_line-2.ensures);
         close = close;
         plain = sym (has_said c.args.window.now c.args.headers.now c.args.spans.now h at _ same (codes "transfer-encoding") c.has_line.result c.has_line.ensures) ∙ c.if-has_line.false;
         length_of_body = sym (length_said c.args.window.now c.args.headers.now c.args.spans.now h at _ same) ∙ sym c.in-Ok.ensures.length;

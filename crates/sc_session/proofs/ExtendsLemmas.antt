@@ -1,0 +1,83 @@
+-- What was seen goes on by some stops and then by others.
+use Rattle.std.proofs.Common.{◌≡◌, ℕ, ◌≤◌, Bool, true, false, cond, List, [], ◌∷◌, ◌++◌, length, refl, sym, ap, ◌∙◌, subst, arith, append_assoc}
+use Rattle.std.specs.Prelude.{◌==◌, map, filter}
+use Rattle.std.specs.List.{AllByRecursion}
+use Rattle.std.proofs.lemmas.Bool.Decides.{nat_tests}
+use Rattle.std.proofs.lemmas.List.{map-append}
+use Rattle.std.proofs.lemmas.List.Elements.{filter-append}
+use Rattle.sc_journal.specs.Seen.{Layout, Seen, Extends, IsWithin, ComeInOrder, place_after, stops_at, made_at, entries_at}
+use Rattle.sc_journal.specs.declared.stop.Stop.{Stop}
+use Rattle.sc_session.proofs.SeenLemmas.{IsPrefix-then, IsPrefix-length, SeesMore-then}
+
+-- of each lock as many entries are seen as before, or more
+entries-grow : (layout : Layout) (old new : Seen) (stops : List Stop) → Extends layout old new stops → (lock : ℕ) → entries_at layout old lock ≤ entries_at layout new lock
+entries-grow layout old new stops on lock = by (lock == layout.buckets) where
+  by : (b : Bool) → cond b (length old.board) (length (old.journals lock)) ≤ cond b (length new.board) (length (new.journals lock))
+  by true = IsPrefix-length old.board new.board on.board
+  by false = IsPrefix-length (old.journals lock) (new.journals lock) (on.seen lock)
+
+stops_at-append : (lock : ℕ) (xs ys : List Stop) → stops_at lock (xs ++ ys) ≡ stops_at lock xs ++ stops_at lock ys
+stops_at-append lock xs ys = filter-append (λ (stop : Stop). stop.lock == lock) xs ys
+
+made_at-append : (lock : ℕ) (xs ys : List Stop) → made_at lock (xs ++ ys) ≡ made_at lock xs ++ made_at lock ys
+made_at-append lock xs ys =
+    ap (λ stops. map (λ (stop : Stop). stop.place) (filter (λ (stop : Stop). stop.made) stops)) (stops_at-append lock xs ys)
+    ∙ ap (map (λ (stop : Stop). stop.place)) (filter-append (λ (stop : Stop). stop.made) (stops_at lock xs) (stops_at lock ys))
+    ∙ map-append (λ (stop : Stop). stop.place) (filter (λ (stop : Stop). stop.made) (stops_at lock xs)) (filter (λ (stop : Stop). stop.made) (stops_at lock ys))
+
+-- the stops of one lock are within what was seen there
+within_at : (layout : Layout) (seen : Seen) (lock : ℕ) (stops : List Stop) → AllByRecursion (IsWithin layout seen) stops
+    → AllByRecursion (λ (stop : Stop). place_after stop ≤ entries_at layout seen lock) (stops_at lock stops)
+within_at layout seen lock [] h = tt
+within_at layout seen lock (stop ∷ stops) h = by (stop.lock == lock) refl (within_at layout seen lock stops h.1) where
+  by : (b : Bool) → (stop.lock == lock) ≡ b
+      → AllByRecursion (λ (one : Stop). place_after one ≤ entries_at layout seen lock) (stops_at lock stops)
+      → AllByRecursion (λ (one : Stop). place_after one ≤ entries_at layout seen lock) (cond b (stop ∷ stops_at lock stops) (stops_at lock stops))
+  by true is rest =
+      let same : stop.lock ≡ lock = grind (arith, nat_tests) in
+      (subst (λ n. place_after stop ≤ entries_at layout seen n) same h.0.place, rest)
+  by false is rest = rest
+
+-- what ascends from a place ascends from an earlier one
+ascend_earlier : (from to : ℕ) (stops : List Stop) → from ≤ to → ComeInOrder to stops → ComeInOrder from stops
+ascend_earlier from to [] h a = tt
+ascend_earlier from to (stop ∷ stops) h a = ((let l : to ≤ stop.place = a.0 in omega arith), a.1)
+
+ascend-append : (from to : ℕ) (xs ys : List Stop) → ComeInOrder from xs → from ≤ to
+    → AllByRecursion (λ (stop : Stop). place_after stop ≤ to) xs → ComeInOrder to ys → ComeInOrder from (xs ++ ys)
+ascend-append from to [] ys a h w b = ascend_earlier from to ys h b
+ascend-append from to (x ∷ xs) ys a h w b = (a.0, ascend-append (place_after x) to xs ys a.1 w.0 w.1 b)
+
+-- what holds of each of two parts holds of both together
+pub AllByRecursion-append : {A : Type 0} (P : A → Type 0) (xs ys : List A) → AllByRecursion P xs → AllByRecursion P ys → AllByRecursion P (xs ++ ys)
+AllByRecursion-append P [] ys one two = two
+AllByRecursion-append P (x ∷ xs) ys one two = (one.0, AllByRecursion-append P xs ys one.1 two)
+
+-- stops that are within what was seen are within what is seen later
+within-later : (layout : Layout) (old new : Seen) → ((lock : ℕ) → entries_at layout old lock ≤ entries_at layout new lock)
+    → (stops : List Stop) → AllByRecursion (IsWithin layout old) stops → AllByRecursion (IsWithin layout new) stops
+within-later layout old new grow [] h = tt
+within-later layout old new grow (stop ∷ stops) h = (
+  record {
+    lock = h.0.lock;
+    place = let a : place_after stop ≤ entries_at layout old stop.lock = h.0.place in
+        let b : entries_at layout old stop.lock ≤ entries_at layout new stop.lock = grow stop.lock in omega arith;
+  },
+  within-later layout old new grow stops h.1,
+)
+
+-- what went on by stops, and then by others, went on by all of them
+pub Extends-then : (layout : Layout) (old between new : Seen) (xs ys : List Stop)
+    → Extends layout old between xs → Extends layout between new ys → Extends layout old new (xs ++ ys)
+Extends-then layout old between new xs ys one two =
+    let first : (lock : ℕ) → entries_at layout old lock ≤ entries_at layout between lock = entries-grow layout old between xs one in
+    let then : (lock : ℕ) → entries_at layout between lock ≤ entries_at layout new lock = entries-grow layout between new ys two in
+    record {
+      seen = SeesMore-then old between new one.seen two.seen;
+      board = IsPrefix-then old.board between.board new.board one.board two.board;
+      own = λ lock. two.own lock ∙ ap (λ places. places ++ made_at lock ys) (one.own lock) ∙ append_assoc (old.own lock) (made_at lock xs) (made_at lock ys)
+          ∙ ap (λ places. old.own lock ++ places) (sym (made_at-append lock xs ys));
+      ascend = λ lock. subst (ComeInOrder (entries_at layout old lock)) (sym (stops_at-append lock xs ys))
+          (ascend-append (entries_at layout old lock) (entries_at layout between lock) (stops_at lock xs) (stops_at lock ys) (one.ascend lock) (first lock) (within_at layout between lock xs one.within) (two.ascend lock));
+      within = AllByRecursion-append (IsWithin layout new) xs ys (within-later layout between new then xs one.within) two.within;
+    }

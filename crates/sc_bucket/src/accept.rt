@@ -15,7 +15,7 @@ ghost use Rattle.sc_bucket.specs.Accepting.{HasMemory, IsPut};
 use crate::bucket::Bucket;
 use sc_partial::{PartialFault, resolve};
 use sc_record::{
-    Cell, Change, Doc, Entry, Id, List, Order, Term, Text, Write, clone_items, found, meets,
+    Cell, Change, CloneIn, Doc, Entry, Id, List, Order, Term, Text, Write, found, meets,
     next_version,
 };
 use sc_router::route_hash;
@@ -135,7 +135,7 @@ impl Bucket {
             return Err(AcceptFault::LogFull);
         }
         Ok(Write {
-            id: copy_of_id(alloc, &order.id)?,
+            id: order.id.clone_in(alloc)?,
             hash,
             version: next_version(now, replica.clock()),
             terms: terms_for(alloc, &order.id, &doc)?,
@@ -200,7 +200,7 @@ fn document_after(
     ensures refused { IfErr result (IsRefusalOf (refused (option_map arc_value (option_copied last.entry)) change.now)) }
 {
     match change {
-        Change::Whole(doc) => Ok(Some(copy_of(alloc, doc)?)),
+        Change::Whole(doc) => Ok(Some(doc.clone_in(alloc)?)),
         Change::Parts(parts) => Ok(Some(resolve(alloc, live(last), parts)?)),
         Change::Delete => Ok(None),
     }
@@ -214,20 +214,6 @@ fn live(last: Option<&Cell>) -> Option<&Doc>
         Some(write) => write.doc.as_ref(),
         None => None,
     }
-}
-
-// A copy of a document.
-fn copy_of(alloc: Global, doc: &Doc) -> Result<Doc, AllocError>
-    ensures { IfOk result (λ copy. copy ≡ doc.now) }
-{
-    Ok(Doc::new(List::from_vec(clone_items(alloc, doc.fields())?)))
-}
-
-// A copy of an id.
-fn copy_of_id(alloc: Global, id: &Id) -> Result<Id, AllocError>
-    ensures { IfOk result (λ copy. copy ≡ id.now) }
-{
-    Id::new(alloc, id.as_str()).map_err(|_| AllocError)
 }
 
 // What a search finds the document by; nothing where there is none.

@@ -12,14 +12,14 @@ use std::alloc::{AllocError, Global};
 pub(crate) fn first_name(alloc: Global, i: u32) -> Result<Text, AllocError>
     ensures { IfOk result (λ name. name ≡ first_name i) }
 {
-    Ok(Text::from_string(format!(in alloc; "shard{i}")?))
+    Ok(Text::from_string(alloc, format!(in alloc; "shard{i}")?)?)
 }
 
 /// The name of a slice's sub i, from 0: `shard1_0`.
 pub(crate) fn sub_name(alloc: Global, parent: &str, i: usize) -> Result<Text, AllocError>
     ensures { IfOk result (λ name. name ≡ sub_name parent.now i) }
 {
-    Ok(Text::from_string(format!(in alloc; "{parent}_{i}")?))
+    Ok(Text::from_string(alloc, format!(in alloc; "{parent}_{i}")?)?)
 }
 
 // The text is `_` and the number in decimal.
@@ -47,5 +47,5 @@ pub(crate) fn is_sub_name(name: &str, parent: &str, i: usize) -> bool
 pub fn core_name(alloc: Global, slice: &str, replica: u8) -> Result<Text, AllocError>
     ensures { IfOk result (λ name. name ≡ core_name slice.now replica) }
 {
-    Ok(Text::from_string(format!(in alloc; "docs_{slice}_replica_n{replica}")?))
+    Ok(Text::from_string(alloc, format!(in alloc; "docs_{slice}_replica_n{replica}")?)?)
 }

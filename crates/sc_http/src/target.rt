@@ -37,8 +37,8 @@ fn params_of(alloc: Global, query: &[u8]) -> Result<List<Param>, AllocError>
     for pair in parse(alloc, query).into_owned() {
         let (name, value) = pair?;
         params.push(Param {
-            name: Text::from_string(name),
-            value: Text::from_string(value),
+            name: Text::from_string(alloc, name)?,
+            value: Text::from_string(alloc, value)?,
         })?;
     }
     Ok(params)

@@ -16,5 +16,5 @@ pub fn print(alloc: Global, value: &Value) -> Result<Text, AllocError>
     ensures reads_back { IfOk result (λ text. depth (view value.now) ≤ max_depth
         → value_of text ≡ Some (view value.now)) }
 {
-    Ok(Text::from_string(value.to_string(alloc)?))
+    Ok(Text::from_string(alloc, value.to_string(alloc)?)?)
 }

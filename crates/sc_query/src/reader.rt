@@ -114,7 +114,7 @@ fn leaf(alloc: Global, field: &str, value: &str, at: u32) -> Result<Query, Alloc
     ensures { IfOk result (λ query. tree_of query ≡ Tree.Leaf field.now (plain value.now) at) }
 {
     let field = Word::new(alloc, field)?;
-    let value = Word::from_string(lexeme::plain(alloc, value)?);
+    let value = Word::from_string(alloc, lexeme::plain(alloc, value)?)?;
     Ok(Query::Leaf { field, value, at })
 }
 

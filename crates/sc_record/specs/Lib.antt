@@ -1,6 +1,7 @@
--- The names and kinds of fields, orders and the changes that they ask for, terms, versions, and writes by their ids.
+-- Texts, the names and kinds of fields, orders and the changes that they ask for, terms, versions, and writes by their ids.
 pub mod Fields
 pub mod Orders
 pub mod Terms
+pub mod Texts
 pub mod Versions
 pub mod Writes

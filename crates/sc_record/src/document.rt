@@ -78,3 +78,11 @@ impl Doc {
         fields
     }
 }
+
+impl CloneIn for Doc {
+    fn clone_in(&self, alloc: Global) -> Result<Doc, AllocError> {
+        Ok(Doc {
+            fields: self.fields.clone_in(alloc)?,
+        })
+    }
+}

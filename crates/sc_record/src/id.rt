@@ -5,7 +5,9 @@ ghost use Rattle.std.specs.Cmp.Lexicographic.{slice_cmp, texts_po, texts_ties, n
 ghost use Rattle.std.specs.Ordering.{nat_cmp};
 ghost use Rattle.std.specs.Str.{bytes_eq};
 
-use std::alloc::Global;
+use crate::copy::CloneIn;
+use crate::text::Text;
+use std::alloc::{AllocError, Global};
 use std::cmp::Ordering;
 use std::marker::Model;
 use thiserror::Error;
@@ -16,7 +18,7 @@ pub const MAX_ID_LENGTH: usize = 512;
 /// What names a document: a text of 1 to 512 bytes, which contracts see as its UTF-8 bytes.
 #[derive(Clone, Debug, Drop)]
 pub struct Id {
-    text: String,
+    text: Text,
 }
 
 /// Why a text became no id.
@@ -32,15 +34,14 @@ pub enum IdFault {
 
 impl Model for Id {
     ghost use Rattle.std.specs.Prelude.{List, ℕ, length, ◌≤◌, ◌<◌};
-    ghost use Rattle.std.specs.String.{string_bytes};
     ghost use Rattle.sc_record.specs.declared.id.TheConstants.{MAX_ID_LENGTH};
 
     ghost Value = { List ℕ };
 
-    ghost view = { λ a. string_bytes a.text };
+    ghost view = { λ a. a.text };
 
     ghost invariant = { λ a.
-        (0 < length (string_bytes a.text)) × (length (string_bytes a.text) ≤ MAX_ID_LENGTH) };
+        (0 < length a.text) × (length a.text ≤ MAX_ID_LENGTH) };
 }
 
 impl Id {
@@ -56,7 +57,7 @@ impl Id {
         if text.len() > MAX_ID_LENGTH {
             return Err(IdFault::TooLong);
         }
-        match String::from_str(alloc, text) {
+        match Text::new(alloc, text) {
             Ok(text) => Ok(Id { text }),
             Err(_) => Err(IdFault::Memory),
         }
@@ -68,6 +69,21 @@ impl Id {
         ensures bounded { length self.now ≤ MAX_ID_LENGTH }
     {
         self.text.as_str()
+    }
+
+    /// The id as a text, which its copies share.
+    pub fn as_text(&self) -> &Text
+        ensures { result.now ≡ self.now }
+    {
+        &self.text
+    }
+}
+
+impl CloneIn for Id {
+    fn clone_in(&self, alloc: Global) -> Result<Id, AllocError> {
+        Ok(Id {
+            text: self.text.clone_in(alloc)?,
+        })
     }
 }
 

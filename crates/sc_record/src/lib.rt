@@ -1,7 +1,7 @@
 //! What the collection keeps and hands on: ids, documents of typed fields, orders to change them,
 //! versioned writes, the entries of a journal, and the names of slices and cores.
 //!
-//! It may depend on `std` and `thiserror` alone, and does no input and no output. The layers above
+//! It may depend on `std`, `arrayvec` and `thiserror` alone, and does no input and no output. The layers above
 //! read a `Doc` as its fields with `IsDocument`, get a field's kind by `kind_of`, show a write's
 //! version by `shown` and `found`, test an order's condition by `meets`, and give each new write the
 //! version of `next_version`, which is above the clock and at least the timestamp's.
@@ -10,6 +10,7 @@
 // Copies, texts and lists.
 mod copy;
 mod list;
+mod short;
 mod text;
 
 // What names a document.

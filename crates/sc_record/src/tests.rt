@@ -158,9 +158,34 @@ fn a_field_is_got_by_its_whole_name(rt: HostRuntime) -> Result<(), Fail> {
     }
     let mut names = Vec::new(alloc);
     for field in &doc.into_fields() {
-        names.push(field.name.clone()?.into_string())?;
+        names.push(String::from_str(alloc, field.name.as_str())?)?;
     }
     assert_eq!(rt; names.join(alloc, " ")?.as_str(), "n_i name_s seen_b");
+    Ok(())
+}
+
+#[test]
+fn a_text_of_any_length_is_kept_in_16_bytes(rt: HostRuntime) -> Result<(), Fail> {
+    let alloc = rt.alloc();
+    assert_eq!(rt; size_of::<Text>(), 16);
+    for length in [0, 1, 14, 15, 40, 41, 100_000] {
+        let text = "x".repeat(alloc, length)?;
+        let kept = Text::new(alloc, text.as_str())?;
+        let copy = kept.clone_in(alloc)?;
+        drop(kept);
+        assert_eq!(rt; copy.as_str(), text.as_str());
+        assert_eq!(rt; copy, Text::from_string(alloc, text)?);
+    }
+    // characters of two, three and four bytes that end at the lengths where a text is kept otherwise
+    for text in [
+        "ääääääü",
+        "€€€€€",
+        "ab😀😀😀",
+        "äääääääääääääääääääü",
+        "äääääääääääääääääääé€",
+    ] {
+        assert_eq!(rt; Text::new(alloc, text)?.as_str(), text);
+    }
     Ok(())
 }
 

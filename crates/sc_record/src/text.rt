@@ -1,4 +1,4 @@
-ghost use Rattle.std.specs.Prelude.{◌≡◌, Some, refl, IfOk};
+ghost use Rattle.std.specs.Prelude.{◌≡◌, Some, refl, IfOk, IfSome};
 ghost use Rattle.std.specs.String.{string_bytes};
 ghost use Rattle.std.specs.Cmp.{partial_equiv_from_equiv};
 ghost use Rattle.std.specs.Cmp.Lexicographic.{slice_cmp, texts_po, texts_ties, nat_list_cmp_total, nat_list_eq_equiv};
@@ -6,24 +6,59 @@ ghost use Rattle.std.specs.Ordering.{nat_cmp};
 ghost use Rattle.std.specs.Str.{bytes_eq};
 
 use crate::copy::CloneIn;
+use crate::short::Short;
+use arrayvec::ArrayString;
 use std::alloc::{AllocError, Global};
 use std::cmp::Ordering;
 use std::fmt;
 use std::marker::Model;
+use std::sync::Arc;
 
-/// A text that is kept, which contracts see as its UTF-8 bytes.
-#[derive(Clone, Debug, Drop)]
+/// The most bytes of a text that is shared as one piece of memory, which has 64 bytes with its header and that of the allocator.
+const MAX_MEDIUM_LENGTH: usize = 40;
+
+/// How a text is kept.
+#[derive(Drop)]
+enum Kept {
+    /// In the value itself.
+    Short(Short),
+    /// Shared by all copies of the text, in one piece of memory.
+    Medium(Arc<ArrayString<MAX_MEDIUM_LENGTH>>),
+    /// Shared by all copies of the text.
+    Long(Arc<String>),
+}
+
+/// A text that is kept, which contracts see as its UTF-8 bytes. It takes 16 bytes: one of at most 14 bytes lies in it, and a
+/// longer one is shared with its copies.
+#[derive(Drop)]
 pub struct Text {
-    text: String,
+    kept: Kept,
 }
 
 impl Model for Text {
     ghost use Rattle.std.specs.Prelude.{List, ℕ};
-    ghost use Rattle.std.specs.String.{string_bytes};
+    ghost use Rattle.sc_record.specs.Texts.{text_bytes};
 
     ghost Value = { List ℕ };
 
-    ghost view = { λ a. string_bytes a.text };
+    ghost view = { λ a. text_bytes a.kept };
+}
+
+impl Kept {
+    ghost use Rattle.sc_record.specs.Texts.{text_bytes};
+
+    /// A copy of the text, where it has at most 40 bytes.
+    fn within(alloc: Global, text: &str) -> Result<Option<Kept>, AllocError>
+        ensures { IfOk result (λ kept. IfSome kept (λ kept. text_bytes kept ≡ text.now)) }
+    {
+        if let Some(short) = Short::new(text) {
+            return Ok(Some(Kept::Short(short)));
+        }
+        match ArrayString::from(text) {
+            Ok(medium) => Ok(Some(Kept::Medium(Arc::new(alloc, medium)?))),
+            Err(_) => Ok(None),
+        }
+    }
 }
 
 impl Text {
@@ -31,36 +66,57 @@ impl Text {
     pub fn new(alloc: Global, text: &str) -> Result<Text, AllocError>
         ensures { IfOk result (λ kept. kept ≡ text.now) }
     {
-        Ok(Text {
-            text: String::from_str(alloc, text)?,
-        })
+        let kept = match Kept::within(alloc, text)? {
+            Some(kept) => kept,
+            None => Kept::Long(Arc::new(alloc, String::from_str(alloc, text)?)?),
+        };
+        Ok(Text { kept })
     }
 
-    /// The same text, with no copy.
-    pub fn from_string(text: String) -> Text
-        ensures { result ≡ string_bytes text }
+    /// The same text, with no copy of one of more than 40 bytes.
+    pub fn from_string(alloc: Global, text: String) -> Result<Text, AllocError>
+        ensures { IfOk result (λ kept. kept ≡ string_bytes text) }
     {
-        Text { text }
-    }
-
-    /// The same text, with no copy.
-    pub fn into_string(self) -> String
-        ensures { string_bytes result ≡ self }
-    {
-        let Text { text } = self;
-        text
+        let kept = match Kept::within(alloc, text.as_str())? {
+            Some(kept) => kept,
+            None => Kept::Long(Arc::new(alloc, text)?),
+        };
+        Ok(Text { kept })
     }
 
     pub fn as_str(&self) -> &str
         ensures { result.now ≡ self.now }
     {
-        self.text.as_str()
+        match &self.kept {
+            Kept::Short(short) => short.as_str(),
+            Kept::Medium(medium) => medium.as_str(),
+            Kept::Long(long) => long.as_str(),
+        }
+    }
+}
+
+impl Clone for Text {
+    ghost is_clone = { λ original copy. copy ≡ original };
+
+    fn clone(&self) -> Result<Text, AllocError> {
+        let kept = match &self.kept {
+            Kept::Short(short) => Kept::Short(short.copy()),
+            Kept::Medium(medium) => Kept::Medium(Arc::try_clone(medium)?),
+            Kept::Long(long) => Kept::Long(Arc::try_clone(long)?),
+        };
+        Ok(Text { kept })
     }
 }
 
 impl CloneIn for Text {
-    fn clone_in(&self, alloc: Global) -> Result<Text, AllocError> {
-        Text::new(alloc, self.as_str())
+    fn clone_in(&self, _: Global) -> Result<Text, AllocError> {
+        self.clone()
+    }
+}
+
+impl fmt::Debug for Text {
+    fn fmt<W: fmt::Write>(&self, f: &mut fmt::Formatter<W>) -> fmt::Result {
+        fmt::Debug::fmt(&self.as_str(), f)
     }
 }
 

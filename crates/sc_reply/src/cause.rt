@@ -147,21 +147,21 @@ impl<'a> Cause<'a> {
 fn numbered(alloc: Global, before: &str, n: u32) -> Result<Text, AllocError>
     ensures { IfOk result (λ text. text ≡ before.now ++ decimal n) }
 {
-    Ok(Text::from_string(format!(in alloc; "{before}{n}")?))
+    Ok(Text::from_string(alloc, format!(in alloc; "{before}{n}")?)?)
 }
 
 /// The words and a name after them.
 fn ending(alloc: Global, before: &str, name: &str) -> Result<Text, AllocError>
     ensures { IfOk result (λ text. text ≡ before.now ++ name.now) }
 {
-    Ok(Text::from_string(format!(in alloc; "{before}{name}")?))
+    Ok(Text::from_string(alloc, format!(in alloc; "{before}{name}")?)?)
 }
 
 /// A name between words.
 fn quoted(alloc: Global, before: &str, name: &str, after: &str) -> Result<Text, AllocError>
     ensures { IfOk result (λ text. text ≡ before.now ++ name.now ++ after.now) }
 {
-    Ok(Text::from_string(format!(in alloc; "{before}{name}{after}")?))
+    Ok(Text::from_string(alloc, format!(in alloc; "{before}{name}{after}")?)?)
 }
 
 /// The message of a conflict.
@@ -169,7 +169,8 @@ fn conflict(alloc: Global, id: &str, expected: i64, actual: i64) -> Result<Text,
     ensures { IfOk result (λ text. text ≡ codes "version conflict for " ++ (id.now
         ++ (codes " expected=" ++ (signed_decimal expected ++ (codes " actual=" ++ signed_decimal actual))))) }
 {
-    Ok(Text::from_string(format!(in alloc;
+    let message = format!(in alloc;
         "version conflict for {id} expected={expected} actual={actual}"
-    )?))
+    )?;
+    Ok(Text::from_string(alloc, message)?)
 }

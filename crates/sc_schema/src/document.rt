@@ -112,7 +112,7 @@ fn part_of(alloc: Global, field: &RawField) -> Result<FieldChange, DocFault>
     ensures ok { IfOk result (λ part. part_of field.now ≡ Ok part) }
     ensures fault { IfErr result (IsFaultOf (part_of field.now)) }
 {
-    let name = Text::new(alloc, field.name.as_str())?;
+    let name = field.name.clone()?;
     let Some((kind, many)) = kind_of(name.as_str()) else {
         return Err(DocFault::UnknownField(name));
     };

@@ -22,7 +22,7 @@ fn found_by(alloc: Global, id: &Id, fields: &[Field]) -> Result<List<Term>, Allo
     ensures { IfOk result (λ terms. terms ≡ found_by id.now fields.now) }
 {
     let mut terms = List::new(alloc);
-    push_term(alloc, &mut terms, "id", Text::new(alloc, id.as_str())?)?;
+    push_term(&mut terms, &Text::new(alloc, "id")?, id.as_text().clone()?)?;
     for field in fields {
         push_field(alloc, &mut terms, field)?;
     }
@@ -33,10 +33,9 @@ fn found_by(alloc: Global, id: &Id, fields: &[Field]) -> Result<List<Term>, Allo
 fn push_field(alloc: Global, terms: &mut List<Term>, field: &Field) -> Result<(), AllocError>
     ensures { OnOk result (terms.new ≡ terms.old ++ field_terms field.now) }
 {
-    let name = field.name.as_str();
-    let split = is_found_by_words(name);
+    let split = is_found_by_words(field.name.as_str());
     for value in field.values.as_slice() {
-        push_value(alloc, terms, name, split, value)?;
+        push_value(alloc, terms, &field.name, split, value)?;
     }
     Ok(())
 }
@@ -52,7 +51,7 @@ fn is_found_by_words(name: &str) -> bool
 fn push_value(
     alloc: Global,
     terms: &mut List<Term>,
-    field: &str,
+    field: &Text,
     split: bool,
     value: &Value,
 ) -> Result<(), AllocError>
@@ -60,22 +59,20 @@ fn push_value(
 {
     match value {
         Value::Text(text) if split => push_words(alloc, terms, field, text.as_str()),
-        Value::Text(text) => push_term(alloc, terms, field, Text::new(alloc, text.as_str())?),
+        Value::Text(text) => push_term(terms, field, text.clone()?),
         Value::Int(number) => push_term(
-            alloc,
             terms,
             field,
-            Text::from_string(number.to_string(alloc)?),
+            Text::from_string(alloc, number.to_string(alloc)?)?,
         ),
         Value::Long(number) => push_term(
-            alloc,
             terms,
             field,
-            Text::from_string(number.to_string(alloc)?),
+            Text::from_string(alloc, number.to_string(alloc)?)?,
         ),
         Value::Flag(flag) => {
             let name = if *flag { "true" } else { "false" };
-            push_term(alloc, terms, field, Text::new(alloc, name)?)
+            push_term(terms, field, Text::new(alloc, name)?)
         }
     }
 }

@@ -37,8 +37,8 @@ fn text_of(alloc: Global, one: &RawOne) -> Result<Option<Text>, AllocError>
             let name = if *flag { "true" } else { "false" };
             Ok(Some(Text::new(alloc, name)?))
         }
-        RawOne::Number(number) => Ok(Some(Text::from_string(number.to_string(alloc)?))),
-        RawOne::Text(text) => Ok(Some(Text::new(alloc, text.as_str())?)),
+        RawOne::Number(number) => Ok(Some(Text::from_string(alloc, number.to_string(alloc)?)?)),
+        RawOne::Text(text) => Ok(Some(text.clone()?)),
     }
 }
 

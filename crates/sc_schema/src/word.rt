@@ -26,33 +26,30 @@ pub fn fold_word(alloc: Global, text: &str) -> Result<Option<Text>, AllocError>
 fn folded(alloc: Global, text: &str) -> Result<Text, AllocError>
     ensures { IfOk result (λ kept. kept ≡ folded text.now) }
 {
-    Ok(Text::from_string(default_case_fold_str(alloc, text)?))
+    Text::from_string(alloc, default_case_fold_str(alloc, text)?)
 }
 
 /// Puts a term for each word of the text at the end.
 pub fn push_words(
     alloc: Global,
     terms: &mut List<Term>,
-    field: &str,
+    field: &Text,
     text: &str,
 ) -> Result<(), AllocError>
     ensures { OnOk result (terms.new ≡ terms.old ++ map (term field.now) (map folded (words text.now))) }
 {
     for word in text.unicode_words() {
-        push_term(alloc, terms, field, folded(alloc, word)?)?;
+        push_term(terms, field, folded(alloc, word)?)?;
     }
     Ok(())
 }
 
 /// Puts a term at the end.
-pub fn push_term(
-    alloc: Global,
-    terms: &mut List<Term>,
-    field: &str,
-    key: Text,
-) -> Result<(), AllocError>
+pub fn push_term(terms: &mut List<Term>, field: &Text, key: Text) -> Result<(), AllocError>
     ensures { OnOk result (terms.new ≡ terms.old ++ term field.now key ∷ []) }
 {
-    let field = Text::new(alloc, field)?;
-    terms.push(Term { field, key })
+    terms.push(Term {
+        field: field.clone()?,
+        key,
+    })
 }

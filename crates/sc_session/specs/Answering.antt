@@ -1,6 +1,5 @@
 -- What the answer to one request leaves.
 use Rattle.std.specs.Prelude.{◌≡◌, ◌⊎◌, ℕ, List, [], ◌∷◌, ◌++◌, map, false, Option, Some, ⊤}
-use Rattle.std.specs.Cow.{cow_str_bytes}
 use mathlib.Core.List.{IsPrefix}
 use Rattle.sc_record.specs.declared.order.Order.{Order}
 use Rattle.sc_reply.specs.Refusals.{Refusal}
@@ -12,13 +11,20 @@ use Rattle.sc_journal.specs.declared.stop.Stop.{Stop}
 use Rattle.sc_update.specs.Updated.{SeesMore, Shows, EndsAs}
 use Rattle.sc_update.specs.declared.end.BatchEnd.{BatchEnd}
 use Rattle.sc_update.specs.declared.end.BatchStop.{BatchStop}
+use Rattle.sc_session.specs.declared.reply.Body.{Body}
+use Rattle.sc_session.specs.declared.reply.Body.TheVariants as bodies
 use Rattle.sc_session.specs.Answers.{Trace, IsReply, IsOutOfMemory, IsUpdateReply, refusal_of, memory_reply}
 use Rattle.sc_session.specs.Requests.{Asked}
 use Rattle.sc_session.specs.declared.reply.Reply.{Reply}
 
+-- the bytes of a body
+abbrev pub body_bytes : Body → List ℕ
+body_bytes (bodies.Fixed text) = text.now
+body_bytes (bodies.Made text) = text
+
 -- a reply as the definitions see it
 abbrev pub reply_of : Reply → model.Reply
-reply_of reply = record { status = reply.status; body = cow_str_bytes reply.body }
+reply_of reply = record { status = reply.status; body = body_bytes reply.body }
 
 -- What was seen went on by the stops of a trace, which were kept, and the clock was read; the reply is that to what was
 -- asked, by all that is seen later, and the writes that were made are those that were accepted.

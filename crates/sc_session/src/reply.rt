@@ -8,13 +8,32 @@ use crate::fixed;
 use sc_record::{Ack, List, Text};
 use sc_reply::{Cause, error_body, memory_body};
 use std::alloc::{AllocError, Global};
-use std::borrow::CowStr;
 
-/// The answer to a request: a status, and a body that is fixed or was made for it.
+/// A body, which is fixed or was made for its reply.
+#[derive(Debug, Drop)]
+pub(crate) enum Body {
+    Fixed(&'static str),
+    Made(Text),
+}
+
+impl Body {
+    ghost use Rattle.sc_session.specs.Answering.{body_bytes};
+
+    pub(crate) fn as_str(&self) -> &str
+        ensures { result.now ≡ body_bytes self.now }
+    {
+        match self {
+            Body::Fixed(text) => text,
+            Body::Made(text) => text.as_str(),
+        }
+    }
+}
+
+/// The answer to a request: a status, and a body.
 #[derive(Debug, Drop)]
 pub(crate) struct Reply {
     pub status: u16,
-    pub body: CowStr<'static>,
+    pub body: Body,
 }
 
 impl Reply {
@@ -28,7 +47,7 @@ impl Reply {
     {
         Reply {
             status,
-            body: CowStr::Borrowed(body),
+            body: Body::Fixed(body),
         }
     }
 
@@ -60,7 +79,7 @@ impl Reply {
         match body {
             Ok(text) => Reply {
                 status,
-                body: CowStr::Owned(text.into_string()),
+                body: Body::Made(text),
             },
             Err(_) => Reply::memory(),
         }

@@ -7,4 +7,4 @@ pub returns : goal.returns
 returns c =
     let expected : to_z w64 (of_z w64 c.args.expected) ≡ c.args.expected = to_z-of_z w64 c.args.expected c.ranges.expected in
     let actual : to_z w64 (of_z w64 c.args.actual) ≡ c.args.actual = to_z-of_z w64 c.args.actual c.ranges.actual in
-    c.from_string.ensures ∙ c.in_ok-format.ensures.ok ∙ rw (expected, actual)
+    c.in_ok-from_string.ensures ∙ c.in_ok-message.ensures.ok ∙ rw (expected, actual)

@@ -6,5 +6,5 @@ use Rattle.sc_schema.proofs.terms.push_field.Given as goal
 
 abbrev pub invariant-loop-value : goal.invariant-loop-value
 invariant-loop-value l =
-    l.terms ++ map (term l.name) (flat_map (keys_of l.split) (drop l.value-index l.field.values))
-    ≡ l.initial.terms ++ map (term l.name) (flat_map (keys_of l.split) l.field.values)
+    l.terms ++ map (term l.field.name) (flat_map (keys_of l.split) (drop l.value-index l.field.values))
+    ≡ l.initial.terms ++ map (term l.field.name) (flat_map (keys_of l.split) l.field.values)

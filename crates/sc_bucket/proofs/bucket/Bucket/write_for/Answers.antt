@@ -51,14 +51,14 @@ returns-then-self-entries-clause-refused c =
       omega (arith, c.if-self-entries.true, c.entries.ensures, c.requires.sound.journal.owed_is),
     )
 
-pub returns-in_err-copy_of_id-clause-refused : goal.returns-in_err-copy_of_id-clause-refused
-returns-in_err-copy_of_id-clause-refused c =
+pub returns-in_err-clone_in-clause-refused : goal.returns-in_err-clone_in-clause-refused
+returns-in_err-clone_in-clause-refused c =
     let back : to_z w64 (of_z w64 c.found-found.result) ≡ c.found-found.result = omega (arith, ints) in
     let condition : to_z w64 (of_z w64 c.args.order.now.condition) ≡ c.args.order.now.condition = omega (arith, ints) in
     let known = condition_tested c.args.self.now c.args.order.now c.args.hash c.args.leader c.get-replica.result.now _ _ _ _ c.requires.sound
     c.requires.hash c.requires.leader c.get-replica.ensures c.cell-last.ensures.value condition (back ∙ c.found-found.ensures)
     (sym c.if-not-meets.false ∙ c.meets.ensures) in
-    let p = err_from_is_err_and c.from_residual-in_err-copy_of_id.result c.from_residual-in_err-copy_of_id.ensures.1 in
+    let p = err_from_is_err_and c.from_residual-in_err-clone_in.result c.from_residual-in_err-clone_in.ensures.1 in
     rw p.1 (memory_outcome c.args.self.now.limit c.args.self.now.first c.args.self.now.journal.entries c.args.self.now.journal.entries
     c.args.order.now c.args.now p.0 known.1 p.2)
 
@@ -112,7 +112,7 @@ returns-clause-made c =
     let version : to_z w64 (of_z w64 c.next_version.result) ≡ version_after c.args.now c.get-replica.result.now.clock =
     kept ∙ c.next_version.ensures ∙ ap (version_after c.args.now) (clock ∙ c.clock.ensures.value) in
     record {
-      id = c.in_ok-copy_of_id.ensures;
+      id = c.in_ok-clone_in.ensures;
       document = subst (λ (w : Option Write). Makes w c.args.order.now.change c.in_ok-doc.doc) known.0 c.in_ok-doc.ensures.made;
       version = (c.get-replica.result.now.clock, core_clock c.args.self.now c.args.leader c.get-replica.result.now c.requires.sound c.get-replica.ensures, version);
     }
@@ -124,7 +124,7 @@ returns-clause-next c =
     let kept : to_z w64 (of_z w64 c.next_version.result) ≡ c.next_version.result = omega (arith, ints) in
     let version : to_z w64 (of_z w64 c.next_version.result) ≡ version_after c.args.now c.get-replica.result.now.clock =
     kept ∙ c.next_version.ensures ∙ ap (version_after c.args.now) (clock ∙ c.clock.ensures.value) in
-    let id : c.in_ok-copy_of_id.field-0 ≡ c.args.order.now.id = c.in_ok-copy_of_id.ensures in
+    let id : c.in_ok-clone_in.field-0 ≡ c.args.order.now.id = c.in_ok-clone_in.ensures in
     let last : write_of c.get-replica.result.now.cells c.args.order.now.id ≡ last_write c.args.self.now.journal.entries c.args.order.now.id =
     leader_reads c.args.self.now c.args.hash c.args.leader c.get-replica.result.now c.args.order.now.id c.requires.sound c.requires.leader c.get-replica.ensures c.requires.hash in
     write_may_follow c.args.self.now.first c.args.self.now.journal.entries c.get-replica.result.now _ c.args.now c.requires.sound.journal.legal

@@ -1,10 +1,11 @@
 -- The terms by which a document is found.
-use Rattle.std.specs.Prelude.{◌↔◌, ℕ, Bool, true, false, List, [], ◌∷◌, map, flat_map, chars, encode_utf8_all, codes, Contains, Option, Some, None}
+use Rattle.std.specs.Prelude.{◌↔◌, ℕ, Bool, true, false, List, [], ◌∷◌, map, flat_map, chars, encode_utf8_all, codes, Contains, Option, Some, None, option_map, option_and_then, if◌then◌else◌, ℤ}
 use Rattle.std.specs.Fmt.{signed_decimal}
 use Rattle.std.specs.List.Sorted.{IsStrictlySortedBy}
 use Rattle.unicode_segmentation.specs.Word.{words}
 use Rattle.caseless.specs.Caseless.{default_case_fold}
 use Rattle.sc_record.specs.Fields.{kind_of}
+use Rattle.sc_record.specs.Orders.{is_int}
 use Rattle.sc_record.specs.Terms.{term_cmp}
 use Rattle.sc_record.specs.declared.value.Kind.{Kind}
 use Rattle.sc_record.specs.declared.value.Kind.TheVariants as kinds
@@ -12,7 +13,7 @@ use Rattle.sc_record.specs.declared.value.Value.{Value}
 use Rattle.sc_record.specs.declared.value.Value.TheVariants as values
 use Rattle.sc_record.specs.declared.document.Field.{Field}
 use Rattle.sc_record.specs.declared.term.Term.{Term}
-use Rattle.sc_schema.specs.Values.{flag_text}
+use Rattle.sc_schema.specs.Values.{flag_text, flag_named, number_text}
 
 -- a text under default case folding (The Unicode Standard, section 3.13)
 abbrev pub folded : List ℕ → List ℕ
@@ -44,6 +45,18 @@ keys_of split (values.Text text) = text_keys split text
 keys_of split (values.Int n) = signed_decimal n ∷ []
 keys_of split (values.Long n) = signed_decimal n ∷ []
 keys_of split (values.Flag flag) = flag_text flag ∷ []
+
+-- the number of 32 bits that a text writes
+abbrev pub int_of : List ℕ → Option ℤ
+int_of text = option_and_then (λ (n : ℤ). if is_int n then Some n else None) (number_text text)
+
+-- the key that a query's text asks for in a field of this kind; None where it can be none
+abbrev pub key_of : Kind → List ℕ → Option (List ℕ)
+key_of kinds.Str text = Some text
+key_of kinds.Int text = option_map signed_decimal (int_of text)
+key_of kinds.Long text = option_map signed_decimal (number_text text)
+key_of kinds.Flag text = option_map flag_text (flag_named text)
+key_of kinds.Words text = only_word (words text)
 
 -- a key in a field
 abbrev pub term : List ℕ → List ℕ → Term

@@ -3,7 +3,8 @@
 //!
 //! It may depend on the documents and orders of `sc_record`, and on Unicode's word breaks and case folding. The layers above
 //! read a document's members into a `RawDoc`, and use the clause of `check_doc`: the order that the members ask for, or the
-//! first fault that they have; and that of `terms_of`, the terms that a query's leaf is compared with.
+//! first fault that they have; and those of `terms_of` and `key_of`: the terms of a
+//! document, and the key that a query's leaf asks for.
 #![tactic(auto)]
 
 // Documents as they come.
@@ -21,11 +22,13 @@ mod change;
 mod document;
 
 // What a document is found by.
+mod key;
 mod terms;
 mod word;
 
 pub use document::check_doc;
 pub use fault::DocFault;
+pub use key::key_of;
 pub use raw::{RawDoc, RawField, RawFlat, RawOne, RawValue};
 pub use terms::terms_of;
 pub use word::fold_word;

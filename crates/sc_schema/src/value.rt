@@ -75,7 +75,7 @@ fn flag_of(one: &RawOne) -> Option<bool>
 }
 
 /// The truth value of this name.
-fn flag_named(text: &str) -> Option<bool>
+pub fn flag_named(text: &str) -> Option<bool>
     ensures { result ≡ flag_named text.now }
 {
     match text {

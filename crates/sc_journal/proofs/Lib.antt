@@ -1,4 +1,4 @@
--- Facts on journals, on those that can be, and on what they owe, lowest first.
+-- Facts on journals, on those that can be, on what they owe, and on what is seen of them, lowest first.
 pub mod ListLemmas
 pub mod JournalLemmas
 pub mod SettledLemmas
@@ -6,3 +6,4 @@ pub mod SplitLemmas
 pub mod LegalLemmas
 pub mod VersionLemmas
 pub mod MapLemmas
+pub mod ExtendsLemmas

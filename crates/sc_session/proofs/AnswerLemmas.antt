@@ -32,7 +32,8 @@ use Rattle.sc_update.specs.declared.end.BatchStop.TheVariants as stops
 use Rattle.sc_session.specs.Requests.{Asked, not_built, refused, update, get}
 use Rattle.sc_session.specs.Answers.{Trace, no_trace, IsOfOrders, LooksOnce, AnswersBatch, IsReply, IsOutOfMemory, Stands, memory_reply, update_reply, get_reply, refusal_after, refusal_of, live}
 use Rattle.sc_session.specs.Answering.{AnswersAsked, StopsBy, EndsFor, RepliesTo, unread}
-use Rattle.sc_session.proofs.SeenLemmas.{IsPrefix-self, SeesMore-self, Extends-none, Extends-read, read_stop, take-prefix}
+use Rattle.sc_journal.proofs.ExtendsLemmas.{IsPrefix-self, Extends-none}
+use Rattle.sc_session.proofs.SeenLemmas.{SeesMore-self, Extends-read, read_stop, take-prefix}
 
 -- a reply that looks at no journal
 pub answered_at_once : {C : Type 0} (gives : C → ℕ → C → Type 0) (layout : Layout) (asked : Asked) (seen : Seen) (clock : C) (stops : List Stop) (reply : model.Reply)

@@ -2,7 +2,6 @@
 pub mod TextLemmas
 pub mod SeenLemmas
 pub mod AnswerLemmas
-pub mod ExtendsLemmas
 pub mod OpenLemmas
 pub mod ServeLemmas
 pub mod EndLemmas

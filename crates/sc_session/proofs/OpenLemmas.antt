@@ -19,8 +19,8 @@ use Rattle.sc_session.specs.declared.end.End.{End}
 use Rattle.sc_session.specs.Connection.{Exchange, IsAnswered, StaysOpen, closes_after, stops_of, texts_of, is_out_of_memory}
 use Rattle.sc_session.specs.Served.{Moment, timestamps_of, answers_of}
 use Rattle.sc_session.specs.Serving.{Exchanges, Writes, closes_by}
-use Rattle.sc_session.proofs.SeenLemmas.{SeesMore-then, Extends-none}
-use Rattle.sc_session.proofs.ExtendsLemmas.{Extends-then}
+use Rattle.sc_journal.proofs.ExtendsLemmas.{Extends-none, Extends-then}
+use Rattle.sc_session.proofs.SeenLemmas.{SeesMore-then}
 
 -- what stands beside a connection at one moment
 abbrev pub moment : {C : Type 0} → Seen → C → Option (List ℕ) → Option (List ℕ) → Moment C

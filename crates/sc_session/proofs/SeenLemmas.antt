@@ -9,18 +9,9 @@ use Rattle.sc_record.specs.declared.entry.Entry.{Entry}
 use Rattle.sc_journal.specs.Seen.{Layout, Seen, Extends, IsWithin, ComeInOrder, place_after, stops_at, made_at, entries_at}
 use Rattle.sc_journal.specs.declared.stop.Stop.{Stop}
 use Rattle.sc_bucket.specs.declared.bucket.Bucket.{Bucket}
+use Rattle.sc_journal.proofs.ExtendsLemmas.{IsPrefix-self, IsPrefix-then, IsPrefix-length, entries-bucket}
 use Rattle.sc_collection.specs.Desks.{Held, SeesGiven, place_added}
 use Rattle.sc_update.specs.Updated.{SeesMore}
-
-pub IsPrefix-self : {A : Type 0} (xs : List A) → IsPrefix xs xs
-IsPrefix-self xs = ([], append-nil xs)
-
-pub IsPrefix-then : {A : Type 0} (xs ys zs : List A) → IsPrefix xs ys → IsPrefix ys zs → IsPrefix xs zs
-IsPrefix-then xs ys zs b d =
-    (b.0 ++ d.0, sym (append_assoc xs b.0 d.0) ∙ ap (λ before. before ++ d.0) b.1 ∙ d.1)
-
-pub IsPrefix-length : {A : Type 0} (xs ys : List A) → IsPrefix xs ys → length xs ≤ length ys
-IsPrefix-length xs ys b = omega (arith, length-append xs b.0, ap length b.1)
 
 -- a list with a prefix has it there
 pub take-prefix : {A : Type 0} (xs ys : List A) → IsPrefix xs ys → take (length xs) ys ≡ xs
@@ -31,22 +22,6 @@ SeesMore-self seen = λ lock. IsPrefix-self (seen.journals lock)
 
 pub SeesMore-then : (old between new : Seen) → SeesMore old between → SeesMore between new → SeesMore old new
 SeesMore-then old between new one two = λ lock. IsPrefix-then (old.journals lock) (between.journals lock) (new.journals lock) (one lock) (two lock)
-
--- nothing was held
-pub Extends-none : (layout : Layout) (seen : Seen) → Extends layout seen seen []
-Extends-none layout seen = record {
-  seen = λ lock. IsPrefix-self (seen.journals lock);
-  board = IsPrefix-self seen.board;
-  own = λ lock. sym (append-nil (seen.own lock));
-  ascend = λ lock. tt;
-  within = tt;
-}
-
--- the entries of a bucket
-entries-bucket : (layout : Layout) (seen : Seen) (lock : ℕ) → lock < layout.buckets → entries_at layout seen lock ≡ length (seen.journals lock)
-entries-bucket layout seen lock below =
-    let other : (lock == layout.buckets) ≡ false = grind (arith, nat_tests) in
-    ap (λ b. cond b (length seen.board) (length (seen.journals lock))) other
 
 -- a stop at which a journal was only read
 abbrev pub read_stop : ℕ → List Entry → Stop

@@ -15,7 +15,7 @@ use Rattle.sc_collection.specs.declared.trail.TheConstants.{MAX_REQUESTS, MAX_ST
 use Rattle.sc_session.specs.Connection.{Exchange, IsAnswered, StaysOpen, closes_after, stops_of, texts_of, is_out_of_memory}
 use Rattle.sc_session.specs.Served.{Moment, timestamps_of, answers_of}
 use Rattle.sc_session.specs.Serving.{Exchanges, Writes}
-use Rattle.sc_session.proofs.ExtendsLemmas.{AllByRecursion-append}
+use Rattle.std.proofs.ByRecursion.{All-append}
 use Rattle.sc_session.proofs.OpenLemmas.{IsOpen, HasRead, stops_after, closes_same, extends_after, answers_after, once_after, given_after, read_after, stops_of-push, or_left, or_right, below, reads_more, writes_then}
 
 texts_of-push : (exchanges : List Exchange) (x : Exchange) → texts_of (exchanges ++ x ∷ []) ≡ texts_of exchanges ++ text_of x.reply false
@@ -54,7 +54,7 @@ open_more gives layout before now then first second held next request open_ step
       requests = omega (arith, length-append open_.exchanges (x ∷ []), step.counted, open_.requests);
       few = below MAX_REQUESTS second.requests (or_left (nat_le MAX_REQUESTS second.requests) (nat_le MAX_STOPS (length second.stops)) limits);
       short = below MAX_STOPS (length second.stops) (or_right (nat_le MAX_REQUESTS second.requests) (nat_le MAX_STOPS (length second.stops)) limits);
-      answers = λ later more. AllByRecursion-append (IsAnswered layout later) open_.exchanges (x ∷ [])
+      answers = λ later more. All-append (IsAnswered layout later) open_.exchanges (x ∷ [])
           (answers_after gives layout before now then first second held next request None open_ step later more) (step.is_answered later more, tt);
       once = λ later more. subst (λ (ss : List Stop). WritesOnce later ss (answers_of (open_.exchanges ++ x ∷ []))) (sym (stops_of-push open_.exchanges x))
           (subst (WritesOnce later (stops_of open_.exchanges ++ x.trace.stops)) (sym (answers_of-push open_.exchanges x))

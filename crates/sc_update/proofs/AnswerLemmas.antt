@@ -12,7 +12,8 @@ use Rattle.sc_bucket.specs.declared.accept.AcceptFault.TheVariants as faults
 use Rattle.sc_bucket.specs.Events.{outcome_of}
 use Rattle.sc_update.specs.Updated.{SeesMore}
 use Rattle.sc_update.specs.Steps.{IsStop, Tries, SettlesFirst, CarriesOut}
-use Rattle.sc_update.proofs.SeenLemmas.{IsPrefix-then, GoesOn-then}
+use Rattle.sc_journal.proofs.ExtendsLemmas.{IsPrefix-then}
+use Rattle.sc_update.proofs.SeenLemmas.{GoesOn-then}
 
 pub SeesMore-then : (old between later : Seen) → ((lock : ℕ) → IsPrefix (old.journals lock) (between.journals lock)) → SeesMore between later → SeesMore old later
 SeesMore-then old between later begins more lock =

@@ -27,7 +27,7 @@ use Rattle.sc_bucket.specs.Events.{Accepts, IsSameBut, IsStep, outcome_of}
 use Rattle.sc_collection.specs.Desks.{Held, IsBucketOf, MayReplace, SeesGiven}
 use Rattle.sc_update.specs.Updated.{SeesMore}
 use Rattle.sc_update.specs.Steps.{Tries, SettlesWhere}
-use Rattle.sc_update.proofs.SeenLemmas.{IsPrefix-then}
+use Rattle.sc_journal.proofs.ExtendsLemmas.{IsPrefix-then}
 use Rattle.std.proofs.ByRecursion.{All-append}
 use Rattle.sc_update.proofs.StepLemmas.{stop_at}
 

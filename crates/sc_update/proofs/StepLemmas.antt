@@ -10,7 +10,7 @@ use Rattle.sc_journal.specs.declared.stop.Stop.{Stop}
 use Rattle.sc_bucket.specs.declared.bucket.Bucket.{Bucket}
 use Rattle.sc_collection.specs.Desks.{Held, SeesGiven, place_added}
 use Rattle.sc_update.specs.Steps.{GoesOn}
-use Rattle.sc_update.proofs.SeenLemmas.{IsPrefix-self, IsPrefix-then, IsPrefix-length, entries-bucket}
+use Rattle.sc_journal.proofs.ExtendsLemmas.{IsPrefix-self, IsPrefix-then, IsPrefix-length, entries-bucket}
 
 -- the stop of a hold of a bucket
 abbrev pub stop_at : ℕ → List Entry → Bool → Stop

@@ -11,7 +11,9 @@ use Rattle.sc_schema.specs.declared.raw.RawField.{RawField}
 
 -- each name among the first n comes before the next
 abbrev pub AscendUpTo : List RawField → ℕ → Type 0
-AscendUpTo fields n = (k : ℕ) (d : RawField) → k + 1 < n → slice_cmp nat_cmp (get_or fields k d).name (get_or fields (k + 1) d).name ≡ Less
+AscendUpTo fields n =
+    (k : ℕ) (d : RawField) → k + 1 < n
+    → slice_cmp nat_cmp (get_or fields k d).name (get_or fields (k + 1) d).name ≡ Less
 
 pub ascend_from_adjacent : (fields : List RawField) → AscendUpTo fields (length fields) → AscendByName fields
 unfolding IsStrictlySortedBy
@@ -24,5 +26,8 @@ ascend_from_adjacent (f ∷ fields) h =
     (λ k below.
     let inside : k + 1 < length all = omega (arith, count) in
     let here : k < length all = omega arith in
-    ap (λ n. slice_cmp nat_cmp n (get_or names (k + 1) f.name)) (get_or-map (λ (field : RawField). field.name) all k f f.name here)
-    ∙ ap (λ n. slice_cmp nat_cmp (get_or all k f).name n) (get_or-map (λ (field : RawField). field.name) all (k + 1) f f.name inside) ∙ h k f inside)
+    ap (λ n. slice_cmp nat_cmp n (get_or names (k + 1) f.name))
+    (get_or-map (λ (field : RawField). field.name) all k f f.name here)
+    ∙ ap (λ n. slice_cmp nat_cmp (get_or all k f).name n)
+    (get_or-map (λ (field : RawField). field.name) all (k + 1) f f.name inside)
+    ∙ h k f inside)

@@ -19,7 +19,8 @@ digits_are : IsNumeralModel (λ ds. all_ascii_digits ds ≡ true) (digits_value 
 digits_are = numerals_by_value _ tells_all_ascii_digits
 
 -- what a test decides, as a choice
-chosen : {E : Type 0} (b : Bool) (P : Type 0) (v : ℤ) (r : Result ℤ E) → (P → b ≡ true) → (b ≡ true → P) → OkIff r P v → result_ok r ≡ cond b (Some v) None
+chosen : {E : Type 0} (b : Bool) (P : Type 0) (v : ℤ) (r : Result ℤ E) → (P → b ≡ true) → (b ≡ true → P) → OkIff r P v
+    → result_ok r ≡ cond b (Some v) None
 chosen true P v (Ok x) to from (p, same) = ap Some same
 chosen false P v (Ok x) to from (p, same) = let h = to p in cc
 chosen true P v (Err e) to from never = absurd (never (from refl))
@@ -35,7 +36,8 @@ fits-is_long (pos n) h = grind (arith, ints, nat_tests)
 fits-is_long (negsuc n) h = grind (arith, ints, nat_tests)
 
 -- a decimal text and a number of 64 bits, as tests
-tested : (ds : List ℕ) (v : ℤ) → IsNumeral 10 ds × FitsSigned w64 v → (all_ascii_digits ds && nat_lt 0 (length ds)) && is_long v ≡ true
+tested : (ds : List ℕ) (v : ℤ) → IsNumeral 10 ds × FitsSigned w64 v
+    → (all_ascii_digits ds && nat_lt 0 (length ds)) && is_long v ≡ true
 tested ds v ((some, digits), fits) =
     let a : nat_lt 0 (length ds) ≡ true = grind (arith, nat_tests) in
     rw (digits_are.from ds digits, a, is_long-fits v fits) refl
@@ -46,7 +48,8 @@ split true true false h = cc
 split true false c h = cc
 split false b c h = cc
 
-meant : (ds : List ℕ) (v : ℤ) → (all_ascii_digits ds && nat_lt 0 (length ds)) && is_long v ≡ true → IsNumeral 10 ds × FitsSigned w64 v
+meant : (ds : List ℕ) (v : ℤ) → (all_ascii_digits ds && nat_lt 0 (length ds)) && is_long v ≡ true
+    → IsNumeral 10 ds × FitsSigned w64 v
 meant ds v h =
     let (digits, some, long) = split _ _ _ h in
     ((grind (arith, nat_tests), digits_are.to ds digits), fits-is_long v long)
@@ -56,12 +59,14 @@ same_digits : (text : List ℕ) → get_or text 0 0 ≢ 43 → without_leading_s
 same_digits text plus = ap (cond (starts_with_minus text) (drop 1 text)) (without_leading_plus_none text plus)
 
 -- what is read of a text that begins with no plus sign
-pub number_text-parsed : {E : Type 0} (text : List ℕ) (r : Result ℤ E) → get_or text 0 0 ≢ 43 → ParsesSigned w64 10 text r → result_ok r ≡ number_text text
+pub number_text-parsed : {E : Type 0} (text : List ℕ) (r : Result ℤ E) → get_or text 0 0 ≢ 43
+    → ParsesSigned w64 10 text r → result_ok r ≡ number_text text
 number_text-parsed text r plus read =
     let e = same_digits text plus in
     let v = signed_digits_value 10 text in
     let Numeral : List ℕ → Type 0 = λ ds. IsNumeral 10 ds × FitsSigned w64 (signed_digits_value 10 text) in
-    chosen _ _ v r (λ p. tested (without_minus text) v (subst Numeral e p)) (λ h. subst Numeral (sym e) (meant (without_minus text) v h)) read
+    chosen _ _ v r (λ p. tested (without_minus text) v (subst Numeral e p))
+    (λ h. subst Numeral (sym e) (meant (without_minus text) v h)) read
 
 -- a text that begins with a plus sign is no number
 pub plus-no_number : (text : List ℕ) → get_or text 0 0 ≡ 43 → None ≡ number_text text
@@ -70,11 +75,14 @@ plus-no_number (c ∷ cs) h = let P : ℕ → Type 0 = λ n. None ≡ number_tex
 
 -- a list with one value more
 longer : (before : List Value) (value : Value) (rest : Option (List Value))
-    → option_map (λ more. (before ++ value ∷ []) ++ more) rest ≡ option_map (λ more. before ++ more) (option_map (λ more. value ∷ more) rest)
+    → option_map (λ more. (before ++ value ∷ []) ++ more) rest
+    ≡ option_map (λ more. before ++ more) (option_map (λ more. value ∷ more) rest)
 longer before value None = refl
 longer before value (Some more) = ap Some (append_assoc before (value ∷ []) more)
 
 -- one value more after those that were read
-pub values_in-more : (kind : Kind) (before : List Value) (one : RawOne) (value : Value) (list : List RawOne) → value_of kind one ≡ Some value
-    → option_map (λ more. (before ++ value ∷ []) ++ more) (values_in kind list) ≡ option_map (λ more. before ++ more) (values_in kind (one ∷ list))
+pub values_in-more : (kind : Kind) (before : List Value) (one : RawOne) (value : Value) (list : List RawOne)
+    → value_of kind one ≡ Some value
+    → option_map (λ more. (before ++ value ∷ []) ++ more) (values_in kind list)
+    ≡ option_map (λ more. before ++ more) (values_in kind (one ∷ list))
 values_in-more kind before one value list h = rw h (longer before value (values_in kind list))

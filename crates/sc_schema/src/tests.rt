@@ -8,6 +8,7 @@ use std::cmp::Ordering;
 use std::test::Fail;
 
 mod terms;
+mod words;
 
 const NO_ID: &str = "Document is missing mandatory uniqueKey field: id";
 

@@ -1,11 +1,11 @@
 use crate::tests::{member, raw_doc};
-use crate::{RawDoc, RawField, RawFlat, RawOne, RawValue, check_doc, fold_word, terms_of};
-use sc_record::{Change, List, Text};
+use crate::{RawDoc, check_doc, key_of, terms_of};
+use sc_record::{Change, Kind, List, Text};
 use std::alloc::{AllocError, Global};
 use std::test::Fail;
 
 /// The terms of a document, in a line.
-fn term_line(alloc: Global, raw: &RawDoc) -> Result<String, AllocError> {
+pub fn term_line(alloc: Global, raw: &RawDoc) -> Result<String, AllocError> {
     let mut line = String::new(alloc);
     let Ok(order) = check_doc(alloc, raw) else {
         return Err(AllocError);
@@ -53,106 +53,22 @@ fn terms_of_documents(rt: HostRuntime) -> Result<(), Fail> {
     Ok(())
 }
 
-/// The terms of a document with this text.
-fn text_terms(alloc: Global, text: &str) -> Result<String, AllocError> {
-    let mut fields = List::new(alloc);
-    fields.push(member(alloc, "id='a")?)?;
-    fields.push(RawField {
-        name: Text::new(alloc, "t_t")?,
-        value: RawValue::Plain(RawFlat::One(RawOne::Text(Text::new(alloc, text)?))),
-    })?;
-    match raw_doc(fields) {
-        Some(raw) => term_line(alloc, &raw),
-        None => Err(AllocError),
-    }
-}
-
-/// Whether just these words, between bars, are the terms of the text, and its one word is the only one of them.
-fn has_words(alloc: Global, text: &str, words: &str) -> Result<bool, AllocError> {
-    let mut line = String::from_str(alloc, "id:a|")?;
-    for word in words.split('|') {
-        if !word.is_empty() {
-            line.push_str("t_t:")?;
-            line.push_str(word)?;
-            line.push_str("|")?;
-        }
-    }
-    if text_terms(alloc, text)?.as_str() != line.as_str() {
-        return Ok(false);
-    }
-    match fold_word(alloc, text)? {
-        Some(word) => Ok(word.as_str() == words),
-        None => Ok(words.is_empty() || words.contains('|')),
-    }
-}
-
 #[test]
-fn words_of_texts(rt: HostRuntime) -> Result<(), Fail> {
-    // the folded words, ascending, between bars: as the rules of UAX 29 and of default case folding give them
-    let cases = [
-        ("", ""),
-        (" ,.!? \t\r\n", ""),
-        ("Rust", "rust"),
-        ("a b", "a|b"),
-        ("can't", "can't"),
-        ("can\u{2019}t", "can\u{2019}t"),
-        ("'tis'", "tis"),
-        (
-            "The quick (\u{201c}brown\u{201d}) fox can\u{2019}t jump 32.3 feet, right?",
-            "32.3|brown|can\u{2019}t|feet|fox|jump|quick|right|the",
-        ),
-        ("3,456.789", "3,456.789"),
-        ("a,b", "a|b"),
-        ("1.a", "1|a"),
-        ("a.b", "a.b"),
-        ("A1b2", "a1b2"),
-        ("_A_1_", "_a_1_"),
-        ("__", ""),
-        ("A\u{308}B", "a\u{308}b"),
-        ("a\u{200d}b", "a\u{200d}b"),
-        ("a\u{2060}b", "a\u{2060}b"),
-        ("a\u{308} \u{308}b", "a\u{308}|b"),
-        ("\u{5d0}\u{22}\u{5d0}", "\u{5d0}\u{22}\u{5d0}"),
-        ("\u{5d0}'", "\u{5d0}'"),
-        ("a\u{22}b", "a|b"),
-        (
-            "\u{30ab}\u{30ca}\u{6f22}\u{5b57}",
-            "\u{30ab}\u{30ca}|\u{5b57}|\u{6f22}",
-        ),
-        ("\u{3072}\u{3089}", "\u{3072}|\u{3089}"),
-        ("\u{d55c}\u{ae00}", "\u{d55c}\u{ae00}"),
-        ("\u{1f1e6}\u{1f1e7}", ""),
-        ("\u{1f469}\u{200d}\u{1f52c}", ""),
-        ("a\u{1f600}b", "a|b"),
-        ("Stra\u{df}e", "strasse"),
-        ("STRA\u{1e9e}E", "strasse"),
-        (
-            "\u{3a3}\u{3af}\u{3c3}\u{3c5}\u{3c6}\u{3bf}\u{3c2}",
-            "\u{3c3}\u{3af}\u{3c3}\u{3c5}\u{3c6}\u{3bf}\u{3c3}",
-        ),
-        ("\u{130}I", "i\u{307}i"),
-        ("\u{131}", "\u{131}"),
-        ("\u{fb03}X", "ffix"),
-        ("\u{149}", "\u{2bc}n"),
-        ("\u{390}", "\u{3b9}\u{308}\u{301}"),
-        ("\u{587}", "\u{565}\u{582}"),
-        ("\u{1f80}", "\u{1f00}\u{3b9}"),
-        ("\u{1c5}", "\u{1c6}"),
-        ("\u{212a}\u{17f}\u{212b}", "ks\u{e5}"),
-        ("\u{b5}", "\u{3bc}"),
-        ("\u{ab70}\u{13f8}", "\u{13a0}\u{13f0}"),
-        ("\u{10400}", "\u{10428}"),
-    ];
-    for (text, want) in cases {
-        assert!(rt; has_words(rt.alloc(), text, want)?, "{want}");
+fn a_querys_text_asks_for_a_key_of_the_fields_kind(rt: HostRuntime) -> Result<(), Fail> {
+    for (kind, text, key) in [
+        (Kind::Str, "Big Dog", Some("Big Dog")),
+        (Kind::Words, " Big! ", Some("big")),
+        (Kind::Words, "big dog", None),
+        (Kind::Int, "007", Some("7")),
+        (Kind::Int, "-2147483648", Some("-2147483648")),
+        (Kind::Int, "2147483648", None),
+        (Kind::Long, "2147483648", Some("2147483648")),
+        (Kind::Long, "+1", None),
+        (Kind::Flag, "true", Some("true")),
+        (Kind::Flag, "True", None),
+    ] {
+        let found = key_of(rt.alloc(), kind, text)?;
+        assert!(rt; found.as_ref().map(Text::as_str) == key, "{text}");
     }
-    assert!(rt; fold_word(rt.alloc(), "a a")?.is_none());
-    Ok(())
-}
-
-#[test]
-fn words_of_a_megabyte(rt: HostRuntime) -> Result<(), Fail> {
-    let text = "Rust is fun. ".repeat(rt.alloc(), 80_659)?;
-    assert!(rt; text_terms(rt.alloc(), text.as_str())?.as_str() == "id:a|t_t:fun|t_t:is|t_t:rust|");
     Ok(())
 }

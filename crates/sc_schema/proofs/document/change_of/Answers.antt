@@ -5,7 +5,10 @@ use Rattle.sc_schema.proofs.PartLemmas.{parts-lawful, made-document}
 use Rattle.sc_schema.proofs.document.change_of.Goals as goal
 
 pub returns-then-is_update-clause-lawful : goal.returns-then-is_update-clause-lawful
-returns-then-is_update-clause-lawful c = parts-lawful c.args.raw.now.fields c.args.parts c.args.raw.now.ascend c.requires
+returns-then-is_update-clause-lawful c =
+    parts-lawful c.args.raw.now.fields c.args.parts c.args.raw.now.ascend c.requires
 
 pub new-requires : goal.new-requires
-new-requires c = subst IsDocument (sym c.in_ok-set_fields.ensures) (made-document c.args.raw.now.fields c.args.parts c.args.raw.now.ascend c.requires)
+new-requires c =
+    subst IsDocument (sym c.in_ok-set_fields.ensures)
+    (made-document c.args.raw.now.fields c.args.parts c.args.raw.now.ascend c.requires)

@@ -10,4 +10,6 @@ pub returns-clause-names : goal.returns-clause-names
 returns-clause-names c =
     let fields = c.args.raw.now.fields in
     subst (NamesFields fields) (sym c.in_ok-change.ensures.value)
-    (update-names fields c.in_ok-parts.parts (ap parts_of (sym c.as_slice-fields.ensures) ∙ c.in_ok-parts.ensures.ok) (list_any (λ (field : RawField). is_object field.value) fields))
+    (update-names fields c.in_ok-parts.parts
+    (ap parts_of (sym c.as_slice-fields.ensures) ∙ c.in_ok-parts.ensures.ok)
+    (list_any (λ (field : RawField). is_object field.value) fields))

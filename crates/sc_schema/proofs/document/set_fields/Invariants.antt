@@ -6,4 +6,5 @@ use Rattle.sc_schema.specs.Documents.{field_of}
 use Rattle.sc_schema.proofs.document.set_fields.Given as goal
 
 abbrev pub invariant-loop-part : goal.invariant-loop-part
-invariant-loop-part l = filter_map field_of l.fn.parts ≡ l.fields ++ filter_map field_of (into_iter_items l.part-iterator)
+invariant-loop-part l =
+    filter_map field_of l.fn.parts ≡ l.fields ++ filter_map field_of (into_iter_items l.part-iterator)

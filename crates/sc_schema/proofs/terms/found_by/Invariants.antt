@@ -5,4 +5,5 @@ use Rattle.sc_schema.specs.Terms.{field_terms}
 use Rattle.sc_schema.proofs.terms.found_by.Given as goal
 
 abbrev pub invariant-loop-field : goal.invariant-loop-field
-invariant-loop-field l = l.terms ++ flat_map field_terms (drop l.field-index l.fields) ≡ l.initial.terms ++ flat_map field_terms l.fields
+invariant-loop-field l =
+    l.terms ++ flat_map field_terms (drop l.field-index l.fields) ≡ l.initial.terms ++ flat_map field_terms l.fields

@@ -6,4 +6,5 @@ use Rattle.sc_schema.proofs.word.push_words.Given as goal
 
 abbrev pub invariant-loop-word : goal.invariant-loop-word
 invariant-loop-word l =
-    l.terms ++ map (term l.field) (map folded (unicode_words_left l.word-iterator)) ≡ l.initial.terms ++ map (term l.field) (map folded (unicode_words_left l.initial.word-iterator))
+    l.terms ++ map (term l.field) (map folded (unicode_words_left l.word-iterator))
+    ≡ l.initial.terms ++ map (term l.field) (map folded (unicode_words_left l.initial.word-iterator))

@@ -1,10 +1,12 @@
 -- A bucket is sound once an order was accepted.
-use Rattle.std.proofs.Common.{◌≡◌, ℕ, ◌+◌, ◌≤◌, false, List, [], ◌∷◌, ◌++◌, length, map, set, None, refl, sym, ap, ◌∙◌, subst, arith, length-append}
+use Rattle.std.proofs.Common.{◌≡◌, ℕ, ◌+◌, ◌<◌, false, All, Contains, Some, slice_get, List, [], ◌∷◌, ◌++◌, length, map, set, refl, sym, ap, ◌∙◌, subst, arith, length-append}
 use Rattle.std.specs.declared.sync.Arc.{Arc}
 use Rattle.std.specs.declared.alloc.Global.{Global}
-use Rattle.std.proofs.lemmas.List.Elements.{All-weaker}
+use Rattle.std.specs.Prelude.{IsSome}
+use Rattle.std.specs.List.{IsDistinct}
+use Rattle.std.proofs.lemmas.List.Elements.{All-weaker, All-append, All-map}
+use Rattle.sc_record.specs.declared.slice.CoreId.{CoreId}
 use Rattle.sc_record.specs.declared.write.Write.{Write}
-use Rattle.sc_record.specs.declared.entry.Entry.{Entry}
 use Rattle.sc_record.specs.declared.entry.Entry.TheVariants as entry
 use Rattle.sc_cluster.specs.declared.slice.Slice.{Slice}
 use Rattle.sc_cluster.specs.declared.slice.State.TheVariants as states
@@ -13,37 +15,45 @@ use Rattle.sc_cluster.specs.Map.{IsMap}
 use Rattle.sc_cluster.proofs.ListLemmas.{filter-none}
 use Rattle.sc_cluster.proofs.StateLemmas.{active_settled}
 use Rattle.sc_replica.specs.Core.{Core, led}
-use Rattle.sc_journal.specs.Journal.{unsettled}
+use Rattle.sc_replica.proofs.CoreLemmas.{spare_after-≥}
+use Rattle.sc_journal.specs.Journal.{write_at, is_settled, unsettled}
 use Rattle.sc_journal.specs.Splits.{map_after, open_split, owed}
 use Rattle.sc_journal.specs.Legal.{MayWrite, IsLegal}
 use Rattle.sc_journal.specs.Outcomes.{HasRoom}
-use Rattle.sc_journal.proofs.LegalLemmas.{IsLegal-push, unsettled-push_legal_write, owed-push_legal_write}
+use Rattle.sc_journal.proofs.LegalLemmas.{end_is_open, IsLegal-push, unsettled-push_legal_write, owed-push_legal_write}
+use Rattle.sc_journal.proofs.JournalLemmas.{write_at-push_end, write_at-append, write_at_within}
+use Rattle.sc_journal.proofs.SettledLemmas.{is_settled-push_other}
 use Rattle.sc_journal.proofs.MapLemmas.{keeps_a_map}
 use Rattle.sc_journal.proofs.SplitLemmas.{LeavesSlices-write, map_after-left, open_split-left}
 use Rattle.sc_bucket.specs.declared.bucket.Bucket.{Bucket}
-use Rattle.sc_bucket.specs.Accepting.{IsPut}
-use Rattle.sc_bucket.specs.Cores.{IsLeaderAt}
-use Rattle.sc_bucket.specs.Events.{AreSameCores, HasSameName, IsSameBut}
-use Rattle.sc_bucket.specs.Sound.{AreActive, HasJournal, IsSound}
-use Rattle.sc_bucket.proofs.SoundLemmas.{IsSound-left}
-use Rattle.sc_bucket.proofs.LedLemmas.{AreSound, AreSound-led}
+use Rattle.sc_bucket.specs.Accepting.{HasMemory, IsPut}
+use Rattle.sc_bucket.specs.Kept.{Sent}
+use Rattle.sc_bucket.specs.Cores.{followers, IsLeaderAt}
+use Rattle.sc_bucket.specs.Flight.{sent_to, is_same_message, pending}
+use Rattle.sc_bucket.specs.Sound.{AreActive, HasJournal, IsSent, AreSent, HasSpare, IsSound}
+use Rattle.sc_bucket.proofs.SoundLemmas.{All-slice_get, name_of}
+use Rattle.sc_bucket.proofs.PlaceLemmas.{All-set_apart}
+use Rattle.sc_bucket.proofs.FollowerLemmas.{IsFollower, are_followers, followers_apart, IsDistinct-append, sent_apart, sent_later}
+use Rattle.sc_bucket.proofs.LedLemmas.{AreSound, AreSound-led, names-led}
 
 -- the cores of a sound bucket are sound
-pub cores_are_sound : (b : Bucket) → IsSound b → AreSound b.map b.journal.entries b.replicas
+pub cores_are_sound : (b : Bucket) → IsSound b → AreSound b.map b.journal.entries b.flight.messages b.replicas
 cores_are_sound b sound = record {
   leaders = sound.leaders;
   written = sound.written;
+  held = sound.held;
   in_range = sound.in_range;
   clocks = sound.clocks;
+  apart = sound.apart;
   keys = sound.phase.cores;
   active = sound.phase.active;
 }
 
 -- its journal is as it has to be once a write was put in that may come next
-HasJournal-put : (old new : Bucket) (cell : Arc Write Global) (at : ℕ) → IsPut old cell at new
+HasJournal-put : (old new : Bucket) (cell : Arc Write Global) (at : ℕ) (messages : List Sent) → IsPut old cell at messages new
     → MayWrite old.journal.entries cell.value → HasRoom old.limit old.first old.journal.entries
     → HasJournal old → HasJournal new
-HasJournal-put old new cell at put may has_room journal =
+HasJournal-put old new cell at messages put may has_room journal =
     let longer = old.journal.entries ++ entry.Write cell ∷ [] in
     let legal : IsLegal old.first longer = IsLegal-push old.first old.journal.entries (entry.Write cell) journal.legal may in
     let slices : map_after old.first longer ≡ map_after old.first old.journal.entries =
@@ -74,40 +84,112 @@ bucket_has_map b journal =
     let kept = keeps_a_map b.first b.journal.entries journal.first idle journal.legal in
     subst IsMap (sym journal.map_is) kept.0
 
--- which says nothing of the cores
-same_journal : (b : Bucket) (cores : List Core) → HasJournal b → HasJournal (record b { replicas = cores })
-same_journal b cores journal = record {
-  first = journal.first;
-  begins = journal.begins;
-  legal = journal.legal;
-  map_is = journal.map_is;
-  unsettled_are = journal.unsettled_are;
-  owed_is = journal.owed_is;
-  room = journal.room;
-  within = journal.within;
-  limit_from = journal.limit_from;
-  limit_to = journal.limit_to;
-}
+-- the messages to followers
+abbrev pub sent_by : Bucket → Write → CoreId → List Sent
+sent_by b write leader = sent_to (length b.journal.entries) write (followers b.map b.replicas write.hash leader)
 
--- a sound bucket is sound once a write was put in that may come next, and whose hash the core at the place leads
-pub IsSound-put : (old new : Bucket) (cell : Arc Write Global) (at : ℕ) → IsPut old cell at new
-    → MayWrite old.journal.entries cell.value → HasRoom old.limit old.first old.journal.entries
-    → IsLeaderAt old.map old.replicas cell.value.hash at → IsSound old → IsSound new
-IsSound-put old new cell at put may has_room leader sound =
+-- an earlier message is still of a write that is not settled, and to a core that is there
+IsSent-put : (old new : Bucket) (cell : Arc Write Global) (message : Sent) → new.journal.entries ≡ old.journal.entries ++ entry.Write cell ∷ []
+    → map name_of new.replicas ≡ map name_of old.replicas → IsSent old message → IsSent new message
+IsSent-put old new cell message entries names sent =
+    let within = write_at_within old.journal.entries message.place (subst IsSome (sym sent.write) refl) in
+    record {
+      write = ap (λ journal. write_at journal message.place) entries
+          ∙ write_at-append old.journal.entries (entry.Write cell ∷ []) message.place within ∙ sent.write;
+      unsettled = ap (λ journal. is_settled journal message.place) entries
+          ∙ is_settled-push_other old.journal.entries (entry.Write cell) message.place (λ _. refl) ∙ sent.unsettled;
+      core = subst (λ (ids : List CoreId). Contains ids message.core) (sym names) sent.core;
+    }
+
+-- and so is a message of the new write
+IsSent-new : (old new : Bucket) (cell : Arc Write Global) (leader name : CoreId) → new.journal.entries ≡ old.journal.entries ++ entry.Write cell ∷ []
+    → map name_of new.replicas ≡ map name_of old.replicas → HasJournal old → IsFollower old.map old.replicas cell.value.hash leader name
+    → IsSent new (record { place = length old.journal.entries; core = name; write = cell.value })
+IsSent-new old new cell leader name entries names journal follower =
+    let place = length old.journal.entries in
+    record {
+      write = ap (λ journal. write_at journal place) entries ∙ write_at-push_end old.journal.entries (entry.Write cell);
+      unsettled = ap (λ journal. is_settled journal place) entries
+          ∙ is_settled-push_other old.journal.entries (entry.Write cell) place (λ _. refl)
+          ∙ end_is_open old.first old.journal.entries journal.legal;
+      core = subst (λ (ids : List CoreId). Contains ids name) (sym names) follower.core;
+    }
+
+-- the messages are as they have to be once those of a write were sent
+AreSent-put : (old new : Bucket) (cell : Arc Write Global) (leader : CoreId) → new.journal.entries ≡ old.journal.entries ++ entry.Write cell ∷ []
+    → map name_of new.replicas ≡ map name_of old.replicas → new.flight.messages ≡ old.flight.messages ++ sent_by old cell.value leader
+    → IsSound old → AreSent new
+AreSent-put old new cell leader entries names messages sound =
+    let place = length old.journal.entries in
+    let to : List CoreId = followers old.map old.replicas cell.value.hash leader in
+    let follow = are_followers old.map old.replicas cell.value.hash leader in
+    let earlier : All (λ (message : Sent). message.place < length old.journal.entries) old.flight.messages =
+    All-weaker (IsSent old) (λ (message : Sent). message.place < length old.journal.entries)
+    (λ message sent. write_at_within old.journal.entries message.place (subst IsSome (sym sent.write) refl)) old.flight.messages sound.messages.each in
     let is_map = bucket_has_map old sound.journal in
-    let cores = AreSound-led old.map old.journal.entries old.replicas at cell is_map may.hash (cores_are_sound old sound) leader in
-    let journal = HasJournal-put old new cell at put may has_room sound.journal in
-    let exact : Bucket = record new { replicas = set old.replicas at (led leader.core cell.value) } in
-    let sound_cores : AreSound exact.map exact.journal.entries exact.replicas =
-    subst (λ m. AreSound m exact.journal.entries exact.replicas) (sym put.map_is)
-    (subst (λ j. AreSound old.map j exact.replicas) (sym put.entries) cores) in
-    let idle = ap open_split put.entries ∙ open_split-left old.journal.entries (entry.Write cell) (LeavesSlices-write cell) ∙ sound.phase.idle in
-    let led_exactly : IsSound exact = record {
-      journal = same_journal new exact.replicas journal;
+    record {
+      each = subst (All (IsSent new)) (sym messages)
+          (All-append (IsSent new) old.flight.messages (sent_by old cell.value leader)
+          (All-weaker (IsSent old) (IsSent new) (λ message. IsSent-put old new cell message entries names) old.flight.messages sound.messages.each)
+          (All-map (IsSent new) (λ (name : CoreId). record { place = length old.journal.entries; core = name; write = cell.value }) to
+          (All-weaker (IsFollower old.map old.replicas cell.value.hash leader)
+          (λ (name : CoreId). IsSent new (record { place = length old.journal.entries; core = name; write = cell.value }))
+          (λ name. IsSent-new old new cell leader name entries names sound.journal) to follow)));
+      once = subst (IsDistinct is_same_message) (sym messages)
+          (IsDistinct-append is_same_message old.flight.messages (sent_by old cell.value leader) sound.messages.once
+          (sent_apart place cell.value to (followers_apart old.map old.replicas cell.value.hash leader is_map sound.apart))
+          (sent_later old.flight.messages place cell.value to earlier));
+    }
+
+-- each core has room for what is pending once the leader led the write
+spares-put : (cores : List Core) (messages : List Sent) (at : ℕ) (core : Core) (write : Write) → slice_get cores at ≡ Some core
+    → All (HasSpare messages) cores → length (pending messages core) < core.cell_spare → All (HasSpare messages) (set cores at (led core write))
+spares-put cores messages at core write there spares one_more =
+    let before = All-slice_get (HasSpare messages) cores at core spares there in
+    All-set_apart (HasSpare messages) cores at (led core write)
+    (record {
+      cells = omega (arith, one_more, spare_after-≥ core.cells core.cell_spare write);
+      buffer = before.buffer;
+    })
+    (λ k other apart found. All-slice_get (HasSpare messages) cores k other spares found)
+
+-- a sound bucket is sound once a write was put in that may come next, and whose hash the core at the place leads, and was sent to
+-- the others
+pub IsSound-put : (old new : Bucket) (cell : Arc Write Global) (at : ℕ) (messages : List Sent) → IsPut old cell at messages new
+    → MayWrite old.journal.entries cell.value → HasRoom old.limit old.first old.journal.entries → HasMemory old at messages
+    → (leader : IsLeaderAt old.map old.replicas cell.value.hash at) → messages ≡ sent_by old cell.value leader.core.core
+    → IsSound old → IsSound new
+IsSound-put old new cell at messages put may has_room memory leader sent sound =
+    let is_map = bucket_has_map old sound.journal in
+    let cores = AreSound-led old.map old.journal.entries old.flight.messages old.replicas at (length old.journal.entries) cell is_map may.hash
+    (cores_are_sound old sound) leader in
+    let exactly : new.replicas ≡ set old.replicas at (led leader.core cell.value) = put.cores leader.core leader.found in
+    let flight : new.flight.messages ≡ old.flight.messages ++ sent_by old cell.value leader.core.core =
+    put.flight_is ∙ ap (λ (ms : List Sent). old.flight.messages ++ ms) sent in
+    let sound_cores : AreSound new.map new.journal.entries new.flight.messages new.replicas =
+    subst (λ m. AreSound m new.journal.entries new.flight.messages new.replicas) (sym put.map_is)
+    (subst (λ j. AreSound old.map j new.flight.messages new.replicas) (sym put.entries)
+    (subst (λ ms. AreSound old.map (old.journal.entries ++ entry.Write cell ∷ []) ms new.replicas) (sym flight)
+    (subst (AreSound old.map (old.journal.entries ++ entry.Write cell ∷ []) (old.flight.messages ++ sent_by old cell.value leader.core.core))
+    (sym exactly) cores))) in
+    let names : map name_of new.replicas ≡ map name_of old.replicas =
+    ap (map name_of) exactly ∙ names-led old.replicas at leader.core cell.value leader.found in
+    record {
+      journal = HasJournal-put old new cell at messages put may has_room sound.journal;
       leaders = sound_cores.leaders;
       written = sound_cores.written;
+      held = sound_cores.held;
       in_range = sound_cores.in_range;
       clocks = sound_cores.clocks;
-      phase = record { idle = idle; cores = sound_cores.keys; active = sound_cores.active };
-    } in
-    IsSound-left exact new led_exactly journal refl (put.cores leader.core leader.found) refl refl
+      messages = AreSent-put old new cell leader.core.core put.entries names flight sound;
+      spares = subst (λ (ms : List Sent). All (HasSpare ms) new.replicas) (sym put.flight_is)
+          (subst (All (HasSpare (old.flight.messages ++ messages))) (sym exactly)
+          (spares-put old.replicas (old.flight.messages ++ messages) at leader.core cell.value leader.found memory.cores
+          (memory.one_more leader.core leader.found)));
+      apart = sound_cores.apart;
+      phase = record {
+        idle = ap open_split put.entries ∙ open_split-left old.journal.entries (entry.Write cell) (LeavesSlices-write cell) ∙ sound.phase.idle;
+        cores = sound_cores.keys;
+        active = sound_cores.active;
+      };
+    }

@@ -1,77 +1,190 @@
 -- The cores of a bucket by their names, and which of them serves a hash.
-use Rattle.std.proofs.Common.{[], ◌∷◌, get_or, take, ◌++◌, ◌≡◌, ◌≢◌, ◌∙◌, ℕ, ℤ, ◌+◌, ◌<◌, List, length, map, slice_get, Some, None, Option, All, Contains, MatchOption, IsSome, refl, sym, ap, subst, arith}
-use Rattle.std.proofs.lemmas.List.{length-map, get_or-map, map-append, take_more}
+use Rattle.std.proofs.Common.{[], ◌∷◌, get_or, take, ◌++◌, ◌≡◌, ◌∙◌, ℕ, ℤ, zero, suc, ◌+◌, ◌<◌, List, length, map, slice_get, Some, None, Option, All, Contains, MatchOption, IsSome, true, false, ◌⊎◌, inl, inr, refl, sym, ap, subst, append_assoc, arith}
+use Rattle.std.specs.Bool.{Decides}
+use Rattle.std.specs.List.{range_with_len, AllWithin, HoldsAt}
+use Rattle.std.proofs.lemmas.Bool.{cases_order}
+use Rattle.std.proofs.lemmas.Bool.Decides.{Decides-and, Decides-like, Decides-eqb}
+use Rattle.std.proofs.lemmas.Grind.{flat_map-append}
+use Rattle.std.proofs.lemmas.List.{append-nil, length-map, get_or-map, map-append, take_more}
+use Rattle.std.proofs.lemmas.List.Elements.{Contains-append_left, Contains-append_right}
+use Rattle.std.proofs.lemmas.List.FromFn.{length-range_with_len, get_or-range_with_len, map-range_with_len_more}
+use Rattle.std.proofs.lemmas.Map.Keys.{apart_from_distinct}
 use Rattle.std.proofs.lemmas.Option.{slice_get-get_or, slice_get_within, get_or_from_slice_get}
 use Rattle.sc_record.specs.declared.slice.SliceId.{SliceId}
+use Rattle.sc_record.specs.declared.slice.CoreId.{CoreId}
 use Rattle.sc_cluster.specs.declared.slice.Slice.{Slice}
 use Rattle.sc_cluster.specs.Map.{Leads}
 use Rattle.sc_cluster.proofs.ListLemmas.{Contains-map}
 use Rattle.sc_replica.specs.Core.{Core}
-use Rattle.sc_bucket.specs.Cores.{core_key, core_keys, IsLeaderOf, IsLeaderAt}
+use Rattle.sc_bucket.specs.Cores.{core_key, core_keys, keys_of, is_core, AreApart, IsLeaderOf, IsLeaderAt}
+use Rattle.sc_bucket.proofs.PlaceLemmas.{some_at}
+use mathlib.Core.HLevel.{is_prop→PathP}
+use native.Mathlib.Bridge.{le_prop}
 
--- the name of a slice's leader
-abbrev pub leader_key : Slice → ℕ × ℕ
-leader_key slice = (slice.id.0, 1)
+-- a name by its parts
+same_name_by : (one other : CoreId) → one.slice.0 ≡ other.slice.0 → one.replica ≡ other.replica → one ≡ other
+same_name_by one other slice replica = λ i. record {
+  slice = record { 0 = slice i };
+  replica = replica i;
+  counted = is_prop→PathP (λ j. 0 < replica j) (λ j. le_prop) one.counted other.counted i;
+}
+
+-- the two names are those of one core exactly where they are the same
+pub is_core-Decides : (one other : CoreId) → Decides (is_core one other) (one ≡ other)
+is_core-Decides one other =
+    Decides-like (is_core one other) (λ parts. same_name_by one other parts.0 parts.1)
+    (λ same. (ap (λ (name : CoreId). name.slice.0) same, ap (λ (name : CoreId). name.replica) same))
+    (Decides-and _ _ (Decides-eqb one.slice.0 other.slice.0) (Decides-eqb one.replica other.replica))
+
+pub is_core-itself : (name : CoreId) → is_core name name ≡ true
+is_core-itself name = (is_core-Decides name name).1 refl
+
+-- two cores of one name are at one place
+pub core_alone : (cores : List Core) (i j : ℕ) (one other : Core) → AreApart cores → slice_get cores i ≡ Some one
+    → slice_get cores j ≡ Some other → one.core ≡ other.core → i ≡ j
+core_alone cores i j one other apart at_i at_j same = by (cases_order i j) where
+  name : Core → CoreId
+  name core = core.core
+
+  name_at : (k : ℕ) (core : Core) → slice_get cores k ≡ Some core → get_or (map (λ (c : Core). c.core) cores) k one.core ≡ core.core
+  name_at k core at =
+      get_or-map (λ (c : Core). c.core) cores k core one.core (slice_get_within cores k core at)
+      ∙ ap (λ (c : Core). c.core) (get_or_from_slice_get cores k core core at)
+
+  within : (k : ℕ) (core : Core) → slice_get cores k ≡ Some core → k < length (map (λ (c : Core). c.core) cores)
+  within k core at = let inside = slice_get_within cores k core at in omega (arith, length-map cores (λ (c : Core). c.core))
+
+  clash : (k l : ℕ) (here there : Core) → slice_get cores k ≡ Some here → slice_get cores l ≡ Some there → here.core ≡ there.core
+      → k < l → ⊥
+  clash k l here there at_k at_l alike less =
+      let differ = apart_from_distinct is_core (map (λ (c : Core). c.core) cores) k l one.core apart less (within l there at_l) in
+      let both : is_core here.core there.core ≡ false =
+      ap (λ (n : CoreId). is_core n there.core) (sym (name_at k here at_k))
+      ∙ ap (λ (n : CoreId). is_core (get_or (map (λ (c : Core). c.core) cores) k one.core) n) (sym (name_at l there at_l)) ∙ differ in
+      let yes : is_core here.core there.core ≡ true = (is_core-Decides here.core there.core).1 alike in
+      let no : true ≡ false = sym yes ∙ both in
+      absurd (cc)
+
+  by : (i ≡ j) ⊎ ((i < j) ⊎ (j < i)) → i ≡ j
+  by (inl equal) = equal
+  by (inr (inl less)) = absurd (clash i j one other at_i at_j same less)
+  by (inr (inr more)) = absurd (clash j i other one at_j at_i (sym same) more)
 
 -- a core of this name leads the slice
 pub IsLeaderOf-from_key : (slice : SliceId) (core : Core) → core_key core ≡ (slice.0, 1) → IsLeaderOf slice core
 IsLeaderOf-from_key slice core same =
     (ap (λ (key : ℕ × ℕ). record { 0 = key.0 }) same, ap (λ (key : ℕ × ℕ). key.1) same)
 
--- where every slice has its leader, there is a core of each slice's name
+-- the names of a slice's cores begin with that of its leader
+leader_of_slice : (slice : Slice) → Contains (keys_of slice) (slice.id.0, 1)
+leader_of_slice slice =
+    Contains-map (λ (replica : ℕ). (slice.id.0, replica)) (range_with_len 1 slice.replicas) 1
+    (0, omega (arith, length-range_with_len 1 slice.replicas, slice.replicated), get_or-range_with_len 1 slice.replicas 0 1 slice.replicated)
+
+-- a slice's names are among those of the map
+keys_among : (slices : List Slice) (slice : Slice) (key : ℕ × ℕ) → Contains slices slice → Contains (keys_of slice) key
+    → Contains (core_keys slices) key
+keys_among [] slice key (k, below, is) there = absurd (omega arith)
+keys_among (first ∷ slices) slice key (zero, below, is) there =
+    Contains-append_left (keys_of first) (core_keys slices) key (subst (λ (s : Slice). Contains (keys_of s) key) (sym is) there)
+keys_among (first ∷ slices) slice key (suc k, below, is) there =
+    Contains-append_right (keys_of first) (core_keys slices) key (keys_among slices slice key (k, omega arith, is) there)
+
+-- where every slice has its cores, there is a core of each leader's name
 pub has_leader : (slices : List Slice) (cores : List Core) (slice : Slice) → map core_key cores ≡ core_keys slices
     → Contains slices slice → Contains (map core_key cores) (slice.id.0, 1)
 has_leader slices cores slice same there =
-    subst (λ keys. Contains keys (slice.id.0, 1)) (sym same) (Contains-map leader_key slices slice there)
+    subst (λ keys. Contains keys (slice.id.0, 1)) (sym same) (keys_among slices slice (slice.id.0, 1) there (leader_of_slice slice))
 
 -- an element of a mapped list is that of an element
-element_from_map : {A B : Type 0} (f : A → B) (xs : List A) (y : B) → Contains (map f xs) y
+pub element_from_map : {A B : Type 0} (f : A → B) (xs : List A) (y : B) → Contains (map f xs) y
     → (k : ℕ) × (x : A) × (slice_get xs k ≡ Some x) × (f x ≡ y)
 element_from_map f [] y (k, below, is) = absurd (omega arith)
 element_from_map f (x ∷ xs) y (k, below, is) =
     let within : k < length (x ∷ xs) = omega (arith, length-map (x ∷ xs) f) in
     (k, get_or (x ∷ xs) k x, slice_get-get_or (x ∷ xs) k x within, sym (get_or-map f (x ∷ xs) k x y within) ∙ is)
 
--- what a search for the leader of a slice finds
-abbrev pub IsLeaderFound : List Core → SliceId → Option ℕ → Type 0
-IsLeaderFound cores slice found =
-    MatchOption found (All (λ core. core_key core ≢ (slice.0, 1)) cores)
-    (λ at. (core : Core) × (slice_get cores at ≡ Some core) × (core_key core ≡ (slice.0, 1)))
+-- what a search for a core of this name finds
+abbrev pub IsCoreFound : List Core → CoreId → Option ℕ → Type 0
+IsCoreFound cores name found =
+    MatchOption found (All (λ (other : Core). is_core name other.core ≡ false) cores)
+    (λ at. (there : Core) × (slice_get cores at ≡ Some there) × (is_core name there.core ≡ true))
 
--- so the search for it finds one
-pub leader_is_found : (slices : List Slice) (cores : List Core) (slice : Slice) (id : SliceId) (found : Option ℕ)
-    → map core_key cores ≡ core_keys slices → Contains slices slice → slice.id ≡ id → IsLeaderFound cores id found → IsSome found
-leader_is_found slices cores slice id (Some at) keys there same is = refl
-leader_is_found slices cores slice id None keys there same none =
+pub core_found : (cores : List Core) (name : CoreId) (found : Option ℕ)
+    → MatchOption found (AllWithin (λ (core : Core). is_core name core.core ≡ false) cores 0 (length cores))
+    (λ i. (i < length cores) × HoldsAt (λ (core : Core). is_core name core.core ≡ true) cores i × AllWithin (λ (core : Core). is_core name core.core ≡ false) cores 0 i)
+    → IsCoreFound cores name found
+core_found cores name None none = λ k d below. none k d (omega arith) below
+core_found cores name (Some i) (within, here, before) =
+    let (core, found) = some_at cores i within in
+    (core, found, subst (λ (c : Core). is_core name c.core ≡ true) (get_or_from_slice_get cores i core core found) (here core))
+
+-- a core that is there is found
+pub core_is_found : (cores : List Core) (name : CoreId) (found : Option ℕ) → Contains (map (λ (core : Core). core.core) cores) name
+    → IsCoreFound cores name found → IsSome found
+core_is_found cores name (Some at) there is = refl
+core_is_found cores name None there none =
+    let (k, core, at, is) = element_from_map (λ (core : Core). core.core) cores name there in
+    let no : is_core name (get_or cores k core).core ≡ false = none k core (slice_get_within cores k core at) in
+    let yes : is_core name (get_or cores k core).core ≡ true =
+    (is_core-Decides name (get_or cores k core).core).1 (sym is ∙ ap (λ (c : Core). c.core) (sym (get_or_from_slice_get cores k core core at))) in
+    let both : true ≡ false = sym yes ∙ no in
+    absurd (cc)
+
+-- so the search for a slice's leader finds one
+pub leader_is_found : (slices : List Slice) (cores : List Core) (slice : Slice) (name : CoreId) (found : Option ℕ)
+    → map core_key cores ≡ core_keys slices → Contains slices slice → slice.id ≡ name.slice → name.replica ≡ 1
+    → IsCoreFound cores name found → IsSome found
+leader_is_found slices cores slice name (Some at) keys there same first is = refl
+leader_is_found slices cores slice name None keys there same first none =
     let (k, core, at, is) = element_from_map core_key cores (slice.id.0, 1) (has_leader slices cores slice keys there) in
-    absurd (none k core (slice_get_within cores k core at)
-    (ap core_key (get_or_from_slice_get cores k core core at) ∙ is ∙ ap (λ (i : SliceId). (i.0, 1)) same))
+    let of_slice : core.core.slice.0 ≡ name.slice.0 = ap (λ (key : ℕ × ℕ). key.0) is ∙ ap (λ (id : SliceId). id.0) same in
+    let alike : name ≡ core.core = same_name_by name core.core (sym of_slice) (first ∙ sym (ap (λ (key : ℕ × ℕ). key.1) is)) in
+    let no : is_core name (get_or cores k core).core ≡ false = none k core (slice_get_within cores k core at) in
+    let yes : is_core name (get_or cores k core).core ≡ true =
+    (is_core-Decides name (get_or cores k core).core).1 (alike ∙ ap (λ (c : Core). c.core) (sym (get_or_from_slice_get cores k core core at))) in
+    let both : true ≡ false = sym yes ∙ no in
+    absurd (cc)
 
 -- and what it finds serves the hash that the slice leads
-pub leader_at : (slices : List Slice) (cores : List Core) (hash : ℤ) (slice : Slice) (id : SliceId) (found : Option ℕ) (at : ℕ)
-    → Leads slices hash slice → slice.id ≡ id → IsLeaderFound cores id found → found ≡ Some at → IsLeaderAt slices cores hash at
-leader_at slices cores hash slice id found at leads same is found_at =
-    let (core, there, key) = subst (IsLeaderFound cores id) found_at is in
+pub leader_at : (slices : List Slice) (cores : List Core) (hash : ℤ) (slice : Slice) (name : CoreId) (found : Option ℕ) (at : ℕ)
+    → Leads slices hash slice → slice.id ≡ name.slice → name.replica ≡ 1 → IsCoreFound cores name found → found ≡ Some at
+    → IsLeaderAt slices cores hash at
+leader_at slices cores hash slice name found at leads same first is found_at =
+    let (core, there, named) = subst (IsCoreFound cores name) found_at is in
+    let alike : name ≡ core.core = (is_core-Decides name core.core).0 named in
     record {
       slice = slice;
       core = core;
       leads = leads;
       found = there;
-      leader = IsLeaderOf-from_key slice.id core (key ∙ ap (λ (i : SliceId). (i.0, 1)) (sym same));
+      leader = (
+        ap (λ (n : CoreId). n.slice) (sym alike) ∙ sym same,
+        ap (λ (n : CoreId). n.replica) (sym alike) ∙ first,
+      );
     }
 
 -- a core at a place is one of the cores
 pub IsLeaderAt-within : (slices : List Slice) (cores : List Core) (hash : ℤ) (at : ℕ) → IsLeaderAt slices cores hash at → at < length cores
 IsLeaderAt-within slices cores hash at leader = slice_get_within cores at leader.core leader.found
 
--- the leaders of the first slices, and that of the next
-pub keys-push : (slices : List Slice) (at : ℕ) (cores : List Core) (slice : Slice) (core : Core)
-    → map core_key cores ≡ core_keys (take at slices) → slice_get slices at ≡ Some slice → core_key core ≡ (slice.id.0, 1)
-    → map core_key (cores ++ core ∷ []) ≡ core_keys (take (at + 1) slices)
-keys-push slices at cores slice core so_far there is =
-    map-append core_key cores (core ∷ [])
-    ∙ ap (λ keys. keys ++ core_key core ∷ []) so_far
-    ∙ ap (λ (key : ℕ × ℕ). core_keys (take at slices) ++ key ∷ []) is
-    ∙ sym (map-append leader_key (take at slices) (slice ∷ []))
+-- the names of the first slices' cores, and those of the next
+pub keys-push : (slices : List Slice) (at : ℕ) (slice : Slice) → slice_get slices at ≡ Some slice
+    → core_keys (take at slices) ++ keys_of slice ≡ core_keys (take (at + 1) slices)
+keys-push slices at slice there =
+    ap (λ keys. core_keys (take at slices) ++ keys) (sym (append-nil (keys_of slice)))
+    ∙ sym (flat_map-append keys_of (take at slices) (slice ∷ []))
     ∙ ap core_keys (sym (take_more slices at slice (slice_get_within slices at slice there)
     ∙ ap (λ (s : Slice). take at slices ++ s ∷ []) (get_or_from_slice_get slices at slice slice there)))
+
+-- the names of one core more of a slice
+pub keys_more : (id below : ℕ) (before : List (ℕ × ℕ)) (cores : List Core) (core : Core)
+    → map core_key cores ≡ before ++ map (λ (replica : ℕ). (id, replica)) (range_with_len 1 below) → core_key core ≡ (id, below + 1)
+    → map core_key (cores ++ core ∷ []) ≡ before ++ map (λ (replica : ℕ). (id, replica)) (range_with_len 1 (below + 1))
+keys_more id below before cores core so_far is =
+    let name : ℕ → ℕ × ℕ = λ replica. (id, replica) in
+    map-append core_key cores (core ∷ [])
+    ∙ ap (λ keys. keys ++ core_key core ∷ []) so_far
+    ∙ append_assoc before (map name (range_with_len 1 below)) (core_key core ∷ [])
+    ∙ ap (λ (key : ℕ × ℕ). before ++ (map name (range_with_len 1 below) ++ key ∷ [])) is
+    ∙ ap (λ keys. before ++ keys) (sym (map-range_with_len_more name 1 below (below + 1) (omega arith)))

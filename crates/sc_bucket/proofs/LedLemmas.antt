@@ -1,16 +1,20 @@
 -- What is true of the cores of a bucket once the one that leads a hash led a write.
-use Rattle.std.proofs.Common.{◌≡◌, ◌≢◌, ℕ, ◌+◌, ◌<◌, ◌≤◌, ℤ, Bool, true, false, cond, List, [], ◌∷◌, ◌++◌, length, map, set, Some, None, Option, refl, sym, ap, ◌∙◌, subst, All, Contains, slice_get, count_by, inr, arith}
+use Rattle.std.proofs.Common.{◌≡◌, ◌≢◌, ℕ, ℤ, Bool, true, false, cond, List, [], ◌∷◌, ◌++◌, map, set, Some, refl, sym, ap, ◌∙◌, subst, All, Contains, IsTrue, slice_get, ◌⊎◌, inl, inr, arith}
 use Rattle.std.specs.declared.sync.Arc.{Arc}
 use Rattle.std.specs.declared.alloc.Global.{Global}
 use Rattle.std.proofs.lemmas.List.Elements.{All-contains, All-weaker, Contains-append_left, Contains-push}
+use Rattle.std.specs.List.{IsDistinct}
+use Rattle.std.proofs.Math.Seq.{map-set_same}
+use Rattle.std.proofs.lemmas.Bool.{eq-eqb, and_from}
 use Rattle.std.proofs.lemmas.Bool.Decides.{not_from_Decides}
-use Rattle.std.proofs.lemmas.Option.{slice_get_within, get_or_from_slice_get}
+use Rattle.std.proofs.lemmas.Option.{slice_get_within, get_or_from_slice_get, same_Some}
 use Rattle.sc_hash.specs.Bounds.{contains}
 use Rattle.sc_hash.specs.Range.{IsWithin}
 use Rattle.sc_hash.proofs.BoundsLemmas.{contains-Decides}
 use Rattle.sc_record.specs.Writes.{is_of, write_of}
 use Rattle.sc_record.specs.declared.write.Write.{Write}
 use Rattle.sc_record.specs.declared.slice.SliceId.{SliceId}
+use Rattle.sc_record.specs.declared.slice.CoreId.{CoreId}
 use Rattle.sc_record.specs.declared.entry.Entry.{Entry}
 use Rattle.sc_record.specs.declared.entry.Entry.TheVariants as entry
 use Rattle.sc_router.specs.Route.{route_hash}
@@ -18,6 +22,7 @@ use Rattle.sc_cluster.specs.declared.slice.Slice.{Slice}
 use Rattle.sc_cluster.specs.Slices.{is_active}
 use Rattle.sc_cluster.specs.Map.{least_hash, greatest_hash, IsMap, Leads}
 use Rattle.sc_cluster.proofs.ItemLemmas.{count_by-positive}
+use Rattle.sc_cluster.proofs.ListLemmas.{Contains-map}
 use Rattle.sc_cluster.proofs.LeaderLemmas.{is_leader, leads_alone, same_from_id}
 use Rattle.sc_cluster.proofs.TileLemmas.{holders-filter}
 use Rattle.sc_ulog.specs.declared.mode.Mode.TheVariants.{Active}
@@ -29,11 +34,15 @@ use Rattle.sc_journal.specs.Journal.{writes, last_write}
 use Rattle.sc_journal.specs.Outcomes.{IsClock}
 use Rattle.sc_journal.proofs.JournalLemmas.{id_from_is_of, writes-push_write, last_write-push_write, last_write-push_write_other}
 use Rattle.sc_journal.proofs.VersionLemmas.{IsClock-append, IsClock-push_write}
-use Rattle.sc_bucket.specs.Cores.{core_key, core_keys, IsLeaderAt}
-use Rattle.sc_bucket.specs.Events.{without_room, AreSameCores}
-use Rattle.sc_bucket.specs.Sound.{HasLastWrites, Serves, AreWritten, AreInRange}
-use Rattle.sc_bucket.proofs.SoundLemmas.{All-slice_get}
-use Rattle.sc_bucket.proofs.PlaceLemmas.{All-set_apart, core_alone, keys-led}
+use Rattle.sc_bucket.specs.Kept.{Sent}
+use Rattle.sc_bucket.specs.Cores.{core_key, core_keys, is_core, is_attached, followers, AreApart, IsLeaderAt}
+use Rattle.sc_bucket.specs.Flight.{sent_to, pending}
+use Rattle.sc_bucket.specs.Sound.{Serves, AreWritten, HasOrAwaits, IsInRange, AreInRange}
+use Rattle.sc_bucket.proofs.CoreLemmas.{is_core-Decides, core_alone}
+use Rattle.sc_bucket.proofs.SoundLemmas.{All-slice_get, name_of}
+use Rattle.sc_bucket.proofs.PlaceLemmas.{All-set_apart, keys-led}
+use Rattle.sc_bucket.proofs.PendingLemmas.{All-pending_sent, pending-stays, pending-sent}
+use Rattle.sc_bucket.proofs.FollowerLemmas.{IsFollower, are_followers, is_follower}
 
 -- a write of a journal is one of it with one entry more
 pub Contains-writes_push : (journal : List Entry) (cell : Arc Write Global) (write : Write) → Contains (writes journal) write
@@ -46,12 +55,14 @@ Contains-writes_push journal cell write there =
 abbrev pub OfSlices : List Slice → (Slice → Core → Type 0) → Core → Type 0
 OfSlices slices P core = (slice : Slice) → Contains slices slice → slice.id ≡ core.core.slice → P slice core
 
--- what is true of the cores of a bucket with this map and this journal
-pub record AreSound (slices : List Slice) (journal : List Entry) (cores : List Core) : Type 0 where
+-- what is true of the cores of a bucket with this map, this journal and these messages
+pub record AreSound (slices : List Slice) (journal : List Entry) (messages : List Sent) (cores : List Core) : Type 0 where
   pub leaders : All (OfSlices slices (Serves journal)) cores
-  pub written : All (AreWritten journal) cores
-  pub in_range : All (OfSlices slices AreInRange) cores
+  pub written : All (AreWritten journal messages) cores
+  pub held : All (OfSlices slices (HasOrAwaits journal messages)) cores
+  pub in_range : All (OfSlices slices (AreInRange messages)) cores
   pub clocks : All (λ (core : Core). IsClock journal core.clock) cores
+  pub apart : AreApart cores
   pub keys : map core_key cores ≡ core_keys slices
   pub active : All (λ (core : Core). core.mode ≡ Active) cores
 
@@ -87,7 +98,7 @@ led_serves slices journal core slice cell serves other there named active first 
 -- another core, whose slice doesn't lead the hash of the write, still has the last writes
 other_serves : (slices : List Slice) (journal : List Entry) (other : Core) (cell : Arc Write Global)
     → cell.value.hash ≡ route_hash cell.value.id
-    → ((slice : Slice) → Leads slices cell.value.hash slice → slice.id ≡ other.core.slice → ⊥)
+    → ((slice : Slice) → Leads slices cell.value.hash slice → slice.id ≡ other.core.slice → other.core.replica ≡ 1 → ⊥)
     → OfSlices slices (Serves journal) other → OfSlices slices (Serves (journal ++ entry.Write cell ∷ [])) other
 other_serves slices journal other cell hashed apart serves slice there named active first =
     let before = serves slice there named active first in
@@ -103,32 +114,134 @@ other_serves slices journal other cell hashed apart serves slice there named act
             active = active;
             within = subst (IsWithin slice.range.min slice.range.max) same within;
           } in
-          absurd (apart slice leads named)
+          absurd (apart slice leads named first)
 
--- what was written stays written
-AreWritten-push : (journal : List Entry) (cell : Arc Write Global) (core : Core) → AreWritten journal core
-    → AreWritten (journal ++ entry.Write cell ∷ []) core
-AreWritten-push journal cell core =
-    All-weaker (Contains (writes journal)) (Contains (writes (journal ++ entry.Write cell ∷ []))) (λ w. Contains-writes_push journal cell w) core.cells
+-- what was written stays written, and so is what is sent
+AreWritten-sent : (journal : List Entry) (messages : List Sent) (cell : Arc Write Global) (place : ℕ) (names : List CoreId) (core : Core)
+    → AreWritten journal messages core
+    → AreWritten (journal ++ entry.Write cell ∷ []) (messages ++ sent_to place cell.value names) core
+AreWritten-sent journal messages cell place names core before =
+    let here : Contains (writes (journal ++ entry.Write cell ∷ [])) cell.value =
+    subst (λ (ws : List Write). Contains ws cell.value) (sym (writes-push_write journal cell)) (Contains-push (writes journal) cell.value) in (
+      All-weaker (Contains (writes journal)) (Contains (writes (journal ++ entry.Write cell ∷ []))) (λ w. Contains-writes_push journal cell w) core.cells before.0,
+      All-pending_sent (Contains (writes (journal ++ entry.Write cell ∷ []))) messages place cell.value names core
+          (All-weaker (Contains (writes journal)) (Contains (writes (journal ++ entry.Write cell ∷ []))) (λ w. Contains-writes_push journal cell w)
+          (pending messages core) before.1) (λ other there same. here),
+    )
 
--- the cores are sound once the one that leads the hash of a write led it
-pub AreSound-led : (slices : List Slice) (journal : List Entry) (cores : List Core) (at : ℕ) (cell : Arc Write Global)
-    → IsMap slices → cell.value.hash ≡ route_hash cell.value.id → AreSound slices journal cores
+-- what is sent to a core is in the range of its slice
+sent_in_range : (slices : List Slice) (cores : List Core) (write : Write) (leader : CoreId) (core : Core) (slice : Slice) (name : CoreId)
+    → IsMap slices → Contains slices slice → slice.id ≡ core.core.slice → Contains (followers slices cores write.hash leader) name
+    → is_core core.core name ≡ true → IsInRange slice write
+sent_in_range slices cores write leader core slice name is_map there named sent same =
+    let follower = All-contains (IsFollower slices cores write.hash leader) (followers slices cores write.hash leader) name
+    (are_followers slices cores write.hash leader) sent in
+    let alike : core.core ≡ name = (is_core-Decides core.core name).0 same in
+    let numbers : slice.id.0 ≡ follower.slice.id.0 =
+    ap (λ (id : SliceId). id.0) named ∙ ap (λ (id : CoreId). id.slice.0) alike ∙ follower.of_slice in
+    let ids : slice.id ≡ follower.slice.id = ap (λ (n : ℕ). record { 0 = n }) numbers in
+    let one : slice ≡ follower.slice = same_from_id slices slice follower.slice is_map there follower.there ids in
+    subst (λ (s : Slice). IsWithin s.range.min s.range.max write.hash) (sym one) follower.within
+
+-- the name of a core at a place is among the names
+name_there : (cores : List Core) (k : ℕ) (core : Core) → slice_get cores k ≡ Some core → Contains (map name_of cores) core.core
+name_there cores k core there =
+    Contains-map name_of cores core (k, slice_get_within cores k core there, get_or_from_slice_get cores k core core there)
+
+-- and stays so where a core leads a write
+pub names-led : (cores : List Core) (at : ℕ) (core : Core) (write : Write) → slice_get cores at ≡ Some core
+    → map name_of (set cores at (led core write)) ≡ map name_of cores
+names-led cores at core write there =
+    map-set_same name_of cores at (led core write) core (ap name_of (sym (get_or_from_slice_get cores at core core there)))
+
+-- names by their parts
+same_core : (one other : CoreId) → one.slice ≡ other.slice → one.replica ≡ other.replica → one ≡ other
+same_core one other slice replica =
+    (is_core-Decides one other).0
+    (and_from _ _ (eq-eqb one.slice.0 other.slice.0 (ap (λ (id : SliceId). id.0) slice)) (eq-eqb one.replica other.replica replica))
+
+-- of each id the core that led the write has the last write, or awaits it
+led_holds : (slices : List Slice) (journal : List Entry) (messages sent : List Sent) (core : Core) (cell : Arc Write Global)
+    → OfSlices slices (HasOrAwaits journal messages) core
+    → OfSlices slices (HasOrAwaits (journal ++ entry.Write cell ∷ []) (messages ++ sent)) (led core cell.value)
+led_holds slices journal messages sent core cell holds slice there named attached id write within last = by (is_of id cell.value) refl where
+  Held : Type 0
+  Held = (write_of (put core.cells cell.value) id ≡ Some write) ⊎ Contains (pending (messages ++ sent) core) write
+
+  stays : (write_of (put core.cells cell.value) id ≡ write_of core.cells id)
+      → (write_of core.cells id ≡ Some write) ⊎ Contains (pending messages core) write → Held
+  stays same (inl has) = inl (same ∙ has)
+  stays same (inr awaits) = inr (pending-stays messages sent core write awaits)
+
+  by : (b : Bool) → is_of id cell.value ≡ b → Held
+  by true is =
+      inl (write_of-put core.cells cell.value id ∙ ap (λ b. cond b (Some cell.value) (write_of core.cells id)) is
+      ∙ sym (last_write-push_write journal cell id is) ∙ last)
+  by false is =
+      stays (write_of-put core.cells cell.value id ∙ ap (λ b. cond b (Some cell.value) (write_of core.cells id)) is)
+      (holds slice there named attached id write within (sym (last_write-push_write_other journal cell id is) ∙ last))
+
+-- and so of any other core, which is sent the write where it is to have it
+other_holds : (slices : List Slice) (journal : List Entry) (messages : List Sent) (place : ℕ) (names : List CoreId) (core : Core) (cell : Arc Write Global)
+    → cell.value.hash ≡ route_hash cell.value.id
+    → ((slice : Slice) → Contains slices slice → slice.id ≡ core.core.slice → IsTrue (is_attached slice)
+    → IsWithin slice.range.min slice.range.max cell.value.hash → Contains names core.core)
+    → OfSlices slices (HasOrAwaits journal messages) core
+    → OfSlices slices (HasOrAwaits (journal ++ entry.Write cell ∷ []) (messages ++ sent_to place cell.value names)) core
+other_holds slices journal messages place names core cell hashed gets holds slice there named attached id write within last = by (is_of id cell.value) refl where
+  sent : List Sent
+  sent = sent_to place cell.value names
+
+  Held : Type 0
+  Held = (write_of core.cells id ≡ Some write) ⊎ Contains (pending (messages ++ sent) core) write
+
+  stays : (write_of core.cells id ≡ Some write) ⊎ Contains (pending messages core) write → Held
+  stays (inl has) = inl has
+  stays (inr awaits) = inr (pending-stays messages sent core write awaits)
+
+  by : (b : Bool) → is_of id cell.value ≡ b → Held
+  by true is =
+      let same : cell.value ≡ write = same_Some cell.value write (sym (last_write-push_write journal cell id is) ∙ last) in
+      let hash : route_hash id ≡ cell.value.hash = ap route_hash (sym (id_from_is_of id cell.value is)) ∙ sym hashed in
+      let among = gets slice there named attached (subst (IsWithin slice.range.min slice.range.max) hash within) in
+      inr (subst (Contains (pending (messages ++ sent) core)) same (pending-sent messages place cell.value names core among))
+  by false is = stays (holds slice there named attached id write within (sym (last_write-push_write_other journal cell id is) ∙ last))
+
+-- the cores are sound once the one that leads the hash of a write led it, and it was sent to those that follow
+pub AreSound-led : (slices : List Slice) (journal : List Entry) (messages : List Sent) (cores : List Core) (at place : ℕ) (cell : Arc Write Global)
+    → IsMap slices → cell.value.hash ≡ route_hash cell.value.id → AreSound slices journal messages cores
     → (leader : IsLeaderAt slices cores cell.value.hash at)
-    → AreSound slices (journal ++ entry.Write cell ∷ []) (set cores at (led leader.core cell.value))
-AreSound-led slices journal cores at cell is_map hashed sound leader = record {
+    → AreSound slices (journal ++ entry.Write cell ∷ [])
+    (messages ++ sent_to place cell.value (followers slices cores cell.value.hash leader.core.core)) (set cores at (led leader.core cell.value))
+AreSound-led slices journal messages cores at place cell is_map hashed sound leader = record {
   leaders = All-set_apart (OfSlices slices (Serves longer)) cores at (led core cell.value)
       (led_serves slices journal core slice cell (of (OfSlices slices (Serves journal)) sound.leaders))
       (λ k other apart there. other_serves slices journal other cell hashed (no_other k other apart there)
       (All-slice_get (OfSlices slices (Serves journal)) cores k other sound.leaders there));
-  written = All-set_apart (AreWritten longer) cores at (led core cell.value)
-      (All-put (Contains (writes longer)) core.cells cell.value (AreWritten-push journal cell core (of (AreWritten journal) sound.written)) written_here)
-      (λ k other apart there. AreWritten-push journal cell other (All-slice_get (AreWritten journal) cores k other sound.written there));
-  in_range = All-set_apart (OfSlices slices AreInRange) cores at (led core cell.value)
-      (λ other there named. All-put (InRange other) core.cells cell.value (of (OfSlices slices AreInRange) sound.in_range other there named) (here_in_range other there named))
-      (λ k other apart there. All-slice_get (OfSlices slices AreInRange) cores k other sound.in_range there);
+  written = All-set_apart (AreWritten longer more) cores at (led core cell.value) written_led
+      (λ k other apart there. AreWritten-sent journal messages cell place names other
+      (All-slice_get (AreWritten journal messages) cores k other sound.written there));
+  held = All-set_apart (OfSlices slices (HasOrAwaits longer more)) cores at (led core cell.value)
+      (led_holds slices journal messages (sent_to place cell.value names) core cell (of (OfSlices slices (HasOrAwaits journal messages)) sound.held))
+      (λ k other apart there. other_holds slices journal messages place names other cell hashed (gets k other apart there)
+      (All-slice_get (OfSlices slices (HasOrAwaits journal messages)) cores k other sound.held there));
+  in_range = All-set_apart (OfSlices slices (AreInRange more)) cores at (led core cell.value)
+      (λ other there named. (
+        All-put (IsInRange other) core.cells cell.value (of (OfSlices slices (AreInRange messages)) sound.in_range other there named).0
+            (here_in_range other there named),
+        All-pending_sent (IsInRange other) messages place cell.value names core
+            (of (OfSlices slices (AreInRange messages)) sound.in_range other there named).1
+            (λ name among same. sent_in_range slices cores cell.value core.core core other name is_map there named among same),
+      ))
+      (λ k other apart there one inside named.
+      let before = All-slice_get (OfSlices slices (AreInRange messages)) cores k other sound.in_range there one inside named in (
+        before.0,
+        All-pending_sent (IsInRange one) messages place cell.value names other before.1
+            (λ name among same. sent_in_range slices cores cell.value core.core other one name is_map inside named among same),
+      ));
   clocks = All-set_apart (λ (other : Core). IsClock longer other.clock) cores at (led core cell.value) (IsClock-push_write journal cell)
       (λ k other apart there. IsClock-append journal (entry.Write cell ∷ []) other.clock (All-slice_get (λ (other : Core). IsClock journal other.clock) cores k other sound.clocks there));
+  apart = subst (IsDistinct is_core) (sym (names-led cores at core cell.value leader.found)) sound.apart;
   keys = keys-led cores at core cell.value leader.found ∙ sound.keys;
   active = All-set_apart (λ (other : Core). other.mode ≡ Active) cores at (led core cell.value) (of (λ (other : Core). other.mode ≡ Active) sound.active)
       (λ k other apart there. All-slice_get (λ (other : Core). other.mode ≡ Active) cores k other sound.active there);
@@ -139,26 +252,44 @@ AreSound-led slices journal cores at cell is_map hashed sound leader = record {
   slice : Slice
   slice = leader.slice
 
+  names : List CoreId
+  names = followers slices cores cell.value.hash leader.core.core
+
   longer : List Entry
   longer = journal ++ entry.Write cell ∷ []
+
+  more : List Sent
+  more = messages ++ sent_to place cell.value names
 
   of : (P : Core → Type 0) → All P cores → P core
   of P all = All-slice_get P cores at core all leader.found
 
   no_other : (k : ℕ) (other : Core) → k ≢ at → slice_get cores k ≡ Some other → (one : Slice)
-      → Leads slices cell.value.hash one → one.id ≡ other.core.slice → ⊥
-  no_other k other apart there one one_leads named =
+      → Leads slices cell.value.hash one → one.id ≡ other.core.slice → other.core.replica ≡ 1 → ⊥
+  no_other k other apart there one one_leads named first =
       let same : one ≡ slice = leads_alone slices cell.value.hash one slice is_map (leads_within slices cell.value.hash slice is_map leader.leads) one_leads leader.leads in
       let ids : other.core.slice ≡ core.core.slice = sym named ∙ ap (λ (s : Slice). s.id) same ∙ sym leader.leader.0 in
-      apart (core_alone cores slices k at other core is_map sound.keys there leader.found ids)
+      apart (core_alone cores k at other core sound.apart there leader.found (same_core other.core core.core ids (first ∙ sym leader.leader.1)))
+
+  gets : (k : ℕ) (other : Core) → k ≢ at → slice_get cores k ≡ Some other → (one : Slice) → Contains slices one → one.id ≡ other.core.slice
+      → IsTrue (is_attached one) → IsWithin one.range.min one.range.max cell.value.hash → Contains names other.core
+  gets k other apart there one inside named attached within =
+      is_follower slices cores cell.value.hash core.core other.core one inside attached within
+      (name_there cores k other there) (ap (λ (id : SliceId). id.0) (sym named)) (differs (is_core core.core other.core) refl) where
+        differs : (b : Bool) → is_core core.core other.core ≡ b → is_core core.core other.core ≡ false
+        differs false is = is
+        differs true is =
+            absurd (apart (core_alone cores k at other core sound.apart there leader.found (sym ((is_core-Decides core.core other.core).0 is))))
 
   written_here : Contains (writes longer) cell.value
   written_here = subst (λ (ws : List Write). Contains ws cell.value) (sym (writes-push_write journal cell)) (Contains-push (writes journal) cell.value)
 
-  InRange : Slice → Write → Type 0
-  InRange other w = IsWithin other.range.min other.range.max w.hash
+  written_led : AreWritten longer more (led core cell.value)
+  written_led =
+      let before = AreWritten-sent journal messages cell place names core (of (AreWritten journal messages) sound.written) in
+      (All-put (Contains (writes longer)) core.cells cell.value before.0 written_here, before.1)
 
-  here_in_range : (other : Slice) → Contains slices other → other.id ≡ core.core.slice → InRange other cell.value
+  here_in_range : (other : Slice) → Contains slices other → other.id ≡ core.core.slice → IsInRange other cell.value
   here_in_range other there named =
       let same : slice ≡ other = same_from_id slices slice other is_map leader.leads.there there (sym leader.leader.0 ∙ sym named) in
       subst (λ (s : Slice). IsWithin s.range.min s.range.max cell.value.hash) same leader.leads.within

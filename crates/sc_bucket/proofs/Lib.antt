@@ -2,6 +2,10 @@
 pub mod CoreLemmas
 pub mod SoundLemmas
 pub mod PlaceLemmas
+pub mod SendLemmas
+pub mod PendingLemmas
+pub mod RoomierLemmas
+pub mod FollowerLemmas
 pub mod RoomLemmas
 pub mod SettleLemmas
 pub mod NewLemmas
@@ -9,3 +13,6 @@ pub mod LedLemmas
 pub mod WriteLemmas
 pub mod AcceptLemmas
 pub mod OutcomeLemmas
+pub mod FlightLemmas
+pub mod DeliveredLemmas
+pub mod DeliverLemmas

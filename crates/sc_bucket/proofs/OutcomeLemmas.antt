@@ -1,18 +1,19 @@
 -- What an order is answered by a bucket.
-use Rattle.std.proofs.Common.{◌≡◌, ℕ, ◌+◌, ◌<◌, ◌≤◌, Bool, true, false, ℤ, List, [], ◌∷◌, ◌++◌, length, Option, Some, None, Ok, Err, refl, sym, ap, ◌∙◌, subst, slice_get, arith}
+use Rattle.std.proofs.Common.{◌≡◌, ℕ, ◌<◌, Bool, false, ℤ, List, [], ◌∷◌, ◌++◌, length, filter, set, Option, Some, Err, refl, sym, ap, ◌∙◌, subst, slice_get}
 use Rattle.std.specs.Prelude.{IsSome}
+use Rattle.std.specs.List.{flat_map}
 use Rattle.std.specs.declared.sync.Arc.{Arc}
 use Rattle.std.specs.declared.alloc.Global.{Global}
 use Rattle.sc_record.specs.Versions.{found_version, shown_version, meets}
 use Rattle.sc_record.specs.Writes.{write_of}
+use Rattle.sc_record.specs.declared.slice.CoreId.{CoreId}
 use Rattle.sc_record.specs.declared.write.Write.{Write}
 use Rattle.sc_record.specs.declared.order.Order.{Order}
-use Rattle.sc_record.specs.declared.order.Change.{Change}
 use Rattle.sc_record.specs.declared.entry.Entry.{Entry}
 use Rattle.sc_record.specs.declared.entry.Entry.TheVariants as entry
 use Rattle.sc_router.specs.Route.{route_hash}
 use Rattle.sc_cluster.specs.declared.slice.Slice.{Slice}
-use Rattle.sc_replica.specs.Core.{Core}
+use Rattle.sc_replica.specs.Core.{Core, led}
 use Rattle.sc_partial.specs.Resolved.{IsRefusalOf}
 use Rattle.sc_partial.specs.declared.fault.PartialFault.{PartialFault}
 use Rattle.sc_partial.specs.declared.fault.PartialFault.TheVariants as partial
@@ -24,12 +25,16 @@ use Rattle.sc_journal.proofs.LegalLemmas.{end_is_open}
 use Rattle.sc_bucket.specs.declared.bucket.Bucket.{Bucket}
 use Rattle.sc_bucket.specs.declared.accept.AcceptFault.{AcceptFault}
 use Rattle.sc_bucket.specs.declared.accept.AcceptFault.TheVariants as faults
+use Rattle.sc_bucket.specs.Kept.{Sent}
 use Rattle.sc_bucket.specs.Accepting.{accept_fault, IsPut}
-use Rattle.sc_bucket.specs.Cores.{IsLeaderAt}
-use Rattle.sc_bucket.specs.Events.{IsSameBut, Accepts, outcome_of}
+use Rattle.sc_bucket.specs.Cores.{follows, followers, IsLeaderAt}
+use Rattle.sc_bucket.specs.Flight.{sent_to}
+use Rattle.sc_bucket.specs.Events.{AreSameCores, IsSameBut, Accepts, outcome_of}
 use Rattle.sc_bucket.specs.Sound.{IsSound}
-use Rattle.sc_bucket.proofs.SoundLemmas.{leader_reads}
-use Rattle.sc_bucket.proofs.PlaceLemmas.{IsLeaderAt-same_cores, AreSameCores-led}
+use Rattle.sc_bucket.proofs.SoundLemmas.{leader_reads, names-same_cores}
+use Rattle.sc_bucket.proofs.SendLemmas.{takes}
+use Rattle.sc_bucket.proofs.AcceptLemmas.{sent_by}
+use Rattle.sc_bucket.proofs.PlaceLemmas.{some_at, same_core_at, IsLeaderAt-same_cores, AreSameCores-led}
 
 -- Where the cell of the id was read from the core that leads its hash, and the order's condition was tested on it: the cell
 -- is the last write of the id, and the condition is met or not as tested.
@@ -57,12 +62,21 @@ pub memory_outcome : (limit : ℕ) (first : List Slice) (before after : List Ent
     → IsMet before order → fault ≡ faults.Memory → IsOutcome limit first before order now (outcome_of (Err fault)) after
 memory_outcome limit first before after order now fault met is = rw is met
 
--- an order is accepted where its write is put into the bucket, which is as it was but for room
-pub Accepts-put : (old roomy new : Bucket) (order : Order) (now : ℕ) (version : ℤ) (cell : Arc Write Global) (at : ℕ)
-    → IsSameBut old roomy → IsPut roomy cell at new → IsFitting old.journal.entries order → HasRoom old.limit old.first old.journal.entries
-    → IsWriteOf old.journal.entries order now cell.value → version ≡ shown_version cell.value
-    → IsLeaderAt old.map old.replicas cell.value.hash at → Accepts old order now version new
-Accepts-put old roomy new order now version cell at same put fitting room write shown leader =
+-- the followers are the same where the map and the names of the cores are
+pub followers-same_cores : (old roomy : Bucket) (hash : ℤ) (leader : CoreId) → IsSameBut old roomy
+    → followers roomy.map roomy.replicas hash leader ≡ followers old.map old.replicas hash leader
+followers-same_cores old roomy hash leader same =
+    ap (λ (slices : List Slice). followers slices roomy.replicas hash leader) same.map_is
+    ∙ ap (λ (names : List CoreId). flat_map (λ (slice : Slice). filter (follows leader slice) names) (filter (takes hash) old.map))
+    (names-same_cores old.replicas roomy.replicas same.cores)
+
+-- an order is accepted where its write is put into the bucket, which is as it was but for room, and sent to the others
+pub Accepts-put : (old roomy new : Bucket) (order : Order) (now : ℕ) (version : ℤ) (cell : Arc Write Global) (at : ℕ) (messages : List Sent)
+    → IsSameBut old roomy → IsPut roomy cell at messages new → IsFitting old.journal.entries order
+    → HasRoom old.limit old.first old.journal.entries → IsWriteOf old.journal.entries order now cell.value → version ≡ shown_version cell.value
+    → (leader : IsLeaderAt old.map old.replicas cell.value.hash at) → messages ≡ sent_by old cell.value leader.core.core
+    → Accepts old order now version new
+Accepts-put old roomy new order now version cell at messages same put fitting room write shown leader sent =
     let roomy_leader = IsLeaderAt-same_cores old.map old.replicas roomy.replicas cell.value.hash at same.cores leader in
     let led_once = AreSameCores-led old.replicas roomy.replicas at leader.core roomy_leader.core cell.value same.cores leader.found roomy_leader.found in
     record {
@@ -74,17 +88,34 @@ Accepts-put old roomy new order now version cell at same put fitting room write 
       write = write;
       shown = shown;
       entries = put.entries ∙ ap (λ journal. journal ++ entry.Write cell ∷ []) same.entries;
-      leader = (
-        at,
-        leader.core,
-        leader.slice,
-        leader.leads,
-        leader.found,
-        leader.leader.0,
-        leader.leader.1,
-        put.cores roomy_leader.core roomy_leader.found ∙ led_once,
-      );
+      leader = leader.core;
+      slice = leader.slice;
+      leads = leader.leads;
+      leader_is = leader.leader;
+      at = at;
+      found = leader.found;
+      cores = subst (AreSameCores (set old.replicas at (led leader.core cell.value))) (sym (put.cores roomy_leader.core roomy_leader.found)) led_once;
+      messages = put.flight_is ∙ ap (λ (ms : List Sent). ms ++ messages) same.messages ∙ ap (λ (ms : List Sent). old.flight.messages ++ ms) sent;
     }
+
+-- what was made for a share of the write, by the core at the place, are the messages of the write
+pub sent_by-share : (b : Bucket) (write share : Write) (at : ℕ) (sent : List Sent) → share ≡ write
+    → ((core : Core) → slice_get b.replicas at ≡ Some core
+    → sent ≡ sent_to (length b.journal.entries) share (followers b.map b.replicas share.hash core.core))
+    → (core : Core) → slice_get b.replicas at ≡ Some core → sent ≡ sent_by b write core.core
+sent_by-share b write share at sent same made core found = made core found ∙ ap (λ (w : Write). sent_by b w core.core) same
+
+-- and so they are in the bucket with more room
+pub sent_by-same : (old roomy : Bucket) (write : Write) (at : ℕ) (sent : List Sent) → IsSameBut old roomy → at < length old.replicas
+    → ((core : Core) → slice_get old.replicas at ≡ Some core → sent ≡ sent_by old write core.core)
+    → (core : Core) → slice_get roomy.replicas at ≡ Some core → sent ≡ sent_by roomy write core.core
+sent_by-same old roomy write at sent same within made core found =
+    let before = some_at old.replicas at within in
+    let alike = same_core_at old.replicas roomy.replicas at before.0 core same.cores before.1 found in
+    let named : before.0.core ≡ core.core = sym (ap (λ (one : Core). one.core) alike) in
+    made before.0 before.1 ∙ ap (sent_by old write) named
+    ∙ ap (λ (names : List CoreId). sent_to (length old.journal.entries) write names) (sym (followers-same_cores old roomy write.hash core.core same))
+    ∙ ap (λ (journal : List Entry). sent_to (length journal) write (followers roomy.map roomy.replicas write.hash core.core)) (sym same.entries)
 
 -- and so it is answered
 pub accepted_outcome : (old new : Bucket) (order : Order) (now : ℕ) (version : ℤ) → Accepts old order now version new

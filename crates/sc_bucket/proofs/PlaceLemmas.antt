@@ -1,23 +1,17 @@
 -- Cores at the places of a list: what doesn't depend on their room, and which core is at which place.
 use Rattle.std.proofs.Common.{◌≡◌, ◌≢◌, ℕ, ℤ, zero, suc, ◌<◌, ◌⊎◌, inl, inr, List, [], ◌∷◌, length, map, get_or, set, Some, refl, sym, ap, ◌∙◌, subst, All, slice_get, arith}
-use Rattle.std.specs.List.Sorted.{IsStrictlyIncreasing}
 use Rattle.std.specs.Option.{option_map}
 use Rattle.std.proofs.Math.Seq.{map-set_same}
-use Rattle.std.proofs.lemmas.Bool.{cases_eq, cases_order}
+use Rattle.std.proofs.lemmas.Bool.{cases_eq}
 use Rattle.std.proofs.lemmas.Grind.{get_or-set_at}
-use Rattle.std.proofs.lemmas.List.{get_or-set_same, get_or-set_other, length-map, length-set, get_or-map, map-set}
-use Rattle.std.proofs.lemmas.List.Kept.{AllPairs-from_increasing}
+use Rattle.std.proofs.lemmas.List.{get_or-set_same, get_or-set_other, length-map, length-set, map-set}
 use Rattle.std.proofs.lemmas.Option.{slice_get_within, slice_get-get_or, slice_get-map, get_or_from_slice_get, same_Some}
-use Rattle.std.proofs.lemmas.Simd.{map-map}
 use Rattle.sc_record.specs.declared.write.Write.{Write}
-use Rattle.sc_record.specs.declared.slice.SliceId.{SliceId}
 use Rattle.sc_record.specs.declared.slice.CoreId.{CoreId}
 use Rattle.sc_cluster.specs.declared.slice.Slice.{Slice}
-use Rattle.sc_cluster.specs.Map.{IsMap}
 use Rattle.sc_replica.specs.Core.{Core, led}
-use Rattle.sc_bucket.specs.Cores.{core_key, core_keys, with_room, IsLeaderAt}
+use Rattle.sc_bucket.specs.Cores.{core_key, with_room, IsLeaderAt}
 use Rattle.sc_bucket.specs.Events.{without_room, AreSameCores}
-use Rattle.sc_bucket.proofs.CoreLemmas.{leader_key}
 
 -- there is an element at each place of a list
 pub some_at : {X : Type 0} (xs : List X) (k : ℕ) → k < length xs → (x : X) × (slice_get xs k ≡ Some x)
@@ -41,54 +35,6 @@ All-set_apart {X} P xs at y here others k d below = by (cases_eq k at) where
   by (inl same) = subst P (sym (get_or-set_at xs at k y d same (omega (arith, within)))) here
   by (inr other) =
       subst P (sym (get_or-set_other xs at k y d other)) (others k (get_or xs k d) other (slice_get-get_or xs k d within))
-
--- the number of a core's slice
-abbrev slice_of : Core → ℕ
-slice_of core = core.core.slice.0
-
-abbrev id_of : Slice → ℕ
-id_of slice = slice.id.0
-
-abbrev first_of : ℕ × ℕ → ℕ
-first_of pair = pair.0
-
--- the numbers of the cores' slices ascend
-slices_ascend : (cores : List Core) (slices : List Slice) → IsMap slices → map core_key cores ≡ core_keys slices
-    → IsStrictlyIncreasing (map slice_of cores)
-slices_ascend cores slices is_map keys =
-    let same : map slice_of cores ≡ map id_of slices =
-    sym (map-map first_of core_key cores) ∙ ap (map first_of) keys ∙ map-map first_of leader_key slices in
-    subst IsStrictlyIncreasing (sym same) is_map.ids
-
--- two cores of one slice are at one place
-pub core_alone : (cores : List Core) (slices : List Slice) (i j : ℕ) (one other : Core) → IsMap slices
-    → map core_key cores ≡ core_keys slices → slice_get cores i ≡ Some one → slice_get cores j ≡ Some other
-    → one.core.slice ≡ other.core.slice → i ≡ j
-core_alone cores slices i j one other is_map keys at_i at_j same = by (cases_order i j) where
-  up : IsStrictlyIncreasing (map slice_of cores)
-  up = slices_ascend cores slices is_map keys
-
-  slice_at : (k : ℕ) (core : Core) → slice_get cores k ≡ Some core → get_or (map slice_of cores) k 0 ≡ slice_of core
-  slice_at k core at =
-      get_or-map slice_of cores k core 0 (slice_get_within cores k core at)
-      ∙ ap slice_of (get_or_from_slice_get cores k core core at)
-
-  within : (k : ℕ) (core : Core) → slice_get cores k ≡ Some core → k < length (map slice_of cores)
-  within k core at = let inside = slice_get_within cores k core at in omega (arith, length-map cores slice_of)
-
-  same_slice : slice_of one ≡ slice_of other
-  same_slice = ap (λ (id : SliceId). id.0) same
-
-  by : (i ≡ j) ⊎ ((i < j) ⊎ (j < i)) → i ≡ j
-  by (inl equal) = equal
-  by (inr (inl less)) =
-      let apart : get_or (map slice_of cores) i 0 < get_or (map slice_of cores) j 0 =
-      AllPairs-from_increasing (map slice_of cores) up i j 0 less (within j other at_j) in
-      absurd (omega (arith, slice_at i one at_i, slice_at j other at_j, same_slice, apart))
-  by (inr (inr more)) =
-      let apart : get_or (map slice_of cores) j 0 < get_or (map slice_of cores) i 0 =
-      AllPairs-from_increasing (map slice_of cores) up j i 0 more (within i one at_i) in
-      absurd (omega (arith, slice_at i one at_i, slice_at j other at_j, same_slice, apart))
 
 -- a write that a core leads leaves the names of the cores
 pub keys-led : (cores : List Core) (at : ℕ) (core : Core) (write : Write) → slice_get cores at ≡ Some core

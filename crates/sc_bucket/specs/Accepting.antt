@@ -1,7 +1,8 @@
 -- What the parts of `Bucket::accept` do.
-use Rattle.std.specs.Prelude.{◌≡◌, ◌<◌, ◌≤◌, ℕ, ◌+◌, List, [], ◌∷◌, ◌++◌, length, slice_get, slice_set, Some}
+use Rattle.std.specs.Prelude.{◌≡◌, ◌<◌, ◌≤◌, ℕ, ◌+◌, List, [], ◌∷◌, ◌++◌, length, slice_get, slice_set, Some, true, All}
 use Rattle.std.specs.declared.sync.Arc.{Arc}
 use Rattle.std.specs.declared.alloc.Global.{Global}
+use Rattle.sc_record.specs.declared.slice.CoreId.{CoreId}
 use Rattle.sc_record.specs.declared.write.Write.{Write}
 use Rattle.sc_record.specs.declared.entry.Entry.TheVariants as entry
 use Rattle.sc_replica.specs.Core.{Core, led}
@@ -10,27 +11,50 @@ use Rattle.sc_partial.specs.declared.fault.PartialFault.TheVariants as partial
 use Rattle.sc_bucket.specs.declared.bucket.Bucket.{Bucket}
 use Rattle.sc_bucket.specs.declared.accept.AcceptFault.{AcceptFault}
 use Rattle.sc_bucket.specs.declared.accept.AcceptFault.TheVariants as faults
-use Rattle.sc_bucket.specs.Events.{AreSameCores, HasSameName}
+use Rattle.sc_bucket.specs.Kept.{Sent}
+use Rattle.sc_bucket.specs.Cores.{is_core}
+use Rattle.sc_bucket.specs.Flight.{pending}
+use Rattle.sc_bucket.specs.Sound.{HasSpare}
+use Rattle.sc_bucket.specs.Events.{without_room, HasSameName}
 
 -- the fault of an order whose change makes no document
 abbrev pub accept_fault : PartialFault → AcceptFault
 accept_fault (partial.Field name) = faults.Partial name
 accept_fault partial.Memory = faults.Memory
 
--- there is memory for a write, for the entries that are owed with it, and in the core at the place
-pub record HasMemory (b : Bucket) (at : ℕ) : Type 0 where
+-- the core is the same, and has no less room
+pub record IsRoomier (old new : Core) : Type 0 where
+  pub same : without_room new ≡ without_room old
+  pub cells : old.cell_spare ≤ new.cell_spare
+  pub buffer : old.buffer_spare ≤ new.buffer_spare
+
+-- the core has room for one more write than all that could be pending for it
+pub record HasMore (messages : List Sent) (core : Core) : Type 0 where
+  pub cells : length messages + length core.buffer < core.cell_spare
+  pub buffer : length messages < core.buffer_spare
+
+-- the core of this name has it
+abbrev pub HasMoreAt : List Sent → List Core → CoreId → Type 0
+HasMoreAt messages cores name = All (λ (core : Core). is_core name core.core ≡ true → HasMore messages core) cores
+
+-- There is memory for a write that the core at the place leads and that these messages send to the others, for the entries that
+-- are owed with it, and in the cores.
+pub record HasMemory (b : Bucket) (leader : ℕ) (messages : List Sent) : Type 0 where
   pub journal : b.owed + 2 ≤ b.journal.room
   pub unsettled : 0 < b.unsettled.room
-  pub core : (core : Core) → slice_get b.replicas at ≡ Some core → 0 < core.cell_spare
+  pub flight : length messages ≤ b.flight.room
+  pub cores : All (HasSpare (b.flight.messages ++ messages)) b.replicas
+  pub one_more : (core : Core) → slice_get b.replicas leader ≡ Some core
+      → length (pending (b.flight.messages ++ messages) core) < core.cell_spare
 
 -- A write was put into a bucket: at the end of its journal, with its place among those that are not settled, and into the
--- core at a place, which led it.
-pub record IsPut (old : Bucket) (cell : Arc Write Global) (at : ℕ) (new : Bucket) : Type 0 where
+-- core at a place, which led it; and these messages were sent.
+pub record IsPut (old : Bucket) (cell : Arc Write Global) (at : ℕ) (messages : List Sent) (new : Bucket) : Type 0 where
   pub name : HasSameName old new
   pub map_is : new.map ≡ old.map
   pub entries : new.journal.entries ≡ old.journal.entries ++ entry.Write cell ∷ []
   pub places : new.unsettled.places ≡ old.unsettled.places ++ length old.journal.entries ∷ []
   pub owed_is : new.owed ≡ old.owed + 1
   pub room : new.owed ≤ new.journal.room
-  pub cores : (core : Core) → slice_get old.replicas at ≡ Some core
-      → AreSameCores (slice_set old.replicas at (led core cell.value)) new.replicas
+  pub flight_is : new.flight.messages ≡ old.flight.messages ++ messages
+  pub cores : (core : Core) → slice_get old.replicas at ≡ Some core → new.replicas ≡ slice_set old.replicas at (led core cell.value)

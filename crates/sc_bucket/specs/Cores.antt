@@ -1,18 +1,52 @@
 -- The cores of a bucket, by their names.
-use Rattle.std.specs.Prelude.{◌≡◌, ℕ, ℤ, List, [], map, max, pos, slice_get, Some}
+use Rattle.std.specs.Prelude.{◌≡◌, ℕ, ℤ, Bool, ◌&&◌, not, nat_eq, int_le, List, [], map, filter, max, pos, slice_get, Some}
+use Rattle.std.specs.List.{IsDistinct, flat_map, range_with_len}
 use Rattle.sc_record.specs.declared.slice.SliceId.{SliceId}
+use Rattle.sc_record.specs.declared.slice.CoreId.{CoreId}
 use Rattle.sc_cluster.specs.declared.slice.Slice.{Slice}
 use Rattle.sc_cluster.specs.Map.{Leads}
 use Rattle.sc_ulog.specs.declared.mode.Mode.TheVariants.{Active}
 use Rattle.sc_replica.specs.Core.{Core}
+use Rattle.sc_journal.specs.Splits.{is_inactive}
 
 -- the name of a core: its slice and its replica
 abbrev pub core_key : Core → ℕ × ℕ
 core_key core = (core.core.slice.0, core.core.replica)
 
--- the names of the cores of a map: each slice has its leader
+-- the names of the cores of a slice: its replicas, from 1
+abbrev pub keys_of : Slice → List (ℕ × ℕ)
+keys_of slice = map (λ (replica : ℕ). (slice.id.0, replica)) (range_with_len 1 slice.replicas)
+
+-- the names of the cores of a map: slice after slice, replica after replica
 abbrev pub core_keys : List Slice → List (ℕ × ℕ)
-core_keys slices = map (λ (slice : Slice). (slice.id.0, 1)) slices
+core_keys slices = flat_map keys_of slices
+
+-- the two names are those of one core
+abbrev pub is_core : CoreId → CoreId → Bool
+is_core one other = nat_eq one.slice.0 other.slice.0 && nat_eq one.replica other.replica
+
+-- no two cores have one name
+abbrev pub AreApart : List Core → Type 0
+AreApart cores = IsDistinct is_core (map (λ (core : Core). core.core) cores)
+
+-- the slice's cores are sent what is written: it is active, or a split is making it
+abbrev pub is_attached : Slice → Bool
+is_attached slice = not (is_inactive slice)
+
+-- the hash is in the slice's range
+abbrev pub has_hash : ℤ → Slice → Bool
+has_hash hash slice = int_le slice.range.min hash && int_le hash slice.range.max
+
+-- the core of this name is one of the slice's, and not the one that led
+abbrev pub follows : CoreId → Slice → CoreId → Bool
+follows leader slice core = nat_eq core.slice.0 slice.id.0 && not (is_core leader core)
+
+-- the cores that are sent a write of the hash which this core led: the other cores of each attached slice that has the hash, in
+-- the order of the map's slices
+abbrev pub followers : List Slice → List Core → ℤ → CoreId → List CoreId
+followers slices cores hash leader =
+    flat_map (λ (slice : Slice). filter (follows leader slice) (map (λ (core : Core). core.core) cores))
+    (filter (λ (slice : Slice). is_attached slice && has_hash hash slice) slices)
 
 -- the core leads the slice: it is its replica 1
 abbrev pub IsLeaderOf : SliceId → Core → Type 0
@@ -29,6 +63,7 @@ pub record IsLeaderAt (slices : List Slice) (cores : List Core) (hash : ℤ) (at
 -- the core was made and nothing came to it yet
 pub record IsNew (core : Core) : Type 0 where
   pub cells : core.cells ≡ []
+  pub buffer : core.buffer ≡ []
   pub active : core.mode ≡ Active
   pub clock : core.clock ≡ pos 0
 

@@ -1,7 +1,9 @@
 -- What each event of a bucket changes, and that all else stays.
-use Rattle.std.specs.Prelude.{◌≡◌, ℕ, ◌∷◌, ◌++◌, ℤ, [], List, map, slice_get, slice_set, Some, Result, Ok, Err, IsSome, false}
+use Rattle.std.specs.Prelude.{◌≡◌, ℕ, ◌∷◌, ◌++◌, ℤ, [], List, length, map, filter, not, slice_get, slice_set, Some, Result, Ok, Err, IsSome, false}
+use Rattle.std.specs.List.{remove}
 use Rattle.std.specs.declared.sync.Arc.{Arc}
 use Rattle.std.specs.declared.alloc.Global.{Global}
+use Rattle.sc_record.specs.declared.slice.CoreId.{CoreId}
 use Rattle.sc_record.specs.Versions.{shown_version}
 use Rattle.sc_record.specs.declared.write.Write.{Write}
 use Rattle.sc_record.specs.declared.order.Order.{Order}
@@ -11,6 +13,9 @@ use Rattle.sc_cluster.specs.Map.{Leads}
 use Rattle.sc_replica.specs.Core.{Core, led}
 use Rattle.sc_journal.specs.Journal.{write_at, is_settled}
 use Rattle.sc_journal.specs.Outcomes.{Outcome, accepted, conflict, partial, log_full, out_of_memory, IsFitting, HasRoom, IsWriteOf}
+use Rattle.sc_bucket.specs.Kept.{Sent}
+use Rattle.sc_bucket.specs.Cores.{followers, IsLeaderOf}
+use Rattle.sc_bucket.specs.Flight.{is_of_write, sent_to, delivered, delivered_all, IsFirstOf}
 use Rattle.sc_bucket.specs.declared.bucket.Bucket.{Bucket}
 use Rattle.sc_bucket.specs.declared.accept.Accepted.{Accepted}
 use Rattle.sc_bucket.specs.declared.accept.AcceptFault.{AcceptFault}
@@ -34,9 +39,11 @@ pub record IsSameBut (old new : Bucket) : Type 0 where
   pub name : HasSameName old new
   pub map_is : new.map ≡ old.map
   pub entries : new.journal.entries ≡ old.journal.entries
+  pub messages : new.flight.messages ≡ old.flight.messages
   pub cores : AreSameCores old.replicas new.replicas
 
--- An order is accepted at a timestamp: its write comes to the end of the journal, and the leader of its hash leads it.
+-- An order is accepted at a timestamp: its write comes to the end of the journal, the leader of its hash leads it, and it is sent
+-- to each other core that takes it.
 pub record Accepts (old : Bucket) (order : Order) (now : ℕ) (version : ℤ) (new : Bucket) : Type 0 where
   pub name : HasSameName old new
   pub map_is : new.map ≡ old.map
@@ -46,21 +53,54 @@ pub record Accepts (old : Bucket) (order : Order) (now : ℕ) (version : ℤ) (n
   pub write : IsWriteOf old.journal.entries order now cell.value
   pub shown : version ≡ shown_version cell.value
   pub entries : new.journal.entries ≡ old.journal.entries ++ entry.Write cell ∷ []
-  pub leader : (at : ℕ) × (core : Core) × (slice : Slice) × Leads old.map cell.value.hash slice
-      × (slice_get old.replicas at ≡ Some core) × (core.core.slice ≡ slice.id) × (core.core.replica ≡ 1)
-      × (map without_room new.replicas ≡ map without_room (slice_set old.replicas at (led core cell.value)))
+  pub leader : Core
+  pub slice : Slice
+  pub leads : Leads old.map cell.value.hash slice
+  pub leader_is : IsLeaderOf slice.id leader
+  pub at : ℕ
+  pub found : slice_get old.replicas at ≡ Some leader
+  pub cores : AreSameCores (slice_set old.replicas at (led leader cell.value)) new.replicas
+  pub messages : new.flight.messages ≡ old.flight.messages
+      ++ sent_to (length old.journal.entries) cell.value (followers old.map old.replicas cell.value.hash leader.core)
 
--- the write at the place is settled
+-- the message at this place of the flight is delivered: it leaves the flight, and its core receives the write
+pub record Delivers (old : Bucket) (at : ℕ) (message : Sent) (new : Bucket) : Type 0 where
+  pub name : HasSameName old new
+  pub map_is : new.map ≡ old.map
+  pub entries : new.journal.entries ≡ old.journal.entries
+  pub found : slice_get old.flight.messages at ≡ Some message
+  pub messages : new.flight.messages ≡ remove old.flight.messages at
+  pub cores : new.replicas ≡ delivered message old.replicas
+
+-- the first message of the write at the place is delivered, which was to this core
+pub record DeliversFirst (old : Bucket) (place : ℕ) (core : CoreId) (new : Bucket) : Type 0 where
+  pub at : ℕ
+  pub message : Sent
+  pub first : IsFirstOf place old.flight.messages at message
+  pub core_is : message.core ≡ core
+  pub delivers : Delivers old at message new
+
+-- the write at the place is settled: its messages in flight are delivered, and its entry comes to the end of the journal
 pub record Settles (old : Bucket) (place : ℕ) (new : Bucket) : Type 0 where
   pub name : HasSameName old new
   pub map_is : new.map ≡ old.map
   pub entries : new.journal.entries ≡ old.journal.entries ++ entry.Settled place ∷ []
-  pub cores : AreSameCores old.replicas new.replicas
+  pub messages : new.flight.messages ≡ filter (λ (message : Sent). not (is_of_write place message)) old.flight.messages
+  pub cores : new.replicas ≡ delivered_all (filter (is_of_write place) old.flight.messages) old.replicas
+
+-- the entry that settles the write at the place comes to the end of the journal
+pub record Notes (old : Bucket) (place : ℕ) (new : Bucket) : Type 0 where
+  pub name : HasSameName old new
+  pub map_is : new.map ≡ old.map
+  pub entries : new.journal.entries ≡ old.journal.entries ++ entry.Settled place ∷ []
+  pub flight_is : new.flight ≡ old.flight
+  pub cores : new.replicas ≡ old.replicas
 
 -- one event of a bucket, or none
 pub data IsStep (old new : Bucket) : Type 0 where
   stays : IsSameBut old new → IsStep old new
   accepts : {order : Order} {now : ℕ} {version : ℤ} → Accepts old order now version new → IsStep old new
+  delivers : {at : ℕ} {message : Sent} → Delivers old at message new → IsStep old new
   settles : {place : ℕ} → IsSome (write_at old.journal.entries place) → is_settled old.journal.entries place ≡ false
       → Settles old place new → IsStep old new
 

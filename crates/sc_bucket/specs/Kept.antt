@@ -1,6 +1,8 @@
 -- The parts of a bucket as contracts see them.
 use Rattle.std.specs.Prelude.{ℕ, List}
 use Rattle.sc_record.specs.declared.entry.Entry.{Entry}
+use Rattle.sc_record.specs.declared.slice.CoreId.{CoreId}
+use Rattle.sc_record.specs.declared.write.Write.{Write}
 
 -- a journal: its entries, the oldest first, and how many more it has room for
 pub record JournalState : Type 0 where
@@ -10,4 +12,15 @@ pub record JournalState : Type 0 where
 -- places in a journal, ascending, and how many more there is room for
 pub record PlacesState : Type 0 where
   pub places : List ℕ
+  pub room : ℕ
+
+-- a message in flight: a write, by its place in the journal, and the core that it is sent to
+pub record Sent : Type 0 where
+  pub place : ℕ
+  pub core : CoreId
+  pub write : Write
+
+-- the messages in flight, in the order of sending, and how many more there is room for
+pub record FlightState : Type 0 where
+  pub messages : List Sent
   pub room : ℕ

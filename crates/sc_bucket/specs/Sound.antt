@@ -1,5 +1,6 @@
 -- What is true of a bucket before and after each of its events.
-use Rattle.std.specs.Prelude.{◌≡◌, ◌≤◌, ℕ, ◌+◌, ◌^◌, None, List, length, map, All, Contains}
+use Rattle.std.specs.Prelude.{◌≡◌, ◌≤◌, ◌⊎◌, ℕ, ◌+◌, ◌^◌, Some, None, List, length, map, false, IsTrue, All, Contains}
+use Rattle.std.specs.List.{IsDistinct}
 use Rattle.sc_record.specs.Writes.{write_of}
 use Rattle.sc_record.specs.declared.write.Write.{Write}
 use Rattle.sc_record.specs.declared.entry.Entry.{Entry}
@@ -10,11 +11,13 @@ use Rattle.sc_cluster.specs.declared.slice.Slice.{Slice}
 use Rattle.sc_cluster.specs.Map.{IsMap}
 use Rattle.sc_ulog.specs.declared.mode.Mode.TheVariants.{Active}
 use Rattle.sc_replica.specs.Core.{Core}
-use Rattle.sc_journal.specs.Journal.{writes, last_write, unsettled}
+use Rattle.sc_journal.specs.Journal.{writes, write_at, last_write, is_settled, unsettled}
 use Rattle.sc_journal.specs.Splits.{map_after, open_split, owed}
 use Rattle.sc_journal.specs.Legal.{IsLegal}
 use Rattle.sc_journal.specs.Outcomes.{IsClock}
-use Rattle.sc_bucket.specs.Cores.{core_key, core_keys}
+use Rattle.sc_bucket.specs.Kept.{Sent}
+use Rattle.sc_bucket.specs.Cores.{core_key, core_keys, is_attached, AreApart}
+use Rattle.sc_bucket.specs.Flight.{in_flight, pending, is_same_message}
 use Rattle.sc_bucket.specs.declared.bucket.Bucket.{Bucket}
 
 -- every slice is active
@@ -49,13 +52,40 @@ abbrev pub Serves : List Entry → Slice → Core → Type 0
 Serves journal slice core = slice.state ≡ states.Active → core.core.replica ≡ 1
     → (core.mode ≡ Active) × HasLastWrites journal slice core
 
--- each cell is a write of the journal
-abbrev pub AreWritten : List Entry → Core → Type 0
-AreWritten journal core = All (λ (cell : Write). Contains (writes journal) cell) core.cells
+-- each cell of a core and each write that is pending for it is a write of the journal
+abbrev pub AreWritten : List Entry → List Sent → Core → Type 0
+AreWritten journal messages core = All (Contains (writes journal)) core.cells × All (Contains (writes journal)) (pending messages core)
 
--- each cell's hash is in the slice's range
-abbrev pub AreInRange : Slice → Core → Type 0
-AreInRange slice core = All (λ (cell : Write). IsWithin slice.range.min slice.range.max cell.hash) core.cells
+-- of each id whose hash is in the range of an attached slice the core has the last write, or it is pending for it, unless the id
+-- was never written
+abbrev pub HasOrAwaits : List Entry → List Sent → Slice → Core → Type 0
+HasOrAwaits journal messages slice core = IsTrue (is_attached slice) → (id : List ℕ) (write : Write)
+    → IsWithin slice.range.min slice.range.max (route_hash id) → last_write journal id ≡ Some write
+    → (write_of core.cells id ≡ Some write) ⊎ Contains (pending messages core) write
+
+-- the write's hash is in the slice's range
+abbrev pub IsInRange : Slice → Write → Type 0
+IsInRange slice write = IsWithin slice.range.min slice.range.max write.hash
+
+-- no cell, and no write that is pending, has a hash outside the slice's range
+abbrev pub AreInRange : List Sent → Slice → Core → Type 0
+AreInRange messages slice core = All (IsInRange slice) core.cells × All (IsInRange slice) (pending messages core)
+
+-- a message in flight is of a write of the journal that is not settled, and to a core that is there
+pub record IsSent (b : Bucket) (message : Sent) : Type 0 where
+  pub write : write_at b.journal.entries message.place ≡ Some message.write
+  pub unsettled : is_settled b.journal.entries message.place ≡ false
+  pub core : Contains (map (λ (core : Core). core.core) b.replicas) message.core
+
+-- each message is one, and no two are of one write to one core
+pub record AreSent (b : Bucket) : Type 0 where
+  pub each : All (IsSent b) b.flight.messages
+  pub once : IsDistinct is_same_message b.flight.messages
+
+-- the core has room for each write that is pending for it, wherever it is put
+pub record HasSpare (messages : List Sent) (core : Core) : Type 0 where
+  pub cells : length (pending messages core) ≤ core.cell_spare
+  pub buffer : length (in_flight messages core.core) ≤ core.buffer_spare
 
 -- no split is open, and every core of the map is there, and active
 pub record IsIdle (b : Bucket) : Type 0 where
@@ -67,7 +97,11 @@ pub record IsIdle (b : Bucket) : Type 0 where
 pub record IsSound (b : Bucket) : Type 0 where
   pub journal : HasJournal b
   pub leaders : OfEachCore b (Serves b.journal.entries)
-  pub written : All (AreWritten b.journal.entries) b.replicas
-  pub in_range : OfEachCore b AreInRange
+  pub written : All (AreWritten b.journal.entries b.flight.messages) b.replicas
+  pub held : OfEachCore b (HasOrAwaits b.journal.entries b.flight.messages)
+  pub in_range : OfEachCore b (AreInRange b.flight.messages)
   pub clocks : All (λ (core : Core). IsClock b.journal.entries core.clock) b.replicas
+  pub messages : AreSent b
+  pub spares : All (HasSpare b.flight.messages) b.replicas
+  pub apart : AreApart b.replicas
   pub phase : IsIdle b

@@ -1,4 +1,5 @@
-ghost use Rattle.std.specs.Prelude.{◌≡◌, ◌<◌, ◌≤◌, ◌+◌, ◌<ℤ◌, Ok, Err, IfOk, IfErr, OnOk, OnErr, length, slice_get, Some, None, option_copied};
+ghost use Rattle.std.specs.Prelude.{◌≡◌, ◌<◌, ◌≤◌, ◌+◌, ◌<ℤ◌, Ok, Err, IfOk, IfErr, OnOk, OnErr, ◌++◌, ◌&&◌, length, map, filter, slice_get, Some, None, option_copied, false, All, Contains};
+ghost use Rattle.std.specs.List.{AllZip, IsDistinct};
 ghost use Rattle.std.specs.Option.{option_map};
 ghost use Rattle.std.specs.Arc.{arc_value};
 ghost use Rattle.sc_record.specs.Orders.{IsChange};
@@ -7,15 +8,18 @@ ghost use Rattle.sc_replica.specs.Core.{Core};
 ghost use Rattle.sc_partial.specs.Resolved.{IsRefusalOf, fields_of};
 ghost use Rattle.sc_journal.specs.Legal.{HasTerms, MayWrite};
 ghost use Rattle.sc_journal.specs.Outcomes.{Makes, refused, HasRoom, IsWriteOf, IsFitting, IsOutcome, live_fields};
-ghost use Rattle.sc_bucket.specs.Cores.{IsLeaderAt};
+ghost use Rattle.sc_bucket.specs.Cores.{is_core, is_attached, has_hash, AreApart, follows, followers, IsLeaderAt};
+ghost use Rattle.sc_bucket.specs.Flight.{sent_of, sent_to};
 ghost use Rattle.sc_bucket.specs.Sound.{IsSound};
 ghost use Rattle.sc_bucket.specs.Events.{Accepts, IsSameBut, outcome_of};
-ghost use Rattle.sc_bucket.specs.Accepting.{HasMemory, IsPut};
+ghost use Rattle.sc_bucket.specs.Accepting.{IsRoomier, HasMore, HasMoreAt, HasMemory, IsPut};
 
 use crate::bucket::Bucket;
+use crate::message::Message;
+use sc_cluster::{Slice, State};
 use sc_partial::{PartialFault, resolve};
 use sc_record::{
-    Cell, Change, CloneIn, Doc, Entry, Id, List, Order, Term, Text, Write, found, meets,
+    Cell, Change, CloneIn, CoreId, Doc, Entry, Id, List, Order, Term, Text, Write, found, meets,
     next_version,
 };
 use sc_router::route_hash;
@@ -98,8 +102,9 @@ impl Bucket {
             place: self.entries(),
         };
         let (entry, cell) = shares(alloc, write)?;
-        self.make_room(leader)?;
-        self.put_in(leader, entry, cell);
+        let messages = self.messages_for(alloc, leader, &cell)?;
+        self.make_room(leader, &messages)?;
+        self.put_in(leader, entry, cell, messages);
         Ok(accepted)
     }
 
@@ -143,38 +148,141 @@ impl Bucket {
         })
     }
 
-    // Makes room for a write that the core at this place leads, and for the entries that are owed with it.
-    fn make_room(&mut self, leader: usize) -> Result<(), AllocError>
-        requires sound { IsSound self.old }
-        requires within { leader < length self.old.replicas }
-        ensures sound { IsSound self.new }
-        ensures same { IsSameBut self.old self.new }
-        ensures memory { OnOk result (HasMemory self.new leader) }
+    // The messages that send a write, which the core at this place leads, to each other core that takes it.
+    fn messages_for(
+        &self,
+        alloc: Global,
+        leader: usize,
+        write: &Cell,
+    ) -> Result<Vec<Message>, AllocError>
+        requires within { leader < length self.now.replicas }
+        ensures { IfOk result (λ messages. (core : Core) → slice_get self.now.replicas leader ≡ Some core
+            → map sent_of messages.items ≡ sent_to (length self.now.journal.entries) (arc_value write.now)
+            (followers self.now.map self.now.replicas (arc_value write.now).hash core.core)) }
     {
-        self.journal.reserve(self.owed as usize + 2)?;
-        self.unsettled.reserve(1)?;
-        self.replicas.reserve(leader, 1)?;
+        let leader = self.replicas.get(leader).core();
+        let mut messages = Vec::new(alloc);
+        for at in 0..self.map.len() {
+            let slice = self.map.get(at).unwrap();
+            if takes(slice, write.hash) {
+                self.push_messages(&mut messages, leader, slice, write)?;
+            }
+        }
+        Ok(messages)
+    }
+
+    // Puts the messages that send a write to the slice's cores, but to its own leader, at the end.
+    fn push_messages(
+        &self,
+        messages: &mut Vec<Message>,
+        leader: CoreId,
+        slice: &Slice,
+        write: &Cell,
+    ) -> Result<(), AllocError>
+        ensures { OnOk result (map sent_of messages.new.items ≡ map sent_of messages.old.items
+            ++ sent_to (length self.now.journal.entries) (arc_value write.now)
+            (filter (follows leader slice.now) (map (λ (core : Core). core.core) self.now.replicas))) }
+    {
+        for at in 0..self.replicas.len() {
+            let core = self.replicas.get(at).core();
+            if follows(leader, slice, core) {
+                messages.push(Message {
+                    place: self.entries(),
+                    core,
+                    write: Arc::try_clone(write)?,
+                })?;
+            }
+        }
         Ok(())
     }
 
-    // Puts a write, of which there are two shares, into the journal and into the core at this place. It takes no memory.
-    fn put_in(&mut self, leader: usize, entry: Cell, cell: Cell)
+    // Makes room for a write that the core at this place leads and that these messages send to the others, and for the entries
+    // that are owed with it.
+    fn make_room(&mut self, leader: usize, messages: &[Message]) -> Result<(), AllocError>
         requires sound { IsSound self.old }
-        requires memory { HasMemory self.old leader }
+        requires within { leader < length self.old.replicas }
+        requires there { All (Contains (map (λ (core : Core). core.core) self.old.replicas)) (map (λ (message : Message). message.core) messages.now) }
+        requires once { IsDistinct is_core (map (λ (message : Message). message.core) messages.now) }
+        requires others { (core : Core) → slice_get self.old.replicas leader ≡ Some core
+            → All (λ name. is_core core.core name ≡ false) (map (λ (message : Message). message.core) messages.now) }
+        ensures sound { IsSound self.new }
+        ensures same { IsSameBut self.old self.new }
+        ensures memory { OnOk result (HasMemory self.new leader (map sent_of messages.now)) }
+    {
+        self.journal.reserve(self.owed as usize + 2)?;
+        self.unsettled.reserve(1)?;
+        self.flight.reserve(messages.len())?;
+        self.reserve_in_cores(leader, messages)
+    }
+
+    // Makes room in the core at this place, and in each that a message goes to, for one more write than all that could be pending
+    // for it.
+    fn reserve_in_cores(&mut self, leader: usize, messages: &[Message]) -> Result<(), AllocError>
+        requires within { leader < length self.old.replicas }
+        requires apart { AreApart self.old.replicas }
+        requires there { All (Contains (map (λ (core : Core). core.core) self.old.replicas)) (map (λ (message : Message). message.core) messages.now) }
+        ensures rest { self.new ≡ record self.old { replicas = self.new.replicas } }
+        ensures cores { AllZip IsRoomier self.old.replicas self.new.replicas }
+        ensures messages { OnOk result (All (HasMoreAt self.old.flight.messages self.new.replicas) (map (λ (message : Message). message.core) messages.now)) }
+        ensures leader { OnOk result ((core : Core) → slice_get self.new.replicas leader ≡ Some core → HasMore self.old.flight.messages core) }
+    {
+        for message in messages {
+            let core = self.replicas.position(message.core).unwrap();
+            self.reserve_in(core)?;
+        }
+        self.reserve_in(leader)
+    }
+
+    // Makes room in the core at this place for one more write than all that could be pending for it.
+    fn reserve_in(&mut self, at: usize) -> Result<(), AllocError>
+        requires { at < length self.old.replicas }
+        ensures rest { self.new ≡ record self.old { replicas = self.new.replicas } }
+        ensures cores { AllZip IsRoomier self.old.replicas self.new.replicas }
+        ensures more { OnOk result ((core : Core) → slice_get self.new.replicas at ≡ Some core → HasMore self.old.flight.messages core) }
+    {
+        let buffered = self.replicas.get(at).buffered();
+        let pending = self.flight.len().checked_add(buffered).ok_or(AllocError)?;
+        let more = pending.checked_add(1).ok_or(AllocError)?;
+        self.replicas.reserve(at, more)
+    }
+
+    // Puts a write, of which there are two shares, into the journal and into the core at this place, and sends it to the others.
+    // It takes no memory.
+    fn put_in(&mut self, leader: usize, entry: Cell, cell: Cell, messages: Vec<Message>)
+        requires sound { IsSound self.old }
+        requires memory { HasMemory self.old leader (map sent_of messages.items) }
         requires within { leader < length self.old.replicas }
         requires leader { IsLeaderAt self.old.map self.old.replicas (arc_value entry).hash leader }
         requires shares { arc_value cell ≡ arc_value entry }
         requires next { MayWrite self.old.journal.entries (arc_value entry) }
         requires room { HasRoom self.old.limit self.old.first self.old.journal.entries }
         requires above { (core : Core) → slice_get self.old.replicas leader ≡ Some core → core.clock <ℤ (arc_value entry).version }
+        requires sent { (core : Core) → slice_get self.old.replicas leader ≡ Some core
+            → map sent_of messages.items ≡ sent_to (length self.old.journal.entries) (arc_value entry)
+            (followers self.old.map self.old.replicas (arc_value entry).hash core.core) }
         ensures sound { IsSound self.new }
-        ensures put { IsPut self.old entry leader self.new }
+        ensures put { IsPut self.old entry leader (map sent_of messages.items) self.new }
     {
         self.unsettled.append(self.journal.len());
         self.journal.append(Entry::Write(entry));
         self.replicas.lead(leader, cell);
+        self.flight.append(messages);
         self.owed += 1;
     }
+}
+
+// The slice's cores are sent a write of this hash.
+fn takes(slice: &Slice, hash: i32) -> bool
+    ensures { result ≡ (is_attached slice.now && has_hash hash slice.now) }
+{
+    slice.state != State::Inactive && slice.range.contains(hash)
+}
+
+// The core of this name is one of the slice's, and not the one that led.
+fn follows(leader: CoreId, slice: &Slice, core: CoreId) -> bool
+    ensures { result ≡ follows leader slice.now core }
+{
+    core.slice == slice.id && core != leader
 }
 
 // Two shares of a write.

@@ -1,8 +1,9 @@
+use crate::flight::Flight;
 use crate::journal::Journal;
 use crate::replicas::Replicas;
 use crate::unsettled::Unsettled;
 use sc_cluster::ClusterMap;
-use sc_record::{Cell, CloneIn, Id};
+use sc_record::{Cell, CloneIn, CoreId, Id};
 use sc_router::route_hash;
 use std::alloc::{AllocError, Global};
 
@@ -17,8 +18,10 @@ pub struct Bucket {
     pub journal: Journal,
     /// The places of the writes that are not settled.
     pub unsettled: Unsettled,
-    /// The leader of each slice, in the order of the map.
+    /// The cores: a replica for each, in the order of the map's slices, and of each slice from 1.
     pub replicas: Replicas,
+    /// The writes that are sent to cores and did not come there yet.
+    pub flight: Flight,
     /// How many entries the journal has still to get.
     pub owed: u64,
     /// How many entries the journal may have.
@@ -33,7 +36,7 @@ impl Bucket {
     ghost use Rattle.sc_bucket.specs.Cores.{IsLeaderAt};
     ghost use Rattle.sc_bucket.specs.Sound.{AreActive, IsSound};
 
-    /// A bucket with an empty journal, whose first map is this, with a core for each slice. Its journal may have `limit`
+    /// A bucket with an empty journal, whose first map is this, with a core for each replica of a slice. Its journal may have `limit`
     /// entries. An error means out of memory.
     pub fn new(alloc: Global, map: &ClusterMap, limit: u64) -> Result<Bucket, AllocError>
         requires active { AreActive map.now }
@@ -50,7 +53,8 @@ impl Bucket {
             map: map.clone_in(alloc)?,
             journal: Journal::new(alloc),
             unsettled: Unsettled::new(alloc),
-            replicas: Replicas::leaders(alloc, map)?,
+            replicas: Replicas::new(alloc, map)?,
+            flight: Flight::new(alloc),
             owed: 0,
             limit,
         })
@@ -88,6 +92,9 @@ impl Bucket {
         ensures leader { IsLeaderAt self.now.map self.now.replicas hash result }
         ensures within { result < length self.now.replicas }
     {
-        self.replicas.position(self.map.leads(hash)).unwrap()
+        let slice = self.map.leads(hash);
+        self.replicas
+            .position(CoreId { slice, replica: 1 })
+            .unwrap()
     }
 }

@@ -3,18 +3,23 @@
 #![tactic(auto)]
 
 // What a bucket keeps.
+mod flight;
 mod journal;
+mod message;
 mod replicas;
 mod unsettled;
 
 // The bucket, and its events.
 mod accept;
 mod bucket;
+mod deliver;
 mod settle;
 
 pub use accept::{AcceptFault, Accepted};
 pub use bucket::Bucket;
+pub use flight::Flight;
 pub use journal::Journal;
+pub use message::Message;
 pub use replicas::Replicas;
 pub use unsettled::Unsettled;
 

@@ -1,10 +1,10 @@
-ghost use Rattle.std.specs.Prelude.{◌≡◌, ◌<◌, ◌<ℤ◌, length, map, slice_get, slice_set, Some, MatchOption, IfOk, OnOk, OnErr, IsTrue, All, ◌↔◌, ◌≢◌};
+ghost use Rattle.std.specs.Prelude.{◌≡◌, ◌++◌, true, false, ◌<◌, ◌<ℤ◌, length, map, slice_get, slice_set, Some, MatchOption, IfOk, OnOk, OnErr, IsTrue, All, ◌↔◌, ◌≢◌};
 ghost use Rattle.std.specs.Arc.{arc_value};
-ghost use Rattle.sc_replica.specs.Core.{Core, led};
-ghost use Rattle.sc_bucket.specs.Cores.{core_key, core_keys, IsNew, with_room};
+ghost use Rattle.sc_replica.specs.Core.{Core, led, received};
+ghost use Rattle.sc_bucket.specs.Cores.{core_key, core_keys, keys_of, is_core, IsNew, with_room};
 
-use sc_cluster::ClusterMap;
-use sc_record::{Cell, CoreId, SliceId};
+use sc_cluster::{ClusterMap, Slice};
+use sc_record::{Cell, CoreId};
 use sc_replica::Replica;
 use sc_ulog::Mode;
 use std::alloc::{AllocError, Global};
@@ -26,17 +26,16 @@ impl Model for Replicas {
 }
 
 impl Replicas {
-    /// The leader of each slice of a map, in its order, without cells. An error means out of memory.
-    pub fn leaders(alloc: Global, slices: &ClusterMap) -> Result<Replicas, AllocError>
+    /// The cores of a map's slices, each replica of each slice in order, without cells. An error means out of memory.
+    pub fn new(alloc: Global, slices: &ClusterMap) -> Result<Replicas, AllocError>
         ensures keys { IfOk result (λ cores. map core_key cores ≡ core_keys slices.now) }
         ensures new { IfOk result (All IsNew) }
     {
-        let count = slices.len();
-        let mut replicas = Vec::with_capacity(alloc, count)?;
-        for at in 0..count {
-            let slice = slices.get(at).unwrap().id;
-            replicas.push(Replica::new(alloc, CoreId { slice, replica: 1 }, Mode::Active))?;
+        let mut replicas = Vec::new(alloc);
+        for at in 0..slices.len() {
+            push_replicas(alloc, &mut replicas, slices.get(at).unwrap())?;
         }
+        replicas.shrink_to_fit();
         Ok(Replicas { replicas })
     }
 
@@ -55,17 +54,14 @@ impl Replicas {
         &self.replicas[at]
     }
 
-    /// The place of the leader of this slice; None where the slice has none.
-    pub fn position(&self, slice: SliceId) -> Option<usize>
-        ensures { MatchOption result (All (λ core. core_key core ≢ (slice.0, 1)) self.now)
-            (λ at. (core : Core) × (slice_get self.now at ≡ Some core) × (core_key core ≡ (slice.0, 1))) }
+    /// The place of the core of this name; None where it is not there.
+    pub fn position(&self, core: CoreId) -> Option<usize>
+        ensures { MatchOption result (All (λ (other : Core). is_core core other.core ≡ false) self.now)
+            (λ at. (there : Core) × (slice_get self.now at ≡ Some there) × (is_core core there.core ≡ true)) }
     {
-        for (at, replica) in self.replicas.iter().enumerate() {
-            if is_leader_of(replica, slice) {
-                return Some(at);
-            }
-        }
-        None
+        self.replicas
+            .iter()
+            .position(|replica| replica.core() == core)
     }
 
     /// Makes room for `n` more writes in the core at this place. An error means out of memory.
@@ -86,12 +82,32 @@ impl Replicas {
     {
         self.replicas[at].lead(write);
     }
+
+    /// Sends the write to the core at this place. It takes no memory.
+    pub fn receive(&mut self, at: usize, write: Cell)
+        requires within { at < length self.old }
+        requires room { (core : Core) → slice_get self.old at ≡ Some core → (0 < core.cell_spare) × (0 < core.buffer_spare) }
+        ensures { (core : Core) → slice_get self.old at ≡ Some core → self.new ≡ slice_set self.old at (received core (arc_value write)) }
+    {
+        self.replicas[at].receive(write);
+    }
 }
 
-// The core leads the slice.
-fn is_leader_of(replica: &Replica, slice: SliceId) -> bool
-    ensures { IsTrue result ↔ (core_key replica.now ≡ (slice.0, 1)) }
+// Puts the replicas of a slice at the end, from 1, without cells.
+fn push_replicas(
+    alloc: Global,
+    replicas: &mut Vec<Replica>,
+    slice: &Slice,
+) -> Result<(), AllocError>
+    ensures keys { OnOk result (map core_key replicas.new.items ≡ map core_key replicas.old.items ++ keys_of slice.now) }
+    ensures new { All IsNew replicas.old.items → All IsNew replicas.new.items }
 {
-    let core = replica.core();
-    core.slice == slice && core.replica == 1
+    for below in 0..slice.replicas {
+        let core = CoreId {
+            slice: slice.id,
+            replica: below + 1,
+        };
+        replicas.push(Replica::new(alloc, core, Mode::Active))?;
+    }
+    Ok(())
 }

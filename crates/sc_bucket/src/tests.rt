@@ -1,14 +1,15 @@
 ghost use Rattle.std.specs.Prelude.{◌≡◌, ◌≤◌, ◌^◌, [], IfOk};
 ghost use Rattle.sc_bucket.specs.Sound.{IsSound};
 
-use crate::{Bucket, Journal, Replicas, Unsettled};
+use crate::{Bucket, Flight, Journal, Replicas, Unsettled};
 use sc_cluster::ClusterMap;
-use sc_record::{Id, SliceId};
+use sc_record::{CoreId, Id, SliceId};
 use sc_ulog::Mode;
 use std::alloc::Global;
 use std::marker::{Send, Sync};
 use std::test::Fail;
 
+mod delivering;
 mod orders;
 mod settling;
 
@@ -23,6 +24,13 @@ fn four_shards(alloc: Global, limit: u64) -> Result<Bucket, Fail>
     Ok(Bucket::new(alloc, &map, limit)?)
 }
 
+fn leader(slice: u32) -> CoreId {
+    CoreId {
+        slice: SliceId(slice),
+        replica: 1,
+    }
+}
+
 // A new bucket has a leader for each of its four shards, and no write of any id.
 #[test]
 fn new_bucket_is_empty(rt: HostRuntime) -> Result<(), Fail> {
@@ -31,8 +39,8 @@ fn new_bucket_is_empty(rt: HostRuntime) -> Result<(), Fail> {
     assert_eq!(rt; bucket.entries(), 0);
     assert_eq!(rt; bucket.journal.as_slice().len(), 0);
     assert_eq!(rt; bucket.replicas.len(), 4);
-    assert_eq!(rt; bucket.replicas.position(SliceId(3)), Some(3));
-    assert_eq!(rt; bucket.replicas.position(SliceId(4)), None);
+    assert_eq!(rt; bucket.replicas.position(leader(3)), Some(3));
+    assert_eq!(rt; bucket.replicas.position(leader(4)), None);
     assert_eq!(rt; bucket.replicas.get(3).mode(), Mode::Active);
     for id in ["abc", "test", "hello", "abc!hello"] {
         let id = Id::new(alloc, id)?;
@@ -46,6 +54,7 @@ fn new_bucket_is_empty(rt: HostRuntime) -> Result<(), Fail> {
 fn may_be_shared() {
     assert_shared::<Journal>();
     assert_shared::<Unsettled>();
+    assert_shared::<Flight>();
     assert_shared::<Replicas>();
     assert_shared::<Bucket>();
 }

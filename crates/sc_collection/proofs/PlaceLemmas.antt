@@ -53,16 +53,20 @@ step_places held given step = by step where
   IsAdded : List Entry → Type 0
   IsAdded after = update_places after ≡ update_places before ++ place_added before after
 
+  unchanged : (after : List Entry) → after ≡ before → IsAdded after
+  unchanged after same =
+      ap update_places same ∙ sym (append-nil (update_places before))
+      ∙ ap (λ places. update_places before ++ places) (sym (ap (place_added before) same ∙ place_added-none before))
+
   pushed : (after : List Entry) (one : Entry) → after ≡ before ++ one ∷ [] → is_of_update one ≡ true → IsAdded after
   pushed after one is update =
       ap update_places is ∙ update_places-push before one update
       ∙ ap (λ places. update_places before ++ places) (sym (ap (place_added before) is ∙ place_added-push before one))
 
   by : IsStep held given → IsAdded given.journal.entries
-  by (IsStep.stays same) =
-      ap update_places same.entries ∙ sym (append-nil (update_places before))
-      ∙ ap (λ places. update_places before ++ places) (sym (ap (place_added before) same.entries ∙ place_added-none before))
+  by (IsStep.stays same) = unchanged given.journal.entries same.entries
   by (IsStep.accepts accepted) =
       pushed given.journal.entries (entry.Write accepted.cell) accepted.entries refl
+  by (IsStep.delivers delivered) = unchanged given.journal.entries delivered.entries
   by (IsStep.settles {place = place} written still settled) =
       pushed given.journal.entries (entry.Settled place) settled.entries refl

@@ -14,8 +14,9 @@ use Rattle.sc_journal.proofs.JournalLemmas.{writes-push_write, writes-push_other
 use Rattle.sc_bucket.specs.declared.accept.Accepted.{Accepted}
 use Rattle.sc_bucket.specs.declared.accept.AcceptFault.{AcceptFault}
 use Rattle.sc_bucket.specs.declared.bucket.Bucket.{Bucket}
+use Rattle.sc_bucket.specs.Kept.{Sent}
 use Rattle.sc_bucket.specs.Sound.{IsSound}
-use Rattle.sc_bucket.specs.Events.{IsStep, IsSameBut, HasSameName, Accepts, Settles}
+use Rattle.sc_bucket.specs.Events.{IsStep, IsSameBut, HasSameName, Accepts, Delivers, Settles}
 use Rattle.sc_collection.specs.Desks.{Held, IsBucketOf, MayReplace}
 
 -- the ids of the writes belong to the bucket of this number
@@ -35,13 +36,24 @@ module _ (layout : Layout) (held : Held) (given : Bucket)
       → IsBucketOf layout held.number given
   same_bucket name ids = record { first = name.first ∙ is.first; limit = name.limit ∙ is.limit; ids = ids }
 
+  -- where its journal stays, so do its writes
+  same_ids : given.journal.entries ≡ held.bucket.journal.entries → AreOf layout.buckets held.number (writes given.journal.entries)
+  same_ids same = subst (λ (journal : List Entry). AreOf layout.buckets held.number (writes journal)) (sym same) is.ids
+
   -- nothing was done
   pub unchanged_may_replace : IsSameBut held.bucket given → MayReplace layout held given
   unchanged_may_replace same = record {
     sound = sound;
-    is_of = same_bucket same.name
-        (subst (λ (journal : List Entry). AreOf layout.buckets held.number (writes journal)) (sym same.entries) is.ids);
+    is_of = same_bucket same.name (same_ids same.entries);
     step = IsStep.stays same;
+  }
+
+  -- a message was delivered
+  pub delivered_may_replace : (at : ℕ) (message : Sent) → Delivers held.bucket at message given → MayReplace layout held given
+  delivered_may_replace at message delivered = record {
+    sound = sound;
+    is_of = same_bucket delivered.name (same_ids delivered.entries);
+    step = IsStep.delivers delivered;
   }
 
   -- an order of one of the bucket's ids was accepted

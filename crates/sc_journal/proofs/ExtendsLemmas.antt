@@ -58,7 +58,7 @@ within_at layout seen lock (stop ∷ stops) h = by (stop.lock == lock) refl (wit
   by false is rest = rest
 
 -- what ascends from a place ascends from an earlier one
-ascend_earlier : (from to : ℕ) (stops : List Stop) → from ≤ to → ComeInOrder to stops → ComeInOrder from stops
+pub ascend_earlier : (from to : ℕ) (stops : List Stop) → from ≤ to → ComeInOrder to stops → ComeInOrder from stops
 ascend_earlier from to [] h a = tt
 ascend_earlier from to (stop ∷ stops) h a = ((let l : to ≤ stop.place = a.0 in omega arith), a.1)
 

@@ -2,6 +2,7 @@
 pub mod SeenLemmas
 pub mod StepLemmas
 pub mod OrderLemmas
+pub mod LookLemmas
 pub mod AnswerLemmas
 pub mod OnceLemmas
 pub mod BatchLemmas

@@ -29,14 +29,14 @@ added journal more lock true is = ap (λ b. cond b (length journal ∷ []) []) i
 added journal more lock false is = ap (λ b. cond b (length journal ∷ []) []) is
 
 -- what holds of the lock that was held, and of each other
-at_lock : (P : ℕ → Type 0) (held lock : ℕ) (b : Bool) → (held == lock) ≡ b → P held → (lock ≢ held → P lock) → P lock
+pub at_lock : (P : ℕ → Type 0) (held lock : ℕ) (b : Bool) → (held == lock) ≡ b → P held → (lock ≢ held → P lock) → P lock
 at_lock P held lock true is here there = let same : held ≡ lock = grind (arith, nat_tests) in subst P same here
 at_lock P held lock false is here there = let other : lock ≢ held = grind (arith, nat_tests) in there other
 
-other_lock : (held lock : ℕ) → (held == lock) ≡ false → lock ≢ held
+pub other_lock : (held lock : ℕ) → (held == lock) ≡ false → lock ≢ held
 other_lock held lock is = grind (arith, nat_tests)
 
-same_lock : (held lock : ℕ) → (held == lock) ≡ true → held ≡ lock
+pub same_lock : (held lock : ℕ) → (held == lock) ≡ true → held ≡ lock
 same_lock held lock is = grind (arith, nat_tests)
 
 -- a hold that added an entry where the stop says so

@@ -1,5 +1,6 @@
 -- How the orders of an update are carried out, step by step.
-use Rattle.std.specs.Prelude.{◌≡◌, ℕ, ◌+◌, ◌<◌, ◌≤◌, Bool, true, false, List, [], ◌∷◌, ◌++◌, length, count_by, Option, Some, None, Result, IfOk, IsSome, ⊤, is_ok, vec_len, vec_capacity, if◌then◌else◌}
+use Rattle.std.specs.Prelude.{◌≡◌, ◌≢◌, ℕ, ◌+◌, ◌<◌, ◌≤◌, Bool, true, false, List, [], ◌∷◌, ◌++◌, length, count_by, Option, Some, None, Result, IfOk, IsSome, ⊤, is_ok, vec_len, vec_capacity, if◌then◌else◌}
+use mathlib.Core.List.{IsPrefix}
 use Rattle.sc_record.specs.declared.order.Order.{Order}
 use Rattle.sc_router.specs.Route.{bucket_of}
 use Rattle.sc_journal.specs.Journal.{write_at, is_settled}
@@ -7,11 +8,13 @@ use Rattle.sc_journal.specs.Outcomes.{Outcome, conflict, partial, log_full, IsOu
 use Rattle.sc_journal.specs.Seen.{Layout, Seen, Extends, stops_at, entries_at, journal_at}
 use Rattle.sc_journal.specs.Batches.{OrderAnswer, AnswersOrders, GivesTimestamps, IsSettling, goes_on, deletes, adds_of, deletes_of, stops_of, timestamps_of}
 use Rattle.sc_journal.specs.declared.stop.Stop.{Stop}
+use Rattle.sc_bucket.specs.Sound.{IsSound}
 use Rattle.sc_bucket.specs.Events.{Settles, outcome_of}
 use Rattle.sc_bucket.specs.declared.bucket.Bucket.{Bucket}
 use Rattle.sc_bucket.specs.declared.accept.Accepted.{Accepted}
 use Rattle.sc_bucket.specs.declared.accept.AcceptFault.{AcceptFault}
 use Rattle.sc_bucket.specs.declared.accept.AcceptFault.TheVariants as faults
+use Rattle.sc_collection.specs.Desks.{Held, IsBucketOf}
 use Rattle.sc_update.specs.Updated.{SeesMore, EndAtLast}
 use Rattle.sc_update.specs.declared.end.BatchStop.{BatchStop}
 use Rattle.sc_update.specs.declared.end.BatchStop.TheVariants as stops
@@ -34,6 +37,20 @@ pub record State (C : Type 0) : Type 0 where
 pub record IsStop (layout : Layout) (old new : Seen) (old_stops new_stops : List Stop) (stop : Stop) : Type 0 where
   pub goes : GoesOn layout old new (stop ∷ [])
   pub kept : new_stops ≡ old_stops ++ stop ∷ []
+
+-- Holds of the bucket of a lock made no entry. Of its journal more may be seen, which others made; all else that was seen stayed.
+pub record Looks (old new : Seen) (lock : ℕ) : Type 0 where
+  pub journal : IsPrefix (old.journals lock) (new.journals lock)
+  pub others : (other : ℕ) → other ≢ lock → new.journals other ≡ old.journals other
+  pub board : new.board ≡ old.board
+  pub own : (other : ℕ) → new.own other ≡ old.own other
+
+-- The bucket is out, and was handed out as this lock's: it is sound, of this number, and extends what was seen.
+pub record Holds (layout : Layout) (seen : Seen) (out : Option Held) (lock : ℕ) (bucket : Bucket) : Type 0 where
+  pub out_is : out ≡ Some (record { number = lock; bucket = bucket })
+  pub sound : IsSound bucket
+  pub is_of : IsBucketOf layout lock bucket
+  pub extends : IsPrefix (seen.journals lock) bucket.journal.entries
 
 -- An order was carried out at this stop of its id's bucket, and got this answer.
 pub record Tries (layout : Layout) (old new : Seen) (order : Order) (now : ℕ) (first : Stop) (answer : Result Accepted AcceptFault) : Type 0 where

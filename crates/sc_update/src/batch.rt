@@ -15,9 +15,11 @@ use sc_record::{Ack, Order};
 use std::alloc::Global;
 
 /// Carries out the orders of a batch one after another. For each the clock is read, the id's bucket is held and the order is
-/// carried out; where it is accepted, a second hold settles the write. Each of these two holds is a stop of the trail. The
-/// orders end at the first that is not accepted, but a conflict is passed over where the batch says so. The lists of what is
-/// shown take their room first: where there is none, memory ran out and nothing was accepted.
+/// carried out. Where it is accepted, up to `MAX_DELIVERIES` further holds of the bucket each deliver a message that sends the
+/// write to another core. The first hold that finds none, or the one after these, settles the write, which delivers what is
+/// left. The hold that carries out the order and the one that settles its write are the order's stops of the trail. The orders
+/// end at the first that is not accepted, but a conflict is passed over where the batch says so. The lists of what is shown take
+/// their room first: where there is none, memory ran out and nothing was accepted.
 pub fn update<D: Desk, C: Clock>(
     alloc: Global,
     desk: &mut D,

@@ -14,6 +14,7 @@ mod shown;
 
 pub use batch::update;
 pub use end::{BatchEnd, BatchStop};
+pub use order::MAX_DELIVERIES;
 
 #[cfg(test)]
 mod tests;

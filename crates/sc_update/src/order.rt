@@ -1,10 +1,10 @@
-ghost use Rattle.std.specs.Prelude.{◌≡◌, ◌<◌, ◌+◌, ◌≤◌, None, IsSome, length};
+ghost use Rattle.std.specs.Prelude.{◌≡◌, ◌<◌, ◌+◌, ◌≤◌, None, IsSome, MatchOption, length};
 ghost use Rattle.sc_router.specs.Route.{bucket_of};
 ghost use Rattle.sc_journal.specs.Journal.{write_at};
 ghost use Rattle.sc_bucket.specs.Sound.{IsSound};
 ghost use Rattle.sc_bucket.specs.Events.{outcome_of};
 ghost use Rattle.sc_collection.specs.declared.trail.TheConstants.{ROOM};
-ghost use Rattle.sc_update.specs.Steps.{IsStop, Tries, SettlesFirst, SettlesWhere, CarriesOut};
+ghost use Rattle.sc_update.specs.Steps.{IsStop, Looks, Holds, Tries, SettlesFirst, SettlesWhere, CarriesOut};
 
 use sc_bucket::{AcceptFault, Accepted, Bucket};
 use sc_collection::{Desk, Stop, Trail};
@@ -12,6 +12,10 @@ use sc_io::Clock;
 use sc_record::Order;
 use sc_router::bucket_of;
 use std::alloc::Global;
+
+/// How many messages of a write are delivered at most, each in a hold of its own, before the hold that settles it. It delivers
+/// those that are left.
+pub const MAX_DELIVERIES: usize = 7;
 
 /// Carries out an order at a timestamp, in milliseconds, in one hold of its id's bucket, and keeps that stop.
 fn accept_at<D: Desk>(
@@ -45,7 +49,42 @@ fn accept_at<D: Desk>(
     (stop, answer)
 }
 
-/// Settles the write that a stop made, in another hold of its bucket, unless it is settled by then, and keeps that stop.
+/// Holds the bucket and delivers the first message in flight of the write at this place. Where there is none the bucket is
+/// handed on; else it is given back.
+fn deliver_one<D: Desk>(desk: &mut D, lock: u32, place: u64) -> Option<Bucket>
+    requires nothing_out { D.out desk.old ≡ None }
+    requires within { lock < (D.layout desk.old).buckets }
+    ensures looks { Looks (D.seen desk.old) (D.seen desk.new) lock }
+    ensures held { MatchOption result (D.out desk.new ≡ None) (Holds (D.layout desk.old) (D.seen desk.new) (D.out desk.new) lock) }
+    ensures layout { D.layout desk.new ≡ D.layout desk.old }
+{
+    let mut bucket = desk.hold(lock);
+    if bucket.deliver(place).is_none() {
+        return Some(bucket);
+    }
+    desk.give(lock, bucket);
+    None
+}
+
+/// Holds the bucket of the write at this place once its messages in flight were delivered, each in a hold of its own, or as many
+/// of them as that may be.
+fn hold_delivered<D: Desk>(desk: &mut D, lock: u32, place: u64) -> Bucket
+    requires nothing_out { D.out desk.old ≡ None }
+    requires within { lock < (D.layout desk.old).buckets }
+    ensures looks { Looks (D.seen desk.old) (D.seen desk.new) lock }
+    ensures held { Holds (D.layout desk.old) (D.seen desk.new) (D.out desk.new) lock result }
+    ensures layout { D.layout desk.new ≡ D.layout desk.old }
+{
+    for _delivery in 0..MAX_DELIVERIES {
+        if let Some(bucket) = deliver_one(desk, lock, place) {
+            return bucket;
+        }
+    }
+    desk.hold(lock)
+}
+
+/// Settles the write that a stop made, in a hold of its bucket after those that deliver its messages, unless it is settled by
+/// then, and keeps that stop.
 fn settle_at<D: Desk>(desk: &mut D, trail: &mut Trail, first: Stop)
     requires nothing_out { D.out desk.old ≡ None }
     requires within { first.lock < (D.layout desk.old).buckets }
@@ -56,7 +95,7 @@ fn settle_at<D: Desk>(desk: &mut D, trail: &mut Trail, first: Stop)
     ensures nothing_out { D.out desk.new ≡ None }
     ensures requests { trail.new.requests ≡ trail.old.requests }
 {
-    let mut bucket = desk.hold(first.lock);
+    let mut bucket = hold_delivered(desk, first.lock, first.place);
     let place = bucket.entries();
     let made = settle_write(&mut bucket, first.place);
     desk.give(first.lock, bucket);

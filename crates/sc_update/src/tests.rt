@@ -1,3 +1,5 @@
+ghost use Rattle.std.specs.Prelude.{◌≤◌};
+
 use crate::update;
 use sc_collection::{Alone, Shape, Trail};
 use sc_commands::{Batch, Flags};
@@ -23,18 +25,23 @@ fn order(alloc: Global, id: &str, condition: i64, deletion: bool) -> Result<Orde
     })
 }
 
-// What such orders come to on a new collection of one bucket, at these timestamps: the additions and the deletions that are
-// shown, what stopped the orders, and how many stops were kept.
+// What such orders come to on a new collection of one bucket and one shard with so many replicas, at these timestamps: the
+// additions and the deletions that are shown, what stopped the orders, and the place of each stop that was kept, with a sign
+// where it made an entry.
 fn told(
     alloc: Global,
+    replicas: u8,
     moments: &[u64],
     orders: &[(&str, i64, bool)],
     fail_on_conflict: bool,
-) -> Result<String, Fail> {
+) -> Result<String, Fail>
+    requires least { 1 ≤ replicas }
+    requires most { replicas ≤ 4 }
+{
     let shape = Shape {
-        nodes: 1,
+        nodes: u32::from(replicas),
         shards: 1,
-        replicas: 1,
+        replicas,
         buckets: 1,
         log_limit: 64,
     };
@@ -65,7 +72,11 @@ fn told(
     for ack in end.deletes.as_slice() {
         text.push_str(format!(in alloc; "-{} {} ", ack.id.as_str(), ack.version)?.as_str())?;
     }
-    text.push_str(format!(in alloc; "{:?} {}", end.stop, trail.stops().len())?.as_str())?;
+    text.push_str(format!(in alloc; "{:?}", end.stop)?.as_str())?;
+    for stop in trail.stops() {
+        let sign = if stop.made { "+" } else { "" };
+        text.push_str(format!(in alloc; " {}{sign}", stop.place)?.as_str())?;
+    }
     Ok(text)
 }
 
@@ -74,12 +85,12 @@ fn batches_end_at_a_conflict_or_pass_over_it(rt: HostRuntime) -> Result<(), Fail
     let alloc = rt.alloc();
     let three = [("abc", 0, false), ("hello", 5, false), ("test", 0, false)];
     assert_eq!(rt;
-        told(alloc, &[1_000], &three, true)?.as_str(),
-        "abc 1048576000 Some(Conflict { order: 1, actual: -1 }) 3"
+        told(alloc, 1, &[1_000], &three, true)?.as_str(),
+        "abc 1048576000 Some(Conflict { order: 1, actual: -1 }) 0+ 1+ 2"
     );
     assert_eq!(rt;
-        told(alloc, &[1_000], &three, false)?.as_str(),
-        "abc 1048576000 test 1048576001 None 5"
+        told(alloc, 1, &[1_000], &three, false)?.as_str(),
+        "abc 1048576000 test 1048576001 None 0+ 1+ 2 2+ 3+"
     );
     Ok(())
 }
@@ -91,23 +102,35 @@ fn versions_ascend(rt: HostRuntime) -> Result<(), Fail> {
     assert_eq!(rt;
         told(
             alloc,
+            1,
             &[1_000, 500],
             &[("abc", 0, false), ("hello", 0, false)],
             true
         )?
         .as_str(),
-        "abc 1048576000 hello 1048576001 None 4"
+        "abc 1048576000 hello 1048576001 None 0+ 1+ 2+ 3+"
     );
     // two orders for one id
     assert_eq!(rt;
         told(
             alloc,
+            1,
             &[1_000],
             &[("abc", 0, false), ("abc", 1_048_576_000, true)],
             true
         )?
         .as_str(),
-        "abc 1048576000 -abc -1048576001 None 4"
+        "abc 1048576000 -abc -1048576001 None 0+ 1+ 2+ 3+"
+    );
+    Ok(())
+}
+
+// The hold in which a write is delivered to the other replica is no stop.
+#[test]
+fn deliveries_are_no_stops(rt: HostRuntime) -> Result<(), Fail> {
+    assert_eq!(rt;
+        told(rt.alloc(), 2, &[1_000], &[("abc", 0, false)], true)?.as_str(),
+        "abc 1048576000 None 0+ 1+"
     );
     Ok(())
 }

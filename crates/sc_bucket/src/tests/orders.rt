@@ -23,7 +23,7 @@ fn order(alloc: Global, id: &str, condition: i64, change: Change) -> Result<Orde
     })
 }
 
-fn add(alloc: Global, id: &str, condition: i64) -> Result<Order, Fail> {
+pub(crate) fn add(alloc: Global, id: &str, condition: i64) -> Result<Order, Fail> {
     order(
         alloc,
         id,
@@ -45,7 +45,7 @@ fn increment(alloc: Global, id: &str, amount: i64) -> Result<Order, Fail>
 }
 
 /// Carries out an order and settles its write. The version is answered.
-fn settled(bucket: &mut Bucket, alloc: Global, order: &Order) -> Result<i64, AcceptFault>
+pub(crate) fn settled(bucket: &mut Bucket, alloc: Global, order: &Order) -> Result<i64, AcceptFault>
     requires { IsSound bucket.old }
     ensures { IsSound bucket.new }
 {

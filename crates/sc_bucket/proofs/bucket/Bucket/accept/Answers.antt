@@ -1,16 +1,22 @@
 -- The order is accepted, or it is refused and nothing but room has changed.
-use Rattle.std.proofs.Common.{◌≡◌, ◌<◌, ◌<ℤ◌, ℤ, List, Some, slice_get, to_z, of_z, w32, w64, refl, sym, ap, ◌∙◌, subst, arith}
+use Rattle.std.proofs.Common.{◌≡◌, false, All, Contains, length, map, to_z, of_z, w32, w64, sym, ap, ◌∙◌, subst, arith}
 use Rattle.std.specs.Arc.{arc_value}
+use Rattle.std.specs.List.{IsDistinct}
+use Rattle.std.proofs.lemmas.List.Elements.{All-weaker}
 use Rattle.std.proofs.lemmas.Int.{ints}
-use Rattle.std.proofs.lemmas.Option.{slice_get_within}
 use Rattle.sc_record.specs.Versions.{shown_version}
 use Rattle.sc_record.specs.declared.write.Write.{Write}
 use Rattle.sc_replica.specs.Core.{Core}
 use Rattle.sc_journal.specs.Outcomes.{IsWriteOf}
-use Rattle.sc_bucket.specs.Cores.{IsLeaderAt}
-use Rattle.sc_bucket.specs.Events.{Accepts}
+use Rattle.sc_bucket.specs.declared.message.Message.{Message}
+use Rattle.sc_bucket.specs.Cores.{is_core, followers, IsLeaderAt}
+use Rattle.sc_bucket.specs.Flight.{sent_of}
+use Rattle.sc_bucket.proofs.SoundLemmas.{name_of}
+use Rattle.sc_bucket.proofs.SendLemmas.{names-sent}
+use Rattle.sc_bucket.proofs.FollowerLemmas.{IsFollower, are_followers, followers_apart}
+use Rattle.sc_bucket.proofs.AcceptLemmas.{bucket_has_map}
 use Rattle.sc_bucket.proofs.PlaceLemmas.{length-same_cores, same_core_at, IsLeaderAt-same_cores}
-use Rattle.sc_bucket.proofs.OutcomeLemmas.{Accepts-put, accepted_outcome}
+use Rattle.sc_bucket.proofs.OutcomeLemmas.{Accepts-put, accepted_outcome, sent_by-share, sent_by-same}
 use Rattle.sc_bucket.proofs.bucket.Bucket.accept.Goals as goal
 
 pub put_in-requires-clause-within : goal.put_in-requires-clause-within
@@ -35,6 +41,52 @@ put_in-requires-clause-above c core there =
     let above = c.in_ok-write.ensures.above leader.core leader.found in
     omega (arith, ints, clock, version, above)
 
+pub make_room-requires-clause-there : goal.make_room-requires-clause-there
+make_room-requires-clause-there c =
+    let b = c.args.self.now in
+    let leader = c.leader-leader.ensures.leader in
+    let share = arc_value c.in_ok-entry.cell in
+    let names : map (λ (message : Message). message.core) c.deref.result.now ≡ followers b.map b.replicas share.hash leader.core.core =
+    ap (map (λ (message : Message). message.core)) c.deref.ensures.value
+    ∙ names-sent (length b.journal.entries) share (followers b.map b.replicas share.hash leader.core.core) c.in_ok-messages.messages.items
+    (c.in_ok-messages.ensures leader.core leader.found) in
+    subst (All (Contains (map name_of b.replicas))) (sym names)
+    (All-weaker (IsFollower b.map b.replicas share.hash leader.core.core) (Contains (map name_of b.replicas)) (λ name follower. follower.core)
+    (followers b.map b.replicas share.hash leader.core.core) (are_followers b.map b.replicas share.hash leader.core.core))
+
+pub make_room-requires-clause-once : goal.make_room-requires-clause-once
+make_room-requires-clause-once c =
+    let b = c.args.self.now in
+    let leader = c.leader-leader.ensures.leader in
+    let share = arc_value c.in_ok-entry.cell in
+    let names : map (λ (message : Message). message.core) c.deref.result.now ≡ followers b.map b.replicas share.hash leader.core.core =
+    ap (map (λ (message : Message). message.core)) c.deref.ensures.value
+    ∙ names-sent (length b.journal.entries) share (followers b.map b.replicas share.hash leader.core.core) c.in_ok-messages.messages.items
+    (c.in_ok-messages.ensures leader.core leader.found) in
+    subst (IsDistinct is_core) (sym names)
+    (followers_apart b.map b.replicas share.hash leader.core.core (bucket_has_map b c.requires.sound.journal) c.requires.sound.apart)
+
+pub make_room-requires-clause-others : goal.make_room-requires-clause-others
+make_room-requires-clause-others c core there =
+    let b = c.args.self.now in
+    let share = arc_value c.in_ok-entry.cell in
+    let names : map (λ (message : Message). message.core) c.deref.result.now ≡ followers b.map b.replicas share.hash core.core =
+    ap (map (λ (message : Message). message.core)) c.deref.ensures.value
+    ∙ names-sent (length b.journal.entries) share (followers b.map b.replicas share.hash core.core) c.in_ok-messages.messages.items
+    (c.in_ok-messages.ensures core there) in
+    subst (All (λ name. is_core core.core name ≡ false)) (sym names)
+    (All-weaker (IsFollower b.map b.replicas share.hash core.core) (λ name. is_core core.core name ≡ false) (λ name follower. follower.other)
+    (followers b.map b.replicas share.hash core.core) (are_followers b.map b.replicas share.hash core.core))
+
+pub put_in-requires-clause-sent : goal.put_in-requires-clause-sent
+put_in-requires-clause-sent c =
+    let b = c.args.self.now in
+    let same : arc_value c.in_ok-entry.cell ≡ arc_value c.in_ok-entry.entry = c.in_ok-entry.ensures.1 ∙ sym c.in_ok-entry.ensures.0 in
+    sent_by-same b c.make_room.new.self (arc_value c.in_ok-entry.entry) c.leader-leader.result (map sent_of c.in_ok-messages.messages.items)
+    c.make_room.ensures.same c.leader-leader.ensures.within
+    (sent_by-share b (arc_value c.in_ok-entry.entry) (arc_value c.in_ok-entry.cell) c.leader-leader.result
+    (map sent_of c.in_ok-messages.messages.items) same c.in_ok-messages.ensures)
+
 pub returns-clause-accepted : goal.returns-clause-accepted
 returns-clause-accepted c =
     let hash : (arc_value c.in_ok-entry.entry).hash ≡ to_z w32 (of_z w32 c.route_hash-hash.result) =
@@ -46,8 +98,12 @@ returns-clause-accepted c =
     kept ∙ c.shown.ensures ∙ ap shown_version (sym c.in_ok-entry.ensures.0) in
     let write : IsWriteOf c.args.self.now.journal.entries c.args.order.now c.args.now (arc_value c.in_ok-entry.entry) =
     subst (IsWriteOf c.args.self.now.journal.entries c.args.order.now c.args.now) (sym c.in_ok-entry.ensures.0) c.in_ok-write.ensures.made in
-    let accepts = Accepts-put c.args.self.now c.make_room.new.self c.put_in.new.self c.args.order.now c.args.now _ c.in_ok-entry.entry c.leader-leader.result
-    c.make_room.ensures.same c.put_in.ensures.put c.in_ok-write.ensures.fitting c.in_ok-write.ensures.room write version leader in
+    let same : arc_value c.in_ok-entry.cell ≡ arc_value c.in_ok-entry.entry = c.in_ok-entry.ensures.1 ∙ sym c.in_ok-entry.ensures.0 in
+    let sent = sent_by-share c.args.self.now (arc_value c.in_ok-entry.entry) (arc_value c.in_ok-entry.cell) c.leader-leader.result
+    (map sent_of c.in_ok-messages.messages.items) same c.in_ok-messages.ensures leader.core leader.found in
+    let accepts = Accepts-put c.args.self.now c.make_room.new.self c.put_in.new.self c.args.order.now c.args.now _ c.in_ok-entry.entry
+    c.leader-leader.result (map sent_of c.in_ok-messages.messages.items) c.make_room.ensures.same c.put_in.ensures.put c.in_ok-write.ensures.fitting
+    c.in_ok-write.ensures.room write version leader sent in
     accepts
 
 pub returns-clause-outcome : goal.returns-clause-outcome
@@ -61,6 +117,10 @@ returns-clause-outcome c =
     kept ∙ c.shown.ensures ∙ ap shown_version (sym c.in_ok-entry.ensures.0) in
     let write : IsWriteOf c.args.self.now.journal.entries c.args.order.now c.args.now (arc_value c.in_ok-entry.entry) =
     subst (IsWriteOf c.args.self.now.journal.entries c.args.order.now c.args.now) (sym c.in_ok-entry.ensures.0) c.in_ok-write.ensures.made in
-    let accepts = Accepts-put c.args.self.now c.make_room.new.self c.put_in.new.self c.args.order.now c.args.now _ c.in_ok-entry.entry c.leader-leader.result
-    c.make_room.ensures.same c.put_in.ensures.put c.in_ok-write.ensures.fitting c.in_ok-write.ensures.room write version leader in
+    let same : arc_value c.in_ok-entry.cell ≡ arc_value c.in_ok-entry.entry = c.in_ok-entry.ensures.1 ∙ sym c.in_ok-entry.ensures.0 in
+    let sent = sent_by-share c.args.self.now (arc_value c.in_ok-entry.entry) (arc_value c.in_ok-entry.cell) c.leader-leader.result
+    (map sent_of c.in_ok-messages.messages.items) same c.in_ok-messages.ensures leader.core leader.found in
+    let accepts = Accepts-put c.args.self.now c.make_room.new.self c.put_in.new.self c.args.order.now c.args.now _ c.in_ok-entry.entry
+    c.leader-leader.result (map sent_of c.in_ok-messages.messages.items) c.make_room.ensures.same c.put_in.ensures.put c.in_ok-write.ensures.fitting
+    c.in_ok-write.ensures.room write version leader sent in
     accepted_outcome c.args.self.now c.put_in.new.self c.args.order.now c.args.now (to_z w64 (of_z w64 c.shown.result)) accepts

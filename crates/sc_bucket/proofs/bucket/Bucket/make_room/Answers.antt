@@ -1,32 +1,20 @@
 -- With room made for a write, a bucket is as it was but for room.
-use Rattle.std.proofs.Common.{◌≡◌, ◌<◌, ◌≤◌, ◌+◌, ℕ, List, length, set, max, refl, sym, ap, ◌∙◌, subst, slice_get, Some, arith}
-use Rattle.std.proofs.lemmas.Option.{same_Some}
+use Rattle.std.proofs.Common.{◌≡◌, ◌≤◌, ℕ, List, map, max, false, All, refl, sym, ap, subst, slice_get, Some, arith}
+use Rattle.std.specs.Prelude.{OnOk}
+use Rattle.sc_record.specs.declared.slice.CoreId.{CoreId}
 use Rattle.sc_replica.specs.Core.{Core}
-use Rattle.sc_bucket.specs.Kept.{JournalState, PlacesState}
-use Rattle.sc_bucket.specs.Cores.{with_room}
-use Rattle.sc_bucket.specs.Events.{AreSameCores}
-use Rattle.sc_bucket.proofs.PlaceLemmas.{some_at, slice_get-set, AreSameCores-with_room}
-use Rattle.sc_bucket.proofs.RoomLemmas.{IsSameBut-with_parts, IsSound-with_parts}
+use Rattle.sc_bucket.specs.Kept.{JournalState, PlacesState, FlightState}
+use Rattle.sc_bucket.specs.declared.bucket.Bucket.{Bucket}
+use Rattle.sc_bucket.specs.declared.message.Message.{Message}
+use Rattle.sc_bucket.specs.Cores.{is_core}
+use Rattle.sc_bucket.specs.Flight.{sent_of}
+use Rattle.sc_bucket.specs.Sound.{IsSound}
+use Rattle.sc_bucket.specs.Events.{IsSameBut}
+use Rattle.sc_bucket.specs.Accepting.{HasMemory}
+use Rattle.sc_bucket.proofs.PlaceLemmas.{some_at, same_core_at}
+use Rattle.sc_bucket.proofs.RoomierLemmas.{roomier-itself, same-roomier}
+use Rattle.sc_bucket.proofs.RoomLemmas.{HasMoreRoom, with_parts, spares-with_parts, IsSameBut-with_parts, IsSound-with_parts, memory-reserved}
 use Rattle.sc_bucket.proofs.bucket.Bucket.make_room.Goals as goal
-
--- the cores are the same, where one was given room
-same_cores : (cores new : List Core) (at : ℕ) → at < length cores
-    → ((core : Core) → slice_get cores at ≡ Some core → new ≡ set cores at (with_room 1 core)) → AreSameCores cores new
-same_cores cores new at within is =
-    let one = some_at cores at within in
-    subst (AreSameCores cores) (sym (is one.0 one.1)) (AreSameCores-with_room cores at 1 one.0 one.1)
-
--- and that one has it
-has_spare : (cores new : List Core) (at : ℕ) → at < length cores
-    → ((core : Core) → slice_get cores at ≡ Some core → new ≡ set cores at (with_room 1 core))
-    → (core : Core) → slice_get new at ≡ Some core → 0 < core.cell_spare
-has_spare cores new at within is core there =
-    let one = some_at cores at within in
-    let same : with_room 1 one.0 ≡ core =
-    same_Some (with_room 1 one.0) core
-    (sym (slice_get-set cores at (with_room 1 one.0) within) ∙ ap (λ (cs : List Core). slice_get cs at) (sym (is one.0 one.1)) ∙ there) in
-    let spare : max one.0.cell_spare 1 ≡ core.cell_spare = ap (λ (c : Core). c.cell_spare) same in
-    omega arith
 
 entries_of : (old new : JournalState) (n : ℕ) → new ≡ record old { room = max old.room n } → new.entries ≡ old.entries
 entries_of old new n is = ap (λ (j : JournalState). j.entries) is
@@ -43,36 +31,79 @@ places_of old new n is = ap (λ (p : PlacesState). p.places) is
 places_room : (old new : PlacesState) (n : ℕ) → new ≡ record old { room = max old.room n } → new.room ≡ max old.room n
 places_room old new n is = ap (λ (p : PlacesState). p.room) is
 
+messages_of : (old new : FlightState) (n : ℕ) → new ≡ record old { room = max old.room n } → new.messages ≡ old.messages
+messages_of old new n is = ap (λ (f : FlightState). f.messages) is
+
+flight_room : (old new : FlightState) (n : ℕ) → new ≡ record old { room = max old.room n } → new.room ≡ max old.room n
+flight_room old new n is = ap (λ (f : FlightState). f.room) is
+
 pub returns-in_err-reserve-2-clause-sound : goal.returns-in_err-reserve-2-clause-sound
 returns-in_err-reserve-2-clause-sound c =
-    IsSound-with_parts c.args.self.now c.reserve.new.self c.reserve-2.new.self c.args.self.now.replicas
-    (entries_of _ _ _ c.in_ok-reserve.ensures.ok) (more_room _ _ _ c.in_ok-reserve.ensures.ok)
-    (ap (λ (p : PlacesState). p.places) c.in_err-reserve-2.ensures.err) refl c.requires.sound
+    IsSound-with_parts c.args.self.now c.reserve.new.self c.reserve-2.new.self c.args.self.now.flight c.args.self.now.replicas
+    (record {
+      entries = entries_of _ _ _ c.in_ok-reserve.ensures.ok;
+      room = more_room _ _ _ c.in_ok-reserve.ensures.ok;
+      places = ap (λ (p : PlacesState). p.places) c.in_err-reserve-2.ensures.err;
+      messages = refl;
+      cores_are = roomier-itself c.args.self.now.replicas;
+    }) c.requires.sound
 
 pub returns-in_err-reserve-3-clause-sound : goal.returns-in_err-reserve-3-clause-sound
 returns-in_err-reserve-3-clause-sound c =
-    let same : AreSameCores c.args.self.now.replicas c.reserve-3.new.self =
-    subst (AreSameCores c.args.self.now.replicas) (sym c.in_err-reserve-3.ensures.err) refl in
-    IsSound-with_parts c.args.self.now c.reserve.new.self c.reserve-2.new.self c.reserve-3.new.self
-    (entries_of _ _ _ c.in_ok-reserve.ensures.ok) (more_room _ _ _ c.in_ok-reserve.ensures.ok)
-    (places_of _ _ _ c.in_ok-reserve-2.ensures.ok) same c.requires.sound
+    IsSound-with_parts c.args.self.now c.reserve.new.self c.reserve-2.new.self c.reserve-3.new.self c.args.self.now.replicas
+    (record {
+      entries = entries_of _ _ _ c.in_ok-reserve.ensures.ok;
+      room = more_room _ _ _ c.in_ok-reserve.ensures.ok;
+      places = places_of _ _ _ c.in_ok-reserve-2.ensures.ok;
+      messages = ap (λ (f : FlightState). f.messages) c.in_err-reserve-3.ensures.err;
+      cores_are = roomier-itself c.args.self.now.replicas;
+    }) c.requires.sound
 
 pub returns-clause-sound : goal.returns-clause-sound
 returns-clause-sound c =
-    IsSound-with_parts c.args.self.now c.reserve.new.self c.reserve-2.new.self c.reserve-3.new.self
-    (entries_of _ _ _ c.in_ok-reserve.ensures.ok) (more_room _ _ _ c.in_ok-reserve.ensures.ok)
-    (places_of _ _ _ c.in_ok-reserve-2.ensures.ok)
-    (same_cores c.args.self.now.replicas c.reserve-3.new.self c.args.leader c.requires.within c.in_ok-reserve-3.ensures.ok) c.requires.sound
+    let more : HasMoreRoom c.args.self.now c.reserve.new.self c.reserve-2.new.self c.reserve-3.new.self c.reserve_in_cores.new.self.replicas = record {
+      entries = entries_of _ _ _ c.in_ok-reserve.ensures.ok;
+      room = more_room _ _ _ c.in_ok-reserve.ensures.ok;
+      places = places_of _ _ _ c.in_ok-reserve-2.ensures.ok;
+      messages = messages_of _ _ _ c.in_ok-reserve-3.ensures.ok;
+      cores_are = c.reserve_in_cores.ensures.cores;
+    } in
+    subst IsSound (sym c.reserve_in_cores.ensures.rest)
+    (IsSound-with_parts c.args.self.now c.reserve.new.self c.reserve-2.new.self c.reserve-3.new.self c.reserve_in_cores.new.self.replicas more c.requires.sound)
 
 pub returns-clause-same : goal.returns-clause-same
 returns-clause-same c =
-    IsSameBut-with_parts c.args.self.now c.reserve.new.self c.reserve-2.new.self c.reserve-3.new.self
-    (entries_of _ _ _ c.in_ok-reserve.ensures.ok)
-    (same_cores c.args.self.now.replicas c.reserve-3.new.self c.args.leader c.requires.within c.in_ok-reserve-3.ensures.ok)
+    let more : HasMoreRoom c.args.self.now c.reserve.new.self c.reserve-2.new.self c.reserve-3.new.self c.reserve_in_cores.new.self.replicas = record {
+      entries = entries_of _ _ _ c.in_ok-reserve.ensures.ok;
+      room = more_room _ _ _ c.in_ok-reserve.ensures.ok;
+      places = places_of _ _ _ c.in_ok-reserve-2.ensures.ok;
+      messages = messages_of _ _ _ c.in_ok-reserve-3.ensures.ok;
+      cores_are = c.reserve_in_cores.ensures.cores;
+    } in
+    subst (IsSameBut c.args.self.now) (sym c.reserve_in_cores.ensures.rest)
+    (IsSameBut-with_parts c.args.self.now c.reserve.new.self c.reserve-2.new.self c.reserve-3.new.self c.reserve_in_cores.new.self.replicas more)
 
 pub returns-clause-memory : goal.returns-clause-memory
-returns-clause-memory c = record {
-  journal = omega (arith, room_of _ _ _ c.in_ok-reserve.ensures.ok);
-  unsettled = omega (arith, places_room _ _ _ c.in_ok-reserve-2.ensures.ok);
-  core = has_spare c.args.self.now.replicas c.reserve-3.new.self c.args.leader c.requires.within c.in_ok-reserve-3.ensures.ok;
-}
+returns-clause-memory c =
+    let new : List Core = c.reserve_in_cores.new.self.replicas in
+    let more : HasMoreRoom c.args.self.now c.reserve.new.self c.reserve-2.new.self c.reserve-3.new.self new = record {
+      entries = entries_of _ _ _ c.in_ok-reserve.ensures.ok;
+      room = more_room _ _ _ c.in_ok-reserve.ensures.ok;
+      places = places_of _ _ _ c.in_ok-reserve-2.ensures.ok;
+      messages = messages_of _ _ _ c.in_ok-reserve-3.ensures.ok;
+      cores_are = c.reserve_in_cores.ensures.cores;
+    } in
+    let roomy : Bucket = with_parts c.args.self.now c.reserve.new.self c.reserve-2.new.self c.reserve-3.new.self new in
+    let names : List CoreId = map (λ (message : Message). message.core) c.args.messages.now in
+    let others : (core : Core) → slice_get new c.args.leader ≡ Some core → All (λ name. is_core core.core name ≡ false) names = λ core found.
+    let before = some_at c.args.self.now.replicas c.args.leader c.requires.within in
+    let alike = same_core_at c.args.self.now.replicas new c.args.leader before.0 core
+    (same-roomier c.args.self.now.replicas new c.reserve_in_cores.ensures.cores) before.1 found in
+    let named : core.core ≡ before.0.core = ap (λ (one : Core). one.core) alike in
+    subst (λ (id : CoreId). All (λ name. is_core id name ≡ false) names) (sym named) (c.requires.others before.0 before.1) in
+    subst (λ (b : Bucket). OnOk c.reserve_in_cores.result (HasMemory b c.args.leader (map sent_of c.args.messages.now))) (sym c.reserve_in_cores.ensures.rest)
+    (memory-reserved c.reserve_in_cores.result roomy c.args.leader c.args.messages.now
+    (omega (arith, room_of _ _ _ c.in_ok-reserve.ensures.ok)) (omega (arith, places_room _ _ _ c.in_ok-reserve-2.ensures.ok))
+    (omega (arith, flight_room _ _ _ c.in_ok-reserve-3.ensures.ok))
+    (spares-with_parts c.args.self.now c.reserve.new.self c.reserve-2.new.self c.reserve-3.new.self new more c.requires.sound)
+    c.requires.once others c.reserve_in_cores.ensures.messages c.reserve_in_cores.ensures.leader)

@@ -1,7 +1,7 @@
 -- A new bucket is sound.
 use Rattle.std.proofs.Common.{◌∙◌, refl, ap, subst}
 use Rattle.sc_cluster.specs.Map.{IsMap}
-use Rattle.sc_bucket.specs.Kept.{JournalState, PlacesState}
+use Rattle.sc_bucket.specs.Kept.{JournalState, PlacesState, FlightState}
 use Rattle.sc_bucket.proofs.NewLemmas.{IsSound-new}
 use Rattle.sc_bucket.proofs.bucket.Bucket.new.Goals as goal
 
@@ -17,6 +17,7 @@ returns-clause-sound c =
       places = ap (λ (places : PlacesState). places.places) c.new-2.ensures;
       owed_is = refl;
       limit_is = refl;
-      keys = c.in_ok-leaders.ensures.keys;
-      new = c.in_ok-leaders.ensures.new;
+      keys = c.in_ok-new.ensures.keys;
+      messages = ap (λ (flight : FlightState). flight.messages) c.new-4.ensures;
+      new = c.in_ok-new.ensures.new;
     })

@@ -1,32 +1,51 @@
--- A settle leaves a sound bucket.
-use Rattle.std.proofs.Common.{refl, ap, arith}
-use Rattle.sc_bucket.specs.Kept.{JournalState, PlacesState}
-use Rattle.sc_bucket.proofs.SettleLemmas.{owes_settled, IsSound-settled}
+-- Each turn delivers the first message of the write, until none is in flight.
+use Rattle.std.proofs.Common.{refl, sym, ap, ◌∙◌, subst, All, ◌≢◌}
+use Rattle.std.specs.Prelude.{◌≡◌, IsSome, false}
+use Rattle.sc_journal.specs.Journal.{write_at, is_settled}
+use Rattle.sc_bucket.proofs.SettleLemmas.{DeliversAll-none, DeliversAll-first, fewer_in_flight, Settles-noted, delivered_some, delivered_none}
+use Rattle.sc_bucket.specs.declared.bucket.Bucket.{Bucket}
+use Rattle.sc_bucket.specs.Kept.{Sent}
 use Rattle.sc_bucket.proofs.bucket.Bucket.settle.Goals as goal
 
-pub append-requires : goal.append-requires
-append-requires c =
-    (owes_settled c.args.self.now c.args.place c.requires.sound.journal c.requires.written c.requires.unsettled).1
+pub loop-init : goal.loop-init
+loop-init c = record { sound = c.requires.sound; entries = refl; rest = λ new all. all }
 
-pub overflow_sub-self : goal.overflow_sub-self
-overflow_sub-self c =
-    let owes = owes_settled c.args.self.now c.args.place c.requires.sound.journal c.requires.written c.requires.unsettled in
-    omega (arith, owes.0)
+pub deliver-requires : goal.deliver-requires
+deliver-requires c = record { sound = c.loop.invariant.sound }
 
-pub returns-clause-sound : goal.returns-clause-sound
-returns-clause-sound c =
-    let old = c.args.self.now in
-    let owes = owes_settled old c.args.place c.requires.sound.journal c.requires.written c.requires.unsettled in
-    let left = ap (λ (journal : JournalState). journal.room) c.append.ensures in
-    IsSound-settled old c.args.place _ c.requires.sound c.requires.written c.requires.unsettled
-    (record {
-      name = record { first = refl; limit = refl };
-      map_is = refl;
-      entries = ap (λ (journal : JournalState). journal.entries) c.append.ensures;
-      cores = refl;
-    })
-    (record {
-      unsettled_are = ap (λ (places : PlacesState). places.places) c.remove.ensures;
-      owed_is = omega (arith, owes.0);
-      room = omega (arith, owes.1, left);
-    })
+pub loop-smaller : goal.loop-smaller
+loop-smaller c =
+    let (core, first) = delivered_some c.loop.self c.args.place c.deliver.result c.deliver.new.self (sym c.loop-test.true ∙ c.is_some.ensures) c.deliver.ensures.delivered in
+    fewer_in_flight c.loop.self c.args.place core c.deliver.new.self first
+
+pub loop-preserved : goal.loop-preserved
+loop-preserved c =
+    let (core, first) = delivered_some c.loop.self c.args.place c.deliver.result c.deliver.new.self (sym c.loop-test.true ∙ c.is_some.ensures) c.deliver.ensures.delivered in
+    record {
+      sound = c.deliver.ensures.sound;
+      entries = first.delivers.entries ∙ c.loop.invariant.entries;
+      rest = λ new all. c.loop.invariant.rest new (DeliversAll-first c.loop.self c.args.place core c.deliver.new.self new first all);
+    }
+
+pub note_settled-requires-clause-written : goal.note_settled-requires-clause-written
+note_settled-requires-clause-written c =
+    let (same, none) = delivered_none c.loop.self c.args.place c.deliver.result c.deliver.new.self (sym c.loop-test.false ∙ c.is_some.ensures) c.deliver.ensures.delivered in
+    subst (λ entries. IsSome (write_at entries c.args.place))
+    (sym (ap (λ (b : Bucket). b.journal.entries) same ∙ c.loop.invariant.entries)) c.requires.written
+
+pub note_settled-requires-clause-unsettled : goal.note_settled-requires-clause-unsettled
+note_settled-requires-clause-unsettled c =
+    let (same, none) = delivered_none c.loop.self c.args.place c.deliver.result c.deliver.new.self (sym c.loop-test.false ∙ c.is_some.ensures) c.deliver.ensures.delivered in
+    subst (λ entries. is_settled entries c.args.place ≡ false)
+    (sym (ap (λ (b : Bucket). b.journal.entries) same ∙ c.loop.invariant.entries)) c.requires.unsettled
+
+pub note_settled-requires-clause-delivered : goal.note_settled-requires-clause-delivered
+note_settled-requires-clause-delivered c =
+    let (same, none) = delivered_none c.loop.self c.args.place c.deliver.result c.deliver.new.self (sym c.loop-test.false ∙ c.is_some.ensures) c.deliver.ensures.delivered in
+    subst (λ (b : Bucket). All (λ (message : Sent). message.place ≢ c.args.place) b.flight.messages) (sym same) none
+
+pub returns-clause-settled : goal.returns-clause-settled
+returns-clause-settled c =
+    let (same, none) = delivered_none c.loop.self c.args.place c.deliver.result c.deliver.new.self (sym c.loop-test.false ∙ c.is_some.ensures) c.deliver.ensures.delivered in
+    let all = c.loop.invariant.rest c.deliver.new.self (DeliversAll-none c.loop.self c.args.place c.deliver.new.self same none) in
+    Settles-noted c.args.self.now c.args.place c.deliver.new.self c.note_settled.new.self all c.note_settled.ensures.noted

@@ -1,8 +1,5 @@
 -- The write of an order, or why there is none.
-use Rattle.std.proofs.Common.{◌≡◌, ◌<◌, ◌≤◌, ◌+◌, ◌<ℤ◌, ℕ, ℤ, pos, Ok, Err, List, length, slice_get, Some, None, Option, to_z, of_z, w32, w64, true, false, refl, sym, ap, ◌∙◌, subst, arith}
-use Rattle.std.specs.Prelude.{option_copied}
-use Rattle.std.specs.Option.{option_map}
-use Rattle.std.specs.Arc.{arc_value}
+use Rattle.std.proofs.Common.{◌≡◌, ◌<ℤ◌, pos, Option, to_z, of_z, w32, w64, sym, ap, ◌∙◌, subst, arith}
 use Rattle.std.proofs.lemmas.Int.{ints}
 use Rattle.std.proofs.lemmas.Option.{same_Some}
 use Rattle.std.proofs.lemmas.Result.{err_from_is_err_and}
@@ -14,7 +11,7 @@ use Rattle.sc_router.specs.Route.{route_hash}
 use Rattle.sc_replica.specs.Core.{Core}
 use Rattle.sc_journal.specs.Journal.{last_write}
 use Rattle.sc_journal.specs.Legal.{HasTerms}
-use Rattle.sc_journal.specs.Outcomes.{Makes, refused, IsMet, IsFitting, IsWriteOf}
+use Rattle.sc_journal.specs.Outcomes.{Makes, refused}
 use Rattle.sc_bucket.proofs.WriteLemmas.{write_may_follow, clock_can_rise, core_clock}
 use Rattle.sc_bucket.proofs.SoundLemmas.{leader_reads}
 use Rattle.sc_bucket.proofs.OutcomeLemmas.{condition_tested, partial_outcome, memory_outcome}

@@ -1,10 +1,16 @@
--- The first core of this name.
-use Rattle.std.proofs.Common.{◌≡◌, ◌∙◌, Some, slice_get, subst, refl}
-use Rattle.std.proofs.lemmas.Option.{slice_get_read}
+-- The first core of this name is found.
+use Rattle.std.proofs.Common.{◌≡◌, subst, rules, true, false}
+use Rattle.std.proofs.lemmas.Iterator.{IsFirst-from_position, YieldsList-from_slice}
+use borrow.Author.Tests.{tests}
+use Rattle.sc_replica.specs.Core.{Core}
+use Rattle.sc_bucket.specs.Cores.{is_core}
+use Rattle.sc_bucket.proofs.CoreLemmas.{IsCoreFound, core_found}
 use Rattle.sc_bucket.proofs.replicas.Replicas.position.Goals as goal
 
-pub returns-then-is_leader_of : goal.returns-then-is_leader_of
-returns-then-is_leader_of c =
-    let same = c.deref-replica-items.ensures.value ∙ c.self.view_is in
-    let found = slice_get_read c.deref-replica-items.result.now _ c.loop-at.at c.replica-item.result refl c.loop-at-test.true c.replica-item.is in
-    (c.replica-item.result, subst (λ cores. slice_get cores c.loop-at.at ≡ Some c.replica-item.result) same found, c.is_leader_of.ensures.0 c.if-is_leader_of.true)
+pub returns : goal.returns
+returns c =
+    subst (λ cores. IsCoreFound cores c.args.core c.position.result) c.self.view_is
+    (core_found c.self.inside.replicas.items c.args.core c.position.result
+    (IsFirst-from_position _ _ _ (λ (core : Core). is_core c.args.core core.core ≡ true) (λ (core : Core). is_core c.args.core core.core ≡ false)
+    c.position.ensures.ran (YieldsList-from_slice c.self.inside.replicas.items cc)
+    (λ x q k. search (rules, tests)) (λ x q k. search (rules, tests))))

@@ -1,5 +1,5 @@
 -- The write of an order that was just accepted is not settled.
-use Rattle.std.proofs.Common.{◌≡◌, ℕ, length, sym, subst}
+use Rattle.std.proofs.Common.{◌≡◌, sym, subst}
 use Rattle.std.specs.Prelude.{IsSome, false}
 use Rattle.sc_journal.specs.Journal.{write_at, is_settled}
 use Rattle.sc_bucket.proofs.OutcomeLemmas.{accepted_is_unsettled}

@@ -1,7 +1,7 @@
--- So far each slice has its leader.
+-- So far each slice has its cores.
 use Rattle.std.proofs.Common.{◌≡◌, All, map, take}
 use Rattle.sc_bucket.specs.Cores.{core_key, core_keys, IsNew}
-use Rattle.sc_bucket.proofs.replicas.Replicas.leaders.Given as goal
+use Rattle.sc_bucket.proofs.replicas.Replicas.new.Given as goal
 
 abbrev pub invariant-loop-at : goal.invariant-loop-at
 invariant-loop-at l = record {

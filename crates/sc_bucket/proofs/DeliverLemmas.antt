@@ -1,0 +1,280 @@
+-- A bucket is sound once a message in flight was delivered.
+use Rattle.std.proofs.Common.{◌≡◌, ℕ, zero, suc, ◌<◌, Bool, true, false, cond, List, [], ◌∷◌, length, get_or, map, set, take, drop, slice_get, Option, Some, All, Contains, refl, sym, ap, ◌∙◌, subst, arith, length-append}
+use Rattle.std.specs.List.{AllByRecursion, IsDistinct, remove}
+use Rattle.std.proofs.lemmas.List.{length-map, get_or-map}
+use Rattle.std.proofs.lemmas.List.Elements.{All-append, All-drop, All-from_recursion, All-map, All-take, All-weaker}
+use Rattle.std.proofs.lemmas.List.Quantifiers.{all_pairs_remove}
+use Rattle.std.proofs.lemmas.Map.Keys.{apart_from_distinct, IsDistinct-from_apart}
+use Rattle.std.proofs.lemmas.Option.{slice_get_within, none-some, same_Some}
+use Rattle.sc_record.specs.declared.slice.CoreId.{CoreId}
+use Rattle.sc_record.specs.declared.write.Write.{Write}
+use Rattle.sc_cluster.proofs.ListLemmas.{map-map_kept}
+use Rattle.sc_ulog.specs.declared.mode.Mode.TheVariants.{Active}
+use Rattle.sc_replica.specs.Core.{Core, received}
+use Rattle.sc_bucket.specs.declared.bucket.Bucket.{Bucket}
+use Rattle.sc_bucket.specs.Kept.{Sent, FlightState}
+use Rattle.sc_bucket.specs.Cores.{core_key, is_core, AreApart}
+use Rattle.sc_bucket.specs.Flight.{in_flight, received_by, delivered, is_same_message, IsFirstOf}
+use Rattle.sc_bucket.specs.Sound.{HasJournal, IsSent, AreSent, HasSpare, IsSound}
+use Rattle.sc_bucket.specs.Events.{Delivers, DeliversFirst}
+use Rattle.sc_bucket.proofs.CoreLemmas.{is_core-Decides, IsCoreFound}
+use Rattle.sc_bucket.proofs.SoundLemmas.{All-slice_get, name_of}
+use Rattle.sc_bucket.proofs.FlightLemmas.{taken-own, taken-other}
+use Rattle.sc_bucket.proofs.DeliveredLemmas.{IsSoundCore, received_is_sound, name-received, mode-received}
+
+-- the bucket with these messages in flight and these cores
+abbrev pub with_cores : Bucket → FlightState → List Core → Bucket
+with_cores b flight cores = record b { flight = flight; replicas = cores }
+
+-- what becomes of a core is known by whether the message is to it
+received_by_cases : (P : Core → Type 0) (name : CoreId) (write : Write) (core : Core) → (is_core core.core name ≡ true → P (received core write))
+    → (is_core core.core name ≡ false → P core) → P (received_by name write core)
+received_by_cases P name write core own other = by (is_core name core.core) refl where
+  by : (b : Bool) → is_core name core.core ≡ b → P (cond b (received core write) core)
+  by true is = own ((is_core-Decides core.core name).1 (sym ((is_core-Decides name core.core).0 is)))
+  by false is = other (apart (is_core core.core name) refl) where
+    apart : (b : Bool) → is_core core.core name ≡ b → is_core core.core name ≡ false
+    apart false differ = differ
+    apart true alike =
+        let yes : is_core name core.core ≡ true = (is_core-Decides name core.core).1 (sym ((is_core-Decides core.core name).0 alike)) in
+        let both : true ≡ false = sym yes ∙ is in
+        absurd (cc)
+
+-- its name and its mode stay
+name-received_by : (name : CoreId) (write : Write) (core : Core) → name_of (received_by name write core) ≡ name_of core
+name-received_by name write core =
+    received_by_cases (λ (after : Core). after.core ≡ core.core) name write core (λ own. name-received core write) (λ other. refl)
+
+pub names-delivered : (message : Sent) (cores : List Core) → map name_of (delivered message cores) ≡ map name_of cores
+names-delivered message cores =
+    map-map_kept name_of (received_by message.core message.write) (name-received_by message.core message.write) cores
+
+pub keys-delivered : (message : Sent) (cores : List Core) → map core_key (delivered message cores) ≡ map core_key cores
+keys-delivered message cores =
+    map-map_kept core_key (received_by message.core message.write)
+    (λ core. ap (λ (name : CoreId). (name.slice.0, name.replica)) (name-received_by message.core message.write core)) cores
+
+-- a core of a sound bucket, and those of a sound bucket
+pub core_is_sound : (b : Bucket) (k : ℕ) (d : Core) → k < length b.replicas → IsSound b
+    → IsSoundCore b.map b.journal.entries (in_flight b.flight.messages (get_or b.replicas k d).core) (get_or b.replicas k d)
+core_is_sound b k d below sound = record {
+  serves = sound.leaders k d below;
+  written = sound.written k d below;
+  held = sound.held k d below;
+  in_range = sound.in_range k d below;
+  clock = sound.clocks k d below;
+  cell_room = (sound.spares k d below).cells;
+  buffer_room = (sound.spares k d below).buffer;
+}
+
+-- the core is sound, where these messages are in flight
+abbrev IsSoundIn : Bucket → List Sent → Core → Type 0
+IsSoundIn b messages core = IsSoundCore b.map b.journal.entries (in_flight messages core.core) core
+
+-- each core is sound once the message was delivered
+cores_are_sound : (b : Bucket) (at : ℕ) (message : Sent) → IsSound b → slice_get b.flight.messages at ≡ Some message
+    → All (IsSoundIn b (remove b.flight.messages at)) (delivered message b.replicas)
+cores_are_sound b at message sound found =
+    All-map (IsSoundIn b left) (received_by message.core message.write) b.replicas (λ k d below. each (get_or b.replicas k d) (core_is_sound b k d below sound))
+  where
+    left : List Sent
+    left = remove b.flight.messages at
+
+    each : (core : Core) → IsSoundIn b b.flight.messages core → IsSoundIn b left (received_by message.core message.write core)
+    each core before =
+        received_by_cases (IsSoundIn b left) message.core message.write core
+        (λ own. subst (λ (name : CoreId). IsSoundCore b.map b.journal.entries (in_flight left name) (received core message.write))
+        (sym (name-received core message.write))
+        (received_is_sound b.first b.map b.journal.entries (in_flight b.flight.messages core.core) (in_flight left core.core) core message.write
+        sound.journal.legal (taken-own b.flight.messages at message core.core found own) before))
+        (λ other. subst (λ sent. IsSoundCore b.map b.journal.entries sent core)
+        (sym (taken-other b.flight.messages at message core.core found other)) before)
+
+-- what is true of each element is true of each that is left
+All-remove : {X : Type 0} (P : X → Type 0) (xs : List X) (at : ℕ) → All P xs → All P (remove xs at)
+All-remove P xs at all = All-append P (take at xs) (drop (suc at) xs) (All-take P at xs all) (All-drop P (suc at) xs all)
+
+-- the messages that are left are as they have to be
+AreSent-left : (b : Bucket) (at : ℕ) (flight : FlightState) (cores : List Core) → at < length b.flight.messages
+    → flight.messages ≡ remove b.flight.messages at → map name_of cores ≡ map name_of b.replicas → AreSent b
+    → AreSent (with_cores b flight cores)
+AreSent-left b at flight cores within left names sent = record {
+  each = subst (All (IsSent (with_cores b flight cores))) (sym left)
+      (All-remove (IsSent (with_cores b flight cores)) b.flight.messages at
+      (All-weaker (IsSent b) (IsSent (with_cores b flight cores)) same b.flight.messages sent.each));
+  once = subst (IsDistinct is_same_message) (sym left)
+      (IsDistinct-from_apart is_same_message (remove b.flight.messages at)
+      (all_pairs_remove (λ (one other : Sent). is_same_message one other ≡ false) b.flight.messages at within
+      (λ i j d. λ before inside. apart_from_distinct is_same_message b.flight.messages i j d sent.once before inside)));
+} where
+  same : (message : Sent) → IsSent b message → IsSent (with_cores b flight cores) message
+  same message is = record {
+    write = is.write;
+    unsettled = is.unsettled;
+    core = subst (λ (those : List CoreId). Contains those message.core) (sym names) is.core;
+  }
+
+-- which says nothing of the messages and the cores
+same_journal : (b : Bucket) (flight : FlightState) (cores : List Core) → HasJournal b → HasJournal (with_cores b flight cores)
+same_journal b flight cores journal = record {
+  first = journal.first;
+  begins = journal.begins;
+  legal = journal.legal;
+  map_is = journal.map_is;
+  unsettled_are = journal.unsettled_are;
+  owed_is = journal.owed_is;
+  room = journal.room;
+  within = journal.within;
+  limit_from = journal.limit_from;
+  limit_to = journal.limit_to;
+}
+
+-- a sound bucket is sound once the message at a place of the flight was delivered
+pub IsSound-delivered : (b : Bucket) (at : ℕ) (message : Sent) (flight : FlightState) → IsSound b
+    → slice_get b.flight.messages at ≡ Some message → flight.messages ≡ remove b.flight.messages at
+    → IsSound (with_cores b flight (delivered message b.replicas))
+IsSound-delivered b at message flight sound found left =
+    let cores : List Core = delivered message b.replicas in
+    let names = names-delivered message b.replicas in
+    let sound_cores : All (IsSoundIn b flight.messages) cores =
+    subst (λ messages. All (IsSoundIn b messages) cores) (sym left) (cores_are_sound b at message sound found) in
+    record {
+      journal = same_journal b flight cores sound.journal;
+      leaders = λ k d below. (sound_cores k d below).serves;
+      written = λ k d below. (sound_cores k d below).written;
+      held = λ k d below. (sound_cores k d below).held;
+      in_range = λ k d below. (sound_cores k d below).in_range;
+      clocks = λ k d below. (sound_cores k d below).clock;
+      messages = AreSent-left b at flight cores (slice_get_within b.flight.messages at message found) left names sound.messages;
+      spares = λ k d below. record { cells = (sound_cores k d below).cell_room; buffer = (sound_cores k d below).buffer_room };
+      apart = subst (IsDistinct is_core) (sym names) sound.apart;
+      phase = record {
+        idle = sound.phase.idle;
+        cores = keys-delivered message b.replicas ∙ sound.phase.cores;
+        active = All-map (λ (core : Core). core.mode ≡ Active) (received_by message.core message.write) b.replicas
+            (λ k d below. active (get_or b.replicas k d) (sound.phase.active k d below));
+      };
+    }
+  where
+    active : (core : Core) → core.mode ≡ Active → (received_by message.core message.write core).mode ≡ Active
+    active core is =
+        received_by_cases (λ (after : Core). after.mode ≡ Active) message.core message.write core
+        (λ own. mode-received core message.write ∙ is) (λ other. is)
+
+-- cores of other names stay
+stay : (message : Sent) (cores : List Core) → AllByRecursion (λ (name : CoreId). is_core message.core name ≡ false) (map name_of cores)
+    → delivered message cores ≡ cores
+stay message [] apart = refl
+stay message (core ∷ cores) apart =
+    let first : received_by message.core message.write core ≡ core = rw apart.0 refl in
+    let rest = stay message cores apart.1 in
+    cc
+
+-- the core of the message's name, which is at this place, receives it alone
+pub delivered_at : (message : Sent) (cores : List Core) (k : ℕ) (core : Core) → AreApart cores → slice_get cores k ≡ Some core
+    → is_core message.core core.core ≡ true → delivered message cores ≡ set cores k (received core message.write)
+unfolding IsDistinct
+delivered_at message [] k core apart found is = absurd (none-some core found)
+delivered_at message (first ∷ cores) zero core apart found is =
+    let same : first ≡ core = same_Some first core found in
+    let named : message.core ≡ first.core = (is_core-Decides message.core core.core).0 is ∙ ap name_of (sym same) in
+    let here : received_by message.core message.write first ≡ received core message.write =
+    ap (received_by message.core message.write) same ∙ rw is refl in
+    let rest = stay message cores
+    (subst (λ (name : CoreId). AllByRecursion (λ (other : CoreId). is_core name other ≡ false) (map name_of cores)) (sym named) apart.0) in
+    cc
+delivered_at message (first ∷ cores) (suc k) core apart found is =
+    let named : message.core ≡ core.core = (is_core-Decides message.core core.core).0 is in
+    let each = All-from_recursion (λ (other : CoreId). is_core first.core other ≡ false) (map name_of cores) apart.0 in
+    let differ : is_core first.core core.core ≡ false = All-slice_get (λ (other : Core). is_core first.core other.core ≡ false) cores k core (unmapped each) found in
+    let other : received_by message.core message.write first ≡ first = by (is_core message.core first.core) refl named differ in
+    let rest = delivered_at message cores k core apart.1 found is in
+    cc
+  where
+    unmapped : All (λ (other : CoreId). is_core first.core other ≡ false) (map name_of cores)
+        → All (λ (other : Core). is_core first.core other.core ≡ false) cores
+    unmapped all j d below =
+        ap (is_core first.core) (sym (get_or-map name_of cores j d d.core below)) ∙ all j d.core (omega (arith, length-map cores name_of))
+
+    by : (b : Bool) → is_core message.core first.core ≡ b → message.core ≡ core.core → is_core first.core core.core ≡ false
+        → cond b (received first message.write) first ≡ first
+    by false test named differ = refl
+    by true test named differ =
+        let same : first.core ≡ core.core = sym ((is_core-Decides message.core first.core).0 test) ∙ named in
+        let yes : is_core first.core core.core ≡ true = (is_core-Decides first.core core.core).1 same in
+        let both : true ≡ false = sym yes ∙ differ in
+        absurd (cc)
+
+-- the core that a message in flight is to is there
+pub core_is_there : (b : Bucket) (at : ℕ) (message : Sent) → IsSound b → slice_get b.flight.messages at ≡ Some message
+    → Contains (map name_of b.replicas) message.core
+core_is_there b at message sound found = (All-slice_get (IsSent b) b.flight.messages at message sound.messages.each found).core
+
+-- and it has room for what the message brings
+pub core_has_room : (b : Bucket) (at : ℕ) (message : Sent) (k : ℕ) (core : Core) → IsSound b
+    → slice_get b.flight.messages at ≡ Some message → slice_get b.replicas k ≡ Some core → is_core message.core core.core ≡ true
+    → (0 < core.cell_spare) × (0 < core.buffer_spare)
+core_has_room b at message k core sound found there is =
+    let spare = All-slice_get (HasSpare b.flight.messages) b.replicas k core sound.spares there in
+    let named : core.core ≡ message.core = sym ((is_core-Decides message.core core.core).0 is) in
+    let one = taken-own b.flight.messages at message core.core found ((is_core-Decides core.core message.core).1 named) in
+    (omega (arith, spare.cells, one.count, length-append (in_flight b.flight.messages core.core) core.buffer), omega (arith, spare.buffer, one.count))
+
+-- what the search for a message's core finds is known by its place
+pub place_of_core : (cores : List Core) (name : CoreId) (found : Option ℕ) (k : ℕ) → IsCoreFound cores name found → found ≡ Some k
+    → (there : Core) × (slice_get cores k ≡ Some there) × (is_core name there.core ≡ true)
+place_of_core cores name found k is same = subst (IsCoreFound cores name) same is
+
+-- the core at a place has the name of each that is found there
+pub named_at : (cores : List Core) (name : CoreId) (k : ℕ) (core there : Core) → slice_get cores k ≡ Some core
+    → slice_get cores k ≡ Some there → is_core name there.core ≡ true → is_core name core.core ≡ true
+named_at cores name k core there one other named =
+    ap (λ (c : Core). is_core name c.core) (same_Some core there (sym one ∙ other)) ∙ named
+
+-- the cores are those to which the message was delivered, where the one at that place received its write
+pub delivered_there : (b : Bucket) (message : Sent) (found : Option ℕ) (k : ℕ) (cores : List Core) → IsSound b
+    → IsCoreFound b.replicas message.core found → found ≡ Some k
+    → ((core : Core) → slice_get b.replicas k ≡ Some core → cores ≡ set b.replicas k (received core message.write))
+    → cores ≡ delivered message b.replicas
+delivered_there b message found k cores sound is same received_there =
+    let (core, there, named) = place_of_core b.replicas message.core found k is same in
+    received_there core there ∙ sym (delivered_at message b.replicas k core sound.apart there named)
+
+-- and so the bucket is sound
+pub IsSound-received : (b : Bucket) (at : ℕ) (message : Sent) (flight : FlightState) (found : Option ℕ) (k : ℕ) (cores : List Core)
+    → IsSound b → slice_get b.flight.messages at ≡ Some message → flight ≡ record b.flight { messages = remove b.flight.messages at }
+    → IsCoreFound b.replicas message.core found → found ≡ Some k
+    → ((core : Core) → slice_get b.replicas k ≡ Some core → cores ≡ set b.replicas k (received core message.write))
+    → IsSound (with_cores b flight cores)
+IsSound-received b at message flight found k cores sound there left is same received_there =
+    subst (λ these. IsSound (with_cores b flight these)) (sym (delivered_there b message found k cores sound is same received_there))
+    (IsSound-delivered b at message flight sound there (ap (λ (f : FlightState). f.messages) left))
+
+-- which was delivered the message
+pub Delivers-received : (b : Bucket) (at : ℕ) (message : Sent) (flight : FlightState) (found : Option ℕ) (k : ℕ) (cores : List Core)
+    → IsSound b → slice_get b.flight.messages at ≡ Some message → flight ≡ record b.flight { messages = remove b.flight.messages at }
+    → IsCoreFound b.replicas message.core found → found ≡ Some k
+    → ((core : Core) → slice_get b.replicas k ≡ Some core → cores ≡ set b.replicas k (received core message.write))
+    → Delivers b at message (with_cores b flight cores)
+Delivers-received b at message flight found k cores sound there left is same received_there = record {
+  name = record { first = refl; limit = refl };
+  map_is = refl;
+  entries = refl;
+  found = there;
+  messages = ap (λ (f : FlightState). f.messages) left;
+  cores = delivered_there b message found k cores sound is same received_there;
+}
+
+-- the message that was found first is the one that was delivered
+pub DeliversFirst-at : (old : Bucket) (place at : ℕ) (core : CoreId) (new : Bucket)
+    → (message : Sent) × IsFirstOf place old.flight.messages at message
+    → (message : Sent) × Delivers old at message new × (message.core ≡ core) → DeliversFirst old place core new
+DeliversFirst-at old place at core new (message, first) (other, delivers, core_is) =
+    let same : message ≡ other = same_Some message other (sym first.found ∙ delivers.found) in
+    record {
+      at = at;
+      message = other;
+      first = subst (IsFirstOf place old.flight.messages at) same first;
+      core_is = core_is;
+      delivers = delivers;
+    }

@@ -1,0 +1,30 @@
+-- One more slice's cores get their messages, where the slice takes the write.
+use Rattle.std.proofs.Common.{◌≡◌, length, map, sym, ap, ◌∙◌, ℤ, Vec, Global, to_z, of_z, w32, arith}
+use Rattle.std.specs.Arc.{arc_value}
+use Rattle.std.specs.Option.{option_copied}
+use Rattle.std.proofs.lemmas.Int.{ints}
+use Rattle.sc_record.specs.declared.write.Write.{Write}
+use Rattle.sc_bucket.specs.declared.message.Message.{Message}
+use Rattle.sc_bucket.specs.Flight.{sent_of}
+use Rattle.sc_bucket.proofs.SendLemmas.{takes, followers-more, followers-same}
+use Rattle.sc_bucket.proofs.bucket.Bucket.messages_for.Goals as goal
+use Rattle.sc_bucket.proofs.bucket.Bucket.messages_for.Goals.{then-takes+in_ok-push_messages, else-takes}
+
+pub loop-at-preserved : goal.loop-at-preserved
+loop-at-preserved c =
+    let slice = c.unwrap-slice.result.now in
+    let write = arc_value c.args.write.now in
+    let there = sym c.get-in-loop-at.ensures.slice ∙ ap option_copied c.unwrap-slice.ensures in
+    let back : to_z w32 (of_z w32 c.deref.result.now.hash) ≡ c.deref.result.now.hash = omega (arith, ints) in
+    let hash : to_z w32 (of_z w32 c.deref.result.now.hash) ≡ write.hash = back ∙ ap (λ (w : Write). w.hash) c.deref.ensures in
+    let same_test : takes write.hash slice ≡ c.takes.result = ap (λ (h : ℤ). takes h slice) (sym hash) ∙ sym c.takes.ensures in
+    elim c.if-takes.branch [
+      | then-takes+in_ok-push_messages w ↦
+          followers-more (length c.args.self.now.journal.entries) write c.args.self.now.map c.args.self.now.replicas write.hash
+          c.core-leader.result c.loop-at.at slice c.loop-at.messages.items c.if-takes.messages.items there (same_test ∙ w.if-takes.true) c.loop-at.invariant
+          (ap (λ (v : Vec Message Global). map sent_of v.items) w.messages-is ∙ w.in_ok-push_messages.ensures)
+      | else-takes w ↦
+          followers-same (length c.args.self.now.journal.entries) write c.args.self.now.map c.args.self.now.replicas write.hash
+          c.core-leader.result c.loop-at.at slice (map sent_of c.if-takes.messages.items) there (same_test ∙ w.if-takes.false)
+          (ap (λ (v : Vec Message Global). map sent_of v.items) w.messages-is ∙ c.loop-at.invariant)
+    ]

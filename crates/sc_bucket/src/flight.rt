@@ -1,0 +1,96 @@
+ghost use Rattle.std.specs.Prelude.{◌≡◌, ◌≢◌, ◌<◌, ◌≤◌, ◌-◌, [], ◌++◌, length, map, max, slice_get, Some, MatchOption, OnOk, OnErr, All};
+ghost use Rattle.std.specs.List.{remove};
+ghost use Rattle.sc_bucket.specs.Kept.{Sent};
+ghost use Rattle.sc_bucket.specs.Flight.{sent_of, IsFirstOf};
+
+use crate::message::Message;
+use std::alloc::{AllocError, Global};
+use std::marker::Model;
+
+/// The messages in flight, in the order of sending, and room for more. They are few: each update delivers its own before it is
+/// answered.
+#[derive(Drop)]
+pub struct Flight {
+    messages: Vec<Message>,
+    // how many more messages fit, as far as callers have asked for room
+    room: usize,
+}
+
+impl Model for Flight {
+    ghost use Rattle.std.specs.Prelude.{◌+◌, ◌≤◌, map, vec_len, vec_capacity};
+    ghost use Rattle.sc_bucket.specs.Kept.{FlightState};
+    ghost use Rattle.sc_bucket.specs.Flight.{sent_of};
+
+    ghost Value = { FlightState };
+
+    ghost view = { λ a. record { messages = map sent_of a.messages.items; room = a.room } };
+
+    ghost invariant = { λ a. vec_len a.messages + a.room ≤ vec_capacity a.messages };
+}
+
+impl Flight {
+    /// No messages, and no room. It takes no memory.
+    pub fn new(alloc: Global) -> Flight
+        ensures { result ≡ record { messages = []; room = 0 } }
+    {
+        Flight {
+            messages: Vec::new(alloc),
+            room: 0,
+        }
+    }
+
+    /// How many messages there are.
+    pub fn len(&self) -> usize
+        ensures { result ≡ length self.now.messages }
+    {
+        self.messages.len()
+    }
+
+    pub fn as_slice(&self) -> &[Message]
+        ensures { map sent_of result.now ≡ self.now.messages }
+    {
+        self.messages.as_slice()
+    }
+
+    /// Makes room for at least `n` more messages. An error means out of memory.
+    pub fn reserve(&mut self, n: usize) -> Result<(), AllocError>
+        ensures ok { OnOk result (self.new ≡ record self.old { room = max self.old.room n }) }
+        ensures err { OnErr result (self.new ≡ self.old) }
+    {
+        if n > self.room {
+            self.messages.reserve(n)?;
+            self.room = n;
+        }
+        Ok(())
+    }
+
+    /// Puts messages at the end, in the room that `reserve` made. It takes no memory.
+    pub fn append(&mut self, messages: Vec<Message>)
+        requires { length messages.items ≤ self.old.room }
+        ensures { self.new ≡ record { messages = self.old.messages ++ map sent_of messages.items; room = self.old.room - length messages.items } }
+    {
+        for message in messages {
+            self.messages.push_reserved(message);
+            self.room -= 1;
+        }
+    }
+
+    /// The place in the flight of the first message of the write at this place of the journal; None where there is none.
+    pub fn first_of(&self, place: u64) -> Option<usize>
+        ensures { MatchOption result (All (λ (message : Sent). message.place ≢ place) self.now.messages)
+            (λ at. (message : Sent) × IsFirstOf place self.now.messages at message) }
+    {
+        self.messages
+            .iter()
+            .position(|message| message.place == place)
+    }
+
+    /// Takes the message at this place of the flight out.
+    pub fn take(&mut self, at: usize) -> Message
+        requires { at < length self.old.messages }
+        ensures taken { slice_get self.old.messages at ≡ Some (sent_of result) }
+        ensures left { self.new ≡ record self.old { messages = remove self.old.messages at } }
+    {
+        self.messages.remove(at)
+    }
+}

@@ -36,7 +36,7 @@ number_of text = if is_number text then digits_value 10 text else 0
 
 -- the options that there are
 abbrev pub option_names : List (List ℕ)
-option_names = codes "--nodes" ∷ codes "--shards" ∷ codes "--buckets" ∷ codes "--log-limit" ∷ codes "--clock" ∷ []
+option_names = codes "--nodes" ∷ codes "--shards" ∷ codes "--replicas" ∷ codes "--buckets" ∷ codes "--log-limit" ∷ codes "--clock" ∷ []
 
 -- the value that an option is given
 abbrev pub value_of : List ℕ → List Setting → Option (List ℕ)
@@ -55,12 +55,12 @@ abbrev pub are_options : List Setting → Bool
 are_options [] = true
 are_options ((name, value) ∷ given) = list_any (bytes_eq name) option_names && is_number value && not (is_some (value_of name given)) && are_options given
 
--- the shape that options ask for: by default one node, one shard and 64 buckets, whose journals have at most 1048576 entries
+-- the shape that options ask for: by default one node, one shard with one replica, and 64 buckets, whose journals have at most 1048576 entries
 abbrev pub shape_of : List Setting → Shape
 shape_of given = record {
   nodes = number_or 1 (codes "--nodes") given;
   shards = number_or 1 (codes "--shards") given;
-  replicas = 1;
+  replicas = number_or 1 (codes "--replicas") given;
   buckets = number_or 64 (codes "--buckets") given;
   log_limit = number_or 1048576 (codes "--log-limit") given;
 }
@@ -75,7 +75,7 @@ is_bucket_count number = list_any (λ count. number == count) (1 ∷ 2 ∷ 4 ∷
 
 -- each number of the shape is one that its option may have
 abbrev pub is_shape : Shape → Bool
-is_shape shape = is_within 1 16 shape.nodes && is_within 1 64 shape.shards && is_bucket_count shape.buckets && is_within 16 16777216 shape.log_limit
+is_shape shape = is_within 1 16 shape.nodes && is_within 1 64 shape.shards && is_within 1 4 shape.replicas && is_bucket_count shape.buckets && is_within 16 16777216 shape.log_limit
 
 -- what options ask for; a clock may stand still at any timestamp
 abbrev pub script_by : List Setting → Option Script

@@ -56,7 +56,7 @@ fn shape_of(options: &[String]) -> Option<Shape>
     Some(Shape {
         nodes: within(number_or(1, options, "--nodes"), 1, 16)?,
         shards: within(number_or(1, options, "--shards"), 1, 64)?,
-        replicas: 1,
+        replicas: within(number_or(1, options, "--replicas"), 1, 4)? as u8,
         buckets: bucket_count(number_or(64, options, "--buckets"))?,
         log_limit: u64::from(within(number_or(1_048_576, options, "--log-limit"), 16, 16_777_216)?),
     })
@@ -139,7 +139,7 @@ fn is_option(name: &str) -> bool
 {
     matches!(
         name,
-        "--nodes" | "--shards" | "--buckets" | "--log-limit" | "--clock"
+        "--nodes" | "--shards" | "--replicas" | "--buckets" | "--log-limit" | "--clock"
     )
 }
 

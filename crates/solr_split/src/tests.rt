@@ -436,6 +436,26 @@ fn each_bucket_has_its_own_versions(rt: HostRuntime) -> Result<(), Fail> {
     )
 }
 
+// What is written is the same, however many replicas each shard has.
+#[test]
+fn replicas_are_not_seen(rt: HostRuntime) -> Result<(), Fail> {
+    let (one, _) = script(rt.alloc(), &[ADD, GET], 65_536)?;
+    for replicas in ["1", "2", "3", "4"] {
+        let words = [
+            "script",
+            "--nodes=2",
+            "--buckets=1",
+            "--clock=1000",
+            "--replicas",
+            replicas,
+        ];
+        let (written, status) = ran(rt.alloc(), &words, &[ADD, GET], 65_536, &[], &[])?;
+        assert!(rt; written.as_slice() == one.as_slice(), "{replicas}");
+        assert!(rt; status == 0, "{replicas}: {status}");
+    }
+    Ok(())
+}
+
 #[test]
 fn a_full_journal_takes_no_more(rt: HostRuntime) -> Result<(), Fail> {
     let steps: [Step<'_>; 5] = [
@@ -470,7 +490,7 @@ fn a_full_journal_takes_no_more(rt: HostRuntime) -> Result<(), Fail> {
 
 #[test]
 fn arguments_that_ask_for_nothing_do_nothing(rt: HostRuntime) -> Result<(), Fail> {
-    let cases: [&[&str]; 29] = [
+    let cases: [&[&str]; 32] = [
         &[],
         &["Script"],
         &["serve"],
@@ -479,7 +499,10 @@ fn arguments_that_ask_for_nothing_do_nothing(rt: HostRuntime) -> Result<(), Fail
         &["--clock", "1", "script"],
         &["script", ""],
         &["script", "--help"],
-        &["script", "--replicas", "1"],
+        &["script", "--replicas=0"],
+        &["script", "--replicas", "5"],
+        &["script", "--replicas="],
+        &["script", "--replicas", "1", "--replicas=2"],
         &["script", "--nodes=1", "--nodes=2"],
         &["script", "--clock", "1", "--clock=1"],
         &["script", "--clock"],
@@ -534,6 +557,7 @@ fn the_options_are_read_up_to_the_ends_of_their_ranges(rt: HostRuntime) -> Resul
                 "--nodes=16",
                 "--shards",
                 "64",
+                "--replicas=4",
                 "--buckets=256",
                 "--log-limit",
                 "16777216",
@@ -575,6 +599,7 @@ fn each_status_but_0_has_its_line(rt: HostRuntime) {
         "solr_split script [OPTION VALUE | OPTION=VALUE]...\n",
         "--nodes      1 to 16 nodes (1)\n",
         "--shards     1 to 64 shards (1)\n",
+        "--replicas   1 to 4 replicas of each shard (1)\n",
         "--buckets    a power of two from 1 to 256 (64)\n",
         "--log-limit  16 to 16777216 entries in the journal of a bucket (1048576)\n",
         "--clock      a timestamp from 0 to 18446744073709551615, in milliseconds, at which the clock stands still (the machine's clock)\n",

@@ -1,0 +1,3 @@
+-- What the contracts of this crate cite, lowest first.
+pub mod Rows
+pub mod Laws

@@ -1,0 +1,15 @@
+//! The committed rows of a core: of each id the write that a search sees, a deletion too, ascending by the ids' bytes.
+//!
+//! It depends on `sc_record` alone, and does no input and no output. The layers above take a snapshot of the cells of a core
+//! by `Snapshot::of` and read it by `place`, `rows` and `row`. Contracts see a `Snapshot` as a `SnapshotState`, whose rows
+//! ascend and are at most 2^24.
+#![tactic(auto)]
+
+mod laws;
+mod snapshot;
+
+pub use laws::rows_are_each_of_one_id;
+pub use snapshot::Snapshot;
+
+#[cfg(test)]
+mod tests;

@@ -1,0 +1,21 @@
+-- The test decides which hashes are within the range.
+use Rattle.std.proofs.Common.{◌≡◌, Bool, true, false, ◌↔◌, to_z, of_z, w32, refl, sym, arith}
+use Rattle.std.specs.Bool.{IsTrue, Decides}
+use Rattle.std.proofs.lemmas.Int.{ints}
+use Rattle.sc_hash.specs.Range.{IsWithin}
+use Rattle.sc_hash.specs.Bounds.{contains}
+use Rattle.sc_hash.proofs.BoundsLemmas.{contains-Decides}
+use Rattle.sc_eval.proofs.searcher.is_in.Goals as goal
+
+-- two answers that say the same are one
+one_answer : {P : Type 0} (a b : Bool) → (IsTrue a ↔ P) → Decides b P → a ≡ b
+one_answer true b told decides = sym (decides.1 (told.0 refl))
+one_answer false true told decides = told.1 (decides.0 refl)
+one_answer false false told decides = refl
+
+pub returns : goal.returns
+returns c =
+    let hash : to_z w32 (of_z w32 c.args.hash) ≡ c.args.hash = omega (arith, ints) in
+    let told : IsTrue c.contains.result ↔ IsWithin c.args.range.now.min c.args.range.now.max c.args.hash = rw hash at c.contains.ensures in
+    one_answer c.contains.result (contains c.args.hash (c.args.range.now.min, c.args.range.now.max)) told
+    (contains-Decides c.args.hash c.args.range.now.min c.args.range.now.max)

@@ -1,0 +1,6 @@
+-- What the contracts of this crate cite, lowest first.
+pub mod Conditions
+pub mod Binding
+pub mod Spine
+pub mod Matching
+pub mod Laws

@@ -1,0 +1,4 @@
+-- What the contracts of this crate cite, lowest first.
+pub mod Pages
+pub mod Merging
+pub mod Laws

@@ -1,27 +1,29 @@
 ghost use Rattle.std.specs.Prelude.{◌≡◌, ◌<◌, ◌≤◌, ◌+◌, ◌-◌, [], map, insert, max, min, length, int_lt};
-ghost use Rattle.std.specs.Prelude.{vec_len, vec_capacity, IsOk, OnOk, OnErr, option_copied};
+ghost use Rattle.std.specs.Prelude.{IsOk, IfOk, OnOk, OnErr, option_copied};
+ghost use Rattle.std.specs.VecDeque.{deque_len, deque_capacity};
 ghost use Rattle.std.specs.Option.{option_map};
 ghost use Rattle.std.specs.Arc.{arc_value};
-ghost use Rattle.std.specs.Slice.Iter.{iter_rest};
 ghost use Rattle.sc_record.specs.Writes.{write_of, AscendById};
 ghost use Rattle.sc_replica.specs.Places.{IsPlace};
 
-use sc_record::{Cell, Id};
+use sc_record::{Cell, Id, List};
 use std::alloc::{AllocError, Global};
+use std::collections::VecDeque;
 use std::marker::Model;
-use std::slice;
+use std::sync::Arc;
 
 /// The cells of a core, which contracts see as the list of their writes, ascending by the ids' bytes, and the number of
 /// new ids for which there is room.
 #[derive(Debug, Drop)]
 pub struct Cells {
-    cells: Vec<Cell>,
+    cells: VecDeque<Cell>,
     // how many more cells fit, as far as callers have asked for room
     spare: usize,
 }
 
 impl Model for Cells {
-    ghost use Rattle.std.specs.Prelude.{◌+◌, ◌≤◌, map, vec_len, vec_capacity};
+    ghost use Rattle.std.specs.Prelude.{◌+◌, ◌≤◌, map};
+    ghost use Rattle.std.specs.VecDeque.{deque_len, deque_capacity};
     ghost use Rattle.std.specs.Arc.{arc_value};
     ghost use Rattle.sc_record.specs.Writes.{AscendById};
     ghost use Rattle.sc_replica.specs.Cells.{CellsState};
@@ -31,7 +33,7 @@ impl Model for Cells {
     ghost view = { λ a. record { writes = map arc_value a.cells.items; spare = a.spare } };
 
     ghost invariant = { λ a. AscendById (map arc_value a.cells.items)
-        × (vec_len a.cells + a.spare ≤ vec_capacity a.cells) };
+        × (deque_len a.cells + a.spare ≤ deque_capacity a.cells) };
 }
 
 impl Cells {
@@ -42,7 +44,7 @@ impl Cells {
         ensures { result ≡ record { writes = []; spare = 0 } }
     {
         Cells {
-            cells: Vec::new(alloc),
+            cells: VecDeque::new(alloc),
             spare: 0,
         }
     }
@@ -72,12 +74,16 @@ impl Cells {
         }
     }
 
-    /// The cells by the ids' bytes.
-    pub fn iter(&self) -> slice::Iter<'_, Cell>
-        ensures cells { map arc_value (iter_rest result) ≡ self.now.writes }
+    /// A share of each cell, by the ids' bytes, in a list that has room for just these. An error means out of memory.
+    pub fn share(&self, alloc: Global) -> Result<List<Cell>, AllocError>
+        ensures cells { IfOk result (λ shares. map arc_value shares ≡ self.now.writes) }
         ensures ascends { AscendById self.now.writes }
     {
-        self.cells.iter()
+        let mut shares = Vec::with_capacity(alloc, self.cells.len())?;
+        for cell in &self.cells {
+            shares.push(Arc::try_clone(cell)?)?;
+        }
+        Ok(List::from_vec(shares))
     }
 
     /// Makes room for at least `n` new ids. An error means out of memory.
@@ -101,7 +107,7 @@ impl Cells {
     }
 
     /// Puts the write in the place of its id's cell, or in order where its id has none: one binary search, and at most
-    /// one move of the cells after it.
+    /// one move of the shorter side of the cells.
     pub(crate) fn put(&mut self, write: Cell)
         requires { 0 < self.old.spare }
         ensures { self.new ≡ record {
@@ -115,7 +121,8 @@ impl Cells {
         }
     }
 
-    /// Puts the write in, or drops it where its version isn't greater than that of its id's cell: one binary search.
+    /// Puts the write in, or drops it where its version isn't greater than that of its id's cell: one binary search, and at
+    /// most one move of the shorter side of the cells.
     pub(crate) fn apply(&mut self, write: Cell)
         requires { 0 < self.old.spare }
         ensures { self.new ≡ record {
@@ -135,21 +142,22 @@ impl Cells {
 }
 
 // Where the id's cell is, or else where it would be put in: one binary search.
-fn place(cells: &[Cell], id: &Id) -> Result<usize, usize>
-    requires { AscendById (map arc_value cells.now) }
-    ensures { IsPlace (map arc_value cells.now) id.now result }
+fn place(cells: &VecDeque<Cell>, id: &Id) -> Result<usize, usize>
+    requires { AscendById (map arc_value cells.now.items) }
+    ensures { IsPlace (map arc_value cells.now.items) id.now result }
 {
     cells.binary_search_by(|cell| cell.id.cmp(id))
 }
 
-// Puts the write in before the cell at this place, in the room that there is, and takes one place of it.
-fn insert_reserved(cells: &mut Vec<Cell>, spare: &mut usize, place: usize, write: Cell)
-    requires place { place ≤ vec_len cells.old }
+// Puts the write in before the cell at this place, in the room that there is, and takes one place of it. The shorter side
+// of the cells moves.
+fn insert_reserved(cells: &mut VecDeque<Cell>, spare: &mut usize, place: usize, write: Cell)
+    requires place { place ≤ deque_len cells.old }
     requires some { 0 < spare.old }
-    requires room { vec_len cells.old + spare.old ≤ vec_capacity cells.old }
+    requires room { deque_len cells.old + spare.old ≤ deque_capacity cells.old }
     ensures items { cells.new.items ≡ insert cells.old.items place write }
     ensures spare { spare.new ≡ spare.old - 1 }
-    ensures room { vec_len cells.new + spare.new ≤ vec_capacity cells.new }
+    ensures room { deque_len cells.new + spare.new ≤ deque_capacity cells.new }
 {
     let inserted = cells.insert(place, write);
     prove!(inserted.is_ok());

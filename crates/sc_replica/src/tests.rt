@@ -81,7 +81,8 @@ fn cells_ascend(rt: HostRuntime) -> Result<(), Fail> {
     assert!(rt; core.clock() < VERSION + 1);
     core.lead(led);
     let mut ids = String::new(alloc);
-    for cell in core.cells().iter() {
+    let shares = core.cells().share(alloc)?;
+    for cell in shares.iter() {
         ids.push_str(cell.id.as_str())?;
         ids.push_str(" ")?;
     }

@@ -39,10 +39,15 @@ impl Snapshot {
         for cell in cells.as_slice() {
             rows.push(Arc::try_clone(cell)?)?;
         }
-        Ok(Snapshot {
-            place,
-            rows: List::from_vec(rows),
-        })
+        Ok(Snapshot::from_list(place, List::from_vec(rows)))
+    }
+
+    /// The same of cells that are handed over, which takes no memory.
+    pub fn from_list(place: u64, cells: List<Cell>) -> Snapshot
+        requires { AreRows (map arc_value cells) }
+        ensures { result ≡ record { place = place; rows = map arc_value cells } }
+    {
+        Snapshot { place, rows: cells }
     }
 
     /// How many entries the journal had.

@@ -9,5 +9,6 @@ use Rattle.sc_replica.proofs.cells.place.Goals as goal
 pub returns : goal.returns
 returns c =
     let id : List ℕ = c.args.id.now in
-    IsPlace-from_search arc_value c.args.cells.now id c.binary_search_by.result c.requires c.binary_search_by.ensures.bound
+    let bound = rw c.args.cells.now.ok.0 at c.binary_search_by.ensures.bound in
+    IsPlace-from_search arc_value c.args.cells.now.items id c.binary_search_by.result c.requires bound
     (c.binary_search_by.ensures.position (λ cell. compared id (arc_value cell)) (always_returns_same _ _ _ (λ a r g called. search rules)))

@@ -5,4 +5,5 @@ pub mod Legal
 pub mod Outcomes
 pub mod Seen
 pub mod Batches
+pub mod Committed
 pub mod Laws

@@ -69,3 +69,24 @@ pub record Extends (layout : Layout) (old new : Seen) (stops : List Stop) : Type
 -- each journal that was seen is legal
 abbrev pub AreLegal : Layout → Seen → Type 0
 AreLegal layout seen = (lock : ℕ) → lock < layout.buckets → IsLegal layout.first (seen.journals lock)
+
+-- what is seen later extends what was seen
+abbrev pub SeesMore : Seen → Seen → Type 0
+SeesMore seen later = (lock : ℕ) → IsPrefix (seen.journals lock) (later.journals lock)
+
+-- of each lock the last of the stops is at the end of what was seen of its journal
+abbrev pub EndAtLast : Layout → Seen → List Stop → Type 0
+EndAtLast layout seen stops = (before : List Stop) (stop : Stop) (after : List Stop) → stops ≡ before ++ stop ∷ after
+    → stops_at stop.lock after ≡ [] → place_after stop ≡ entries_at layout seen stop.lock
+
+-- What was seen went on by these stops, of each lock the last of them is at the end of what was seen there, and what was seen of
+-- the other locks stayed.
+pub record GoesOn (layout : Layout) (old new : Seen) (stops : List Stop) : Type 0 where
+  pub extends : Extends layout old new stops
+  pub last : EndAtLast layout new stops
+  pub stays : (lock : ℕ) → stops_at lock stops ≡ [] → entries_at layout new lock ≡ entries_at layout old lock
+
+-- One hold of a bucket was this stop: it is kept, and what was seen went on by it.
+pub record IsStop (layout : Layout) (old new : Seen) (old_stops new_stops : List Stop) (stop : Stop) : Type 0 where
+  pub goes : GoesOn layout old new (stop ∷ [])
+  pub kept : new_stops ≡ old_stops ++ stop ∷ []

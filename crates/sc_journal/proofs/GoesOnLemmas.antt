@@ -1,0 +1,72 @@
+-- What was seen goes on from stop to stop.
+use Rattle.std.proofs.Common.{◌≡◌, ℕ, ◌<◌, ◌≤◌, Bool, true, false, cond, List, [], ◌∷◌, ◌++◌, length, take, refl, sym, ap, ◌∙◌, subst, arith, append_assoc, length-append}
+use Rattle.std.specs.Prelude.{◌==◌, ⊤, map, filter}
+use Rattle.std.specs.List.{AllByRecursion}
+use Rattle.std.proofs.lemmas.Bool.Decides.{nat_tests}
+use Rattle.std.proofs.lemmas.List.{map-append, append-nil}
+use Rattle.std.proofs.Math.Seq.{take-append_seam}
+use Rattle.std.proofs.lemmas.List.Elements.{filter-append}
+use Rattle.std.proofs.ByRecursion.{All-append}
+use mathlib.Core.List.{IsPrefix}
+use Rattle.sc_journal.specs.Seen.{Layout, Seen, SeesMore, EndAtLast, GoesOn, place_after, stops_at, entries_at}
+use Rattle.sc_journal.specs.declared.stop.Stop.{Stop}
+use Rattle.sc_journal.proofs.ExtendsLemmas.{IsPrefix-self, IsPrefix-then, stops_at-append, Extends-none, Extends-then}
+
+-- a list with a prefix has it there
+pub take-prefix : {A : Type 0} (xs ys : List A) → IsPrefix xs ys → take (length xs) ys ≡ xs
+take-prefix xs ys begins = ap (take (length xs)) (sym begins.1) ∙ take-append_seam xs begins.0
+
+pub SeesMore-self : (seen : Seen) → SeesMore seen seen
+SeesMore-self seen = λ lock. IsPrefix-self (seen.journals lock)
+
+pub SeesMore-then : (old between later : Seen) → SeesMore old between → SeesMore between later → SeesMore old later
+SeesMore-then old between later begins more lock =
+    IsPrefix-then (old.journals lock) (between.journals lock) (later.journals lock) (begins lock) (more lock)
+
+-- where two parts have no stop, neither has one
+append-none : {A : Type 0} (xs ys : List A) → xs ++ ys ≡ [] → (xs ≡ []) × (ys ≡ [])
+append-none [] ys none = (refl, none)
+append-none (x ∷ xs) ys none = absurd (cc)
+
+pub stops_at-none : (lock : ℕ) (xs ys : List Stop) → stops_at lock (xs ++ ys) ≡ [] → (stops_at lock xs ≡ []) × (stops_at lock ys ≡ [])
+stops_at-none lock xs ys none = append-none (stops_at lock xs) (stops_at lock ys) (sym (stops_at-append lock xs ys) ∙ none)
+
+-- the stops, from the first on: that which no stop of its lock follows is at the end of what was seen there
+abbrev Ends : Layout → Seen → List Stop → Type 0
+Ends layout seen [] = ⊤
+Ends layout seen (stop ∷ stops) =
+    (stops_at stop.lock stops ≡ [] → place_after stop ≡ entries_at layout seen stop.lock) × Ends layout seen stops
+
+Ends-from : (layout : Layout) (seen : Seen) (stops : List Stop) → EndAtLast layout seen stops → Ends layout seen stops
+Ends-from layout seen [] h = tt
+Ends-from layout seen (stop ∷ stops) h =
+    (h [] stop stops refl, Ends-from layout seen stops (λ before one after is. h (stop ∷ before) one after (ap (λ xs. stop ∷ xs) is)))
+
+Ends-to : (layout : Layout) (seen : Seen) (stops : List Stop) → Ends layout seen stops → EndAtLast layout seen stops
+Ends-to layout seen stops h before stop after is = at before stop after (subst (Ends layout seen) is h) where
+  at : (before : List Stop) (stop : Stop) (after : List Stop) → Ends layout seen (before ++ stop ∷ after)
+      → stops_at stop.lock after ≡ [] → place_after stop ≡ entries_at layout seen stop.lock
+  at [] stop after ends = ends.0
+  at (x ∷ before) stop after ends = at before stop after ends.1
+
+Ends-append : (layout : Layout) (old new : Seen) (xs ys : List Stop) → Ends layout old xs → Ends layout new ys
+    → ((lock : ℕ) → stops_at lock ys ≡ [] → entries_at layout new lock ≡ entries_at layout old lock)
+    → Ends layout new (xs ++ ys)
+Ends-append layout old new [] ys one two stays = two
+Ends-append layout old new (x ∷ xs) ys one two stays = (
+  λ none. let parts = stops_at-none x.lock xs ys none in one.0 parts.0 ∙ sym (stays x.lock parts.1),
+  Ends-append layout old new xs ys one.1 two stays,
+)
+
+-- nothing was held
+pub GoesOn-none : (layout : Layout) (seen : Seen) → GoesOn layout seen seen []
+GoesOn-none layout seen = record { extends = Extends-none layout seen; last = Ends-to layout seen [] tt; stays = λ lock none. refl }
+
+-- what went on by stops, and then by others, went on by all of them
+pub GoesOn-then : (layout : Layout) (old between new : Seen) (xs ys : List Stop)
+    → GoesOn layout old between xs → GoesOn layout between new ys → GoesOn layout old new (xs ++ ys)
+GoesOn-then layout old between new xs ys one two = record {
+  extends = Extends-then layout old between new xs ys one.extends two.extends;
+  last = Ends-to layout new (xs ++ ys) (Ends-append layout between new xs ys (Ends-from layout between xs one.last) (Ends-from layout new ys two.last) two.stays);
+  stays = λ lock none. let parts = stops_at-none lock xs ys none in two.stays lock parts.1 ∙ one.stays lock parts.0;
+}

@@ -3,8 +3,9 @@ use Rattle.std.proofs.Common.{◌≡◌, ℕ, ◌+◌, ◌<◌, false, All, Cont
 use Rattle.std.specs.declared.sync.Arc.{Arc}
 use Rattle.std.specs.declared.alloc.Global.{Global}
 use Rattle.std.specs.Prelude.{IsSome}
+use Rattle.std.specs.Arc.{arc_value}
 use Rattle.std.specs.List.{IsDistinct}
-use Rattle.std.proofs.lemmas.List.Elements.{All-weaker, All-append, All-map}
+use Rattle.std.proofs.lemmas.List.Elements.{All-weaker, All-append, All-map, Contains-append_left}
 use Rattle.sc_record.specs.declared.slice.CoreId.{CoreId}
 use Rattle.sc_record.specs.declared.write.Write.{Write}
 use Rattle.sc_record.specs.declared.entry.Entry.TheVariants as entry
@@ -16,12 +17,14 @@ use Rattle.sc_cluster.proofs.ListLemmas.{filter-none}
 use Rattle.sc_cluster.proofs.StateLemmas.{active_settled}
 use Rattle.sc_replica.specs.Core.{Core, led}
 use Rattle.sc_replica.proofs.CoreLemmas.{spare_after-≥}
-use Rattle.sc_journal.specs.Journal.{write_at, is_settled, unsettled}
+use Rattle.sc_journal.specs.Journal.{writes, write_at, is_settled, unsettled}
+use Rattle.sc_journal.specs.Committed.{committed}
+use Rattle.sc_journal.proofs.CommittedLemmas.{committed-push_other}
 use Rattle.sc_journal.specs.Splits.{map_after, open_split, owed}
 use Rattle.sc_journal.specs.Legal.{MayWrite, IsLegal}
 use Rattle.sc_journal.specs.Outcomes.{HasRoom}
 use Rattle.sc_journal.proofs.LegalLemmas.{end_is_open, IsLegal-push, unsettled-push_legal_write, owed-push_legal_write}
-use Rattle.sc_journal.proofs.JournalLemmas.{write_at-push_end, write_at-append, write_at_within}
+use Rattle.sc_journal.proofs.JournalLemmas.{writes-push_write, write_at-push_end, write_at-append, write_at_within}
 use Rattle.sc_journal.proofs.SettledLemmas.{is_settled-push_other}
 use Rattle.sc_journal.proofs.MapLemmas.{keeps_a_map}
 use Rattle.sc_journal.proofs.SplitLemmas.{LeavesSlices-write, map_after-left, open_split-left}
@@ -30,8 +33,9 @@ use Rattle.sc_bucket.specs.Accepting.{HasMemory, IsPut}
 use Rattle.sc_bucket.specs.Kept.{Sent}
 use Rattle.sc_bucket.specs.Cores.{followers, IsLeaderAt}
 use Rattle.sc_bucket.specs.Flight.{sent_to, is_same_message, pending}
-use Rattle.sc_bucket.specs.Sound.{AreActive, HasJournal, IsSent, AreSent, HasSpare, IsSound}
+use Rattle.sc_bucket.specs.Sound.{AreActive, HasJournal, IsSent, AreSent, HasSpare, HasSearchers, IsSound}
 use Rattle.sc_bucket.proofs.SoundLemmas.{All-slice_get, name_of}
+use Rattle.sc_bucket.proofs.SearcherLemmas.{HasSearchers-grown}
 use Rattle.sc_bucket.proofs.PlaceLemmas.{All-set_apart}
 use Rattle.sc_bucket.proofs.FollowerLemmas.{IsFollower, are_followers, followers_apart, IsDistinct-append, sent_apart, sent_later}
 use Rattle.sc_bucket.proofs.LedLemmas.{AreSound, AreSound-led, names-led}
@@ -153,6 +157,17 @@ spares-put cores messages at core write there spares one_more =
     })
     (λ k other apart found. All-slice_get (HasSpare messages) cores k other spares found)
 
+-- a write commits nothing
+HasSearchers-put : (old new : Bucket) (cell : Arc Write Global) → new.map ≡ old.map → new.searchers ≡ old.searchers
+    → new.journal.entries ≡ old.journal.entries ++ entry.Write cell ∷ [] → HasSearchers old → HasSearchers new
+HasSearchers-put old new cell same_map same_searchers entries has =
+    HasSearchers-grown old new same_map same_searchers
+    (ap committed entries ∙ committed-push_other old.journal.entries (entry.Write cell) refl)
+    (λ write there. subst (λ (these : List Write). Contains these write)
+    (sym (ap writes entries ∙ writes-push_write old.journal.entries cell))
+    (Contains-append_left (writes old.journal.entries) (arc_value cell ∷ []) write there))
+    has
+
 -- a sound bucket is sound once a write was put in that may come next, and whose hash the core at the place leads, and was sent to
 -- the others
 pub IsSound-put : (old new : Bucket) (cell : Arc Write Global) (at : ℕ) (messages : List Sent) → IsPut old cell at messages new
@@ -181,6 +196,7 @@ IsSound-put old new cell at messages put may has_room memory leader sent sound =
       held = sound_cores.held;
       in_range = sound_cores.in_range;
       clocks = sound_cores.clocks;
+      searchers = HasSearchers-put old new cell put.map_is put.searchers_are put.entries sound.searchers;
       messages = AreSent-put old new cell leader.core.core put.entries names flight sound;
       spares = subst (λ (ms : List Sent). All (HasSpare ms) new.replicas) (sym put.flight_is)
           (subst (All (HasSpare (old.flight.messages ++ messages))) (sym exactly)

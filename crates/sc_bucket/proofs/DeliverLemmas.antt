@@ -18,6 +18,7 @@ use Rattle.sc_bucket.specs.Flight.{in_flight, received_by, delivered, is_same_me
 use Rattle.sc_bucket.specs.Sound.{HasJournal, IsSent, AreSent, HasSpare, IsSound}
 use Rattle.sc_bucket.specs.Events.{Delivers, DeliversFirst}
 use Rattle.sc_bucket.proofs.CoreLemmas.{is_core-Decides, IsCoreFound}
+use Rattle.sc_bucket.proofs.SearcherLemmas.{HasSearchers-same}
 use Rattle.sc_bucket.proofs.SoundLemmas.{All-slice_get, name_of}
 use Rattle.sc_bucket.proofs.FlightLemmas.{taken-own, taken-other}
 use Rattle.sc_bucket.proofs.DeliveredLemmas.{IsSoundCore, received_is_sound, name-received, mode-received}
@@ -145,6 +146,7 @@ IsSound-delivered b at message flight sound found left =
       held = λ k d below. (sound_cores k d below).held;
       in_range = λ k d below. (sound_cores k d below).in_range;
       clocks = λ k d below. (sound_cores k d below).clock;
+      searchers = HasSearchers-same b (with_cores b flight cores) refl refl refl sound.searchers;
       messages = AreSent-left b at flight cores (slice_get_within b.flight.messages at message found) left names sound.messages;
       spares = λ k d below. record { cells = (sound_cores k d below).cell_room; buffer = (sound_cores k d below).buffer_room };
       apart = subst (IsDistinct is_core) (sym names) sound.apart;
@@ -263,6 +265,7 @@ Delivers-received b at message flight found k cores sound there left is same rec
   found = there;
   messages = ap (λ (f : FlightState). f.messages) left;
   cores = delivered_there b message found k cores sound is same received_there;
+  searchers_are = refl;
 }
 
 -- the message that was found first is the one that was delivered

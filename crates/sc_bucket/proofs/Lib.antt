@@ -1,5 +1,6 @@
 -- Facts on buckets.
 pub mod CoreLemmas
+pub mod SearcherLemmas
 pub mod SoundLemmas
 pub mod PlaceLemmas
 pub mod SendLemmas
@@ -16,3 +17,5 @@ pub mod OutcomeLemmas
 pub mod FlightLemmas
 pub mod DeliveredLemmas
 pub mod DeliverLemmas
+pub mod TakenLemmas
+pub mod CommitLemmas

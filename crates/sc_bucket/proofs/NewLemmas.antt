@@ -20,10 +20,12 @@ use Rattle.sc_journal.specs.Splits.{map_after, open_split, owed, is_inactive}
 use Rattle.sc_journal.proofs.LegalLemmas.{IsLegal-none}
 use Rattle.sc_bucket.specs.Kept.{Sent}
 use Rattle.sc_bucket.specs.Cores.{core_key, core_keys, keys_of, is_core, AreApart, IsNew}
+use Rattle.sc_bucket.specs.Searchers.{AreTaken}
 use Rattle.sc_bucket.specs.Flight.{in_flight, pending, is_same_message}
 use Rattle.sc_bucket.specs.Sound.{AreActive, HasJournal, Serves, HasOrAwaits, IsInRange, IsSent, AreSent, HasSpare, IsSound}
 use Rattle.sc_bucket.specs.declared.bucket.Bucket.{Bucket}
 use Rattle.sc_bucket.proofs.CoreLemmas.{is_core-Decides}
+use Rattle.sc_bucket.proofs.SearcherLemmas.{HasSearchers-new}
 
 -- where every slice is active, none is inactive
 none_is_inactive : (slices : List Slice) → AreActive slices → count_by is_inactive slices ≡ 0
@@ -44,6 +46,7 @@ pub record IsMade (b : Bucket) (first : List Slice) (limit : ℕ) : Type 0 where
   pub keys : map core_key b.replicas ≡ core_keys first
   pub messages : b.flight.messages ≡ []
   pub new : All IsNew b.replicas
+  pub searchers : AreTaken first b.replicas 0 b.searchers
 
 -- what it owes is nothing
 owed_at_first : (first : List Slice) → AreActive first → owed first [] ≡ 0
@@ -187,6 +190,7 @@ IsSound-new b first limit is_map active least most made = record {
   held = λ k d below slice there same. rw made.entries (no_last b.flight.messages slice (get_or b.replicas k d));
   in_range = λ k d below slice there same. nothing_there (IsInRange slice) (get_or b.replicas k d) b.flight.messages (made.new k d below) made.messages;
   clocks = λ k d below. inl (made.new k d below).clock;
+  searchers = HasSearchers-new b first b.replicas is_map made.map_is made.entries made.new made.searchers;
   messages = none_sent b made.messages;
   spares = λ k d below. no_room b.flight.messages (get_or b.replicas k d) (made.new k d below) made.messages;
   apart = cores_apart first b.replicas is_map made.keys;

@@ -96,6 +96,7 @@ Accepts-put old roomy new order now version cell at messages same put fitting ro
       found = leader.found;
       cores = subst (AreSameCores (set old.replicas at (led leader.core cell.value))) (sym (put.cores roomy_leader.core roomy_leader.found)) led_once;
       messages = put.flight_is ∙ ap (λ (ms : List Sent). ms ++ messages) same.messages ∙ ap (λ (ms : List Sent). old.flight.messages ++ ms) sent;
+      searchers_are = put.searchers_are ∙ same.searchers_are;
     }
 
 -- what was made for a share of the write, by the core at the place, are the messages of the write

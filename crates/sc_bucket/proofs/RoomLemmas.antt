@@ -21,6 +21,7 @@ use Rattle.sc_bucket.specs.Events.{HasSameName, IsSameBut}
 use Rattle.sc_bucket.specs.Accepting.{IsRoomier, HasMore, HasMoreAt, HasMemory}
 use Rattle.sc_bucket.specs.Sound.{AreActive, HasJournal, HasSpare, IsSound}
 use Rattle.sc_bucket.proofs.CoreLemmas.{is_core-Decides}
+use Rattle.sc_bucket.proofs.SearcherLemmas.{HasSearchers-same}
 use Rattle.sc_bucket.proofs.SoundLemmas.{All-slice_get, AreSent-same, IsSound-left}
 use Rattle.sc_bucket.proofs.PendingLemmas.{goes_to, in_flight-append, length-in_flight, in_flight-none, in_flight-once, in_flight-cases, length-pending}
 use Rattle.sc_bucket.proofs.RoomierLemmas.{same-roomier, spares-roomier}
@@ -50,6 +51,7 @@ IsSound-same old new same places owed_is room spares sound =
     IsSound-left old new sound (HasJournal-same old new same.name same.map_is same.entries places owed_is room sound.journal)
     same.map_is same.cores (ap writes same.entries) (ap open_split same.entries) same.messages
     (AreSent-same old new same.cores same.entries same.messages sound.messages) spares
+    (HasSearchers-same old new same.map_is same.searchers_are same.entries sound.searchers)
 
 -- the bucket with other room in its parts
 abbrev pub with_parts : Bucket → JournalState → PlacesState → FlightState → List Core → Bucket
@@ -71,6 +73,7 @@ IsSameBut-with_parts b journal unsettled flight cores more = record {
   entries = more.entries;
   messages = more.messages;
   cores = same-roomier b.replicas cores more.cores_are;
+  searchers_are = refl;
 }
 
 -- which has room for what is pending, and is sound

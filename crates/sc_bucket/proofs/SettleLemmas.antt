@@ -7,11 +7,14 @@ use Rattle.std.proofs.lemmas.List.Edits.{length-remove}
 use Rattle.std.proofs.lemmas.List.Elements.{All-weaker, filter-append}
 use Rattle.std.proofs.lemmas.Option.{slice_get_within}
 use Rattle.sc_record.specs.declared.slice.CoreId.{CoreId}
+use Rattle.sc_record.specs.declared.write.Write.{Write}
 use Rattle.sc_record.specs.declared.entry.Entry.{Entry}
 use Rattle.sc_record.specs.declared.entry.Entry.TheVariants as entry
 use Rattle.sc_cluster.specs.Map.{IsMap}
 use Rattle.sc_cluster.proofs.ListLemmas.{filter-all, filter-none}
 use Rattle.sc_journal.specs.Journal.{write_at, is_settled, unsettled, writes}
+use Rattle.sc_journal.specs.Committed.{committed}
+use Rattle.sc_journal.proofs.CommittedLemmas.{committed-push_other}
 use Rattle.sc_journal.specs.Splits.{map_after, open_split, owed}
 use Rattle.sc_journal.specs.Legal.{IsLegal}
 use Rattle.sc_journal.proofs.JournalLemmas.{writes-push_other, write_at-append, write_at_within}
@@ -23,6 +26,7 @@ use Rattle.sc_bucket.specs.Flight.{is_of_write, is_same_message, delivered_all}
 use Rattle.sc_bucket.specs.Sound.{AreActive, HasJournal, IsSent, HasSpare, IsSound}
 use Rattle.sc_bucket.specs.Events.{without_room, HasSameName, DeliversFirst, Settles, Notes}
 use Rattle.sc_bucket.specs.declared.bucket.Bucket.{Bucket}
+use Rattle.sc_bucket.proofs.SearcherLemmas.{HasSearchers-grown}
 use Rattle.sc_bucket.proofs.SoundLemmas.{IsSent-left, IsSound-left}
 use Rattle.sc_bucket.proofs.FlightLemmas.{split_get}
 
@@ -120,6 +124,11 @@ IsSound-settled old place new sound written still delivered noted parts =
     (record { each = subst (All (IsSent new)) (sym messages) each; once = subst (IsDistinct is_same_message) (sym messages) sound.messages.once })
     (subst (λ these. All (HasSpare these) new.replicas) (sym messages)
     (subst (All (HasSpare old.flight.messages)) (sym noted.cores) sound.spares))
+    (HasSearchers-grown old new noted.map_is noted.searchers_are
+    (ap committed noted.entries ∙ committed-push_other old.journal.entries one refl)
+    (λ write there. subst (λ (these : List Write). Contains these write)
+    (sym (ap writes noted.entries ∙ writes-push_other old.journal.entries one refl)) there)
+    sound.searchers)
 
 -- the messages of a write, and the others
 abbrev own_of : ℕ → List Sent → List Sent
@@ -135,6 +144,7 @@ pub record DeliversAll (old : Bucket) (place : ℕ) (new : Bucket) : Type 0 wher
   pub entries : new.journal.entries ≡ old.journal.entries
   pub messages : new.flight.messages ≡ others_of place old.flight.messages
   pub cores : new.replicas ≡ delivered_all (own_of place old.flight.messages) old.replicas
+  pub searchers_are : new.searchers ≡ old.searchers
 
 -- the messages of a write are none where no message is of it
 none_own : (place : ℕ) (messages : List Sent) → All (λ (message : Sent). message.place ≢ place) messages → own_of place messages ≡ []
@@ -160,6 +170,7 @@ DeliversAll-none old place new same apart = record {
   messages = ap (λ (b : Bucket). b.flight.messages) same ∙ sym (all_others place old.flight.messages apart);
   cores = ap (λ (b : Bucket). b.replicas) same
       ∙ sym (ap (λ messages. delivered_all messages old.replicas) (none_own place old.flight.messages apart));
+  searchers_are = ap (λ (b : Bucket). b.searchers) same;
 }
 
 -- the first one, and then the others
@@ -177,6 +188,7 @@ DeliversAll-first old place core mid new first rest = record {
       ∙ ap (λ messages. delivered_all (own_of place messages) mid.replicas) first.delivers.messages
       ∙ ap (delivered_all (own_of place (remove old.flight.messages first.at))) first.delivers.cores
       ∙ ap (λ messages. delivered_all messages old.replicas) (sym own);
+  searchers_are = rest.searchers_are ∙ first.delivers.searchers_are;
 } where
   message : Sent
   message = first.message
@@ -231,6 +243,7 @@ Settles-noted old place mid new all noted = record {
   entries = noted.entries ∙ ap (λ entries. entries ++ entry.Settled place ∷ []) all.entries;
   messages = ap (λ (flight : FlightState). flight.messages) noted.flight_is ∙ all.messages;
   cores = noted.cores ∙ all.cores;
+  searchers_are = noted.searchers_are ∙ all.searchers_are;
 }
 
 -- what a delivery does

@@ -19,7 +19,7 @@ use Rattle.sc_journal.specs.Splits.{open_split}
 use Rattle.sc_bucket.specs.Kept.{Sent}
 use Rattle.sc_bucket.specs.Cores.{core_key, core_keys, is_core, is_attached, IsLeaderAt}
 use Rattle.sc_bucket.specs.Flight.{pending, is_same_message}
-use Rattle.sc_bucket.specs.Sound.{HasJournal, HasLastWrites, Serves, AreInRange, IsSent, AreSent, HasSpare, IsSound}
+use Rattle.sc_bucket.specs.Sound.{HasJournal, HasLastWrites, Serves, AreInRange, IsSent, AreSent, HasSpare, HasSearchers, IsSound}
 use Rattle.sc_bucket.specs.Events.{without_room, AreSameCores}
 use Rattle.sc_bucket.specs.declared.bucket.Bucket.{Bucket}
 
@@ -124,12 +124,13 @@ AreSent-same old new same_cores same_entries same_messages sent = record {
 }
 
 -- a bucket stays sound where its journal, which is as it has to be, has the same writes and the same open split, its messages
--- are the same, and its cores change only their room
+-- are the same, its cores change only their room, and it has its searchers
 pub IsSound-left : (old new : Bucket) → IsSound old → HasJournal new → new.map ≡ old.map → AreSameCores old.replicas new.replicas
     → writes new.journal.entries ≡ writes old.journal.entries
     → open_split new.journal.entries ≡ open_split old.journal.entries
-    → new.flight.messages ≡ old.flight.messages → AreSent new → All (HasSpare new.flight.messages) new.replicas → IsSound new
-IsSound-left old new sound journal same_map same_cores same_writes same_split same_messages sent spares =
+    → new.flight.messages ≡ old.flight.messages → AreSent new → All (HasSpare new.flight.messages) new.replicas → HasSearchers new
+    → IsSound new
+IsSound-left old new sound journal same_map same_cores same_writes same_split same_messages sent spares searchers =
     let all : List Write = writes old.journal.entries in
     let messages : List Sent = old.flight.messages in
     record {
@@ -149,6 +150,7 @@ IsSound-left old new sound journal same_map same_cores same_writes same_split sa
       clocks = all_left (λ _ these _. IsClockBy these) old.map new.map all (writes new.journal.entries) messages new.flight.messages
           new.replicas same_map same_writes same_messages
           (All-same_cores (IsClockBy all) old.replicas new.replicas same_cores sound.clocks);
+      searchers = searchers;
       messages = sent;
       spares = spares;
       apart = subst (IsDistinct is_core) (sym (names-same_cores old.replicas new.replicas same_cores)) sound.apart;

@@ -58,3 +58,4 @@ pub record IsPut (old : Bucket) (cell : Arc Write Global) (at : ℕ) (messages :
   pub room : new.owed ≤ new.journal.room
   pub flight_is : new.flight.messages ≡ old.flight.messages ++ messages
   pub cores : (core : Core) → slice_get old.replicas at ≡ Some core → new.replicas ≡ slice_set old.replicas at (led core cell.value)
+  pub searchers_are : new.searchers ≡ old.searchers

@@ -12,9 +12,11 @@ use Rattle.sc_cluster.specs.declared.slice.Slice.{Slice}
 use Rattle.sc_cluster.specs.Map.{Leads}
 use Rattle.sc_replica.specs.Core.{Core, led}
 use Rattle.sc_journal.specs.Journal.{write_at, is_settled}
+use Rattle.sc_journal.specs.Committed.{HasRoomToCommit}
 use Rattle.sc_journal.specs.Outcomes.{Outcome, accepted, conflict, partial, log_full, out_of_memory, IsFitting, HasRoom, IsWriteOf}
 use Rattle.sc_bucket.specs.Kept.{Sent}
 use Rattle.sc_bucket.specs.Cores.{followers, IsLeaderOf}
+use Rattle.sc_bucket.specs.Searchers.{AreTaken}
 use Rattle.sc_bucket.specs.Flight.{is_of_write, sent_to, delivered, delivered_all, IsFirstOf}
 use Rattle.sc_bucket.specs.declared.bucket.Bucket.{Bucket}
 use Rattle.sc_bucket.specs.declared.accept.Accepted.{Accepted}
@@ -41,6 +43,7 @@ pub record IsSameBut (old new : Bucket) : Type 0 where
   pub entries : new.journal.entries ≡ old.journal.entries
   pub messages : new.flight.messages ≡ old.flight.messages
   pub cores : AreSameCores old.replicas new.replicas
+  pub searchers_are : new.searchers ≡ old.searchers
 
 -- An order is accepted at a timestamp: its write comes to the end of the journal, the leader of its hash leads it, and it is sent
 -- to each other core that takes it.
@@ -62,6 +65,7 @@ pub record Accepts (old : Bucket) (order : Order) (now : ℕ) (version : ℤ) (n
   pub cores : AreSameCores (slice_set old.replicas at (led leader cell.value)) new.replicas
   pub messages : new.flight.messages ≡ old.flight.messages
       ++ sent_to (length old.journal.entries) cell.value (followers old.map old.replicas cell.value.hash leader.core)
+  pub searchers_are : new.searchers ≡ old.searchers
 
 -- the message at this place of the flight is delivered: it leaves the flight, and its core receives the write
 pub record Delivers (old : Bucket) (at : ℕ) (message : Sent) (new : Bucket) : Type 0 where
@@ -71,6 +75,7 @@ pub record Delivers (old : Bucket) (at : ℕ) (message : Sent) (new : Bucket) : 
   pub found : slice_get old.flight.messages at ≡ Some message
   pub messages : new.flight.messages ≡ remove old.flight.messages at
   pub cores : new.replicas ≡ delivered message old.replicas
+  pub searchers_are : new.searchers ≡ old.searchers
 
 -- the first message of the write at the place is delivered, which was to this core
 pub record DeliversFirst (old : Bucket) (place : ℕ) (core : CoreId) (new : Bucket) : Type 0 where
@@ -87,6 +92,7 @@ pub record Settles (old : Bucket) (place : ℕ) (new : Bucket) : Type 0 where
   pub entries : new.journal.entries ≡ old.journal.entries ++ entry.Settled place ∷ []
   pub messages : new.flight.messages ≡ filter (λ (message : Sent). not (is_of_write place message)) old.flight.messages
   pub cores : new.replicas ≡ delivered_all (filter (is_of_write place) old.flight.messages) old.replicas
+  pub searchers_are : new.searchers ≡ old.searchers
 
 -- the entry that settles the write at the place comes to the end of the journal
 pub record Notes (old : Bucket) (place : ℕ) (new : Bucket) : Type 0 where
@@ -95,6 +101,18 @@ pub record Notes (old : Bucket) (place : ℕ) (new : Bucket) : Type 0 where
   pub entries : new.journal.entries ≡ old.journal.entries ++ entry.Settled place ∷ []
   pub flight_is : new.flight ≡ old.flight
   pub cores : new.replicas ≡ old.replicas
+  pub searchers_are : new.searchers ≡ old.searchers
+
+-- all is committed: each active slice has a searcher of its leader's cells as they are, and the entry that says so comes to the
+-- end of the journal
+pub record Commits (old new : Bucket) : Type 0 where
+  pub name : HasSameName old new
+  pub map_is : new.map ≡ old.map
+  pub room : HasRoomToCommit old.limit old.first old.journal.entries
+  pub entries : new.journal.entries ≡ old.journal.entries ++ entry.Committed ∷ []
+  pub messages : new.flight.messages ≡ old.flight.messages
+  pub cores : new.replicas ≡ old.replicas
+  pub searchers_are : AreTaken old.map old.replicas (length old.journal.entries) new.searchers
 
 -- one event of a bucket, or none
 pub data IsStep (old new : Bucket) : Type 0 where
@@ -103,6 +121,7 @@ pub data IsStep (old new : Bucket) : Type 0 where
   delivers : {at : ℕ} {message : Sent} → Delivers old at message new → IsStep old new
   settles : {place : ℕ} → IsSome (write_at old.journal.entries place) → is_settled old.journal.entries place ≡ false
       → Settles old place new → IsStep old new
+  commits : Commits old new → IsStep old new
 
 -- what an accept answered
 abbrev pub outcome_of : Result Accepted AcceptFault → Outcome

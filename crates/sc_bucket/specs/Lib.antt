@@ -1,6 +1,7 @@
 -- What a bucket keeps, what is true of it at every moment, and what its events do.
 pub mod Kept
 pub mod Cores
+pub mod Searchers
 pub mod Flight
 pub mod Sound
 pub mod Events

@@ -17,8 +17,10 @@ use Rattle.sc_journal.specs.Legal.{IsLegal}
 use Rattle.sc_journal.specs.Outcomes.{IsClock}
 use Rattle.sc_bucket.specs.Kept.{Sent}
 use Rattle.sc_bucket.specs.Cores.{core_key, core_keys, is_attached, AreApart}
+use Rattle.sc_bucket.specs.Searchers.{rows_of, AreOfEachSlice, ShowsCommitted}
 use Rattle.sc_bucket.specs.Flight.{in_flight, pending, is_same_message}
 use Rattle.sc_bucket.specs.declared.bucket.Bucket.{Bucket}
+use Rattle.sc_bucket.specs.declared.standing.Standing.{Standing}
 
 -- every slice is active
 abbrev pub AreActive : List Slice → Type 0
@@ -71,6 +73,13 @@ IsInRange slice write = IsWithin slice.range.min slice.range.max write.hash
 abbrev pub AreInRange : List Sent → Slice → Core → Type 0
 AreInRange messages slice core = All (IsInRange slice) core.cells × All (IsInRange slice) (pending messages core)
 
+-- Each active slice has a searcher, in the order of the map, and no other has one. It has the slice's range, and shows what was
+-- committed there.
+pub record HasSearchers (b : Bucket) : Type 0 where
+  pub each_slice : AreOfEachSlice b.map b.searchers
+  pub show : All (λ (searcher : Standing). (slice : Slice) → Contains b.map slice → slice.id ≡ searcher.slice
+      → (searcher.range ≡ slice.range) × ShowsCommitted b.journal.entries slice (rows_of searcher)) b.searchers
+
 -- a message in flight is of a write of the journal that is not settled, and to a core that is there
 pub record IsSent (b : Bucket) (message : Sent) : Type 0 where
   pub write : write_at b.journal.entries message.place ≡ Some message.write
@@ -101,6 +110,7 @@ pub record IsSound (b : Bucket) : Type 0 where
   pub held : OfEachCore b (HasOrAwaits b.journal.entries b.flight.messages)
   pub in_range : OfEachCore b (AreInRange b.flight.messages)
   pub clocks : All (λ (core : Core). IsClock b.journal.entries core.clock) b.replicas
+  pub searchers : HasSearchers b
   pub messages : AreSent b
   pub spares : All (HasSpare b.flight.messages) b.replicas
   pub apart : AreApart b.replicas

@@ -1,9 +1,11 @@
+use crate::commit::searchers_at;
 use crate::flight::Flight;
 use crate::journal::Journal;
 use crate::replicas::Replicas;
+use crate::standing::Standing;
 use crate::unsettled::Unsettled;
 use sc_cluster::ClusterMap;
-use sc_record::{Cell, CloneIn, CoreId, Id};
+use sc_record::{Cell, CloneIn, CoreId, Id, List};
 use sc_router::route_hash;
 use std::alloc::{AllocError, Global};
 
@@ -22,6 +24,8 @@ pub struct Bucket {
     pub replicas: Replicas,
     /// The writes that are sent to cores and did not come there yet.
     pub flight: Flight,
+    /// What serves searches: for each active slice, in the map's order, what was committed there.
+    pub searchers: List<Standing>,
     /// How many entries the journal has still to get.
     pub owed: u64,
     /// How many entries the journal may have.
@@ -48,12 +52,14 @@ impl Bucket {
         ensures journal { IfOk result (λ bucket. bucket.journal.entries ≡ []) }
         ensures limit { IfOk result (λ bucket. bucket.limit ≡ limit) }
     {
+        let replicas = Replicas::new(alloc, map)?;
         Ok(Bucket {
             first: map.clone_in(alloc)?,
             map: map.clone_in(alloc)?,
             journal: Journal::new(alloc),
             unsettled: Unsettled::new(alloc),
-            replicas: Replicas::new(alloc, map)?,
+            searchers: searchers_at(alloc, map, &replicas, 0)?,
+            replicas,
             flight: Flight::new(alloc),
             owed: 0,
             limit,

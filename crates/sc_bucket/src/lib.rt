@@ -7,20 +7,25 @@ mod flight;
 mod journal;
 mod message;
 mod replicas;
+mod standing;
 mod unsettled;
 
 // The bucket, and its events.
 mod accept;
 mod bucket;
+mod commit;
 mod deliver;
+mod searcher;
 mod settle;
 
 pub use accept::{AcceptFault, Accepted};
 pub use bucket::Bucket;
+pub use commit::CommitFault;
 pub use flight::Flight;
 pub use journal::Journal;
 pub use message::Message;
 pub use replicas::Replicas;
+pub use standing::{Searcher, Standing};
 pub use unsettled::Unsettled;
 
 #[cfg(test)]

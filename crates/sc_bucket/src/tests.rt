@@ -9,6 +9,7 @@ use std::alloc::Global;
 use std::marker::{Send, Sync};
 use std::test::Fail;
 
+mod committing;
 mod delivering;
 mod orders;
 mod settling;

@@ -55,7 +55,11 @@ pub(crate) fn settled(bucket: &mut Bucket, alloc: Global, order: &Order) -> Resu
 }
 
 /// Carries out an order four times, and settles each write.
-fn four_times(bucket: &mut Bucket, alloc: Global, order: &Order) -> Result<(), AcceptFault>
+pub(crate) fn four_times(
+    bucket: &mut Bucket,
+    alloc: Global,
+    order: &Order,
+) -> Result<(), AcceptFault>
     requires { IsSound bucket.old }
     ensures { IsSound bucket.new }
 {
@@ -86,7 +90,12 @@ fn conflict(bucket: &mut Bucket, alloc: Global, order: &Order) -> Option<i64>
 }
 
 /// The version of a document that is added under a condition; the write is settled.
-fn added(bucket: &mut Bucket, alloc: Global, id: &str, condition: i64) -> Result<i64, Fail>
+pub(crate) fn added(
+    bucket: &mut Bucket,
+    alloc: Global,
+    id: &str,
+    condition: i64,
+) -> Result<i64, Fail>
     requires { IsSound bucket.old }
     ensures { IsSound bucket.new }
 {

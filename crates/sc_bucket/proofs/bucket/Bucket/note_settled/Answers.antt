@@ -25,6 +25,7 @@ returns-clause-sound c =
       entries = ap (λ (journal : JournalState). journal.entries) c.append.ensures;
       flight_is = refl;
       cores = refl;
+      searchers_are = refl;
     })
     (record {
       unsettled_are = ap (λ (places : PlacesState). places.places) c.remove.ensures;

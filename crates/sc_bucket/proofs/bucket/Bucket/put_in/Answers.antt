@@ -34,6 +34,7 @@ put_into b journal unsettled flight cores cell share at place messages memory sa
   room = let room : journal.room ≡ b.journal.room - 1 = ap (λ (j : JournalState). j.room) journal_is in omega (arith, memory.journal);
   flight_is = flight_is;
   cores = λ core there. cores_are core there ∙ ap (λ (w : Write). set b.replicas at (led core w)) same;
+  searchers_are = refl;
 }
 
 pub returns-clause-put : goal.returns-clause-put

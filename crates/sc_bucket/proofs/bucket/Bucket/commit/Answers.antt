@@ -1,0 +1,28 @@
+-- Each active slice has a leader, whose cells are few enough, and a bucket with more room is sound.
+use Rattle.std.proofs.Common.{refl, ap, arith}
+use Rattle.sc_bucket.specs.Kept.{JournalState}
+use Rattle.sc_bucket.proofs.SearcherLemmas.{AreLed-from_keys}
+use Rattle.sc_bucket.proofs.RoomLemmas.{IsSound-with_parts}
+use Rattle.sc_bucket.proofs.RoomierLemmas.{roomier-itself}
+use Rattle.sc_bucket.proofs.CommitLemmas.{AreRows-sound}
+use Rattle.sc_bucket.proofs.bucket.Bucket.commit.Goals as goal
+
+pub searchers_at-requires-clause-led : goal.searchers_at-requires-clause-led
+searchers_at-requires-clause-led c =
+    AreLed-from_keys c.args.self.now.map c.args.self.now.replicas c.requires.sound.phase.cores
+
+pub searchers_at-requires-clause-rows : goal.searchers_at-requires-clause-rows
+searchers_at-requires-clause-rows c = AreRows-sound c.args.self.now c.requires.sound
+
+pub put_commit-requires-clause-sound : goal.put_commit-requires-clause-sound
+put_commit-requires-clause-sound c =
+    let b = c.args.self.now in
+    let room = ap (λ (journal : JournalState). journal.room) c.in_ok-reserve.ensures.ok in
+    IsSound-with_parts b c.reserve.new.self b.unsettled b.flight b.replicas
+    (record {
+      entries = ap (λ (journal : JournalState). journal.entries) c.in_ok-reserve.ensures.ok;
+      room = omega (arith, room);
+      places = refl;
+      messages = refl;
+      cores_are = roomier-itself b.replicas;
+    }) c.requires.sound

@@ -99,6 +99,15 @@ module _ (desk : AloneState) (is : IsDesk desk) (held : Held) (bucket : Bucket)
         absurd (cc)
     empty lock at (inr other) = no_other lock other (sym (back_other lock other) ∙ at)
 
+-- the bucket that is out has its slot, by the fields of the desk
+pub out_has_slot : (fields : Inside) (desk : AloneState) (number : ℕ) (held : Held)
+    → desk_of fields.slots.items fields.nodes fields.first fields.limit fields.out.items ≡ desk
+    → IsDesk (desk_of fields.slots.items fields.nodes fields.first fields.limit fields.out.items)
+    → desk.out ≡ Some held → held.number ≡ number → number < length fields.slots.items
+out_has_slot fields desk number held view is there same =
+    let out = is.is_out held (ap (λ (d : AloneState). d.out) view ∙ there) in
+    subst (λ n. n < length fields.slots.items) same (slice_get_within fields.slots.items held.number None out.slot)
+
 -- what a give leaves
 pub record IsGive (desk new : AloneState) (bucket : Bucket) : Type 0 where
   pub is : IsDesk new

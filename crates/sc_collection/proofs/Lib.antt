@@ -5,3 +5,4 @@ pub mod AloneLemmas
 pub mod HoldLemmas
 pub mod GiveLemmas
 pub mod ReplaceLemmas
+pub mod StopLemmas

@@ -70,3 +70,4 @@ step_places held given step = by step where
   by (IsStep.delivers delivered) = unchanged given.journal.entries delivered.entries
   by (IsStep.settles {place = place} written still settled) =
       pushed given.journal.entries (entry.Settled place) settled.entries refl
+  by (IsStep.commits committed) = pushed given.journal.entries entry.Committed committed.entries refl

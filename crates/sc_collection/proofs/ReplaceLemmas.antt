@@ -1,6 +1,6 @@
 -- A bucket may be given back after each event that a holder of it may do.
 use Rattle.std.proofs.Common.{◌≡◌, ℕ, ℤ, List, [], ◌∷◌, ◌++◌, false, refl, sym, ◌∙◌, subst}
-use Rattle.std.specs.Prelude.{IsSome, Result, Ok, Err, IfOk, OnErr}
+use Rattle.std.specs.Prelude.{IsSome, Result, Ok, Err, IfOk, OnOk, OnErr}
 use Rattle.std.specs.Arc.{arc_value}
 use Rattle.std.specs.List.{AllByRecursion}
 use Rattle.sc_record.specs.declared.write.Write.{Write}
@@ -13,10 +13,11 @@ use Rattle.sc_journal.specs.Seen.{Layout}
 use Rattle.sc_journal.proofs.JournalLemmas.{writes-push_write, writes-push_other}
 use Rattle.sc_bucket.specs.declared.accept.Accepted.{Accepted}
 use Rattle.sc_bucket.specs.declared.accept.AcceptFault.{AcceptFault}
+use Rattle.sc_bucket.specs.declared.commit.CommitFault.{CommitFault}
 use Rattle.sc_bucket.specs.declared.bucket.Bucket.{Bucket}
 use Rattle.sc_bucket.specs.Kept.{Sent}
 use Rattle.sc_bucket.specs.Sound.{IsSound}
-use Rattle.sc_bucket.specs.Events.{IsStep, IsSameBut, HasSameName, Accepts, Delivers, Settles}
+use Rattle.sc_bucket.specs.Events.{IsStep, IsSameBut, HasSameName, Accepts, Delivers, Settles, Commits}
 use Rattle.sc_collection.specs.Desks.{Held, IsBucketOf, MayReplace}
 
 -- the ids of the writes belong to the bucket of this number
@@ -100,3 +101,22 @@ module _ (layout : Layout) (held : Held) (given : Bucket)
         subst (λ (journal : List Entry). AreOf layout.buckets held.number (writes journal)) (sym settled.entries)
         (subst (AreOf layout.buckets held.number)
         (sym (writes-push_other held.bucket.journal.entries (entry.Settled place) refl)) is.ids)
+
+  -- it was committed
+  pub committed_may_replace : Commits held.bucket given → MayReplace layout held given
+  committed_may_replace committed = record {
+    sound = sound;
+    is_of = same_bucket committed.name ids;
+    step = IsStep.commits committed;
+  } where
+    ids : AreOf layout.buckets held.number (writes given.journal.entries)
+    ids =
+        subst (λ (journal : List Entry). AreOf layout.buckets held.number (writes journal)) (sym committed.entries)
+        (subst (AreOf layout.buckets held.number)
+        (sym (writes-push_other held.bucket.journal.entries entry.Committed refl)) is.ids)
+
+  -- it was committed, or could not be
+  pub commit_may_replace : (answer : Result (Unit {0}) CommitFault) → OnOk answer (Commits held.bucket given)
+      → OnErr answer (IsSameBut held.bucket given) → MayReplace layout held given
+  commit_may_replace (Ok done) committed refused = committed_may_replace committed
+  commit_may_replace (Err fault) committed refused = unchanged_may_replace refused

@@ -1,7 +1,14 @@
 -- What is taken back stands in its slot.
+use Rattle.std.proofs.Common.{rules}
 use Rattle.sc_collection.proofs.AloneLemmas.{desk_is_legal}
-use Rattle.sc_collection.proofs.GiveLemmas.{give_of_fields}
+use Rattle.sc_collection.proofs.GiveLemmas.{out_has_slot, give_of_fields}
 use Rattle.sc_collection.proofs.alone.AloneDesk.give.Goals as goal
+
+pub index_mut-requires : goal.index_mut-requires
+index_mut-requires c =
+    let out = c.requires.is_out in
+    let slot = out_has_slot c.self.inside c.args.self.now c.args.b out.0 c.self.view_is c.self.invariant out.1 out.2 in
+    search (rules, slot)
 
 pub invariant_of-self : goal.invariant_of-self
 invariant_of-self c =

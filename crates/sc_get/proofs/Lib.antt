@@ -1,0 +1,3 @@
+-- Facts on gets.
+pub mod GotLemmas
+pub mod ManyLemmas

@@ -1,0 +1,135 @@
+-- The first ids were read, each at its stop.
+use Rattle.std.proofs.Common.{◌≡◌, ℕ, ◌+◌, ◌<◌, ◌≤◌, List, [], ◌∷◌, ◌++◌, length, refl, sym, ap, ◌∙◌, subst, arith, append_assoc, length-append}
+use Rattle.std.specs.Prelude.{get_or, map, Option, Some, None, option_to_list, Result, Ok, Err, IfOk}
+use Rattle.std.specs.Arc.{arc_value}
+use Rattle.std.specs.Option.{option_map}
+use Rattle.std.specs.declared.alloc.AllocError.{AllocError}
+use Rattle.std.specs.declared.alloc.Global.{Global}
+use Rattle.std.specs.declared.sync.Arc.{Arc}
+use Rattle.std.proofs.lemmas.List.{append-nil, map-append}
+use Rattle.sc_record.specs.declared.write.Write.{Write}
+use Rattle.sc_journal.specs.Seen.{Layout, Seen, SeesMore, GoesOn}
+use Rattle.sc_journal.specs.declared.stop.Stop.{Stop}
+use Rattle.sc_journal.proofs.GoesOnLemmas.{SeesMore-self, SeesMore-then, GoesOn-none, GoesOn-then}
+use Rattle.sc_get.specs.Got.{IsGot, AreGot, ReadsAt, ReadsEach, live_at, live_writes}
+
+-- so many of the ids were read, and these were found
+pub record SoFar (layout : Layout) (old new : Seen) (old_stops new_stops : List Stop) (ids : List (List ℕ)) (count : ℕ)
+    (found : List (Arc Write Global)) : Type 0 where
+  pub stops : List Stop
+  pub goes : GoesOn layout old new stops
+  pub kept : new_stops ≡ old_stops ++ stops
+  pub reads : ReadsEach layout ids stops
+  pub count_is : length stops ≡ count
+  pub found_are : (later : Seen) → SeesMore new later → map arc_value found ≡ live_writes later ids stops
+
+-- the id at the next stop
+reads-push : (layout : Layout) (ids : List (List ℕ)) (stops : List Stop) (id : List ℕ) (stop : Stop)
+    → ReadsEach layout ids stops → length stops < length ids → get_or ids (length stops) id ≡ id → ReadsAt layout id stop
+    → ReadsEach layout ids (stops ++ stop ∷ [])
+reads-push layout [] stops id stop reads some at one = absurd (omega arith)
+reads-push layout (first ∷ ids) [] id stop reads some at one = (subst (λ (i : List ℕ). ReadsAt layout i stop) (sym at) one, tt)
+reads-push layout (first ∷ ids) (s ∷ stops) id stop reads some at one =
+    (reads.0, reads-push layout ids stops id stop reads.1 (omega arith) at one)
+
+-- its live write comes last
+live-push : (seen : Seen) (ids : List (List ℕ)) (stops : List Stop) (id : List ℕ) (stop : Stop)
+    → length stops < length ids → get_or ids (length stops) id ≡ id
+    → live_writes seen ids (stops ++ stop ∷ []) ≡ live_writes seen ids stops ++ option_to_list (live_at seen id stop)
+live-push seen [] stops id stop some at = absurd (omega arith)
+live-push seen (first ∷ ids) [] id stop some at =
+    none_after ids ∙ ap (λ (i : List ℕ). option_to_list (live_at seen i stop)) at where
+      none_after : (ids : List (List ℕ)) → option_to_list (live_at seen first stop) ++ live_writes seen ids [] ≡ option_to_list (live_at seen first stop)
+      none_after [] = append-nil (option_to_list (live_at seen first stop))
+      none_after (i ∷ is) = append-nil (option_to_list (live_at seen first stop))
+live-push seen (first ∷ ids) (s ∷ stops) id stop some at =
+    ap (λ (writes : List Write). option_to_list (live_at seen first s) ++ writes) (live-push seen ids stops id stop (omega arith) at)
+    ∙ sym (append_assoc (option_to_list (live_at seen first s)) (live_writes seen ids stops) (option_to_list (live_at seen id stop)))
+
+-- what was found of one id, as a list
+one_found : (cell : Option (Arc Write Global)) (write : Option Write) → option_map arc_value cell ≡ write
+    → map arc_value (option_to_list cell) ≡ option_to_list write
+one_found None write is = ap option_to_list is
+one_found (Some cell) write is = ap option_to_list is
+
+pub one_at_most : {A : Type 0} (found : Option A) → length (option_to_list found) ≤ 1
+one_at_most None = omega arith
+one_at_most (Some x) = omega arith
+
+-- no id was read
+pub SoFar-none : (layout : Layout) (seen : Seen) (stops : List Stop) (ids : List (List ℕ)) (found : List (Arc Write Global))
+    → found ≡ [] → SoFar layout seen seen stops stops ids 0 found
+SoFar-none layout seen stops ids found is = record {
+  stops = [];
+  goes = GoesOn-none layout seen;
+  kept = sym (append-nil stops);
+  reads = none_read ids;
+  count_is = refl;
+  found_are = λ later more. ap (map arc_value) is ∙ none_found later ids;
+} where
+  none_read : (ids : List (List ℕ)) → ReadsEach layout ids []
+  none_read [] = tt
+  none_read (id ∷ ids) = tt
+
+  none_found : (later : Seen) (ids : List (List ℕ)) → [] ≡ live_writes later ids []
+  none_found later [] = refl
+  none_found later (id ∷ ids) = refl
+
+module _ (layout : Layout) (old between new : Seen) (old_stops between_stops new_stops : List Stop) (ids : List (List ℕ)) (count : ℕ)
+    (found : List (Arc Write Global)) (id : List ℕ) (far : SoFar layout old between old_stops between_stops ids count found)
+    (some : count < length ids) (at : get_or ids count id ≡ id) where
+  some_left : length far.stops < length ids
+  some_left = subst (λ n. n < length ids) (sym far.count_is) some
+
+  next : get_or ids (length far.stops) id ≡ id
+  next = ap (λ n. get_or ids n id) far.count_is ∙ at
+
+  -- one more id was read
+  pub SoFar-then : (cell : Option (Arc Write Global)) (all : List (Arc Write Global)) → all ≡ found ++ option_to_list cell
+      → IsGot layout between new between_stops new_stops id (Ok cell)
+      → SoFar layout old new old_stops new_stops ids (count + 1) all
+  SoFar-then cell all all_are one = record {
+    stops = far.stops ++ one.stop ∷ [];
+    goes = GoesOn-then layout old between new far.stops (one.stop ∷ []) far.goes one.is_stop.goes;
+    kept = one.is_stop.kept ∙ ap (λ (stops : List Stop). stops ++ one.stop ∷ []) far.kept ∙ append_assoc old_stops far.stops (one.stop ∷ []);
+    reads = reads-push layout ids far.stops id one.stop far.reads some_left next one.reads;
+    count_is = length-append far.stops (one.stop ∷ []) ∙ ap (λ n. n + 1) far.count_is;
+    found_are = λ later more.
+        let before : map arc_value found ≡ live_writes later ids far.stops =
+        far.found_are later (SeesMore-then between new later one.is_stop.goes.extends.seen more) in
+        ap (map arc_value) all_are ∙ map-append arc_value found (option_to_list cell)
+        ∙ ap (λ (writes : List Write). writes ++ map arc_value (option_to_list cell)) before
+        ∙ ap (λ (writes : List Write). live_writes later ids far.stops ++ writes)
+        (one_found cell (live_at later id one.stop) (one.found_is later more))
+        ∙ sym (live-push later ids far.stops id one.stop some_left next);
+  }
+
+  -- memory ran out at the next id
+  pub ran_out_at : (fault end : AllocError) → IsGot layout between new between_stops new_stops id (Err fault)
+      → AreGot layout old new old_stops new_stops ids (Err end)
+  ran_out_at fault end one = record {
+    stops = far.stops ++ one.stop ∷ [];
+    goes = GoesOn-then layout old between new far.stops (one.stop ∷ []) far.goes one.is_stop.goes;
+    kept = one.is_stop.kept ∙ ap (λ (stops : List Stop). stops ++ one.stop ∷ []) far.kept ∙ append_assoc old_stops far.stops (one.stop ∷ []);
+    reads = reads-push layout ids far.stops id one.stop far.reads some_left next one.reads;
+    found_are = tt;
+  }
+
+-- memory ran out before an id was read
+pub ran_out : (layout : Layout) (seen : Seen) (stops : List Stop) (ids : List (List ℕ)) (end : AllocError)
+    → AreGot layout seen seen stops stops ids (Err end)
+ran_out layout seen stops ids end =
+    let none = SoFar-none layout seen stops ids [] refl in
+    record { stops = none.stops; goes = none.goes; kept = none.kept; reads = none.reads; found_are = tt }
+
+-- each id was read
+pub all_got : (layout : Layout) (old new : Seen) (old_stops new_stops : List Stop) (ids : List (List ℕ)) (count : ℕ)
+    (found cells : List (Arc Write Global)) → SoFar layout old new old_stops new_stops ids count found → count ≡ length ids → cells ≡ found
+    → AreGot layout old new old_stops new_stops ids (Ok cells)
+all_got layout old new old_stops new_stops ids count found cells far all is = record {
+  stops = far.stops;
+  goes = far.goes;
+  kept = far.kept;
+  reads = far.reads;
+  found_are = (far.count_is ∙ all, λ later more. ap (map arc_value) is ∙ far.found_are later more);
+}

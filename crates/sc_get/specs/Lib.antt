@@ -1,0 +1,2 @@
+-- What a get shows, by the journals that were seen.
+pub mod Got

@@ -1,0 +1,14 @@
+//! Documents by their ids, each as its last write has it, committed or not (Solr Reference Guide, "RealTime Get").
+//!
+//! It depends on the clauses of any `Desk`. The layers above use those of `get_one` and `get_many`: what is found of an id is its
+//! last write in the journal of its bucket at one stop.
+#![tactic(auto)]
+
+mod many;
+mod one;
+
+pub use many::get_many;
+pub use one::get_one;
+
+#[cfg(test)]
+mod tests;

@@ -1,7 +1,6 @@
 -- What one order is answered, once it was carried out.
 use Rattle.std.proofs.Common.{◌≡◌, ℕ, Bool, true, false, List, [], ◌∷◌, ◌++◌, Result, Ok, Err, refl, ap, ◌∙◌, append_assoc, inl, inr}
 use Rattle.std.specs.Prelude.{is_ok}
-use mathlib.Core.List.{IsPrefix}
 use Rattle.sc_record.specs.declared.order.Order.{Order}
 use Rattle.sc_journal.specs.Seen.{Layout, Seen}
 use Rattle.sc_journal.specs.Batches.{OrderAnswer, IsOrderAnswer, HasStops, AnswersOrders, goes_on}
@@ -10,14 +9,9 @@ use Rattle.sc_bucket.specs.declared.accept.Accepted.{Accepted}
 use Rattle.sc_bucket.specs.declared.accept.AcceptFault.{AcceptFault}
 use Rattle.sc_bucket.specs.declared.accept.AcceptFault.TheVariants as faults
 use Rattle.sc_bucket.specs.Events.{outcome_of}
-use Rattle.sc_update.specs.Updated.{SeesMore}
-use Rattle.sc_update.specs.Steps.{IsStop, Tries, SettlesFirst, CarriesOut}
-use Rattle.sc_journal.proofs.ExtendsLemmas.{IsPrefix-then}
-use Rattle.sc_update.proofs.SeenLemmas.{GoesOn-then}
-
-pub SeesMore-then : (old between later : Seen) → ((lock : ℕ) → IsPrefix (old.journals lock) (between.journals lock)) → SeesMore between later → SeesMore old later
-SeesMore-then old between later begins more lock =
-    IsPrefix-then (old.journals lock) (between.journals lock) (later.journals lock) (begins lock) (more lock)
+use Rattle.sc_update.specs.Steps.{Tries, SettlesFirst, CarriesOut}
+use Rattle.sc_journal.specs.Seen.{IsStop}
+use Rattle.sc_journal.proofs.GoesOnLemmas.{SeesMore-then, GoesOn-then}
 
 -- one answer answers one order
 answers-one : (layout : Layout) (later : Seen) (fail : Bool) (answer : OrderAnswer) → IsOrderAnswer layout later answer

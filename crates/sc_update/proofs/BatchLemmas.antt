@@ -18,11 +18,11 @@ use Rattle.sc_bucket.specs.declared.accept.AcceptFault.TheVariants as faults
 use Rattle.sc_update.specs.declared.end.BatchEnd.{BatchEnd}
 use Rattle.sc_update.specs.declared.end.BatchStop.TheVariants as stops
 use Rattle.sc_update.specs.declared.shown.Shown.{Shown}
-use Rattle.sc_update.specs.Updated.{IsUpdated, EndsAs, Shows, StopsWith}
-use Rattle.sc_update.specs.Steps.{State, GoesOn, Answered, EndsOne, ShowsMore, HasRoomFor, HasRoomForOne, GrowsByOne, Takes, stop_of}
-use Rattle.sc_update.proofs.SeenLemmas.{GoesOn-none, GoesOn-then}
-use Rattle.sc_update.proofs.AnswerLemmas.{SeesMore-then}
-use Rattle.sc_update.proofs.OnceLemmas.{orders_once}
+use Rattle.sc_update.specs.Updated.{EndsAs, Shows, StopsWith}
+use Rattle.sc_update.specs.Steps.{State, Answered, EndsOne, ShowsMore, HasRoomFor, HasRoomForOne, GrowsByOne, Takes, AnswersAll, stop_of}
+use Rattle.sc_journal.specs.Seen.{GoesOn}
+use Rattle.sc_journal.proofs.GoesOnLemmas.{GoesOn-none, GoesOn-then}
+use Rattle.sc_journal.proofs.GoesOnLemmas.{SeesMore-then}
 
 -- orders go on after each of these answers
 abbrev pub GoOn : Bool → List OrderAnswer → Type 0
@@ -89,22 +89,12 @@ Answered-then gives layout fail orders order old between new answers more one al
           (one.answered later (SeesMore-then between.seen new.seen later two.goes.extends.seen sees)) all next (two.answered later sees);
     }
 
--- what an update is after these answers
-pub updated : {C : Type 0} (gives : C → ℕ → C → Type 0) (layout : Layout) (batch : Batch) (old new : State C) (answers : List OrderAnswer) (end : BatchEnd)
+-- what the orders of a batch came to, by these answers
+pub answers_all : {C : Type 0} (gives : C → ℕ → C → Type 0) (layout : Layout) (batch : Batch) (old new : State C) (answers : List OrderAnswer) (end : BatchEnd)
     → Answered gives layout batch.flags.fail_on_conflict batch.orders old new answers → Shows batch.flags.versions answers end
     → EndsAs batch.flags.fail_on_conflict batch.orders answers end.stop
-    → IsUpdated gives layout batch old.seen new.seen old.clock new.clock old.stops new.stops end
-updated gives layout batch old new answers end one shows ends = record {
-  answers = answers;
-  extends = one.goes.extends;
-  kept = one.kept;
-  timestamps = one.timestamps;
-  answered = one.answered;
-  once = λ later more. orders_once layout later batch.flags.fail_on_conflict batch.orders answers (one.answered later more);
-  last = one.goes.last;
-  shown = shows;
-  ends = ends;
-}
+    → AnswersAll gives layout batch old new end
+answers_all gives layout batch old new answers end one shows ends = record { answers = answers; answered = one; shown = shows; ends = ends }
 
 -- what is shown so far
 abbrev pub ShowsSoFar : Bool → List OrderAnswer → Shown → Type 0
@@ -169,10 +159,10 @@ module _ {C : Type 0} (gives : C → ℕ → C → Type 0) (layout : Layout) (ba
   pub SoFar-stop : (end : BatchEnd) (fault : AcceptFault) (was : Option AcceptFault) → SoFar gives layout batch old between shown count → slice_get batch.orders count ≡ Some order
       → Takes gives layout batch.flags.fail_on_conflict batch.flags.versions order between new shown more_shown was → was ≡ Some fault
       → end.adds ≡ more_shown.adds.items → end.deletes ≡ more_shown.deletes.items → end.stop ≡ Some (stop_of count fault)
-      → IsUpdated gives layout batch old.seen new.seen old.clock new.clock old.stops new.stops end
+      → AnswersAll gives layout batch old new end
   SoFar-stop end fault was far next takes is adds deleted stop =
       let here : slice_get batch.orders (length far.answers) ≡ Some order = ap (slice_get batch.orders) far.count_is ∙ next in
-      updated gives layout batch old new (far.answers ++ takes.answers) end
+      answers_all gives layout batch old new (far.answers ++ takes.answers) end
       (Answered-then gives layout batch.flags.fail_on_conflict batch.orders order old between new far.answers takes.answers far.answered far.go_on here takes.answered)
       (shows_end batch.flags.versions (far.answers ++ takes.answers) more_shown end adds deleted (shows_more batch.flags.versions far.answers takes.answers shown more_shown far.shows takes.shows))
       (subst (EndsAs batch.flags.fail_on_conflict batch.orders (far.answers ++ takes.answers)) (sym stop)
@@ -192,18 +182,18 @@ module _ {C : Type 0} (gives : C → ℕ → C → Type 0) (layout : Layout) (ba
 pub SoFar-end : {C : Type 0} (gives : C → ℕ → C → Type 0) (layout : Layout) (batch : Batch) (old new : State C) (shown : Shown) (count : ℕ) (end : BatchEnd)
     → SoFar gives layout batch old new shown count → count ≡ length batch.orders
     → end.adds ≡ shown.adds.items → end.deletes ≡ shown.deletes.items → end.stop ≡ None
-    → IsUpdated gives layout batch old.seen new.seen old.clock new.clock old.stops new.stops end
+    → AnswersAll gives layout batch old new end
 SoFar-end gives layout batch old new shown count end far all adds deleted stop =
-    updated gives layout batch old new far.answers end far.answered
+    answers_all gives layout batch old new far.answers end far.answered
     (shows_end batch.flags.versions far.answers shown end adds deleted far.shows)
     (subst (EndsAs batch.flags.fail_on_conflict batch.orders far.answers) (sym stop) (far.count_is ∙ all, far.go_on))
 
 -- memory ran out before the first order
-pub updated-none : {C : Type 0} (gives : C → ℕ → C → Type 0) (layout : Layout) (batch : Batch) (state : State C) (end : BatchEnd)
+pub answers-none : {C : Type 0} (gives : C → ℕ → C → Type 0) (layout : Layout) (batch : Batch) (state : State C) (end : BatchEnd)
     → end.adds ≡ [] → end.deletes ≡ [] → end.stop ≡ Some stops.Memory
-    → IsUpdated gives layout batch state.seen state.seen state.clock state.clock state.stops state.stops end
-updated-none gives layout batch state end adds deleted stop =
-    updated gives layout batch state state [] end (Answered-none gives layout batch.flags.fail_on_conflict batch.orders state)
+    → AnswersAll gives layout batch state state end
+answers-none gives layout batch state end adds deleted stop =
+    answers_all gives layout batch state state [] end (Answered-none gives layout batch.flags.fail_on_conflict batch.orders state)
     (shows batch.flags.versions)
     (subst (EndsAs batch.flags.fail_on_conflict batch.orders []) (sym stop) tt)
   where

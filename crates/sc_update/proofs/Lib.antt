@@ -1,9 +1,9 @@
 -- Facts on updates.
-pub mod SeenLemmas
-pub mod StepLemmas
 pub mod OrderLemmas
 pub mod LookLemmas
 pub mod AnswerLemmas
 pub mod OnceLemmas
 pub mod BatchLemmas
 pub mod TakeLemmas
+pub mod CommitLemmas
+pub mod UpdateLemmas

@@ -15,9 +15,10 @@ use Rattle.sc_bucket.specs.Events.{DeliversFirst, without_room}
 use Rattle.sc_collection.specs.Desks.{Held, IsBucketOf, MayReplace, SeesGiven, place_added}
 use Rattle.sc_collection.proofs.PlaceLemmas.{place_added-none}
 use Rattle.sc_collection.proofs.ReplaceLemmas.{unchanged_may_replace, delivered_may_replace}
-use Rattle.sc_update.specs.Steps.{GoesOn, Looks}
+use Rattle.sc_update.specs.Steps.{Looks}
+use Rattle.sc_journal.specs.Seen.{GoesOn}
 use Rattle.sc_journal.proofs.ExtendsLemmas.{IsPrefix-self, IsPrefix-then, entries-grow, ascend_earlier}
-use Rattle.sc_update.proofs.StepLemmas.{at_lock, other_lock}
+use Rattle.sc_collection.proofs.StopLemmas.{at_lock, other_lock}
 use Rattle.sc_update.proofs.OrderLemmas.{written-later}
 
 -- What a delivery leaves: nothing changed, or the first message of a write was delivered.
@@ -43,6 +44,7 @@ MayReplace-delivered layout held given place None is_of sound leaves =
       entries = ap (λ (bucket : Bucket). bucket.journal.entries) leaves.0;
       messages = ap (λ (bucket : Bucket). bucket.flight.messages) leaves.0;
       cores = ap (λ (bucket : Bucket). map without_room bucket.replicas) leaves.0;
+      searchers_are = ap (λ (bucket : Bucket). bucket.searchers) leaves.0;
     })
 MayReplace-delivered layout held given place (Some core) is_of sound leaves =
     delivered_may_replace layout held given is_of sound leaves.at leaves.message leaves.delivers

@@ -22,11 +22,11 @@ at_end (one ∷ journal) zero write h = h
 at_end (one ∷ journal) (suc place) write h = at_end journal place write h
 
 -- a stop that made no entry made no write
-unmade : (seen : Seen) (stop : Stop) → stop.made ≡ false → ack_made seen stop ≡ None
+pub unmade : (seen : Seen) (stop : Stop) → stop.made ≡ false → ack_made seen stop ≡ None
 unmade seen stop made = ap (λ b. cond b (option_map ack_written (write_at (seen.journals stop.lock) stop.place)) None) made
 
 -- a stop whose entry is no write made none
-no_write_made : (seen : Seen) (stop : Stop) (made : Bool) → stop.made ≡ made
+pub no_write_made : (seen : Seen) (stop : Stop) (made : Bool) → stop.made ≡ made
     → (stop.made ≡ true → write_at (seen.journals stop.lock) stop.place ≡ None) → ack_made seen stop ≡ None
 no_write_made seen stop false is none = unmade seen stop is
 no_write_made seen stop true is none =

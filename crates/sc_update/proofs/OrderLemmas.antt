@@ -5,7 +5,6 @@ use Rattle.std.specs.List.{AllByRecursion}
 use Rattle.std.specs.Arc.{arc_value}
 use Rattle.std.proofs.lemmas.Bool.{eq-eqb}
 use Rattle.std.proofs.lemmas.List.{append-nil}
-use Rattle.std.proofs.Math.Seq.{take-append_seam}
 use mathlib.Core.List.{IsPrefix}
 use Rattle.sc_record.specs.declared.entry.Entry.{Entry}
 use Rattle.sc_record.specs.declared.entry.Entry.TheVariants as entry
@@ -25,15 +24,12 @@ use Rattle.sc_bucket.specs.declared.accept.AcceptFault.{AcceptFault}
 use Rattle.sc_bucket.specs.Sound.{IsSound}
 use Rattle.sc_bucket.specs.Events.{Accepts, IsSameBut, IsStep, outcome_of}
 use Rattle.sc_collection.specs.Desks.{Held, IsBucketOf, MayReplace, SeesGiven}
-use Rattle.sc_update.specs.Updated.{SeesMore}
+use Rattle.sc_journal.specs.Seen.{SeesMore}
 use Rattle.sc_update.specs.Steps.{Tries, SettlesWhere}
 use Rattle.sc_journal.proofs.ExtendsLemmas.{IsPrefix-then}
+use Rattle.sc_journal.proofs.GoesOnLemmas.{take-prefix}
 use Rattle.std.proofs.ByRecursion.{All-append}
-use Rattle.sc_update.proofs.StepLemmas.{stop_at}
-
--- a journal with a prefix has it there
-pub take-prefix : (journal later : List Entry) → IsPrefix journal later → take (length journal) later ≡ journal
-take-prefix journal later begins = ap (take (length journal)) (sym begins.1) ∙ take-append_seam journal begins.0
+use Rattle.sc_collection.proofs.StopLemmas.{stop_at}
 
 -- a write stays where it is
 pub write_at-later : (journal later : List Entry) (place : ℕ) → IsPrefix journal later → place < length journal
@@ -142,7 +138,7 @@ MayReplace-settled layout number place false old new of sound written settles =
     subst (λ (bucket : Bucket). MayReplace layout (record { number = number; bucket = old }) bucket) (sym settles.0) (record {
       sound = subst IsSound settles.0 sound;
       is_of = of;
-      step = IsStep.stays (record { name = record { first = refl; limit = refl }; map_is = refl; entries = refl; messages = refl; cores = refl });
+      step = IsStep.stays (record { name = record { first = refl; limit = refl }; map_is = refl; entries = refl; messages = refl; cores = refl; searchers_are = refl });
     })
 
 -- the entries that this adds

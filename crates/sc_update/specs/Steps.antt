@@ -5,7 +5,7 @@ use Rattle.sc_record.specs.declared.order.Order.{Order}
 use Rattle.sc_router.specs.Route.{bucket_of}
 use Rattle.sc_journal.specs.Journal.{write_at, is_settled}
 use Rattle.sc_journal.specs.Outcomes.{Outcome, conflict, partial, log_full, IsOutcome}
-use Rattle.sc_journal.specs.Seen.{Layout, Seen, Extends, stops_at, entries_at, journal_at}
+use Rattle.sc_journal.specs.Seen.{Layout, Seen, SeesMore, GoesOn, IsStop, journal_at}
 use Rattle.sc_journal.specs.Batches.{OrderAnswer, AnswersOrders, GivesTimestamps, IsSettling, goes_on, deletes, adds_of, deletes_of, stops_of, timestamps_of}
 use Rattle.sc_journal.specs.declared.stop.Stop.{Stop}
 use Rattle.sc_bucket.specs.Sound.{IsSound}
@@ -15,28 +15,21 @@ use Rattle.sc_bucket.specs.declared.accept.Accepted.{Accepted}
 use Rattle.sc_bucket.specs.declared.accept.AcceptFault.{AcceptFault}
 use Rattle.sc_bucket.specs.declared.accept.AcceptFault.TheVariants as faults
 use Rattle.sc_collection.specs.Desks.{Held, IsBucketOf}
-use Rattle.sc_update.specs.Updated.{SeesMore, EndAtLast}
 use Rattle.sc_update.specs.declared.end.BatchStop.{BatchStop}
 use Rattle.sc_update.specs.declared.end.BatchStop.TheVariants as stops
+use Rattle.sc_commands.specs.declared.batch.Batch.{Batch}
+use Rattle.sc_journal.specs.Committed.{CommitOutcome, committed_now, commit_full, commit_out_of_memory, IsCommitOutcome, CommitAnswer, AnswersCommits, commit_stops, worst}
+use Rattle.sc_bucket.specs.declared.commit.CommitFault.{CommitFault}
+use Rattle.sc_bucket.specs.declared.commit.CommitFault.TheVariants as commit_faults
+use Rattle.sc_update.specs.Updated.{Shows, EndsAs}
+use Rattle.sc_update.specs.declared.end.BatchEnd.{BatchEnd}
 use Rattle.sc_update.specs.declared.shown.Shown.{Shown}
-
--- What was seen went on by these stops, of each lock the last of them is at the end of what was seen there, and what was seen of
--- the other locks stayed.
-pub record GoesOn (layout : Layout) (old new : Seen) (stops : List Stop) : Type 0 where
-  pub extends : Extends layout old new stops
-  pub last : EndAtLast layout new stops
-  pub stays : (lock : ℕ) → stops_at lock stops ≡ [] → entries_at layout new lock ≡ entries_at layout old lock
 
 -- what a step of an update finds and leaves: what its desk has seen, its clock and the stops that are kept
 pub record State (C : Type 0) : Type 0 where
   pub seen : Seen
   pub clock : C
   pub stops : List Stop
-
--- One hold of a bucket was this stop: it is kept, and what was seen went on by it.
-pub record IsStop (layout : Layout) (old new : Seen) (old_stops new_stops : List Stop) (stop : Stop) : Type 0 where
-  pub goes : GoesOn layout old new (stop ∷ [])
-  pub kept : new_stops ≡ old_stops ++ stop ∷ []
 
 -- Holds of the bucket of a lock made no entry. Of its journal more may be seen, which others made; all else that was seen stayed.
 pub record Looks (old new : Seen) (lock : ℕ) : Type 0 where
@@ -138,3 +131,31 @@ pub record Takes {C : Type 0} (gives : C → ℕ → C → Type 0) (layout : Lay
   pub answered : Answered gives layout fail (order ∷ []) old new answers
   pub shows : ShowsMore versions answers old_shown new_shown
   pub ends : EndsOne fail answers end
+
+-- The orders of a batch were answered, up to one of them, and what was accepted is shown.
+pub record AnswersAll {C : Type 0} (gives : C → ℕ → C → Type 0) (layout : Layout) (batch : Batch) (old new : State C) (end : BatchEnd) : Type 0 where
+  pub answers : List OrderAnswer
+  pub answered : Answered gives layout batch.flags.fail_on_conflict batch.orders old new answers
+  pub shown : Shows batch.flags.versions answers end
+  pub ends : EndsAs batch.flags.fail_on_conflict batch.orders answers end.stop
+
+-- what a commit came to
+abbrev pub commit_outcome : Option CommitFault → CommitOutcome
+commit_outcome None = committed_now
+commit_outcome (Some commit_faults.LogFull) = commit_full
+commit_outcome (Some commit_faults.Memory) = commit_out_of_memory
+
+-- The first buckets, so many of them, were committed in turn, and the worst that came of it is this.
+pub record CommitsAll (layout : Layout) (count : ℕ) (old new : Seen) (old_stops new_stops : List Stop) (fault : Option CommitFault) : Type 0 where
+  pub answers : List CommitAnswer
+  pub goes : GoesOn layout old new (commit_stops answers)
+  pub kept : new_stops ≡ old_stops ++ commit_stops answers
+  pub answered : (later : Seen) → SeesMore new later → AnswersCommits layout later count answers
+  pub worst_is : worst answers ≡ commit_outcome fault
+
+-- One bucket was committed at its stop, or that was refused.
+pub record CommitsOne (layout : Layout) (old new : Seen) (old_stops new_stops : List Stop) (lock : ℕ) (fault : Option CommitFault) : Type 0 where
+  pub stop : Stop
+  pub lock_is : stop.lock ≡ lock
+  pub is_stop : IsStop layout old new old_stops new_stops stop
+  pub answered : (later : Seen) → SeesMore new later → IsCommitOutcome layout later stop (commit_outcome fault)

@@ -1,25 +1,33 @@
 ghost use Rattle.std.specs.Prelude.{◌≡◌, ◌+◌, ◌*◌, ◌≤◌, length, None, true, false};
 ghost use Rattle.sc_journal.specs.Batches.{deletes};
 ghost use Rattle.sc_collection.specs.declared.trail.TheConstants.{ROOM};
-ghost use Rattle.sc_update.specs.Updated.{IsUpdated};
-ghost use Rattle.sc_update.specs.Steps.{Takes, HasRoomForOne, GrowsByOne, ending, stop_of};
+ghost use Rattle.sc_update.specs.Updated.{IsUpdated, commit_stop};
+ghost use Rattle.sc_update.specs.Steps.{AnswersAll, Takes, commit_outcome, HasRoomForOne, GrowsByOne, ending, stop_of};
 
+use crate::commit::commit_all;
 use crate::end::{BatchEnd, BatchStop};
 use crate::order::carry_out;
 use crate::shown::{Shown, is_deletion, shown_id};
-use sc_bucket::AcceptFault;
+use sc_bucket::{AcceptFault, CommitFault};
 use sc_collection::{Desk, Trail};
 use sc_commands::{Batch, Flags};
 use sc_io::Clock;
 use sc_record::{Ack, Order};
 use std::alloc::Global;
 
-/// Carries out the orders of a batch one after another. For each the clock is read, the id's bucket is held and the order is
-/// carried out. Where it is accepted, up to `MAX_DELIVERIES` further holds of the bucket each deliver a message that sends the
-/// write to another core. The first hold that finds none, or the one after these, settles the write, which delivers what is
-/// left. The hold that carries out the order and the one that settles its write are the order's stops of the trail. The orders
-/// end at the first that is not accepted, but a conflict is passed over where the batch says so. The lists of what is shown take
-/// their room first: where there is none, memory ran out and nothing was accepted.
+/// Carries out the orders of a batch one after another, and then commits where the batch asks for it and nothing stopped its
+/// orders.
+///
+/// For each order the clock is read, the id's bucket is held and the order is carried out. Where it is accepted, up to
+/// `MAX_DELIVERIES` further holds of the bucket each deliver a message that sends the write to another core. The first hold that
+/// finds none, or the one after these, settles the write, which delivers what is left. The hold that carries out the order and
+/// the one that settles its write are the order's stops of the trail. The orders end at the first that is not accepted, but a
+/// conflict is passed over where the batch says so. The lists of what is shown take their room first: where there is none, memory
+/// ran out and nothing was accepted.
+///
+/// A commit holds each bucket in turn, one stop each (Solr Reference Guide, "Commits and Transaction Logs"). One that is refused
+/// leaves its bucket as it was and does not end the round. Then memory ran out where it did in some bucket; else the log is full
+/// where it was in one.
 pub fn update<D: Desk, C: Clock>(
     alloc: Global,
     desk: &mut D,
@@ -28,13 +36,49 @@ pub fn update<D: Desk, C: Clock>(
     batch: &Batch,
 ) -> BatchEnd
     requires nothing_out { D.out desk.old ≡ None }
-    requires no_commit { batch.now.flags.commit ≡ false }
     requires orders { length batch.now.orders ≤ 4096 }
-    requires room { length trail.old.stops + 2 * length batch.now.orders ≤ ROOM }
+    requires room { length trail.old.stops + 2 * length batch.now.orders + (D.layout desk.old).buckets ≤ ROOM }
     ensures updated { IsUpdated C.gives (D.layout desk.old) batch.now (D.seen desk.old) (D.seen desk.new)
         clock.old clock.new trail.old.stops trail.new.stops result }
     ensures layout { D.layout desk.new ≡ D.layout desk.old }
     ensures nothing_out { D.out desk.new ≡ None }
+    ensures requests { trail.new.requests ≡ trail.old.requests }
+{
+    let mut end = take_orders(alloc, desk, clock, trail, batch);
+    if batch.flags.commit && end.stop.is_none() {
+        end.stop = stop_of_commit(commit_all(alloc, desk, trail));
+    }
+    end
+}
+
+/// What stops an update whose commits came to this.
+fn stop_of_commit(fault: Option<CommitFault>) -> Option<BatchStop>
+    ensures { result ≡ commit_stop (commit_outcome fault) }
+{
+    match fault {
+        None => None,
+        Some(CommitFault::LogFull) => Some(BatchStop::LogFull),
+        Some(CommitFault::Memory) => Some(BatchStop::Memory),
+    }
+}
+
+/// Carries out the orders of a batch one after another.
+fn take_orders<D: Desk, C: Clock>(
+    alloc: Global,
+    desk: &mut D,
+    clock: &mut C,
+    trail: &mut Trail,
+    batch: &Batch,
+) -> BatchEnd
+    requires nothing_out { D.out desk.old ≡ None }
+    requires orders { length batch.now.orders ≤ 4096 }
+    requires room { length trail.old.stops + 2 * length batch.now.orders ≤ ROOM }
+    ensures answers { AnswersAll C.gives (D.layout desk.old) batch.now
+        (record { seen = D.seen desk.old; clock = clock.old; stops = trail.old.stops })
+        (record { seen = D.seen desk.new; clock = clock.new; stops = trail.new.stops }) result }
+    ensures layout { D.layout desk.new ≡ D.layout desk.old }
+    ensures nothing_out { D.out desk.new ≡ None }
+    ensures stops { length trail.new.stops ≤ length trail.old.stops + 2 * length batch.now.orders }
     ensures requests { trail.new.requests ≡ trail.old.requests }
 {
     let orders = batch.orders.as_slice();

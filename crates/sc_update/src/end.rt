@@ -1,21 +1,21 @@
 use sc_record::{Ack, List, Text};
 
-/// What stopped the orders of an update before their end. `order` is the place of the order, from 0. What was accepted before it
-/// stands.
+/// What stopped an update: its orders before their end, or the commit of some bucket after them. `order` is the place of the
+/// order, from 0. What was accepted before it stands, and so does each commit that was done.
 #[derive(Debug, Drop)]
 pub enum BatchStop {
     /// The order's condition is not met by this version, which was found.
     Conflict { order: usize, actual: i64 },
     /// The field of this name can't take its change.
     Partial { order: usize, field: Text },
-    /// The journal has no room.
+    /// A journal has no room, for an order's write or for a commit.
     LogFull,
     /// Memory ran out.
     Memory,
 }
 
-/// What the orders of an update came to: the ids and the versions, as they are shown, of what was accepted of additions and of
-/// deletions, each in order and where versions are asked for; and what stopped the orders, if something did.
+/// What an update came to: the ids and the versions, as they are shown, of what was accepted of additions and of deletions, each
+/// in order and where versions are asked for; and what stopped it, if something did.
 #[derive(Debug, Drop)]
 pub struct BatchEnd {
     pub adds: List<Ack>,

@@ -4,7 +4,8 @@ ghost use Rattle.sc_journal.specs.Journal.{write_at};
 ghost use Rattle.sc_bucket.specs.Sound.{IsSound};
 ghost use Rattle.sc_bucket.specs.Events.{outcome_of};
 ghost use Rattle.sc_collection.specs.declared.trail.TheConstants.{ROOM};
-ghost use Rattle.sc_update.specs.Steps.{IsStop, Looks, Holds, Tries, SettlesFirst, SettlesWhere, CarriesOut};
+ghost use Rattle.sc_update.specs.Steps.{Looks, Holds, Tries, SettlesFirst, SettlesWhere, CarriesOut};
+ghost use Rattle.sc_journal.specs.Seen.{IsStop};
 
 use sc_bucket::{AcceptFault, Accepted, Bucket};
 use sc_collection::{Desk, Stop, Trail};

@@ -1,4 +1,5 @@
 ghost use Rattle.std.specs.Prelude.{◌≤◌};
+ghost use Rattle.sc_router.specs.Route.{IsBucketCount};
 
 use crate::update;
 use sc_collection::{Alone, Shape, Trail};
@@ -7,6 +8,27 @@ use sc_io::MemClock;
 use sc_record::{Change, Doc, Id, List, Order};
 use std::alloc::Global;
 use std::test::Fail;
+
+// An update whose orders end at a conflict.
+const STRICT: Flags = Flags {
+    commit: false,
+    versions: true,
+    fail_on_conflict: true,
+};
+
+// An update whose conflicts are passed over.
+const LENIENT: Flags = Flags {
+    commit: false,
+    versions: true,
+    fail_on_conflict: false,
+};
+
+// An update whose orders end at a conflict, with a commit after them.
+const COMMITTING: Flags = Flags {
+    commit: true,
+    versions: true,
+    fail_on_conflict: true,
+};
 
 // An order for an empty document of this id under a condition, or for its deletion.
 fn order(alloc: Global, id: &str, condition: i64, deletion: bool) -> Result<Order, Fail> {
@@ -25,16 +47,19 @@ fn order(alloc: Global, id: &str, condition: i64, deletion: bool) -> Result<Orde
     })
 }
 
-// What such orders come to on a new collection of one bucket and one shard with so many replicas, at these timestamps: the
-// additions and the deletions that are shown, what stopped the orders, and the place of each stop that was kept, with a sign
+// What such orders come to on a new collection of so many buckets and one shard with so many replicas, at these timestamps: the
+// additions and the deletions that are shown, what stopped the update, and the place of each stop that was kept, with a sign
 // where it made an entry.
 fn told(
     alloc: Global,
+    buckets: u32,
     replicas: u8,
     moments: &[u64],
     orders: &[(&str, i64, bool)],
-    fail_on_conflict: bool,
+    flags: Flags,
 ) -> Result<String, Fail>
+    requires count { IsBucketCount buckets }
+    requires few { buckets ≤ 2 }
     requires least { 1 ≤ replicas }
     requires most { replicas ≤ 4 }
 {
@@ -42,7 +67,7 @@ fn told(
         nodes: u32::from(replicas),
         shards: 1,
         replicas,
-        buckets: 1,
+        buckets,
         log_limit: 64,
     };
     let mut desk = Alone::new(alloc, &shape)?;
@@ -58,11 +83,7 @@ fn told(
     let mut clock = MemClock::new(List::from_vec(moments));
     let batch = Batch {
         orders: List::from_vec(list),
-        flags: Flags {
-            commit: false,
-            versions: true,
-            fail_on_conflict,
-        },
+        flags,
     };
     let end = update(alloc, &mut desk, &mut clock, &mut trail, &batch);
     let mut text = String::new(alloc);
@@ -85,11 +106,11 @@ fn batches_end_at_a_conflict_or_pass_over_it(rt: HostRuntime) -> Result<(), Fail
     let alloc = rt.alloc();
     let three = [("abc", 0, false), ("hello", 5, false), ("test", 0, false)];
     assert_eq!(rt;
-        told(alloc, 1, &[1_000], &three, true)?.as_str(),
+        told(alloc, 1, 1, &[1_000], &three, STRICT)?.as_str(),
         "abc 1048576000 Some(Conflict { order: 1, actual: -1 }) 0+ 1+ 2"
     );
     assert_eq!(rt;
-        told(alloc, 1, &[1_000], &three, false)?.as_str(),
+        told(alloc, 1, 1, &[1_000], &three, LENIENT)?.as_str(),
         "abc 1048576000 test 1048576001 None 0+ 1+ 2 2+ 3+"
     );
     Ok(())
@@ -103,9 +124,10 @@ fn versions_ascend(rt: HostRuntime) -> Result<(), Fail> {
         told(
             alloc,
             1,
+            1,
             &[1_000, 500],
             &[("abc", 0, false), ("hello", 0, false)],
-            true
+            STRICT
         )?
         .as_str(),
         "abc 1048576000 hello 1048576001 None 0+ 1+ 2+ 3+"
@@ -115,9 +137,10 @@ fn versions_ascend(rt: HostRuntime) -> Result<(), Fail> {
         told(
             alloc,
             1,
+            1,
             &[1_000],
             &[("abc", 0, false), ("abc", 1_048_576_000, true)],
-            true
+            STRICT
         )?
         .as_str(),
         "abc 1048576000 -abc -1048576001 None 0+ 1+ 2+ 3+"
@@ -129,8 +152,23 @@ fn versions_ascend(rt: HostRuntime) -> Result<(), Fail> {
 #[test]
 fn deliveries_are_no_stops(rt: HostRuntime) -> Result<(), Fail> {
     assert_eq!(rt;
-        told(rt.alloc(), 2, &[1_000], &[("abc", 0, false)], true)?.as_str(),
+        told(rt.alloc(), 1, 2, &[1_000], &[("abc", 0, false)], STRICT)?.as_str(),
         "abc 1048576000 None 0+ 1+"
+    );
+    Ok(())
+}
+
+// Each of the two buckets is committed at one more stop, also that in which nothing was written. After a conflict neither is.
+#[test]
+fn commits_come_after_the_orders(rt: HostRuntime) -> Result<(), Fail> {
+    let alloc = rt.alloc();
+    assert_eq!(rt;
+        told(alloc, 2, 1, &[1_000], &[("abc", 0, false)], COMMITTING)?.as_str(),
+        "abc 1048576000 None 0+ 1+ 2+ 0+"
+    );
+    assert_eq!(rt;
+        told(alloc, 2, 1, &[1_000], &[("abc", 5, false)], COMMITTING)?.as_str(),
+        "Some(Conflict { order: 0, actual: -1 }) 0"
     );
     Ok(())
 }

@@ -4,8 +4,9 @@ use Rattle.sc_journal.specs.Seen.{Layout, Seen}
 use Rattle.sc_journal.specs.declared.stop.Stop.{Stop}
 use Rattle.sc_collection.specs.Kept.{Kept}
 use Rattle.sc_collection.specs.Desks.{Held, SeesGiven, MayReplace}
-use Rattle.sc_update.specs.Steps.{GoesOn, Tries}
-use Rattle.sc_update.proofs.StepLemmas.{stop_is, GoesOn-held}
+use Rattle.sc_update.specs.Steps.{Tries}
+use Rattle.sc_journal.specs.Seen.{GoesOn}
+use Rattle.sc_collection.proofs.StopLemmas.{stop_is, GoesOn-held}
 use Rattle.sc_update.proofs.OrderLemmas.{MayReplace-accepted, accepted-entries, tries}
 use Rattle.sc_update.proofs.order.accept_at.Goals as goal
 

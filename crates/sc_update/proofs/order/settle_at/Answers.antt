@@ -6,8 +6,8 @@ use Rattle.sc_journal.specs.declared.stop.Stop.{Stop}
 use Rattle.sc_bucket.specs.declared.bucket.Bucket.{Bucket}
 use Rattle.sc_collection.specs.Kept.{Kept}
 use Rattle.sc_collection.specs.Desks.{Held, SeesGiven, MayReplace}
-use Rattle.sc_update.specs.Steps.{GoesOn}
-use Rattle.sc_update.proofs.StepLemmas.{stop_at, stop_is, GoesOn-held}
+use Rattle.sc_journal.specs.Seen.{GoesOn}
+use Rattle.sc_collection.proofs.StopLemmas.{stop_at, stop_is, GoesOn-held}
 use Rattle.sc_update.proofs.LookLemmas.{GoesOn-looked, written-held}
 use Rattle.sc_update.proofs.OrderLemmas.{MayReplace-settled, settled-entries, settling}
 use Rattle.sc_update.proofs.order.settle_at.Goals as goal

@@ -2,7 +2,7 @@
 use Rattle.std.proofs.Common.{◌≡◌, ◌+◌, ◌≤◌, true, None, length, drop}
 use Rattle.sc_update.specs.Steps.{HasRoomFor}
 use Rattle.sc_update.proofs.BatchLemmas.{SoFar}
-use Rattle.sc_update.proofs.batch.update.Given as goal
+use Rattle.sc_update.proofs.batch.take_orders.Given as goal
 
 abbrev pub invariant-loop-at : goal.invariant-loop-at
 invariant-loop-at g l = record {

@@ -1,0 +1,64 @@
+ghost use Rattle.std.specs.Prelude.{◌≡◌, ◌+◌, ◌<◌, ◌≤◌, None, length};
+ghost use Rattle.sc_collection.specs.declared.trail.TheConstants.{ROOM};
+ghost use Rattle.sc_journal.specs.Committed.{worse};
+ghost use Rattle.sc_update.specs.Steps.{CommitsAll, CommitsOne, commit_outcome};
+
+use sc_bucket::CommitFault;
+use sc_collection::{Desk, Stop, Trail};
+use std::alloc::Global;
+
+/// Commits every bucket in turn, each in one hold, and keeps a stop for each. Reports the worst that came of it.
+pub(crate) fn commit_all<D: Desk>(
+    alloc: Global,
+    desk: &mut D,
+    trail: &mut Trail,
+) -> Option<CommitFault>
+    requires nothing_out { D.out desk.old ≡ None }
+    requires room { length trail.old.stops + (D.layout desk.old).buckets ≤ ROOM }
+    ensures committed { CommitsAll (D.layout desk.old) (D.layout desk.old).buckets (D.seen desk.old) (D.seen desk.new)
+        trail.old.stops trail.new.stops result }
+    ensures layout { D.layout desk.new ≡ D.layout desk.old }
+    ensures nothing_out { D.out desk.new ≡ None }
+    ensures requests { trail.new.requests ≡ trail.old.requests }
+{
+    let mut worst = None;
+    for b in 0..desk.buckets() {
+        worst = worse(worst, commit_at(alloc, desk, trail, b));
+    }
+    worst
+}
+
+/// Commits one bucket in one hold, and keeps that stop.
+fn commit_at<D: Desk>(alloc: Global, desk: &mut D, trail: &mut Trail, b: u32) -> Option<CommitFault>
+    requires nothing_out { D.out desk.old ≡ None }
+    requires within { b < (D.layout desk.old).buckets }
+    requires room { length trail.old.stops < ROOM }
+    ensures committed { CommitsOne (D.layout desk.old) (D.seen desk.old) (D.seen desk.new) trail.old.stops trail.new.stops b result }
+    ensures layout { D.layout desk.new ≡ D.layout desk.old }
+    ensures nothing_out { D.out desk.new ≡ None }
+    ensures stops { length trail.new.stops ≡ length trail.old.stops + 1 }
+    ensures requests { trail.new.requests ≡ trail.old.requests }
+{
+    let mut bucket = desk.hold(b);
+    let place = bucket.entries();
+    let answer = bucket.commit(alloc);
+    desk.give(b, bucket);
+    trail.keep(Stop {
+        lock: b,
+        place,
+        made: answer.is_ok(),
+    });
+    answer.err()
+}
+
+/// The worse of two: that memory ran out counts before a full log.
+fn worse(one: Option<CommitFault>, other: Option<CommitFault>) -> Option<CommitFault>
+    ensures { commit_outcome result ≡ worse (commit_outcome one) (commit_outcome other) }
+{
+    match (one, other) {
+        (None, other) => other,
+        (Some(fault), None) => Some(fault),
+        (Some(CommitFault::LogFull), Some(fault)) => Some(fault),
+        (Some(CommitFault::Memory), Some(_)) => Some(CommitFault::Memory),
+    }
+}

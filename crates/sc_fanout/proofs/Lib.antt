@@ -5,3 +5,8 @@ mod StartLemmas
 mod CountLemmas
 mod FoundLemmas
 mod PageLemmas
+mod TakenLemmas
+mod ExactlyLemmas
+mod BucketLemmas
+mod SearchLemmas
+mod LawLemmas

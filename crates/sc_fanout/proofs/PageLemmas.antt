@@ -1,20 +1,22 @@
 -- Where no two documents have one id, there is one order of them, and so one page from each place.
-use Rattle.std.proofs.Common.{◌≡◌, ℕ, ◌+◌, ◌<◌, Bool, true, false, cond, true≢false, List, [], ◌∷◌, ◌++◌, take, drop, Contains, sum_by, refl, sym, ap, ap₂, subst, ◌∙◌, ⊎_elim, arith, Ordering, Less, Equal, Greater, is_le, is_eq, nat_cmp}
+use Rattle.std.proofs.Common.{◌≡◌, ℕ, ◌+◌, ◌*◌, ◌<◌, Bool, true, false, cond, true≢false, List, [], ◌∷◌, ◌++◌, length, map, take, drop, Contains, sum_by, refl, sym, ap, ap₂, subst, ◌∙◌, ⊎_elim, arith, Ordering, Less, Equal, Greater, is_le, is_eq, nat_cmp}
+use Rattle.std.specs.Arc.{arc_value}
 use Rattle.std.specs.Cmp.Lexicographic.{slice_cmp, texts_ties}
-use Rattle.std.specs.List.{AllByRecursion}
+use Rattle.std.specs.List.{AllByRecursion, flat_map}
 use Rattle.std.specs.Ordering.{ordering_reverse}
 use Rattle.std.specs.Str.{bytes_eq}
 use Rattle.std.proofs.lemmas.Bool.{cases_Bool}
 use Rattle.std.proofs.lemmas.Cmp.{nat_list_cmp_total, tied_itself}
-use Rattle.std.proofs.lemmas.List.{take-append-drop, take-take, drop-take, drop-drop}
+use Rattle.std.proofs.lemmas.List.{take-append-drop, take-take, take_all, drop-take, drop-drop}
 use Rattle.std.proofs.lemmas.List.Elements.{recursion_from_All, All-contains_itself}
-use Rattle.std.proofs.lemmas.List.Sorted.{All-permutation, sum_by-IsPermutation}
+use Rattle.std.proofs.lemmas.List.Sorted.{All-permutation, length_permutation, sum_by-IsPermutation}
 use Rattle.std.proofs.lemmas.List.Sums.{sum_by-cons}
 use Rattle.std.proofs.lemmas.Slice.Eq.{bytes_eq-Decides}
 use Rattle.sc_record.specs.declared.write.Write.{Write}
+use Rattle.sc_fanout.specs.declared.shown.Page.{Page}
 use Rattle.sc_fanout.specs.Pages.{IsInOrder}
 use Rattle.sc_fanout.specs.Merging.{goes_before}
-use Rattle.sc_fanout.specs.Laws.{IsOneOfEachId, PageIsDetermined, PagesFollowOn}
+use Rattle.sc_fanout.specs.Laws.{IsOneOfEachId, PageIsDetermined, PagesFollowOn, ArePages, PagesAreTheWhole}
 use Rattle.sc_fanout.proofs.MergeLemmas.{Ascends}
 use Rattle.sc_fanout.proofs.OrderLemmas.{ascends-in_order}
 
@@ -106,3 +108,25 @@ follow_on all start rows more one next both each first second whole =
     ∙ ap₂ (λ (u v : List Write). u ++ v)
     (ap (λ (l : List Write). take rows (drop start l)) a ∙ sym first.docs)
     (ap (take more) (drop-drop rows start whole.sorted) ∙ ap (λ (l : List Write). take more (drop (start + rows) l)) b ∙ sym second.docs)
+
+-- pages laid end to end are one page, of as many rows as all of them
+laid_out : (all sorted : List Write) → IsOneOfEachId all → IsInOrder all sorted → (rows start : ℕ) (pages : List Page)
+    → ArePages all rows start pages
+    → flat_map (λ (page : Page). map arc_value page.docs) pages ≡ take (length pages * rows) (drop start sorted)
+laid_out all sorted each order rows start [] are =
+    let none : 0 ≡ 0 * rows = omega arith in
+    ap (λ (n : ℕ). take n (drop start sorted)) none
+laid_out all sorted each order rows start (page ∷ pages) are =
+    let same : are.0.sorted ≡ sorted = same-order all each are.0.sorted sorted are.0.order order in
+    let rest : flat_map (λ (p : Page). map arc_value p.docs) pages ≡ take (length pages * rows) (drop rows (drop start sorted)) =
+    laid_out all sorted each order rows (start + rows) pages are.1
+    ∙ ap (take (length pages * rows)) (sym (drop-drop rows start sorted)) in
+    let count : rows + length pages * rows ≡ length (page ∷ pages) * rows = omega arith in
+    ap₂ (λ (u v : List Write). u ++ v) (are.0.docs ∙ ap (λ (l : List Write). take rows (drop start l)) same) rest
+    ∙ sym (in_two rows (length pages * rows) (drop start sorted))
+    ∙ ap (λ (n : ℕ). take n (drop start sorted)) count
+
+pub whole : PagesAreTheWhole
+whole all sorted rows pages each order are enough =
+    laid_out all sorted each order rows 0 pages are
+    ∙ take_all (length pages * rows) sorted (omega (arith, length_permutation all sorted order.same))

@@ -2,3 +2,6 @@
 pub mod Pages
 pub mod Merging
 pub mod Laws
+pub mod Searches
+pub mod SearchLaws
+pub mod Steps

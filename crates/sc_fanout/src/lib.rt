@@ -1,22 +1,30 @@
-//! What a search answers of the documents that the buckets find: one page of all of them.
+//! A search over all buckets (Solr Reference Guide, "Common Query Parameters"): each bucket is held once, what its searchers find is
+//! looked up outside the holds, and of all that is found one page is shown.
 //!
-//! It depends on `sc_record` alone, and does no input and no output. The layers above hand to `page` the list that each bucket
-//! found, ascending by id, and get the page's documents and how many were found in all. Lists are merged two by two, and only as
-//! many documents are kept as the page can show.
+//! It depends on the clauses of any `Desk`, and on `sc_eval` for what a query finds in one searcher's rows. The layers above use
+//! the clause `searched` of `search`: exactly the documents that match in the journals' committed parts are found, each once. The
+//! lists that the searchers find, ascending by id, are merged two by two by `page`, and only as many documents are kept as the page
+//! can show.
 #![tactic(auto)]
 
-// What a search answers.
+// What a search asks for and answers.
+mod ask;
 mod shown;
 
 // How it comes from what the buckets find.
 mod merging;
 mod pages;
 
+// The search.
+mod searching;
+
 // What follows from the definitions.
 mod laws;
 
-pub use laws::pages_are_determined;
+pub use ask::Ask;
+pub use laws::{pages_are_determined, searches_find_what_was_committed};
 pub use pages::page;
+pub use searching::search;
 pub use shown::Page;
 
 #[cfg(test)]

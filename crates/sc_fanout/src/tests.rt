@@ -2,7 +2,9 @@ ghost use Rattle.std.specs.Prelude.{◌≡◌, ◌∷◌, [], ◌<ℤ◌, pos, m
 ghost use Rattle.std.specs.Arc.{arc_value};
 ghost use Rattle.sc_fanout.specs.Pages.{AreFound};
 
-use crate::{Page, page};
+use crate::{Ask, Page, page, search};
+use sc_collection::{Alone, Shape, Trail};
+use sc_eval::Bound;
 use sc_record::{Cell, Doc, Id, List, Write};
 use std::alloc::Global;
 use std::marker::{Send, Sync};
@@ -89,6 +91,30 @@ fn pages_end(rt: HostRuntime) -> Result<(), Fail> {
         let text = shown(alloc, start, rows)?;
         assert_eq!(rt; text.as_str(), want, "at {start}");
     }
+    Ok(())
+}
+
+// On a new collection of two buckets nothing is found, and each bucket is looked at once.
+#[test]
+fn nothing_is_found_at_first(rt: HostRuntime) -> Result<(), Fail> {
+    let alloc = rt.alloc();
+    let shape = Shape {
+        nodes: 1,
+        shards: 2,
+        replicas: 1,
+        buckets: 2,
+        log_limit: 16,
+    };
+    let mut desk = Alone::new(alloc, &shape)?;
+    let mut trail = Trail::new(alloc)?;
+    let ask = Ask {
+        query: Bound::All,
+        route: None,
+        start: 0,
+        rows: 10,
+    };
+    let Page { found, docs } = search(alloc, &mut desk, &mut trail, &ask)?;
+    assert_eq!(rt; (found, docs.len(), trail.stops().len()), (0, 0, 2));
     Ok(())
 }
 

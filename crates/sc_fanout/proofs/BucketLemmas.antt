@@ -1,0 +1,343 @@
+-- What the searchers of a bucket find is what a search finds in its journal.
+use Rattle.std.proofs.Common.{◌≡◌, ◌≢◌, ℕ, ℤ, zero, suc, ◌+◌, ◌≤◌, Bool, true, false, cond, ◌&&◌, List, [], ◌∷◌, ◌++◌, length, map, drop, Option, Some, None, All, Contains, count_by, refl, sym, ap, subst, ◌∙◌, ◌⊎◌, inl, inr, arith}
+use Rattle.std.specs.Prelude.{filter, Result, Ok, Err, IfOk}
+use Rattle.std.specs.Int.{w32}
+use Rattle.std.proofs.Math.Facts.{sfits_to_z}
+use Rattle.std.proofs.lemmas.Bool.Decides.{not_from_Decides}
+use Rattle.std.proofs.lemmas.List.{take-append-drop}
+use Rattle.std.proofs.lemmas.List.Elements.{All-nil, All-cons, All-head, All-tail, All-contains, All-weaker, All-map, All-from_recursion, Contains-append_left}
+use Rattle.std.proofs.lemmas.List.Sums.{sum_by-cons, sum_by-le-sum_by, length-filter, count_by-le-length}
+use Rattle.sc_hash.specs.Bounds.{bounds, contains}
+use Rattle.sc_hash.specs.Range.{IsWithin}
+use Rattle.sc_hash.specs.declared.range.Range.{Range}
+use Rattle.sc_hash.proofs.BoundsLemmas.{contains-Decides}
+use Rattle.sc_router.specs.Route.{route_hash, bucket_of}
+use Rattle.sc_router.proofs.ShareLemmas.{route_bits-lt}
+use Rattle.sc_record.specs.declared.write.Write.{Write}
+use Rattle.sc_record.specs.declared.entry.Entry.{Entry}
+use Rattle.sc_record.specs.Writes.{is_of, write_of}
+use Rattle.sc_snapshot.specs.Rows.{AreRows}
+use Rattle.sc_cluster.specs.declared.slice.Slice.{Slice}
+use Rattle.sc_cluster.specs.Slices.{is_active, is_active_state, slice_bounds}
+use Rattle.sc_cluster.specs.Map.{least_hash, greatest_hash, IsMap, Leads}
+use Rattle.sc_cluster.proofs.ItemLemmas.{find_from_count, count_by-positive, same_from_count}
+use Rattle.sc_cluster.proofs.ListLemmas.{Contains-filter, Contains-from_filter}
+use Rattle.sc_cluster.proofs.CountLemmas.{count_by-filter}
+use Rattle.sc_cluster.proofs.LeaderLemmas.{is_leader, active_from_test, found_leads, fits_is_within}
+use Rattle.sc_cluster.proofs.TileLemmas.{holders-filter}
+use Rattle.sc_eval.specs.Conditions.{Condition}
+use Rattle.sc_eval.specs.Matching.{finds, matches, is_live}
+use Rattle.sc_journal.specs.Journal.{writes}
+use Rattle.sc_journal.specs.Committed.{last_commit, committed, IsShown}
+use Rattle.sc_journal.specs.Splits.{map_after}
+use Rattle.sc_journal.specs.Legal.{IsLegal, HasTerms}
+use Rattle.sc_journal.specs.Seen.{Layout}
+use Rattle.sc_journal.proofs.JournalLemmas.{is_of_own, last_write_is, writes-append}
+use Rattle.sc_journal.proofs.LegalLemmas.{legal_hash, legal_terms}
+use Rattle.sc_bucket.specs.Sound.{IsSound}
+use Rattle.sc_bucket.specs.declared.bucket.Bucket.{Bucket}
+use Rattle.sc_bucket.specs.declared.standing.Searcher.{Searcher}
+use Rattle.sc_bucket.proofs.AcceptLemmas.{bucket_has_map}
+use Rattle.sc_bucket.proofs.WriteLemmas.{Contains-find}
+use Rattle.sc_collection.specs.Desks.{IsBucketOf}
+use Rattle.sc_fanout.specs.Pages.{AreFound, all_of}
+use Rattle.sc_fanout.specs.Searches.{IsInRoute, IsFoundIn}
+use Rattle.sc_fanout.specs.Steps.{asks_for, is_asked, rows_in, found_in, IsOfSlice, AreOfSlices, IsJournalOf, AreAsked}
+use Rattle.sc_fanout.proofs.TakenLemmas.{asks_for-Decides}
+use Rattle.sc_fanout.proofs.ExactlyLemmas.{AreExactly, AreExactly-none, AreExactly-same, AreExactly-append, ascend-once, AscendById-filter}
+
+and_parts : (a b : Bool) → (a && b) ≡ true → (a ≡ true) × (b ≡ true)
+and_parts true true both = (refl, refl)
+and_parts true false both = cc
+and_parts false b both = cc
+
+and_all : (a b c : Bool) → a ≡ true → b ≡ true → c ≡ true → (a && b && c) ≡ true
+and_all true true true first second third = refl
+and_all true true false first second third = third
+and_all true false c first second third = second
+and_all false b c first second third = first
+
+-- the write is found in a slice
+pub record IsFoundBy (journal : List Entry) (condition : Condition) (slice : Slice) (write : Write) : Type 0 where
+  pub shown : IsShown journal write
+  pub matched : matches condition write ≡ true
+  pub within : IsWithin slice.range.min slice.range.max write.hash
+  pub hash : write.hash ≡ route_hash write.id
+
+-- one searcher finds what is found in its slice
+one-searcher : (first : List Slice) (journal : List Entry) (condition : Condition) (slice : Slice) (searcher : Searcher)
+    → IsLegal first journal → IsOfSlice journal slice searcher → AreRows (rows_in searcher)
+    → AreExactly (IsFoundBy journal condition slice) (found_in condition searcher)
+one-searcher first journal condition slice searcher legal is are = record {
+  exactly = λ write. (found write, there write);
+  once = ascend-once (found_in condition searcher) (AscendById-filter keeps rows are.ascend);
+}
+  where
+    rows : List Write
+    rows = rows_in searcher
+
+    keeps : Write → Bool
+    keeps = finds searcher.range condition
+
+    own : (write : Write) → Contains rows write → write_of rows write.id ≡ Some write
+    own write has =
+        let one = ascend-once rows are.ascend write.id in
+        let some = count_by-positive (is_of write.id) rows write has (is_of_own write) in
+        let x = find_from_count (is_of write.id) rows (omega (arith, some)) in
+        let same : x.0 ≡ write = same_from_count (is_of write.id) rows x.0 write (omega (arith, one, some)) x.2 x.3 has (is_of_own write) in
+        x.1 ∙ ap (λ (w : Write). Some w) same
+
+    found : (write : Write) → Contains (found_in condition searcher) write → IsFoundBy journal condition slice write
+    found write has =
+        let kept = Contains-from_filter keeps rows write has in
+        let outer = and_parts (is_live write && contains write.hash (bounds searcher.range)) (matches condition write) kept.1 in
+        let inner = and_parts (is_live write) (contains write.hash (bounds searcher.range)) outer.0 in
+        let hash : write.hash ≡ route_hash write.id =
+        legal_hash first journal write legal (All-contains (Contains (writes journal)) rows write is.shows.written kept.0) in
+        let within : IsWithin slice.range.min slice.range.max write.hash =
+        subst (λ (range : Range). IsWithin range.min range.max write.hash) is.range_is
+        ((contains-Decides write.hash searcher.range.min searcher.range.max).0 inner.1) in
+        record {
+          shown = record {
+            last = sym (is.shows.last write.id (subst (IsWithin slice.range.min slice.range.max) hash within)) ∙ own write kept.0;
+            live = inner.0;
+          };
+          matched = outer.1;
+          within = within;
+          hash = hash;
+        }
+
+    there : (write : Write) → IsFoundBy journal condition slice write → Contains (found_in condition searcher) write
+    there write by =
+        let row : write_of rows write.id ≡ Some write =
+        is.shows.last write.id (subst (IsWithin slice.range.min slice.range.max) by.hash by.within) ∙ by.shown.last in
+        let within : IsWithin searcher.range.min searcher.range.max write.hash =
+        subst (λ (range : Range). IsWithin range.min range.max write.hash) (sym is.range_is) by.within in
+        Contains-filter keeps rows write (Contains-find (is_of write.id) rows write row)
+        (and_all (is_live write) (contains write.hash (bounds searcher.range)) (matches condition write)
+        by.shown.live ((contains-Decides write.hash searcher.range.min searcher.range.max).1 within) by.matched)
+
+-- the slice has the hash
+abbrev has_hash : ℤ → Slice → Bool
+has_hash h slice = contains h (slice_bounds slice)
+
+-- the write is found in one of the slices
+abbrev IsFoundAmong : List Entry → Condition → List Slice → Write → Type 0
+IsFoundAmong journal condition slices write = (slice : Slice) × Contains slices slice × IsFoundBy journal condition slice write
+
+-- the searchers of slices that have no hash in common find what is found in one of them
+slices-exactly : (first : List Slice) (journal : List Entry) (condition : Condition) (slices : List Slice) (searchers : List Searcher)
+    → IsLegal first journal → AreOfSlices journal slices searchers → All (λ (searcher : Searcher). AreRows (rows_in searcher)) searchers
+    → ((h : ℤ) → count_by (has_hash h) slices ≤ 1)
+    → AreExactly (IsFoundAmong journal condition slices) (all_of (map (found_in condition) searchers))
+slices-exactly first journal condition [] [] legal each rows once =
+    AreExactly-none (IsFoundAmong journal condition []) (λ write among. absurd (omega (arith, among.1.1)))
+slices-exactly first journal condition [] (searcher ∷ searchers) legal each rows once = absurd each
+slices-exactly first journal condition (slice ∷ slices) [] legal each rows once = absurd each
+slices-exactly first journal condition (slice ∷ slices) (searcher ∷ searchers) legal each rows once =
+    AreExactly-same (λ write. IsFoundBy journal condition slice write ⊎ IsFoundAmong journal condition slices write)
+    (IsFoundAmong journal condition (slice ∷ slices)) (found_in condition searcher ++ all_of (map (found_in condition) searchers))
+    to back
+    (AreExactly-append (IsFoundBy journal condition slice) (IsFoundAmong journal condition slices)
+    (found_in condition searcher) (all_of (map (found_in condition) searchers))
+    (one-searcher first journal condition slice searcher legal each.0 (All-head (λ (s : Searcher). AreRows (rows_in s)) searcher searchers rows))
+    (slices-exactly first journal condition slices searchers legal each.1 (All-tail (λ (s : Searcher). AreRows (rows_in s)) searcher searchers rows)
+    (λ h. omega (arith, once h, counted h)))
+    apart)
+  where
+    counted : (h : ℤ) → count_by (has_hash h) (slice ∷ slices) ≡ cond (has_hash h slice) 1 0 + count_by (has_hash h) slices
+    counted h = sum_by-cons (λ (s : Slice). cond (has_hash h s) 1 0) slice slices
+
+    to : (write : Write) → IsFoundBy journal condition slice write ⊎ IsFoundAmong journal condition slices write
+        → IsFoundAmong journal condition (slice ∷ slices) write
+    to write (inl here) = (slice, (0, omega arith, refl), here)
+    to write (inr (s, there, by)) = (s, (suc there.0, omega (arith, there.1), there.2), by)
+
+    back : (write : Write) → IsFoundAmong journal condition (slice ∷ slices) write
+        → IsFoundBy journal condition slice write ⊎ IsFoundAmong journal condition slices write
+    back write (s, (zero, within, at), by) = inl (subst (λ (x : Slice). IsFoundBy journal condition x write) (sym at) by)
+    back write (s, (suc k, within, at), by) = inr (s, (k, omega (arith, within), at), by)
+
+    apart : (one other : Write) → IsFoundBy journal condition slice one → IsFoundAmong journal condition slices other → one.id ≢ other.id
+    apart one other here among same =
+        let hash : one.hash ≡ other.hash = here.hash ∙ ap route_hash same ∙ sym among.2.hash in
+        let h = other.hash in
+        let first_has : has_hash h slice ≡ true =
+        (contains-Decides h slice.range.min slice.range.max).1 (subst (IsWithin slice.range.min slice.range.max) hash here.within) in
+        let more : 1 ≤ count_by (has_hash h) slices =
+        count_by-positive (has_hash h) slices among.0 among.1
+        ((contains-Decides h among.0.range.min among.0.range.max).1 among.2.within) in
+        omega (arith, once h, counted h, ap {B = ℕ} (λ b. cond b 1 0) first_has, more)
+
+-- of a map's slices that a search looks at one at most has a hash
+asked-once : (route : Option Range) (slices : List Slice) (h : ℤ) → IsMap slices → count_by (has_hash h) (filter (is_asked route) slices) ≤ 1
+asked-once route slices h is_map =
+    omega (
+      arith,
+      count_by-filter (has_hash h) (is_asked route) slices,
+      sum_by-le-sum_by (λ (s : Slice). cond (is_asked route s && has_hash h s) 1 0) (λ (s : Slice). cond (is_leader h s) 1 0) slices
+          (λ s. weights (is_active s) (asks_for route s.range) (has_hash h s)),
+      leaders (contains h (least_hash, greatest_hash)) refl,
+    )
+  where
+    weights : (a b c : Bool) → cond ((a && b) && c) 1 0 ≤ cond (a && c) 1 0
+    weights true true c = omega arith
+    weights true false c = omega arith
+    weights false b c = omega arith
+
+    leaders : (b : Bool) → contains h (least_hash, greatest_hash) ≡ b → count_by (is_leader h) slices ≤ 1
+    leaders true is =
+        omega (arith, holders-filter h is_active slices, is_map.tile.inside h ((contains-Decides h least_hash greatest_hash).0 is))
+    leaders false is =
+        omega (
+          arith,
+          holders-filter h is_active slices,
+          is_map.tile.outside h (not_from_Decides (contains h (least_hash, greatest_hash)) (contains-Decides h least_hash greatest_hash) is),
+        )
+
+-- each hash has a leader
+leader : (slices : List Slice) (id : List ℕ) → IsMap slices → (slice : Slice) × Leads slices (route_hash id) slice
+leader slices id is_map =
+    let h = route_hash id in
+    let within = fits_is_within h (sfits_to_z {w = w32} (record { fits = route_bits-lt id })) in
+    let count : count_by (is_leader h) slices ≡ 1 = sym (holders-filter h is_active slices) ∙ is_map.tile.inside h within in
+    let found = find_from_count (is_leader h) slices (omega (arith, count)) in
+    (found.0, found_leads slices h found.0 (sym found.1) is_map within)
+
+-- what is shown was written
+shown-written : (journal : List Entry) (write : Write) → IsShown journal write → Contains (writes journal) write
+shown-written journal write shown =
+    let before = committed journal in
+    let after = drop (last_commit journal) journal in
+    subst (λ (j : List Entry). Contains (writes j) write) (take-append-drop (last_commit journal) journal)
+    (subst (λ (ws : List Write). Contains ws write) (sym (writes-append before after))
+    (Contains-append_left (writes before) (writes after) write (last_write_is before write.id write shown.last).1))
+
+-- What the searchers of a bucket find is what a search finds in its journal.
+pub bucket-exactly : (layout : Layout) (number : ℕ) (journal : List Entry) (condition : Condition) (route : Option Range) (searchers : List Searcher)
+    → AreAsked layout number journal route searchers → All (λ (searcher : Searcher). AreRows (rows_in searcher)) searchers
+    → AreExactly (IsFoundIn layout.first journal condition route) (all_of (map (found_in condition) searchers))
+bucket-exactly layout number journal condition route searchers asked rows =
+    AreExactly-same (IsFoundAmong journal condition (filter (is_asked route) slices)) (IsFoundIn layout.first journal condition route)
+    (all_of (map (found_in condition) searchers)) to back
+    (slices-exactly layout.first journal condition (filter (is_asked route) slices) searchers asked.is_of.legal asked.each rows
+    (λ h. asked-once route slices h asked.is_of.is_map))
+  where
+    slices : List Slice
+    slices = map_after layout.first journal
+
+    in_route : (asking : Option Range) (write : Write) (slice : Slice) → asks_for asking slice.range ≡ true → Leads slices write.hash slice
+        → IsInRoute slices asking write
+    in_route None write slice asks leads = tt
+    in_route (Some range) write slice asks leads = (slice, leads, (asks_for-Decides range slice.range).0 asks)
+
+    to : (write : Write) → IsFoundAmong journal condition (filter (is_asked route) slices) write → IsFoundIn layout.first journal condition route write
+    to write (slice, among, by) =
+        let kept = Contains-from_filter (is_asked route) slices slice among in
+        let parts = and_parts (is_active slice) (asks_for route slice.range) kept.1 in
+        record {
+          shown = by.shown;
+          matched = by.matched;
+          in_route = in_route route write slice parts.1 (record {
+            there = kept.0;
+            active = active_from_test slice.state parts.0;
+            within = by.within;
+          });
+        }
+
+    chosen : (asking : Option Range) (write : Write) → write.hash ≡ route_hash write.id → IsInRoute slices asking write
+        → (slice : Slice) × Leads slices write.hash slice × (asks_for asking slice.range ≡ true)
+    chosen None write hash looks =
+        let (slice, leads) = leader slices write.id asked.is_of.is_map in
+        (slice, subst (λ h. Leads slices h slice) (sym hash) leads, refl)
+    chosen (Some range) write hash (slice, leads, meets) = (slice, leads, (asks_for-Decides range slice.range).1 meets)
+
+    back : (write : Write) → IsFoundIn layout.first journal condition route write → IsFoundAmong journal condition (filter (is_asked route) slices) write
+    back write is =
+        let hash = legal_hash layout.first journal write asked.is_of.legal (shown-written journal write is.shown) in
+        let (slice, leads, asks) = chosen route write hash is.in_route in (
+          slice,
+          Contains-filter (is_asked route) slices slice leads.there
+              (ap (λ state. is_active_state state && asks_for route slice.range) leads.active ∙ asks),
+          record { shown = is.shown; matched = is.matched; within = leads.within; hash = hash },
+        )
+
+-- the ids of what is found belong to the bucket
+pub found-number : (layout : Layout) (number : ℕ) (journal : List Entry) (condition : Condition) (route : Option Range) (write : Write)
+    → IsJournalOf layout number journal → IsFoundIn layout.first journal condition route write → bucket_of write.id layout.buckets ≡ number
+found-number layout number journal condition route write is_of found =
+    All-contains (λ (w : Write). bucket_of w.id layout.buckets ≡ number) (writes journal) write
+    (All-from_recursion (λ (w : Write). bucket_of w.id layout.buckets ≡ number) (writes journal) is_of.ids)
+    (shown-written journal write found.shown)
+
+-- each row has the terms of its document
+have-terms : (first : List Slice) (journal : List Entry) (slices : List Slice) (searchers : List Searcher)
+    → IsLegal first journal → AreOfSlices journal slices searchers
+    → All (λ (searcher : Searcher). All (λ (row : Write). HasTerms row.id row.doc row.terms) (rows_in searcher)) searchers
+have-terms first journal [] [] legal each = All-nil (λ (searcher : Searcher). All (λ (row : Write). HasTerms row.id row.doc row.terms) (rows_in searcher))
+have-terms first journal [] (searcher ∷ searchers) legal each = absurd each
+have-terms first journal (slice ∷ slices) [] legal each = absurd each
+have-terms first journal (slice ∷ slices) (searcher ∷ searchers) legal each =
+    All-cons (λ (s : Searcher). All (λ (row : Write). HasTerms row.id row.doc row.terms) (rows_in s)) searcher searchers
+    (All-weaker (Contains (writes journal)) (λ (row : Write). HasTerms row.id row.doc row.terms)
+    (λ row there. legal_terms first journal row legal there) (rows_in searcher) each.0.shows.written)
+    (have-terms first journal slices searchers legal each.1)
+
+pub asked-terms : (layout : Layout) (number : ℕ) (journal : List Entry) (route : Option Range) (searchers : List Searcher)
+    → AreAsked layout number journal route searchers
+    → All (λ (searcher : Searcher). All (λ (row : Write). HasTerms row.id row.doc row.terms) (rows_in searcher)) searchers
+asked-terms layout number journal route searchers asked =
+    have-terms layout.first journal (filter (is_asked route) (map_after layout.first journal)) searchers asked.is_of.legal asked.each
+
+same-length : (journal : List Entry) (slices : List Slice) (searchers : List Searcher) → AreOfSlices journal slices searchers
+    → length searchers ≡ length slices
+same-length journal [] [] each = refl
+same-length journal [] (searcher ∷ searchers) each = absurd each
+same-length journal (slice ∷ slices) [] each = absurd each
+same-length journal (slice ∷ slices) (searcher ∷ searchers) each = omega (arith, same-length journal slices searchers each.1)
+
+-- a bucket has no more searchers than its map may have slices
+pub few-asked : (layout : Layout) (number : ℕ) (journal : List Entry) (route : Option Range) (searchers : List Searcher)
+    → AreAsked layout number journal route searchers → length searchers ≤ 256
+few-asked layout number journal route searchers asked =
+    let slices = map_after layout.first journal in
+    omega (
+      arith,
+      same-length journal (filter (is_asked route) slices) searchers asked.each,
+      length-filter (is_asked route) slices,
+      count_by-le-length (is_asked route) slices,
+      asked.is_of.is_map.few,
+    )
+
+-- what is found may be merged
+pub are-found : (condition : Condition) (searchers : List Searcher) → All (λ (searcher : Searcher). AreRows (rows_in searcher)) searchers
+    → All AreFound (map (found_in condition) searchers)
+are-found condition searchers rows =
+    All-map AreFound (found_in condition) searchers
+    (All-weaker (λ (searcher : Searcher). AreRows (rows_in searcher)) (λ (searcher : Searcher). AreFound (found_in condition searcher)) one searchers rows)
+  where
+    one : (searcher : Searcher) → AreRows (rows_in searcher) → AreFound (found_in condition searcher)
+    one searcher are =
+        let keeps = finds searcher.range condition in
+        record {
+          ascend = AscendById-filter keeps (rows_in searcher) are.ascend;
+          bounded = omega (arith, length-filter keeps (rows_in searcher), count_by-le-length keeps (rows_in searcher), are.bounded);
+        }
+
+-- what was taken of a sound bucket
+pub asked : {E : Type 0} {V : Type 0} (layout : Layout) (number : ℕ) (bucket : Bucket) (route : Option Range) (items : V → List Searcher) (taken : Result V E)
+    → IsSound bucket → IsBucketOf layout number bucket
+    → IfOk taken (λ v. AreOfSlices bucket.journal.entries (filter (is_asked route) bucket.map) (items v))
+    → IfOk taken (λ v. AreAsked layout number bucket.journal.entries route (items v))
+asked layout number bucket route items (Err fault) sound is_of each = each
+asked layout number bucket route items (Ok v) sound is_of each =
+    let same : bucket.map ≡ map_after layout.first bucket.journal.entries =
+    sound.journal.map_is ∙ ap (λ (slices : List Slice). map_after slices bucket.journal.entries) is_of.first in
+    record {
+      is_of = record {
+        is_map = subst IsMap same (bucket_has_map bucket sound.journal);
+        legal = subst (λ (slices : List Slice). IsLegal slices bucket.journal.entries) is_of.first sound.journal.legal;
+        ids = is_of.ids;
+      };
+      each = subst (λ (slices : List Slice). AreOfSlices bucket.journal.entries (filter (is_asked route) slices) (items v)) same each;
+    }

@@ -1,0 +1,68 @@
+-- What the steps of a search come to.
+use Rattle.std.specs.Prelude.{◌≡◌, ℕ, ◌&&◌, Bool, true, false, int_le, List, [], ◌∷◌, length, filter, Option, Some, None, ⊤}
+use Rattle.std.specs.Arc.{arc_value}
+use Rattle.std.specs.List.{AllByRecursion}
+use mathlib.Core.List.{IsPrefix}
+use Rattle.sc_hash.specs.declared.range.Range.{Range}
+use Rattle.sc_router.specs.Route.{bucket_of}
+use Rattle.sc_record.specs.declared.write.Write.{Write}
+use Rattle.sc_record.specs.declared.entry.Entry.{Entry}
+use Rattle.sc_cluster.specs.declared.slice.Slice.{Slice}
+use Rattle.sc_cluster.specs.Slices.{is_active}
+use Rattle.sc_cluster.specs.Map.{IsMap}
+use Rattle.sc_eval.specs.Conditions.{Condition}
+use Rattle.sc_eval.specs.Matching.{finds}
+use Rattle.sc_journal.specs.Journal.{writes}
+use Rattle.sc_journal.specs.Splits.{map_after}
+use Rattle.sc_journal.specs.Legal.{IsLegal}
+use Rattle.sc_journal.specs.Seen.{Layout, Seen, IsStop}
+use Rattle.sc_journal.specs.declared.stop.Stop.{Stop}
+use Rattle.sc_bucket.specs.Searchers.{ShowsCommitted}
+use Rattle.sc_bucket.specs.declared.standing.Searcher.{Searcher}
+
+-- whether a search looks at slices of this range: it has no route, or some hash is in both
+abbrev pub asks_for : Option Range → Range → Bool
+asks_for None range = true
+asks_for (Some route) range = int_le range.min route.max && int_le route.min range.max
+
+-- the slice is active, and the search looks at it
+abbrev pub is_asked : Option Range → Slice → Bool
+is_asked route slice = is_active slice && asks_for route slice.range
+
+-- the rows that a searcher looks at
+abbrev pub rows_in : Searcher → List Write
+rows_in searcher = (arc_value searcher.snapshot).rows
+
+-- what the condition finds in the searcher's rows
+abbrev pub found_in : Condition → Searcher → List Write
+found_in condition searcher = filter (finds searcher.range condition) (rows_in searcher)
+
+-- the searcher is that of the slice
+pub record IsOfSlice (journal : List Entry) (slice : Slice) (searcher : Searcher) : Type 0 where
+  pub range_is : searcher.range ≡ slice.range
+  pub shows : ShowsCommitted journal slice (rows_in searcher)
+
+-- the searchers are those of the slices, in order
+abbrev pub AreOfSlices : List Entry → List Slice → List Searcher → Type 0
+AreOfSlices journal [] [] = ⊤
+AreOfSlices journal [] (searcher ∷ searchers) = ⊥
+AreOfSlices journal (slice ∷ slices) [] = ⊥
+AreOfSlices journal (slice ∷ slices) (searcher ∷ searchers) = IsOfSlice journal slice searcher × AreOfSlices journal slices searchers
+
+-- the journal is legal, the slices after it are those of a cluster, and the ids of its writes belong to the bucket
+pub record IsJournalOf (layout : Layout) (number : ℕ) (journal : List Entry) : Type 0 where
+  pub is_map : IsMap (map_after layout.first journal)
+  pub legal : IsLegal layout.first journal
+  pub ids : AllByRecursion (λ (write : Write). bucket_of write.id layout.buckets ≡ number) (writes journal)
+
+-- the searchers are those of a bucket's slices that the search looks at
+pub record AreAsked (layout : Layout) (number : ℕ) (journal : List Entry) (route : Option Range) (searchers : List Searcher) : Type 0 where
+  pub is_of : IsJournalOf layout number journal
+  pub each : AreOfSlices journal (filter (is_asked route) (map_after layout.first journal)) searchers
+
+-- A bucket was looked at in one hold, whose stop is kept, and what was taken is so by its journal then.
+pub record LooksAtOne (layout : Layout) (old new : Seen) (old_stops new_stops : List Stop) (number : ℕ) (taken : List Entry → Type 0) : Type 0 where
+  pub journal : List Entry
+  pub begins : IsPrefix journal (new.journals number)
+  pub is_stop : IsStop layout old new old_stops new_stops (record { lock = number; place = length journal; made = false })
+  pub is_taken : taken journal

@@ -15,7 +15,7 @@ use Rattle.sc_session.specs.declared.end.End.TheVariants as ends
 use Rattle.sc_session.specs.Connection.{Exchange, Last, ended, answered, out_of_memory, read_failed, closes_after, stops_of, texts_of, is_out_of_memory, end_of, last_text, stops_of_last, timestamps_of_last, answers_of_last, IsLastAnswered, EndsWith, IsReadFrom, HasEnd, IsWritten, Closes}
 use Rattle.sc_session.specs.Served.{Moment, timestamps_of, answers_of, IsServed}
 use Rattle.sc_session.specs.Serving.{Exchanges, Writes, WritesPrefix, EndsWriting, closes_by}
-use Rattle.sc_session.proofs.SeenLemmas.{SeesMore-self}
+use Rattle.sc_journal.proofs.GoesOnLemmas.{SeesMore-self}
 use Rattle.sc_session.proofs.OpenLemmas.{IsOpen, HasRead, stops_after, closes_same, extends_after, answers_after, once_after, given_after, read_after}
 
 -- no last exchange ends a connection by a fault of the sink

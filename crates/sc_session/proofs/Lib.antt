@@ -1,8 +1,11 @@
 -- Facts on connections, lowest first.
 pub mod TextLemmas
-pub mod SeenLemmas
 pub mod AnswerLemmas
+pub mod ReadLemmas
+pub mod UpdateLemmas
 pub mod OpenLemmas
 pub mod ServeLemmas
 pub mod EndLemmas
 pub mod MessageEndLemmas
+pub mod QueryLemmas
+pub mod AskedLemmas

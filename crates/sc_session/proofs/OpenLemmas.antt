@@ -14,13 +14,13 @@ use Rattle.sc_journal.specs.Batches.{OrderAnswer, WritesOnce, GivesTimestamps, a
 use Rattle.sc_journal.specs.declared.stop.Stop.{Stop}
 use Rattle.sc_collection.specs.Kept.{Kept}
 use Rattle.sc_collection.specs.declared.trail.TheConstants.{MAX_REQUESTS, MAX_STOPS}
-use Rattle.sc_update.specs.Updated.{SeesMore}
+use Rattle.sc_journal.specs.Seen.{SeesMore}
 use Rattle.sc_session.specs.declared.end.End.{End}
 use Rattle.sc_session.specs.Connection.{Exchange, IsAnswered, StaysOpen, closes_after, stops_of, texts_of, is_out_of_memory}
 use Rattle.sc_session.specs.Served.{Moment, timestamps_of, answers_of}
 use Rattle.sc_session.specs.Serving.{Exchanges, Writes, closes_by}
 use Rattle.sc_journal.proofs.ExtendsLemmas.{Extends-none, Extends-then}
-use Rattle.sc_session.proofs.SeenLemmas.{SeesMore-then}
+use Rattle.sc_journal.proofs.GoesOnLemmas.{SeesMore-then}
 
 -- what stands beside a connection at one moment
 abbrev pub moment : {C : Type 0} → Seen → C → Option (List ℕ) → Option (List ℕ) → Moment C

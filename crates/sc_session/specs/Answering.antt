@@ -1,19 +1,20 @@
 -- What the answer to one request leaves.
-use Rattle.std.specs.Prelude.{◌≡◌, ◌⊎◌, ℕ, List, [], ◌∷◌, ◌++◌, map, false, Option, Some, ⊤}
+use Rattle.std.specs.Prelude.{◌≡◌, ◌⊎◌, ℕ, List, [], ◌∷◌, ◌++◌, map, true, false, Option, Some, ⊤}
 use mathlib.Core.List.{IsPrefix}
-use Rattle.sc_record.specs.declared.order.Order.{Order}
-use Rattle.sc_reply.specs.Refusals.{Refusal}
+use Rattle.sc_reply.specs.Refusals.{Refusal, log_full, bad_query}
 use Rattle.sc_commands.specs.declared.batch.Batch.{Batch}
 use Rattle.sc_model.specs.Replies as model
-use Rattle.sc_journal.specs.Seen.{Layout, Seen, Extends}
+use Rattle.sc_eval.specs.declared.fault.BindFault.{BindFault}
+use Rattle.sc_eval.specs.declared.fault.BindFault.TheVariants as faults
+use Rattle.sc_journal.specs.Seen.{Layout, Seen, Extends, SeesMore}
 use Rattle.sc_journal.specs.Batches.{OrderAnswer, GivesTimestamps, WritesOnce, goes_on}
+use Rattle.sc_journal.specs.Committed.{CommitAnswer, AnswersCommits, worst, commit_full}
 use Rattle.sc_journal.specs.declared.stop.Stop.{Stop}
-use Rattle.sc_update.specs.Updated.{SeesMore, Shows, EndsAs}
-use Rattle.sc_update.specs.declared.end.BatchEnd.{BatchEnd}
+use Rattle.sc_update.specs.Updated.{Ends, AllGoOn}
 use Rattle.sc_update.specs.declared.end.BatchStop.{BatchStop}
 use Rattle.sc_session.specs.declared.reply.Body.{Body}
 use Rattle.sc_session.specs.declared.reply.Body.TheVariants as bodies
-use Rattle.sc_session.specs.Answers.{Trace, IsReply, IsOutOfMemory, IsUpdateReply, refusal_of, memory_reply}
+use Rattle.sc_session.specs.Answers.{Trace, IsReply, IsOutOfMemory, IsUpdateReply, refusal_of, refusal_reply, memory_reply}
 use Rattle.sc_session.specs.Requests.{Asked}
 use Rattle.sc_session.specs.declared.reply.Reply.{Reply}
 
@@ -40,17 +41,34 @@ pub record AnswersAsked {C : Type 0} (gives : C → ℕ → C → Type 0) (layou
 abbrev pub unread : ⊤ → ℕ → ⊤ → Type 0
 unread old timestamp new = ⊥
 
--- What stopped the orders of a batch, or that nothing did, is so by these answers, which are to its first orders.
-pub record StopsBy (batch : Batch) (answers : List OrderAnswer) (stop : Option BatchStop) : Type 0 where
+-- What stopped a batch, or that nothing did, is so by these answers, which are to its first orders, and by these commits.
+pub record StopsBy (layout : Layout) (seen : Seen) (batch : Batch) (answers : List OrderAnswer) (commits : List CommitAnswer) (stop : Option BatchStop) : Type 0 where
   pub orders : IsPrefix (map (λ (answer : OrderAnswer). answer.order) answers) batch.orders
-  pub ends : EndsAs batch.flags.fail_on_conflict batch.orders answers stop
+  pub ends : Ends layout seen batch answers commits stop
 
 -- the orders ended at the last of these answers, for this reason
-abbrev pub EndsFor : Batch → List OrderAnswer → Refusal → Type 0
-EndsFor batch answers refusal =
+abbrev pub OrdersEndFor : Batch → List OrderAnswer → Refusal → Type 0
+OrdersEndFor batch answers refusal =
     (before : List OrderAnswer) × (last : OrderAnswer) × (answers ≡ before ++ last ∷ [])
     × (goes_on batch.flags.fail_on_conflict last.outcome ≡ false) × (refusal_of last ≡ Some refusal)
 
--- the reply is that to a batch whose orders were answered so, or memory ran out
-abbrev pub RepliesTo : Batch → List OrderAnswer → model.Reply → Type 0
-RepliesTo batch answers reply = IsUpdateReply batch.flags batch.orders answers reply ⊎ (reply ≡ memory_reply)
+-- the orders all went on, and the journal of a bucket had no room for the commit that was asked for
+abbrev pub CommitsEndFor : Layout → Seen → Batch → List OrderAnswer → List CommitAnswer → Refusal → Type 0
+CommitsEndFor layout seen batch answers commits refusal =
+    (batch.flags.commit ≡ true) × AllGoOn batch.flags.fail_on_conflict batch.orders answers
+    × AnswersCommits layout seen layout.buckets commits × (worst commits ≡ commit_full) × (refusal ≡ log_full)
+
+-- the orders ended for this reason and nothing was committed, or the commits did
+abbrev pub EndsFor : Layout → Seen → Batch → List OrderAnswer → List CommitAnswer → Refusal → Type 0
+EndsFor layout seen batch answers commits refusal =
+    ((commits ≡ []) × OrdersEndFor batch answers refusal) ⊎ CommitsEndFor layout seen batch answers commits refusal
+
+-- the reply is that to a batch whose orders were answered so and whose commits came to this, or memory ran out
+abbrev pub RepliesTo : Layout → Seen → Batch → List OrderAnswer → List CommitAnswer → model.Reply → Type 0
+RepliesTo layout seen batch answers commits reply =
+    IsUpdateReply layout seen batch.flags batch.orders answers commits reply ⊎ (reply ≡ memory_reply)
+
+-- the reply to queries with this fault, or memory ran out
+abbrev pub RefusesQuery : BindFault → model.Reply → Type 0
+RefusesQuery (faults.At at) reply = (reply ≡ refusal_reply (bad_query at)) ⊎ (reply ≡ memory_reply)
+RefusesQuery faults.Memory reply = reply ≡ memory_reply

@@ -1,10 +1,11 @@
 -- What the code reads of a request, as the definitions see it.
-use Rattle.std.specs.Prelude.{◌≡◌, ◌≤◌, false, length, ⊤}
+use Rattle.std.specs.Prelude.{◌≤◌, ◌<◌, ◌^◌, length, IfSome, ⊤}
 use Rattle.sc_reply.specs.Refusals as refusals
 use Rattle.sc_commands.specs.Updates.{update_of, order_limit}
 use Rattle.sc_session.specs.Requests as asking
 use Rattle.sc_session.specs.declared.asked.Asked.{Asked}
 use Rattle.sc_session.specs.declared.asked.Asked.TheVariants as asks
+use Rattle.sc_session.specs.declared.select.Select.{Select}
 use Rattle.sc_session.specs.declared.asked.Refused.{Refused}
 use Rattle.sc_session.specs.declared.asked.Refused.TheVariants as refuses
 
@@ -14,14 +15,23 @@ refused_of refuses.NotFound = refusals.not_found
 refused_of (refuses.BadParam name) = refusals.bad_param name.now
 refused_of (refuses.Command fault) = asking.command_refusal fault
 
+-- a search that is asked for
+abbrev pub select_of : Select → asking.Select
+select_of select = record { queries = select.queries; route = select.route; start = select.start; rows = select.rows }
+
 -- what a request asks for
 abbrev pub asked_of : Asked → asking.Asked
 asked_of asks.NotBuilt = asking.not_built
 asked_of (asks.Refused refused) = asking.refused (refused_of refused)
 asked_of (asks.Update batch) = asking.update (update_of batch)
 asked_of (asks.Get id) = asking.get id
+asked_of (asks.GetIds ids) = asking.get_ids ids
+asked_of (asks.Select select) = asking.select (select_of select)
 
--- a batch that was asked for has no more orders than may be, and no commit
+-- what was asked for is within its limits: a batch has no more orders than may be, a list of ids no more than may be, and a route
+-- has a length that can be hashed
 abbrev pub IsWithinLimits : Asked → Type 0
-IsWithinLimits (asks.Update batch) = (length batch.orders ≤ order_limit) × (batch.flags.commit ≡ false)
+IsWithinLimits (asks.Update batch) = length batch.orders ≤ order_limit
+IsWithinLimits (asks.GetIds ids) = length ids ≤ asking.most_ids
+IsWithinLimits (asks.Select select) = (0 < length select.queries) × IfSome select.route (λ route. length route < 2 ^ 32)
 IsWithinLimits asked = ⊤

@@ -1,5 +1,6 @@
 -- What a request asks for, what it is answered, and what a whole connection is.
 pub mod Requests
+pub mod Queries
 pub mod Answers
 pub mod Connection
 pub mod Served

@@ -1,9 +1,10 @@
 -- What a request asks for.
-use Rattle.std.specs.Prelude.{ℕ, Bool, true, false, not, ◌&&◌, ◌||◌, List, [], ◌∷◌, length, codes, nat_lt, nat_le, if◌then◌else◌, Option, Some, None, is_some, option_map, find, Result, Ok, Err}
-use Rattle.std.specs.List.{list_any}
-use Rattle.std.specs.Option.{option_map_or}
+use Rattle.std.specs.Prelude.{ℕ, ℤ, pos, negsuc, ◌-◌, ◌^◌, ◌==◌, filter, map, Bool, true, false, not, ◌&&◌, ◌||◌, List, [], ◌∷◌, length, codes, nat_lt, nat_le, if◌then◌else◌, Option, Some, None, is_some, option_map, find, Result, Ok, Err}
+use Rattle.std.specs.List.{list_any, list_all, slice_split}
+use Rattle.std.specs.Option.{option_map_or, option_and_then, unwrap_or}
 use Rattle.std.specs.Str.{bytes_eq}
 use Rattle.sc_record.specs.declared.id.TheConstants.{MAX_ID_LENGTH}
+use Rattle.sc_schema.specs.Values.{number_text}
 use Rattle.sc_schema.specs.declared.fault.DocFault.{DocFault}
 use Rattle.sc_schema.specs.declared.fault.DocFault.TheVariants as documents
 use Rattle.sc_commands.specs.declared.batch.Flags.{Flags}
@@ -24,6 +25,13 @@ parameter name params = option_map (λ (param : Param). param.value) (find (λ (
 abbrev pub is_set_to : List ℕ → List ℕ → List Param → Bool
 is_set_to value name params = option_map_or (λ found. bytes_eq found value) (parameter name params) false
 
+-- a search that is asked for: the texts of its queries, the text of its route, and the page that is to be shown
+pub record Select : Type 0 where
+  pub queries : List (List ℕ)
+  pub route : Option (List ℕ)
+  pub start : ℕ
+  pub rows : ℕ
+
 -- what a request asks for, or why it is refused
 pub data Asked : Type 0 where
   -- what this program does not do yet
@@ -33,6 +41,10 @@ pub data Asked : Type 0 where
   update : Update → Asked
   -- the document of an id
   get : List ℕ → Asked
+  -- the documents of several ids
+  get_ids : List (List ℕ) → Asked
+  -- a page of the documents that queries find
+  select : Select → Asked
 
 -- what the parameters of an update set (Solr Reference Guide, "Indexing with Update Handlers", "Optimistic Concurrency")
 abbrev pub flags_of : List Param → Flags
@@ -58,9 +70,9 @@ command_refusal commands.TooMany = refusals.too_many
 command_refusal (commands.Doc fault) = document_refusal fault
 command_refusal commands.Memory = refusals.memory
 
--- what the body of an update asks for; a commit is not built yet
+-- what the body of an update asks for
 abbrev pub asked_batch : Result Update CommandFault → Asked
-asked_batch (Ok batch) = if batch.flags.commit then not_built else update batch
+asked_batch (Ok batch) = update batch
 asked_batch (Err fault) = refused (command_refusal fault)
 
 abbrev pub is_get : Method → Bool
@@ -71,30 +83,123 @@ abbrev pub is_post : Method → Bool
 is_post methods.Post = true
 is_post method = false
 
--- what a request to update asks for: a POST whose body is as it is and of a stated length
+-- what a request to update asks for: a GET, or a POST of a stated length, whose body is as it is
 abbrev pub asked_update : Incoming → Asked
 asked_update request =
-    if is_post request.method && not request.lengthless && not request.encoded
+    if (is_get request.method || (is_post request.method && not request.lengthless)) && not request.encoded
     then asked_batch (asked_by (flags_of request.params) request.body)
     else not_built
+
+-- the text is an id
+abbrev pub is_id : List ℕ → Bool
+is_id text = nat_lt 0 (length text) && nat_le (length text) MAX_ID_LENGTH
 
 -- what a parameter that names an id asks for; a faulty one beside `ids` is told as `ids`
 abbrev pub asked_id : List ℕ → List Param → Asked
 asked_id id params =
-    if nat_lt 0 (length id) && nat_le (length id) MAX_ID_LENGTH then get id
+    if is_id id then get id
     else refused (refusals.bad_param (if is_some (parameter (codes "ids") params) then codes "ids" else codes "id"))
 
--- what the parameters of a get ask for (Solr Reference Guide, "RealTime Get"); several ids are not built yet
+-- the texts between the commas of a text
+abbrev pub between_commas : List ℕ → List (List ℕ)
+between_commas text = slice_split (λ byte. byte == 44) text
+
+-- the most ids that one get asks for
+abbrev pub most_ids : ℕ
+most_ids = 4096
+
+-- what a parameter that lists ids asks for: each between two commas, as many as one get may ask for
+abbrev pub asked_list : List ℕ → Asked
+asked_list text =
+    if nat_le (length (between_commas text)) most_ids && list_all is_id (between_commas text) then get_ids (between_commas text)
+    else refused (refusals.bad_param (codes "ids"))
+
+-- what the parameters of a get ask for (Solr Reference Guide, "RealTime Get"): the document of `id`, or without it those of `ids`
 abbrev pub asked_params : List Param → Asked
-asked_params params = by_id params (parameter (codes "id") params)
+asked_params params = by_id params (parameter (codes "id") params) (parameter (codes "ids") params)
   where
-    by_id : List Param → Option (List ℕ) → Asked
-    by_id params (Some id) = asked_id id params
-    by_id params None = if is_some (parameter (codes "ids") params) then not_built else refused (refusals.bad_param (codes "id"))
+    by_id : List Param → Option (List ℕ) → Option (List ℕ) → Asked
+    by_id params (Some id) ids = asked_id id params
+    by_id params None (Some ids) = asked_list ids
+    by_id params None None = refused (refusals.bad_param (codes "id"))
 
 -- what a request to get asks for
 abbrev pub asked_get : Incoming → Asked
 asked_get request = if is_get request.method && not request.encoded then asked_params request.params else not_built
+
+-- the number is a whole one from 0 to the greatest
+abbrev pub within_count : ℕ → ℤ → Option ℕ
+within_count most (pos n) = if nat_le n most then Some n else None
+within_count most (negsuc n) = None
+
+-- the count that a parameter gives, from 0 to the greatest; the usual one where it is not there
+abbrev pub count_of : (usual most : ℕ) → Option (List ℕ) → Option ℕ
+count_of usual most None = Some usual
+count_of usual most (Some text) = option_and_then (within_count most) (number_text text)
+
+-- the most rows of a page, the number of rows where none is given, and the end of the last page
+abbrev pub most_rows : ℕ
+most_rows = 1000
+
+abbrev pub usual_rows : ℕ
+usual_rows = 10
+
+abbrev pub last_row : ℕ
+last_row = 100000
+
+-- the first parameter of the name has another value than this
+abbrev pub is_other_than : List ℕ → List ℕ → List Param → Bool
+is_other_than value name params = option_map_or (λ found. not (bytes_eq found value)) (parameter name params) false
+
+-- the texts of all queries: `q`, which is empty where it is not there, and then each `fq` in order
+abbrev pub query_texts : List Param → List (List ℕ)
+query_texts params =
+    unwrap_or (parameter (codes "q") params) []
+    ∷ map (λ (param : Param). param.value) (filter (λ (param : Param). bytes_eq param.name (codes "fq")) params)
+
+-- there is a route that is none: it has no byte, or 2^32 and more, which no head has
+abbrev pub has_bad_route : List Param → Bool
+has_bad_route params =
+    option_map_or (λ route. nat_le (length route) 0 || nat_le (2 ^ 32) (length route)) (parameter (codes "_route_") params) false
+
+-- the first parameter after `rows` and `start` that has no such value
+abbrev pub other_fault : List Param → Option (List ℕ)
+other_fault params =
+    if has_bad_route params then Some (codes "_route_")
+    else (if is_other_than (codes "id asc") (codes "sort") params then Some (codes "sort")
+    else (if is_some (parameter (codes "fl") params) then Some (codes "fl")
+    else (if is_other_than (codes "json") (codes "wt") params then Some (codes "wt")
+    else None)))
+
+-- a parameter of this name has no such value
+abbrev pub bad_parameter : List ℕ → Asked
+bad_parameter name = refused (refusals.bad_param name)
+
+-- what the parameters of a search ask for (Solr Reference Guide, "Common Query Parameters"); the first that has no such value, in
+-- this order, is told
+abbrev pub asked_search : List Param → Asked
+asked_search params = by_rows params (count_of usual_rows most_rows (parameter (codes "rows") params))
+  where
+    page : List Param → ℕ → ℕ → Option (List ℕ) → Asked
+    page params rows start (Some name) = bad_parameter name
+    page params rows start None = select (record {
+      queries = query_texts params;
+      route = parameter (codes "_route_") params;
+      start = start;
+      rows = rows;
+    })
+
+    by_start : List Param → ℕ → Option ℕ → Asked
+    by_start params rows None = bad_parameter (codes "start")
+    by_start params rows (Some start) = page params rows start (other_fault params)
+
+    by_rows : List Param → Option ℕ → Asked
+    by_rows params None = bad_parameter (codes "rows")
+    by_rows params (Some rows) = by_start params rows (count_of 0 (last_row - rows) (parameter (codes "start") params))
+
+-- what a request to search asks for
+abbrev pub asked_select : Incoming → Asked
+asked_select request = if is_get request.method && not request.encoded then asked_search request.params else not_built
 
 -- the paths of updates
 abbrev pub update_paths : List (List ℕ)
@@ -104,14 +209,19 @@ update_paths = codes "/solr/docs/update" ∷ codes "/solr/docs/update/json" ∷ 
 abbrev pub get_path : List ℕ
 get_path = codes "/solr/docs/get"
 
--- the paths that are not built yet
-abbrev pub other_paths : List (List ℕ)
-other_paths = codes "/solr/docs/select" ∷ codes "/solr/admin/collections" ∷ []
+-- the path of searches
+abbrev pub select_path : List ℕ
+select_path = codes "/solr/docs/select"
+
+-- the path that is not built yet
+abbrev pub admin_path : List ℕ
+admin_path = codes "/solr/admin/collections"
 
 -- what a request asks for; its path is looked at first
 abbrev pub asked : Incoming → Asked
 asked request =
     if list_any (bytes_eq request.path) update_paths then asked_update request
     else (if bytes_eq request.path get_path then asked_get request
-    else (if list_any (bytes_eq request.path) other_paths then not_built
-    else refused refusals.not_found))
+    else (if bytes_eq request.path select_path then asked_select request
+    else (if bytes_eq request.path admin_path then not_built
+    else refused refusals.not_found)))

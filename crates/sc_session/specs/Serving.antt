@@ -3,9 +3,8 @@ use Rattle.std.specs.Prelude.{◌≡◌, ◌⊎◌, ℕ, ◌+◌, Bool, true, fa
 use Rattle.sc_io.specs.Pieces.{AddsPrefix}
 use Rattle.sc_collection.specs.declared.trail.TheConstants.{MAX_REQUESTS, MAX_STOPS}
 use Rattle.sc_collection.specs.Kept.{Kept}
-use Rattle.sc_journal.specs.Seen.{Layout, Seen, Extends}
+use Rattle.sc_journal.specs.Seen.{Layout, Seen, Extends, SeesMore}
 use Rattle.sc_journal.specs.Batches.{GivesTimestamps, WritesOnce}
-use Rattle.sc_update.specs.Updated.{SeesMore}
 use Rattle.sc_session.specs.declared.end.End.{End}
 use Rattle.sc_session.specs.declared.end.End.TheVariants as ends
 use Rattle.sc_model.specs.declared.message.Incoming.{Incoming}

@@ -1,14 +1,20 @@
-ghost use Rattle.std.specs.Prelude.{◌≡◌, IfOk, option_copied};
+ghost use Rattle.std.specs.Prelude.{◌≡◌, ◌||◌, ◌&&◌, not, List, IfOk, Some, None, if◌then◌else◌, codes, is_some};
+ghost use Rattle.sc_model.specs.declared.message.Param.{Param};
 ghost use Rattle.sc_session.specs.Requests as asking;
 ghost use Rattle.sc_session.specs.Asking.{asked_of, refused_of, IsWithinLimits};
 ghost use Rattle.sc_reply.specs.Causes.{refusal_of};
 
+use crate::params::{is_set_to, parameter};
+use crate::select::Select;
 use sc_commands::{Batch, CommandFault, Flags, read_update};
 use sc_http::{Incoming, Method, Param};
-use sc_record::{Id, IdFault, Text};
+use sc_record::{Id, IdFault, List, Text};
 use sc_reply::Cause;
 use sc_schema::DocFault;
 use std::alloc::{AllocError, Global};
+
+/// The most ids that one get asks for.
+const MOST_IDS: usize = 4096;
 
 /// Why a request is refused before any journal is looked at.
 #[derive(Debug, Drop)]
@@ -27,10 +33,14 @@ pub(crate) enum Asked {
     /// What this program does not do yet.
     NotBuilt,
     Refused(Refused),
-    /// The orders of a batch.
+    /// The orders of a batch, and a commit.
     Update(Batch),
     /// A document by its id.
     Get(Id),
+    /// Documents by their ids.
+    GetIds(List<Id>),
+    /// A page of what queries find.
+    Select(Select),
 }
 
 impl Refused {
@@ -86,7 +96,8 @@ impl Asked {
         match request.path.as_str() {
             "/solr/docs/update" | "/solr/docs/update/json" => asked_update(alloc, request),
             "/solr/docs/get" => asked_get(alloc, request),
-            "/solr/docs/select" | "/solr/admin/collections" => Ok(Asked::NotBuilt),
+            "/solr/docs/select" => asked_select(alloc, request),
+            "/solr/admin/collections" => Ok(Asked::NotBuilt),
             _ => Ok(Asked::Refused(Refused::NotFound)),
         }
     }
@@ -97,15 +108,25 @@ fn asked_update(alloc: Global, request: &Incoming) -> Result<Asked, AllocError>
     ensures asked { IfOk result (λ answer. asked_of answer ≡ asking.asked_update request.now) }
     ensures limits { IfOk result IsWithinLimits }
 {
-    if request.method != Method::Post || request.lengthless || request.encoded {
+    if !takes_update(request) || request.encoded {
         return Ok(Asked::NotBuilt);
     }
     let flags = flags_of(request.params.as_slice());
     match read_update(alloc, request.body.as_slice(), &flags) {
-        Ok(batch) if batch.flags.commit => Ok(Asked::NotBuilt),
         Ok(batch) => Ok(Asked::Update(batch)),
         Err(CommandFault::Memory | CommandFault::Doc(DocFault::Memory)) => Err(AllocError),
         Err(fault) => Ok(Asked::Refused(Refused::Command(fault))),
+    }
+}
+
+/// Whether the request is a GET, or a POST of a stated length.
+fn takes_update(request: &Incoming) -> bool
+    ensures { result ≡ (asking.is_get request.now.method || (asking.is_post request.now.method && not request.now.lengthless)) }
+{
+    match request.method {
+        Method::Get => true,
+        Method::Post => !request.lengthless,
+        Method::Other => false,
     }
 }
 
@@ -129,50 +150,67 @@ fn asked_get(alloc: Global, request: &Incoming) -> Result<Asked, AllocError>
         return Ok(Asked::NotBuilt);
     }
     let params = request.params.as_slice();
-    match parameter("id", params) {
-        Some(id) => asked_id(alloc, id, params),
-        None if parameter("ids", params).is_some() => Ok(Asked::NotBuilt),
-        None => Ok(Asked::Refused(Refused::BadParam("id"))),
+    match (parameter("id", params), parameter("ids", params)) {
+        (Some(id), ids) => asked_id(alloc, id, ids.is_some()),
+        (None, Some(ids)) => asked_list(alloc, ids),
+        (None, None) => Ok(Asked::Refused(Refused::BadParam("id"))),
     }
 }
 
-/// What a parameter that names an id asks for.
-fn asked_id(alloc: Global, id: &Text, params: &[Param]) -> Result<Asked, AllocError>
-    ensures asked { IfOk result (λ answer. asked_of answer ≡ asking.asked_id id.now params.now) }
+/// What a parameter that names an id asks for; a faulty one beside `ids` is told as `ids`.
+fn asked_id(alloc: Global, id: &Text, beside_ids: bool) -> Result<Asked, AllocError>
+    ensures asked { IfOk result (λ answer. (params : List Param) → is_some (asking.parameter (codes "ids") params) ≡ beside_ids
+        → asked_of answer ≡ asking.asked_id id.now params) }
     ensures limits { IfOk result IsWithinLimits }
 {
-    match Id::new(alloc, id.as_str()) {
-        Ok(id) => Ok(Asked::Get(id)),
-        Err(IdFault::Memory) => Err(AllocError),
-        Err(IdFault::Empty | IdFault::TooLong) => {
-            let name = if parameter("ids", params).is_some() {
-                "ids"
-            } else {
-                "id"
-            };
+    match id_of(alloc, id.as_str())? {
+        Some(id) => Ok(Asked::Get(id)),
+        None => {
+            let name = if beside_ids { "ids" } else { "id" };
             Ok(Asked::Refused(Refused::BadParam(name)))
         }
     }
 }
 
-/// Whether the first parameter of the name has this value.
-fn is_set_to(value: &str, name: &str, params: &[Param]) -> bool
-    ensures { result ≡ asking.is_set_to value.now name.now params.now }
+/// The id that the text is, where it is one.
+fn id_of(alloc: Global, text: &str) -> Result<Option<Id>, AllocError>
+    ensures { IfOk result (λ id. id ≡ (if asking.is_id text.now then Some text.now else None)) }
 {
-    match parameter(name, params) {
-        Some(found) => found.as_str() == value,
-        None => false,
+    match Id::new(alloc, text) {
+        Ok(id) => Ok(Some(id)),
+        Err(IdFault::Memory) => Err(AllocError),
+        Err(IdFault::Empty | IdFault::TooLong) => Ok(None),
     }
 }
 
-/// The value of the first parameter of this name.
-fn parameter<'a>(name: &str, params: &'a [Param]) -> Option<&'a Text>
-    ensures { option_copied result ≡ asking.parameter name.now params.now }
+/// What a parameter that lists ids asks for, each between two commas.
+fn asked_list(alloc: Global, text: &Text) -> Result<Asked, AllocError>
+    ensures asked { IfOk result (λ answer. asked_of answer ≡ asking.asked_list text.now) }
+    ensures limits { IfOk result IsWithinLimits }
 {
-    for param in params {
-        if param.name.as_str() == name {
-            return Some(&param.value);
+    let mut ids = List::new(alloc);
+    for part in text.as_str().split(',') {
+        if ids.len() == MOST_IDS {
+            return Ok(Asked::Refused(Refused::BadParam("ids")));
         }
+        let Some(id) = id_of(alloc, part)? else {
+            return Ok(Asked::Refused(Refused::BadParam("ids")));
+        };
+        ids.push(id)?;
     }
-    None
+    Ok(Asked::GetIds(ids))
+}
+
+/// What a request to search asks for (Solr Reference Guide, "Common Query Parameters").
+fn asked_select(alloc: Global, request: &Incoming) -> Result<Asked, AllocError>
+    ensures asked { IfOk result (λ answer. asked_of answer ≡ asking.asked_select request.now) }
+    ensures limits { IfOk result IsWithinLimits }
+{
+    if request.method != Method::Get || request.encoded {
+        return Ok(Asked::NotBuilt);
+    }
+    match Select::of(alloc, request.params.as_slice())? {
+        Ok(select) => Ok(Asked::Select(select)),
+        Err(name) => Ok(Asked::Refused(Refused::BadParam(name))),
+    }
 }

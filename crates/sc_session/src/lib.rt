@@ -9,7 +9,10 @@
 // What a request asks for, and the replies.
 mod asked;
 mod fixed;
+mod params;
+mod query;
 mod reply;
+mod select;
 
 // One request, one connection.
 mod answer;

@@ -21,19 +21,23 @@ const UPDATES: &str = r#"200
 400  5
 400  {
 400 ?commit=true {
-501 ?commit=true []
-501  {"commit":{}}
+200 ?commit=true []
+200  {"commit":{}}
 404 /csv []
 "#;
 
-/// The bodies of the answers to gets, by the parameters of each.
-const GETS: &str = r#"id=abc {"doc":{"_version_":1048576000,"id":"abc","t_s":"x"}}
-id=hello&id=abc {"doc":{"_version_":1048576001,"id":"hello","n_i":3}}
-id=%22%C3%A9%0A {"doc":{"_version_":1048576001,"id":"\"é\n","t_s":"😀"}}
-id=gone {"doc":null}
-id=next {"doc":null}
-id= {"error":{"code":400,"msg":"bad parameter 'id'"},"responseHeader":{"QTime":0,"status":400}}
-ids=abc {"error":{"code":501,"msg":"not built yet"},"responseHeader":{"QTime":0,"status":501}}
+/// The bodies of the answers to gets and searches, by what follows `/solr/docs/` of each. What is searched was committed.
+const GETS: &str = r#"get?id=abc {"doc":{"_version_":1048576000,"id":"abc","t_s":"x"}}
+get?id=hello&id=abc {"doc":{"_version_":1048576001,"id":"hello","n_i":3}}
+get?id=%22%C3%A9%0A {"doc":{"_version_":1048576001,"id":"\"é\n","t_s":"😀"}}
+get?id=gone {"doc":null}
+get?id=next {"doc":null}
+get?id= {"error":{"code":400,"msg":"bad parameter 'id'"},"responseHeader":{"QTime":0,"status":400}}
+get?ids=abc {"response":{"docs":[{"_version_":1048576000,"id":"abc","t_s":"x"}],"numFound":1,"numFoundExact":true,"start":0}}
+get?ids=gone,next {"response":{"docs":[],"numFound":0,"numFoundExact":true,"start":0}}
+select?q=foo:1 {"error":{"code":400,"msg":"bad query at 0"},"responseHeader":{"QTime":0,"status":400}}
+select?q=t_s:x {"response":{"docs":[{"_version_":1048576000,"id":"abc","t_s":"x"}],"numFound":1,"numFoundExact":true,"start":0},"responseHeader":{"QTime":0,"status":0}}
+select?q=*:*&start=2&rows=1 {"response":{"docs":[{"_version_":1048576001,"id":"hello","n_i":3}],"numFound":3,"numFoundExact":true,"start":2},"responseHeader":{"QTime":0,"status":0}}
 "#;
 
 /// What a connection writes at the timestamp 1000 for this request.
@@ -81,12 +85,12 @@ fn updates_and_gets_are_answered(rt: HostRuntime) -> Result<(), Fail> {
         assert!(rt; written.as_slice().starts_with(head.as_bytes()), "{line}");
     }
     for line in GETS.lines() {
-        let (params, body) = line.split_once(' ').ok_or("a body")?;
-        let request = format!(in alloc; "GET /solr/docs/get?{params} HTTP/1.1\r\nHost: a\r\n\r\n")?;
+        let (target, body) = line.split_once(' ').ok_or("a body")?;
+        let request = format!(in alloc; "GET /solr/docs/{target} HTTP/1.1\r\nHost: a\r\n\r\n")?;
         let written = reply(alloc, &mut desk, &mut trail, request)?;
         assert!(rt; written.as_slice().ends_with(body.as_bytes()), "{line}");
     }
-    assert!(rt; trail.stops().is_empty());
+    assert_eq!(rt; trail.stops().len(), 2);
     assert_eq!(rt; trail.requests(), 1);
     Ok(())
 }

@@ -1,0 +1,128 @@
+ghost use Rattle.std.specs.Prelude.{◌≡◌, ◌≤◌, ◌<◌, ◌^◌, IfOk, MatchResult, MatchOption, IfSome, Some, None, List, length, map, option_copied};
+ghost use Rattle.std.specs.Option.{option_map};
+ghost use Rattle.sc_schema.specs.Values.{number_text};
+ghost use Rattle.sc_session.specs.Requests as asking;
+ghost use Rattle.sc_session.specs.Asking.{select_of};
+
+use crate::params::{is_other_than, is_set_to, parameter};
+use sc_http::Param;
+use sc_record::{CloneIn, List, Text};
+use std::alloc::{AllocError, Global};
+
+/// The most rows of a page.
+const MOST_ROWS: u32 = 1_000;
+
+/// The number of rows where none is given.
+const USUAL_ROWS: u32 = 10;
+
+/// The end of the last page.
+const LAST_ROW: u32 = 100_000;
+
+/// A search that is asked for: the texts of its queries, of its route, and the page that is to be shown.
+#[derive(Debug, Drop)]
+pub(crate) struct Select {
+    pub queries: List<Text>,
+    pub route: Option<Text>,
+    pub start: u32,
+    pub rows: u32,
+}
+
+impl Select {
+    /// What the parameters of a search ask for, or the name of the first that has no such value.
+    pub(crate) fn of(
+        alloc: Global,
+        params: &[Param],
+    ) -> Result<Result<Select, &'static str>, AllocError>
+        ensures asked { IfOk result (λ found. MatchResult found
+            (λ select. asking.asked_search params.now ≡ asking.select (select_of select))
+            (λ name. asking.asked_search params.now ≡ asking.bad_parameter name.now)) }
+        ensures limits { IfOk result (λ found. IfOk found (λ select.
+            (0 < length select.queries) × IfSome select.route (λ route. length route < 2 ^ 32))) }
+    {
+        let Some(rows) = count_of(USUAL_ROWS, MOST_ROWS, parameter("rows", params)) else {
+            return Ok(Err("rows"));
+        };
+        let Some(start) = count_of(0, LAST_ROW - rows, parameter("start", params)) else {
+            return Ok(Err("start"));
+        };
+        if let Some(name) = other_fault(params) {
+            return Ok(Err(name));
+        }
+        Ok(Ok(Select {
+            queries: query_texts(alloc, params)?,
+            route: match parameter("_route_", params) {
+                Some(route) => Some(route.clone_in(alloc)?),
+                None => None,
+            },
+            start,
+            rows,
+        }))
+    }
+}
+
+/// The count that a parameter gives, from 0 to the greatest; the usual one where it is not there.
+fn count_of(usual: u32, most: u32, text: Option<&Text>) -> Option<u32>
+    ensures { result ≡ asking.count_of usual most (option_copied text.entry) }
+{
+    match text {
+        None => Some(usual),
+        Some(text) => match number_text(text.as_str()) {
+            Some(number) if 0 <= number && number <= i64::from(most) => Some(number as u32),
+            _ => None,
+        },
+    }
+}
+
+/// The number that a decimal text writes, where it has 64 bits. Leading zeros may stand, a plus sign may not.
+fn number_text(text: &str) -> Option<i64>
+    ensures { result ≡ number_text text.now }
+{
+    if text.starts_with('+') {
+        return None;
+    }
+    text.parse::<i64>().ok()
+}
+
+/// The first parameter after `rows` and `start` that has no such value.
+fn other_fault(params: &[Param]) -> Option<&'static str>
+    ensures { option_map (λ name. name.now) result ≡ asking.other_fault params.now }
+{
+    if has_bad_route(params) {
+        Some("_route_")
+    } else if is_other_than("id asc", "sort", params) {
+        Some("sort")
+    } else if parameter("fl", params).is_some() {
+        Some("fl")
+    } else if is_other_than("json", "wt", params) {
+        Some("wt")
+    } else {
+        None
+    }
+}
+
+/// Whether there is a route that is none.
+fn has_bad_route(params: &[Param]) -> bool
+    ensures { result ≡ asking.has_bad_route params.now }
+{
+    match parameter("_route_", params) {
+        Some(route) => route.as_str().is_empty() || u32::try_from(route.as_str().len()).is_err(),
+        None => false,
+    }
+}
+
+/// The texts of all queries: `q`, which is empty where it is not there, and then each `fq` in order.
+fn query_texts(alloc: Global, params: &[Param]) -> Result<List<Text>, AllocError>
+    ensures { IfOk result (λ texts. texts ≡ asking.query_texts params.now) }
+{
+    let mut texts = List::new(alloc);
+    texts.push(match parameter("q", params) {
+        Some(text) => text.clone_in(alloc)?,
+        None => Text::new(alloc, "")?,
+    })?;
+    for param in params {
+        if param.name.as_str() == "fq" {
+            texts.push(param.value.clone_in(alloc)?)?;
+        }
+    }
+    Ok(texts)
+}

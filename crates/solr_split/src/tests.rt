@@ -7,6 +7,8 @@ use std::alloc::{AllocError, Global};
 use std::process::Abort;
 use std::test::Fail;
 
+mod searches;
+
 const ADD: &str =
     "POST /solr/docs/update?versions=true HTTP/1.1\r\nHost: localhost\r\nContent-Length: 24\r\n\r\n[{\"id\":\"abc\",\"t_s\":\"x\"}]";
 
@@ -24,6 +26,9 @@ const MISSING: &str =
     "HTTP/1.1 200 OK\r\nContent-Type: application/json;charset=utf-8\r\nContent-Length: 12\r\n\r\n{\"doc\":null}";
 
 const UPDATE: &str = "/solr/docs/update";
+
+/// An update that commits.
+const COMMIT: &str = "/solr/docs/update?commit=true";
 
 /// An update whose answer shows versions.
 const VERSIONS: &str = "/solr/docs/update?versions=true";
@@ -361,13 +366,9 @@ fn requests_that_are_refused(rt: HostRuntime) -> Result<(), Fail> {
 
 #[test]
 fn what_is_not_built_is_said_so(rt: HostRuntime) -> Result<(), Fail> {
-    let steps: [Step<'_>; 11] = [
-        ("/solr/docs/update?commit=true", "[]", 501, "not built yet"),
-        (UPDATE, "{\"commit\":{}}", 501, "not built yet"),
-        (UPDATE, "", 501, "not built yet"),
-        ("/solr/docs/get?ids=abc,hello", "", 501, "not built yet"),
+    let steps: [Step<'_>; 7] = [
         (GET_ABC, "x", 501, "not built yet"),
-        ("/solr/docs/select?q=*:*", "", 501, "not built yet"),
+        ("/solr/docs/select", "q=*:*", 501, "not built yet"),
         (
             "/solr/admin/collections?action=CLUSTERSTATUS",
             "",
@@ -458,7 +459,7 @@ fn replicas_are_not_seen(rt: HostRuntime) -> Result<(), Fail> {
 
 #[test]
 fn a_full_journal_takes_no_more(rt: HostRuntime) -> Result<(), Fail> {
-    let steps: [Step<'_>; 5] = [
+    let steps: [Step<'_>; 6] = [
         (
             UPDATE,
             "[{\"id\":\"a\"},{\"id\":\"b\"},{\"id\":\"c\"},{\"id\":\"d\"},{\"id\":\"e\"},{\"id\":\"f\"},{\"id\":\"g\"}]",
@@ -479,6 +480,7 @@ fn a_full_journal_takes_no_more(rt: HostRuntime) -> Result<(), Fail> {
             "{\"doc\":{\"_version_\":1048576000,\"id\":\"a\"}}",
         ),
         ("/solr/docs/get?id=i", "", 200, NULL),
+        (COMMIT, "[]", 507, "update log is full"),
     ];
     expect_steps(
         &rt,

@@ -217,12 +217,16 @@ fn fifty(alloc: Global) -> Result<String, AllocError> {
     Ok(body)
 }
 
-// Ten of twenty are shown.
+// The documents come as curl sends them. Ten of twenty are shown.
 #[test]
 fn fifty_documents_are_searched(rt: HostRuntime) -> Result<(), Fail> {
     let body = fifty(rt.alloc())?;
+    let post = format!(in rt.alloc();
+        "POST /solr/docs/update?commit=true HTTP/1.1\r\nHost: localhost:8983\r\nUser-Agent: curl/8.5.0\r\nAccept: */*\r\nContent-Type: application/json\r\nContent-Length: {}\r\n\r\n{body}",
+        body.len()
+    )?;
     let steps: [Step<'_>; 2] = [
-        (COMMIT, body.as_str(), 200, DONE),
+        (post.as_str(), "", 200, DONE),
         (
             "/solr/docs/select?q=title_t:rust%20AND%20NOT%20lang_s:c",
             "",

@@ -27,7 +27,7 @@ impl State {
     }
 
     /// A split is making the slice.
-    pub(crate) fn is_forming(self) -> bool
+    pub fn is_forming(self) -> bool
         ensures { result ≡ is_forming_state self }
     {
         matches!(self, State::Construction | State::Recovery)

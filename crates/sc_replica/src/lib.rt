@@ -3,7 +3,7 @@
 //!
 //! A layer above speaks of a `Replica` as the record `Core`, and of each call as a step of it: `led`, `fed`, `received`,
 //! `replayed`. In each of them a write whose version isn't greater than that of its id's cell is dropped. Only `reserve`
-//! takes memory.
+//! and `Cells::share` take memory.
 #![tactic(auto)]
 
 // The greatest write of each id.

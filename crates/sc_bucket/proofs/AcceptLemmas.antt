@@ -30,27 +30,26 @@ use Rattle.sc_journal.proofs.MapLemmas.{keeps_a_map}
 use Rattle.sc_journal.proofs.SplitLemmas.{LeavesSlices-write, map_after-left, open_split-left}
 use Rattle.sc_bucket.specs.declared.bucket.Bucket.{Bucket}
 use Rattle.sc_bucket.specs.Accepting.{HasMemory, IsPut}
-use Rattle.sc_bucket.specs.Kept.{Sent}
+use Rattle.sc_bucket.specs.Kept.{Sent, FeedState}
 use Rattle.sc_bucket.specs.Cores.{followers, IsLeaderAt}
-use Rattle.sc_bucket.specs.Flight.{sent_to, is_same_message, pending}
-use Rattle.sc_bucket.specs.Sound.{AreActive, HasJournal, IsSent, AreSent, HasSpare, HasSearchers, IsSound}
-use Rattle.sc_bucket.proofs.SoundLemmas.{All-slice_get, name_of}
+use Rattle.sc_bucket.specs.Flight.{sent_to, is_same_message}
+use Rattle.sc_bucket.specs.Pending.{pending}
+use Rattle.sc_bucket.specs.Sound.{AreActive, HasJournal, IsSent, AreSent, HasSpare, HasSearchers, IsInPhase, IsSound}
+use Rattle.sc_bucket.proofs.CoreLemmas.{name_of, AreApart-from_ascending}
+use Rattle.sc_bucket.proofs.SoundLemmas.{All-slice_get, AreAlike, AreAlike-set, names-alike, HasCores-alike, AreFeeds-alike, IsInPhase-alike, ArePrepared-same}
 use Rattle.sc_bucket.proofs.SearcherLemmas.{HasSearchers-grown}
 use Rattle.sc_bucket.proofs.PlaceLemmas.{All-set_apart}
 use Rattle.sc_bucket.proofs.FollowerLemmas.{IsFollower, are_followers, followers_apart, IsDistinct-append, sent_apart, sent_later}
-use Rattle.sc_bucket.proofs.LedLemmas.{AreSound, AreSound-led, names-led}
+use Rattle.sc_bucket.proofs.LedLemmas.{AreSound, AreSound-led}
 
 -- the cores of a sound bucket are sound
-pub cores_are_sound : (b : Bucket) → IsSound b → AreSound b.map b.journal.entries b.flight.messages b.replicas
+pub cores_are_sound : (b : Bucket) → IsSound b → AreSound b.map b.journal.entries b.flight.messages b.feeds b.replicas
 cores_are_sound b sound = record {
   leaders = sound.leaders;
   written = sound.written;
   held = sound.held;
   in_range = sound.in_range;
   clocks = sound.clocks;
-  apart = sound.apart;
-  keys = sound.phase.cores;
-  active = sound.phase.active;
 }
 
 -- its journal is as it has to be once a write was put in that may come next
@@ -141,21 +140,24 @@ AreSent-put old new cell leader entries names messages sound =
           (λ name. IsSent-new old new cell leader name entries names sound.journal) to follow)));
       once = subst (IsDistinct is_same_message) (sym messages)
           (IsDistinct-append is_same_message old.flight.messages (sent_by old cell.value leader) sound.messages.once
-          (sent_apart place cell.value to (followers_apart old.map old.replicas cell.value.hash leader is_map sound.apart))
+          (sent_apart place cell.value to (followers_apart old.map old.replicas cell.value.hash leader is_map
+          (AreApart-from_ascending old.replicas sound.cores.ascend)))
           (sent_later old.flight.messages place cell.value to earlier));
     }
 
 -- each core has room for what is pending once the leader led the write
-spares-put : (cores : List Core) (messages : List Sent) (at : ℕ) (core : Core) (write : Write) → slice_get cores at ≡ Some core
-    → All (HasSpare messages) cores → length (pending messages core) < core.cell_spare → All (HasSpare messages) (set cores at (led core write))
-spares-put cores messages at core write there spares one_more =
-    let before = All-slice_get (HasSpare messages) cores at core spares there in
-    All-set_apart (HasSpare messages) cores at (led core write)
+spares-put : (cores : List Core) (messages : List Sent) (feeds : List FeedState) (at : ℕ) (core : Core) (write : Write)
+    → slice_get cores at ≡ Some core → All (HasSpare messages feeds) cores
+    → length (pending messages feeds core) < core.cell_spare
+    → All (HasSpare messages feeds) (set cores at (led core write))
+spares-put cores messages feeds at core write there spares one_more =
+    let before = All-slice_get (HasSpare messages feeds) cores at core spares there in
+    All-set_apart (HasSpare messages feeds) cores at (led core write)
     (record {
       cells = omega (arith, one_more, spare_after-≥ core.cells core.cell_spare write);
       buffer = before.buffer;
     })
-    (λ k other apart found. All-slice_get (HasSpare messages) cores k other spares found)
+    (λ k other apart found. All-slice_get (HasSpare messages feeds) cores k other spares found)
 
 -- a write commits nothing
 HasSearchers-put : (old new : Bucket) (cell : Arc Write Global) → new.map ≡ old.map → new.searchers ≡ old.searchers
@@ -171,24 +173,31 @@ HasSearchers-put old new cell same_map same_searchers entries has =
 -- a sound bucket is sound once a write was put in that may come next, and whose hash the core at the place leads, and was sent to
 -- the others
 pub IsSound-put : (old new : Bucket) (cell : Arc Write Global) (at : ℕ) (messages : List Sent) → IsPut old cell at messages new
-    → MayWrite old.journal.entries cell.value → HasRoom old.limit old.first old.journal.entries → HasMemory old at messages
-    → (leader : IsLeaderAt old.map old.replicas cell.value.hash at) → messages ≡ sent_by old cell.value leader.core.core
-    → IsSound old → IsSound new
-IsSound-put old new cell at messages put may has_room memory leader sent sound =
+    → new.spares ≡ old.spares → MayWrite old.journal.entries cell.value
+    → HasRoom old.limit old.first old.journal.entries
+    → HasMemory old at messages → (leader : IsLeaderAt old.map old.replicas cell.value.hash at)
+    → messages ≡ sent_by old cell.value leader.core.core → IsSound old → IsSound new
+IsSound-put old new cell at messages put same_spares may has_room memory leader sent sound =
     let is_map = bucket_has_map old sound.journal in
-    let cores = AreSound-led old.map old.journal.entries old.flight.messages old.replicas at (length old.journal.entries) cell is_map may.hash
+    let longer = old.journal.entries ++ entry.Write cell ∷ [] in
+    let more = old.flight.messages ++ sent_by old cell.value leader.core.core in
+    let cores = AreSound-led old.map old.journal.entries old.flight.messages old.feeds old.replicas at
+    (length old.journal.entries) cell is_map may.hash (AreApart-from_ascending old.replicas sound.cores.ascend)
     (cores_are_sound old sound) leader in
     let exactly : new.replicas ≡ set old.replicas at (led leader.core cell.value) = put.cores leader.core leader.found in
-    let flight : new.flight.messages ≡ old.flight.messages ++ sent_by old cell.value leader.core.core =
-    put.flight_is ∙ ap (λ (ms : List Sent). old.flight.messages ++ ms) sent in
-    let sound_cores : AreSound new.map new.journal.entries new.flight.messages new.replicas =
-    subst (λ m. AreSound m new.journal.entries new.flight.messages new.replicas) (sym put.map_is)
-    (subst (λ j. AreSound old.map j new.flight.messages new.replicas) (sym put.entries)
-    (subst (λ ms. AreSound old.map (old.journal.entries ++ entry.Write cell ∷ []) ms new.replicas) (sym flight)
-    (subst (AreSound old.map (old.journal.entries ++ entry.Write cell ∷ []) (old.flight.messages ++ sent_by old cell.value leader.core.core))
-    (sym exactly) cores))) in
-    let names : map name_of new.replicas ≡ map name_of old.replicas =
-    ap (map name_of) exactly ∙ names-led old.replicas at leader.core cell.value leader.found in
+    let flight : new.flight.messages ≡ more = put.flight_is ∙ ap (λ (ms : List Sent). old.flight.messages ++ ms) sent in
+    let sound_cores : AreSound new.map new.journal.entries new.flight.messages new.feeds new.replicas =
+    subst (λ m. AreSound m new.journal.entries new.flight.messages new.feeds new.replicas) (sym put.map_is)
+    (subst (λ j. AreSound old.map j new.flight.messages new.feeds new.replicas) (sym put.entries)
+    (subst (λ ms. AreSound old.map longer ms new.feeds new.replicas) (sym flight)
+    (subst (λ fs. AreSound old.map longer more fs new.replicas) (sym put.split.feeds)
+    (subst (AreSound old.map longer more old.feeds) (sym exactly) cores)))) in
+    let alike : AreAlike old.replicas new.replicas =
+    subst (AreAlike old.replicas) (sym exactly)
+    (AreAlike-set old.replicas at leader.core (led leader.core cell.value) leader.found refl) in
+    let names : map name_of new.replicas ≡ map name_of old.replicas = names-alike old.replicas new.replicas alike in
+    let same_split : open_split new.journal.entries ≡ open_split old.journal.entries =
+    ap open_split put.entries ∙ open_split-left old.journal.entries (entry.Write cell) (LeavesSlices-write cell) in
     record {
       journal = HasJournal-put old new cell at messages put may has_room sound.journal;
       leaders = sound_cores.leaders;
@@ -197,15 +206,16 @@ IsSound-put old new cell at messages put may has_room memory leader sent sound =
       in_range = sound_cores.in_range;
       clocks = sound_cores.clocks;
       searchers = HasSearchers-put old new cell put.map_is put.searchers_are put.entries sound.searchers;
+      prepared = ArePrepared-same old new put.split.phase put.map_is put.searchers_are same_spares sound.prepared;
       messages = AreSent-put old new cell leader.core.core put.entries names flight sound;
-      spares = subst (λ (ms : List Sent). All (HasSpare ms) new.replicas) (sym put.flight_is)
-          (subst (All (HasSpare (old.flight.messages ++ messages))) (sym exactly)
-          (spares-put old.replicas (old.flight.messages ++ messages) at leader.core cell.value leader.found memory.cores
-          (memory.one_more leader.core leader.found)));
-      apart = sound_cores.apart;
-      phase = record {
-        idle = ap open_split put.entries ∙ open_split-left old.journal.entries (entry.Write cell) (LeavesSlices-write cell) ∙ sound.phase.idle;
-        cores = sound_cores.keys;
-        active = sound_cores.active;
-      };
+      spares = subst (λ (ms : List Sent). All (HasSpare ms new.feeds) new.replicas) (sym put.flight_is)
+          (subst (λ (fs : List FeedState). All (HasSpare (old.flight.messages ++ messages) fs) new.replicas)
+          (sym put.split.feeds)
+          (subst (All (HasSpare (old.flight.messages ++ messages) old.feeds)) (sym exactly)
+          (spares-put old.replicas (old.flight.messages ++ messages) old.feeds at leader.core cell.value leader.found
+          memory.cores (memory.one_more leader.core leader.found))));
+      cores = HasCores-alike old new put.map_is alike sound.cores;
+      feeds = AreFeeds-alike old new put.map_is put.split.feeds alike sound.feeds;
+      phase = subst (IsInPhase new) (sym put.split.phase)
+          (IsInPhase-alike old new old.phase same_split put.map_is alike sound.phase);
     }

@@ -1,5 +1,5 @@
 -- What a commit asks of a bucket is so, and a bucket is sound once it was committed.
-use Rattle.std.proofs.Common.{◌≡◌, ◌∙◌, ◌≤◌, ◌+◌, ℕ, Bool, [], ◌∷◌, ◌++◌, List, length, map, get_or, refl, sym, ap, subst, All, Contains, Decides, IsSome, arith}
+use Rattle.std.proofs.Common.{◌≡◌, ◌∙◌, ◌≤◌, ◌+◌, ℕ, Bool, [], ◌∷◌, ◌++◌, List, length, map, get_or, refl, sym, ap, subst, All, Contains, None, true, filter, Decides, IsSome, arith}
 use Rattle.std.specs.Cmp.Lexicographic.{slice_cmp, texts_ties}
 use Rattle.std.specs.Ordering.{nat_cmp, eq_by_cmp}
 use Rattle.std.specs.List.{IsDistinct}
@@ -16,20 +16,21 @@ use Rattle.sc_record.specs.declared.entry.Entry.TheVariants as entry
 use Rattle.sc_snapshot.specs.Rows.{SnapshotState, AreRows}
 use Rattle.sc_cluster.specs.declared.slice.Slice.{Slice}
 use Rattle.sc_cluster.specs.Map.{IsMap}
+use Rattle.sc_cluster.specs.Slices.{is_active, is_active_state}
 use Rattle.sc_cluster.proofs.LeaderLemmas.{same_from_id}
-use Rattle.sc_cluster.proofs.ListLemmas.{Contains-map}
+use Rattle.sc_cluster.proofs.ListLemmas.{Contains-map, Contains-filter, Contains-from_filter}
 use Rattle.sc_replica.specs.Core.{Core, IsCore}
-use Rattle.sc_journal.specs.Journal.{writes, last_write, write_at, is_settled, unsettled}
+use Rattle.sc_journal.specs.Journal.{as_write, writes, last_write, write_at, is_settled, unsettled}
 use Rattle.sc_journal.specs.Splits.{map_after, open_split, owed}
 use Rattle.sc_journal.specs.Legal.{IsLegal}
-use Rattle.sc_journal.specs.Committed.{committed}
+use Rattle.sc_journal.specs.Committed.{commits, committed}
 use Rattle.sc_journal.proofs.JournalLemmas.{length-writes, writes-push_other, write_at-append, write_at_within}
 use Rattle.sc_journal.proofs.CommittedLemmas.{committed-push_commit}
 use Rattle.sc_journal.proofs.SettledLemmas.{unsettled-push_other, is_settled-push_other}
 use Rattle.sc_journal.proofs.SplitLemmas.{map_after-left, open_split-left, owed-push_committed, LeavesSlices-committed}
 use Rattle.sc_journal.proofs.LegalLemmas.{IsLegal-push}
-use Rattle.sc_bucket.specs.Searchers.{rows_of, AreOfEachSlice, ShowsCommitted, IsTaken}
-use Rattle.sc_bucket.specs.Kept.{Sent}
+use Rattle.sc_bucket.specs.Searchers.{rows_of, ShowsCommitted, IsTaken, AreTaken, ArePrepared}
+use Rattle.sc_bucket.specs.Kept.{Sent, FeedState}
 use Rattle.sc_bucket.specs.Flight.{is_same_message}
 use Rattle.sc_bucket.specs.Sound.{AreActive, HasJournal, HasSearchers, AreWritten, Serves, IsSent, HasSpare, IsSound}
 use Rattle.sc_bucket.specs.Events.{without_room, Commits}
@@ -81,6 +82,7 @@ pub record CommitsParts (old new : Bucket) : Type 0 where
   pub unsettled_are : new.unsettled.places ≡ old.unsettled.places
   pub owed_is : new.owed ≡ old.owed
   pub room : new.owed ≤ new.journal.room
+  pub prepared : ArePrepared old.phase old.map new.searchers new.spares
 
 -- its journal is as it has to be
 HasJournal-committed : (old new : Bucket) → HasJournal old → Commits old new → CommitsParts old new → HasJournal new
@@ -108,42 +110,71 @@ HasJournal-committed old new journal commits parts =
       limit_to = omega (arith, commits.name.limit, journal.limit_to);
     }
 
+-- an entry that commits is no write
+no_write : (one : Entry) → commits one ≡ true → as_write one ≡ None
+no_write (entry.Write cell) is = cc
+no_write (entry.Settled place) is = cc
+no_write entry.Committed is = refl
+no_write (entry.Begun parent subs) is = refl
+no_write (entry.Switched parent) is = cc
+no_write (entry.Failed parent) is = cc
+no_write (entry.Dropped slice) is = cc
+
+-- A bucket's searchers were taken as its journal got an entry that commits. Its map is this then, whose active slices are those of
+-- the map before.
+pub record TakesSearchers (old : Bucket) (one : Entry) (slices : List Slice) (searchers : List Standing) : Type 0 where
+  pub commits_all : commits one ≡ true
+  pub is_map : IsMap slices
+  pub same_active : filter is_active slices ≡ filter is_active old.map
+  pub taken : AreTaken old.map old.replicas (length old.journal.entries) searchers
+
 -- the rows of a searcher that was taken of a slice are the cells of its leader, so they show what was written
-shows_written : (old : Bucket) (searcher : Standing) (slice : Slice) → IsSound old → IsTaken old.map old.replicas (length old.journal.entries) searcher
-    → Contains old.map slice → slice.id ≡ searcher.slice
-    → (searcher.range ≡ slice.range)
-    × ShowsCommitted (old.journal.entries ++ entry.Committed ∷ []) slice (rows_of searcher)
-shows_written old searcher slice sound is there same =
+shows_written : (old : Bucket) (one : Entry) (slices : List Slice) (searchers : List Standing) (searcher : Standing)
+    (slice : Slice) → IsSound old → TakesSearchers old one slices searchers
+    → IsTaken old.map old.replicas (length old.journal.entries) searcher → Contains slices slice → slice.id ≡ searcher.slice
+    → (searcher.range ≡ slice.range) × ShowsCommitted (old.journal.entries ++ one ∷ []) slice (rows_of searcher)
+shows_written old one slices searchers searcher slice sound takes is there same =
     let entries : List Entry = old.journal.entries in
-    let alike : is.slice ≡ slice = same_from_id old.map is.slice slice (bucket_has_map old sound.journal) is.there there (sym is.slice_is ∙ sym same) in
+    let active : Contains (filter is_active old.map) is.slice =
+    Contains-filter is_active old.map is.slice is.there (ap is_active_state is.active) in
+    let still : Contains slices is.slice =
+    (Contains-from_filter is_active slices is.slice
+    (subst (λ (these : List Slice). Contains these is.slice) (sym takes.same_active) active)).0 in
+    let alike : is.slice ≡ slice =
+    same_from_id slices is.slice slice takes.is_map still there (sym is.slice_is ∙ sym same) in
     let rows : rows_of searcher ≡ is.core.cells = ap (λ (snapshot : SnapshotState). snapshot.rows) is.snapshot_is in
-    let written = All-contains (AreWritten entries old.flight.messages) old.replicas is.core sound.written is.core_there in
+    let written =
+    All-contains (AreWritten entries old.flight.messages old.feeds) old.replicas is.core sound.written is.core_there in
     let serves = All-contains (λ (core : Core). (s : Slice) → Contains old.map s → s.id ≡ core.core.slice → Serves entries s core)
     old.replicas is.core sound.leaders is.core_there is.slice is.there (sym is.leader.0) is.active is.leader.1 in
-    let all : writes (entries ++ entry.Committed ∷ []) ≡ writes entries = writes-push_other entries entry.Committed refl in
-    let last : committed (entries ++ entry.Committed ∷ []) ≡ entries = committed-push_commit entries entry.Committed refl in (
+    let all : writes (entries ++ one ∷ []) ≡ writes entries =
+    writes-push_other entries one (no_write one takes.commits_all) in
+    let last : committed (entries ++ one ∷ []) ≡ entries = committed-push_commit entries one takes.commits_all in (
       is.range_is ∙ ap (λ (s : Slice). s.range) alike,
-      subst (ShowsCommitted (entries ++ entry.Committed ∷ []) slice) (sym rows) (subst (λ s. ShowsCommitted (entries ++ entry.Committed ∷ []) s is.core.cells) alike (record {
-        written = subst (λ (these : List Write). All (Contains these) is.core.cells) (sym all) written.0;
-        last = λ id within. serves.1 id within ∙ ap (λ journal. last_write journal id) (sym last);
-      })),
+      subst (ShowsCommitted (entries ++ one ∷ []) slice) (sym rows)
+          (subst (λ s. ShowsCommitted (entries ++ one ∷ []) s is.core.cells) alike (record {
+            written = subst (λ (these : List Write). All (Contains these) is.core.cells) (sym all) written.0;
+            last = λ id within. serves.1 id within ∙ ap (λ journal. last_write journal id) (sym last);
+          })),
     )
 
 -- so the bucket has its searchers
-HasSearchers-committed : (old new : Bucket) → IsSound old → Commits old new → HasSearchers new
-HasSearchers-committed old new sound commits = record {
-  each_slice = subst (λ (slices : List Slice). AreOfEachSlice slices new.searchers) (sym commits.map_is) commits.searchers_are.each_slice;
+pub HasSearchers-taken : (old new : Bucket) (one : Entry) → IsSound old
+    → new.journal.entries ≡ old.journal.entries ++ one ∷ [] → TakesSearchers old one new.map new.searchers → HasSearchers new
+HasSearchers-taken old new one sound entries takes = record {
+  each_slice = takes.taken.each_slice ∙ ap (map (λ (slice : Slice). slice.id)) (sym takes.same_active);
   show = All-weaker (IsTaken old.map old.replicas (length old.journal.entries))
       (λ (searcher : Standing). (slice : Slice) → Contains new.map slice → slice.id ≡ searcher.slice
       → (searcher.range ≡ slice.range) × ShowsCommitted new.journal.entries slice (rows_of searcher))
-      show new.searchers commits.searchers_are.taken;
+      show new.searchers takes.taken.taken;
 } where
   show : (searcher : Standing) → IsTaken old.map old.replicas (length old.journal.entries) searcher
       → (slice : Slice) → Contains new.map slice → slice.id ≡ searcher.slice
       → (searcher.range ≡ slice.range) × ShowsCommitted new.journal.entries slice (rows_of searcher)
   show searcher is slice there same =
-      subst (λ (journal : List Entry). (searcher.range ≡ slice.range) × ShowsCommitted journal slice (rows_of searcher)) (sym commits.entries)
-      (shows_written old searcher slice sound is (subst (λ (slices : List Slice). Contains slices slice) commits.map_is there) same)
+      subst (λ (journal : List Entry). (searcher.range ≡ slice.range) × ShowsCommitted journal slice (rows_of searcher))
+      (sym entries)
+      (shows_written old one new.map new.searchers searcher slice sound takes is there same)
 
 -- a message is still of a write that is not settled, and to a core that is there
 sent_still : (old new : Bucket) (message : Sent) → Commits old new → IsSent old message → IsSent new message
@@ -161,7 +192,8 @@ sent_still old new message commits sent =
 pub IsSound-committed : (old new : Bucket) → IsSound old → Commits old new → CommitsParts old new → IsSound new
 IsSound-committed old new sound commits parts =
     let one : Entry = entry.Committed in
-    IsSound-left old new sound (HasJournal-committed old new sound.journal commits parts) commits.map_is
+    let journal : HasJournal new = HasJournal-committed old new sound.journal commits parts in
+    IsSound-left old new sound commits.split journal commits.map_is
     (ap (map without_room) commits.cores)
     (ap writes commits.entries ∙ writes-push_other old.journal.entries one refl)
     (ap open_split commits.entries ∙ open_split-left old.journal.entries one LeavesSlices-committed)
@@ -171,6 +203,14 @@ IsSound-committed old new sound commits parts =
           (All-weaker (IsSent old) (IsSent new) (λ message. sent_still old new message commits) old.flight.messages sound.messages.each);
       once = subst (IsDistinct is_same_message) (sym commits.messages) sound.messages.once;
     })
-    (subst (λ (these : List Sent). All (HasSpare these) new.replicas) (sym commits.messages)
-    (subst (All (HasSpare old.flight.messages)) (sym commits.cores) sound.spares))
-    (HasSearchers-committed old new sound commits)
+    (subst (λ (these : List Sent). All (HasSpare these new.feeds) new.replicas) (sym commits.messages)
+    (subst (λ (feeds : List FeedState). All (HasSpare old.flight.messages feeds) new.replicas) (sym commits.split.feeds)
+    (subst (All (HasSpare old.flight.messages old.feeds)) (sym commits.cores) sound.spares)))
+    (HasSearchers-taken old new one sound commits.entries (record {
+      commits_all = refl;
+      is_map = bucket_has_map new journal;
+      same_active = ap (filter is_active) commits.map_is;
+      taken = commits.searchers_are;
+    }))
+    (subst (λ phase. ArePrepared phase new.map new.searchers new.spares) (sym commits.split.phase)
+    (subst (λ slices. ArePrepared old.phase slices new.searchers new.spares) (sym commits.map_is) parts.prepared))

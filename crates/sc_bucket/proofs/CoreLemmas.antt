@@ -1,28 +1,32 @@
 -- The cores of a bucket by their names, and which of them serves a hash.
-use Rattle.std.proofs.Common.{[], ◌∷◌, get_or, take, ◌++◌, ◌≡◌, ◌∙◌, ℕ, ℤ, zero, suc, ◌+◌, ◌<◌, List, length, map, slice_get, Some, None, Option, All, Contains, MatchOption, IsSome, true, false, ◌⊎◌, inl, inr, refl, sym, ap, subst, append_assoc, arith}
+use Rattle.std.proofs.Common.{[], ◌∷◌, get_or, take, ◌++◌, ◌≡◌, ◌∙◌, ℕ, ℤ, zero, suc, ◌+◌, ◌<◌, Bool, List, length, map, slice_get, Some, None, Option, All, AllPairs, Contains, MatchOption, IsSome, true, false, ◌⊎◌, inl, inr, refl, sym, ap, subst, append_assoc, arith}
 use Rattle.std.specs.Bool.{Decides}
 use Rattle.std.specs.List.{range_with_len, AllWithin, HoldsAt}
+use Rattle.std.specs.List.Sorted.{IsStrictlyIncreasing}
 use Rattle.std.proofs.lemmas.Bool.{cases_order}
 use Rattle.std.proofs.lemmas.Bool.Decides.{Decides-and, Decides-like, Decides-eqb}
 use Rattle.std.proofs.lemmas.Grind.{flat_map-append}
 use Rattle.std.proofs.lemmas.List.{append-nil, length-map, get_or-map, map-append, take_more}
-use Rattle.std.proofs.lemmas.List.Elements.{Contains-append_left, Contains-append_right}
+use Rattle.std.proofs.lemmas.List.Elements.{All-weaker, All-contains_itself, Contains-append_left, Contains-append_right}
 use Rattle.std.proofs.lemmas.List.FromFn.{length-range_with_len, get_or-range_with_len, map-range_with_len_more}
-use Rattle.std.proofs.lemmas.Map.Keys.{apart_from_distinct}
+use Rattle.std.proofs.lemmas.List.Kept.{AllPairs-from_increasing}
+use Rattle.std.proofs.lemmas.Map.Keys.{apart_from_distinct, IsDistinct-from_apart}
 use Rattle.std.proofs.lemmas.Option.{slice_get-get_or, slice_get_within, get_or_from_slice_get}
+use Rattle.std.proofs.lemmas.Simd.{map-map}
 use Rattle.sc_record.specs.declared.slice.SliceId.{SliceId}
 use Rattle.sc_record.specs.declared.slice.CoreId.{CoreId}
 use Rattle.sc_cluster.specs.declared.slice.Slice.{Slice}
 use Rattle.sc_cluster.specs.Map.{Leads}
 use Rattle.sc_cluster.proofs.ListLemmas.{Contains-map}
+use Rattle.sc_cluster.proofs.PairLemmas.{AllPairs-from_map}
 use Rattle.sc_replica.specs.Core.{Core}
-use Rattle.sc_bucket.specs.Cores.{core_key, core_keys, keys_of, is_core, AreApart, IsLeaderOf, IsLeaderAt}
+use Rattle.sc_bucket.specs.Cores.{core_key, core_keys, keys_of, is_core, core_number, AscendByName, AreApart, IsLeaderOf, IsLeaderAt}
 use Rattle.sc_bucket.proofs.PlaceLemmas.{some_at}
 use mathlib.Core.HLevel.{is_prop→PathP}
 use native.Mathlib.Bridge.{le_prop}
 
 -- a name by its parts
-same_name_by : (one other : CoreId) → one.slice.0 ≡ other.slice.0 → one.replica ≡ other.replica → one ≡ other
+pub same_name_by : (one other : CoreId) → one.slice.0 ≡ other.slice.0 → one.replica ≡ other.replica → one ≡ other
 same_name_by one other slice replica = λ i. record {
   slice = record { 0 = slice i };
   replica = replica i;
@@ -38,6 +42,35 @@ is_core-Decides one other =
 
 pub is_core-itself : (name : CoreId) → is_core name name ≡ true
 is_core-itself name = (is_core-Decides name name).1 refl
+
+-- the name of a core
+abbrev pub name_of : Core → CoreId
+name_of core = core.core
+
+-- two names of which one has the lower number are of two cores
+apart_by_number : (one other : CoreId) → core_number one < core_number other → is_core one other ≡ false
+apart_by_number one other less = by (is_core one other) refl where
+  by : (b : Bool) → is_core one other ≡ b → is_core one other ≡ false
+  by false is = is
+  by true is = absurd (omega (arith, less, ap core_number ((is_core-Decides one other).0 is)))
+
+-- cores that ascend by their names are apart
+pub AreApart-from_ascending : (cores : List Core) → AscendByName cores → AreApart cores
+AreApart-from_ascending cores ascend =
+    let names : List CoreId = map name_of cores in
+    let numbers : IsStrictlyIncreasing (map core_number names) =
+    subst IsStrictlyIncreasing (sym (map-map core_number name_of cores)) ascend in
+    let pairs : AllPairs (λ (one other : CoreId). core_number one < core_number other) names =
+    AllPairs-from_map (λ (one other : ℕ). one < other) core_number names
+    (AllPairs-from_increasing (map core_number names) numbers) in
+    IsDistinct-from_apart is_core names
+    (λ i j d before within. apart_by_number (get_or names i d) (get_or names j d) (pairs i j d before within))
+
+-- cores of the same names ascend too
+pub AscendByName-same : (old new : List Core) → map name_of new ≡ map name_of old → AscendByName old → AscendByName new
+AscendByName-same old new same ascend =
+    subst IsStrictlyIncreasing
+    (sym (sym (map-map core_number name_of new) ∙ ap (map core_number) same ∙ map-map core_number name_of old)) ascend
 
 -- two cores of one name are at one place
 pub core_alone : (cores : List Core) (i j : ℕ) (one other : Core) → AreApart cores → slice_get cores i ≡ Some one
@@ -82,19 +115,26 @@ leader_of_slice slice =
     (0, omega (arith, length-range_with_len 1 slice.replicas, slice.replicated), get_or-range_with_len 1 slice.replicas 0 1 slice.replicated)
 
 -- a slice's names are among those of the map
-keys_among : (slices : List Slice) (slice : Slice) (key : ℕ × ℕ) → Contains slices slice → Contains (keys_of slice) key
-    → Contains (core_keys slices) key
+pub keys_among : (slices : List Slice) (slice : Slice) (key : ℕ × ℕ) → Contains slices slice
+    → Contains (keys_of slice) key → Contains (core_keys slices) key
 keys_among [] slice key (k, below, is) there = absurd (omega arith)
 keys_among (first ∷ slices) slice key (zero, below, is) there =
     Contains-append_left (keys_of first) (core_keys slices) key (subst (λ (s : Slice). Contains (keys_of s) key) (sym is) there)
 keys_among (first ∷ slices) slice key (suc k, below, is) there =
     Contains-append_right (keys_of first) (core_keys slices) key (keys_among slices slice key (k, omega arith, is) there)
 
--- where every slice has its cores, there is a core of each leader's name
-pub has_leader : (slices : List Slice) (cores : List Core) (slice : Slice) → map core_key cores ≡ core_keys slices
+-- where every slice has all its cores, there is a core of each leader's name
+has_leader : (slices : List Slice) (cores : List Core) (slice : Slice) → map core_key cores ≡ core_keys slices
     → Contains slices slice → Contains (map core_key cores) (slice.id.0, 1)
 has_leader slices cores slice same there =
     subst (λ keys. Contains keys (slice.id.0, 1)) (sym same) (keys_among slices slice (slice.id.0, 1) there (leader_of_slice slice))
+
+-- for each slice
+pub have_leaders : (slices : List Slice) (cores : List Core) → map core_key cores ≡ core_keys slices
+    → All (λ (slice : Slice). Contains (map core_key cores) (slice.id.0, 1)) slices
+have_leaders slices cores same =
+    All-weaker (Contains slices) (λ (slice : Slice). Contains (map core_key cores) (slice.id.0, 1))
+    (λ slice. has_leader slices cores slice same) slices (All-contains_itself slices)
 
 -- an element of a mapped list is that of an element
 pub element_from_map : {A B : Type 0} (f : A → B) (xs : List A) (y : B) → Contains (map f xs) y
@@ -132,12 +172,12 @@ core_is_found cores name None there none =
     absurd (cc)
 
 -- so the search for a slice's leader finds one
-pub leader_is_found : (slices : List Slice) (cores : List Core) (slice : Slice) (name : CoreId) (found : Option ℕ)
-    → map core_key cores ≡ core_keys slices → Contains slices slice → slice.id ≡ name.slice → name.replica ≡ 1
+pub leader_is_found : (cores : List Core) (slice : SliceId) (name : CoreId) (found : Option ℕ)
+    → Contains (map core_key cores) (slice.0, 1) → slice ≡ name.slice → name.replica ≡ 1
     → IsCoreFound cores name found → IsSome found
-leader_is_found slices cores slice name (Some at) keys there same first is = refl
-leader_is_found slices cores slice name None keys there same first none =
-    let (k, core, at, is) = element_from_map core_key cores (slice.id.0, 1) (has_leader slices cores slice keys there) in
+leader_is_found cores slice name (Some at) there same first is = refl
+leader_is_found cores slice name None there same first none =
+    let (k, core, at, is) = element_from_map core_key cores (slice.0, 1) there in
     let of_slice : core.core.slice.0 ≡ name.slice.0 = ap (λ (key : ℕ × ℕ). key.0) is ∙ ap (λ (id : SliceId). id.0) same in
     let alike : name ≡ core.core = same_name_by name core.core (sym of_slice) (first ∙ sym (ap (λ (key : ℕ × ℕ). key.1) is)) in
     let no : is_core name (get_or cores k core).core ≡ false = none k core (slice_get_within cores k core at) in

@@ -1,5 +1,5 @@
 -- A bucket is sound once a message in flight was delivered.
-use Rattle.std.proofs.Common.{◌≡◌, ℕ, zero, suc, ◌<◌, Bool, true, false, cond, List, [], ◌∷◌, length, get_or, map, set, take, drop, slice_get, Option, Some, All, Contains, refl, sym, ap, ◌∙◌, subst, arith, length-append}
+use Rattle.std.proofs.Common.{◌≡◌, ℕ, zero, suc, ◌<◌, Bool, true, false, cond, List, [], ◌∷◌, ◌++◌, length, get_or, map, set, take, drop, slice_get, Option, Some, All, Contains, refl, sym, ap, ◌∙◌, subst, arith}
 use Rattle.std.specs.List.{AllByRecursion, IsDistinct, remove}
 use Rattle.std.proofs.lemmas.List.{length-map, get_or-map}
 use Rattle.std.proofs.lemmas.List.Elements.{All-append, All-drop, All-from_recursion, All-map, All-take, All-weaker}
@@ -8,20 +8,22 @@ use Rattle.std.proofs.lemmas.Map.Keys.{apart_from_distinct, IsDistinct-from_apar
 use Rattle.std.proofs.lemmas.Option.{slice_get_within, none-some, same_Some}
 use Rattle.sc_record.specs.declared.slice.CoreId.{CoreId}
 use Rattle.sc_record.specs.declared.write.Write.{Write}
-use Rattle.sc_cluster.proofs.ListLemmas.{map-map_kept}
-use Rattle.sc_ulog.specs.declared.mode.Mode.TheVariants.{Active}
-use Rattle.sc_replica.specs.Core.{Core, received}
+use Rattle.sc_ulog.specs.declared.mode.Mode.{Mode}
+use Rattle.sc_ulog.specs.declared.mode.Mode.TheVariants.{Active, Buffering, Replaying}
+use Rattle.sc_replica.specs.Core.{Core, fed, buffered, received, received_in}
 use Rattle.sc_bucket.specs.declared.bucket.Bucket.{Bucket}
 use Rattle.sc_bucket.specs.Kept.{Sent, FlightState}
-use Rattle.sc_bucket.specs.Cores.{core_key, is_core, AreApart}
+use Rattle.sc_bucket.specs.Cores.{is_core, AreApart}
 use Rattle.sc_bucket.specs.Flight.{in_flight, received_by, delivered, is_same_message, IsFirstOf}
+use Rattle.sc_bucket.specs.Pending.{to_feed, pending}
 use Rattle.sc_bucket.specs.Sound.{HasJournal, IsSent, AreSent, HasSpare, IsSound}
 use Rattle.sc_bucket.specs.Events.{Delivers, DeliversFirst}
-use Rattle.sc_bucket.proofs.CoreLemmas.{is_core-Decides, IsCoreFound}
+use Rattle.sc_bucket.proofs.CoreLemmas.{name_of, is_core-Decides, IsCoreFound, AreApart-from_ascending}
+use Rattle.sc_bucket.proofs.PendingLemmas.{length-pending}
 use Rattle.sc_bucket.proofs.SearcherLemmas.{HasSearchers-same}
-use Rattle.sc_bucket.proofs.SoundLemmas.{All-slice_get, name_of}
-use Rattle.sc_bucket.proofs.FlightLemmas.{taken-own, taken-other}
-use Rattle.sc_bucket.proofs.DeliveredLemmas.{IsSoundCore, received_is_sound, name-received, mode-received}
+use Rattle.sc_bucket.proofs.SoundLemmas.{All-slice_get, name_and_mode, AreAlike, AreAlike-map, names-alike, HasCores-alike, AreFeeds-alike, IsInPhase-alike}
+use Rattle.sc_bucket.proofs.FlightLemmas.{IsOneLess, one_less-append, taken-own, taken-other}
+use Rattle.sc_bucket.proofs.DeliveredLemmas.{IsSoundCore, fed_is_sound, buffered_is_sound, AreSame-append, AreSame-moved}
 
 -- the bucket with these messages in flight and these cores
 abbrev pub with_cores : Bucket → FlightState → List Core → Bucket
@@ -42,22 +44,32 @@ received_by_cases P name write core own other = by (is_core name core.core) refl
         absurd (cc)
 
 -- its name and its mode stay
-name-received_by : (name : CoreId) (write : Write) (core : Core) → name_of (received_by name write core) ≡ name_of core
-name-received_by name write core =
-    received_by_cases (λ (after : Core). after.core ≡ core.core) name write core (λ own. name-received core write) (λ other. refl)
+name_and_mode-received : (core : Core) (write : Write) → name_and_mode (received core write) ≡ name_and_mode core
+name_and_mode-received core write =
+    elim core.mode as (λ mode. name_and_mode (received_in mode core write) ≡ name_and_mode core) [
+      | Active ↦ refl
+      | Buffering ↦ refl
+      | Replaying ↦ refl
+    ]
 
-pub names-delivered : (message : Sent) (cores : List Core) → map name_of (delivered message cores) ≡ map name_of cores
-names-delivered message cores =
-    map-map_kept name_of (received_by message.core message.write) (name-received_by message.core message.write) cores
+pub name-received : (core : Core) (write : Write) → (received core write).core ≡ core.core
+name-received core write = ap (λ (pair : CoreId × Mode). pair.0) (name_and_mode-received core write)
 
-pub keys-delivered : (message : Sent) (cores : List Core) → map core_key (delivered message cores) ≡ map core_key cores
-keys-delivered message cores =
-    map-map_kept core_key (received_by message.core message.write)
-    (λ core. ap (λ (name : CoreId). (name.slice.0, name.replica)) (name-received_by message.core message.write core)) cores
+AreAlike-delivered : (message : Sent) (cores : List Core) → AreAlike cores (delivered message cores)
+AreAlike-delivered message cores =
+    AreAlike-map (received_by message.core message.write)
+    (λ core. received_by_cases (λ (after : Core). name_and_mode after ≡ name_and_mode core)
+    message.core message.write core
+    (λ own. name_and_mode-received core message.write) (λ other. refl)) cores
 
--- a core of a sound bucket, and those of a sound bucket
+-- the core is sound, where these messages are in flight
+abbrev pub IsSoundIn : Bucket → List Sent → Core → Type 0
+IsSoundIn b messages core =
+    IsSoundCore b.map b.journal.entries (in_flight messages core.core) (pending messages b.feeds core) core
+
+-- a core of a sound bucket is
 pub core_is_sound : (b : Bucket) (k : ℕ) (d : Core) → k < length b.replicas → IsSound b
-    → IsSoundCore b.map b.journal.entries (in_flight b.flight.messages (get_or b.replicas k d).core) (get_or b.replicas k d)
+    → IsSoundIn b b.flight.messages (get_or b.replicas k d)
 core_is_sound b k d below sound = record {
   serves = sound.leaders k d below;
   written = sound.written k d below;
@@ -68,15 +80,49 @@ core_is_sound b k d below sound = record {
   buffer_room = (sound.spares k d below).buffer;
 }
 
--- the core is sound, where these messages are in flight
-abbrev IsSoundIn : Bucket → List Sent → Core → Type 0
-IsSoundIn b messages core = IsSoundCore b.map b.journal.entries (in_flight messages core.core) core
+-- and it is once it received a write that was in flight to it
+received_is_sound : (b : Bucket) (messages left : List Sent) (core : Core) (write : Write) → IsSound b
+    → IsOneLess (in_flight messages core.core) write (in_flight left core.core) → IsSoundIn b messages core
+    → IsSoundIn b left (received core write)
+received_is_sound b messages left core write sound one before =
+    elim core.mode as (λ mode. IsSoundIn b left (received_in mode core write)) [
+      | Active ↦ is_fed
+      | Buffering ↦ is_buffered
+      | Replaying ↦ is_fed
+    ]
+  where
+    sent : List Write
+    sent = in_flight messages core.core
+
+    still : List Write
+    still = in_flight left core.core
+
+    feed : List Write
+    feed = to_feed b.feeds core.core
+
+    is_fed : IsSoundIn b left (fed core write)
+    is_fed =
+        fed_is_sound b.first b.map b.journal.entries sent still
+        (pending messages b.feeds core) (pending left b.feeds core) core write
+        sound.journal.legal
+        (one_less-append (sent ++ core.buffer) (still ++ core.buffer) feed write
+        (one_less-append sent still core.buffer write one))
+        (omega (arith, one.count)) before
+
+    is_buffered : IsSoundIn b left (buffered core write)
+    is_buffered =
+        buffered_is_sound b.map b.journal.entries sent still
+        (pending messages b.feeds core) (pending left b.feeds (buffered core write)) core write
+        (AreSame-append (sent ++ core.buffer) (still ++ (core.buffer ++ write ∷ [])) feed
+        (AreSame-moved sent still core.buffer write one))
+        one.count before
 
 -- each core is sound once the message was delivered
 cores_are_sound : (b : Bucket) (at : ℕ) (message : Sent) → IsSound b → slice_get b.flight.messages at ≡ Some message
     → All (IsSoundIn b (remove b.flight.messages at)) (delivered message b.replicas)
 cores_are_sound b at message sound found =
-    All-map (IsSoundIn b left) (received_by message.core message.write) b.replicas (λ k d below. each (get_or b.replicas k d) (core_is_sound b k d below sound))
+    All-map (IsSoundIn b left) (received_by message.core message.write) b.replicas
+    (λ k d below. each (get_or b.replicas k d) (core_is_sound b k d below sound))
   where
     left : List Sent
     left = remove b.flight.messages at
@@ -84,11 +130,10 @@ cores_are_sound b at message sound found =
     each : (core : Core) → IsSoundIn b b.flight.messages core → IsSoundIn b left (received_by message.core message.write core)
     each core before =
         received_by_cases (IsSoundIn b left) message.core message.write core
-        (λ own. subst (λ (name : CoreId). IsSoundCore b.map b.journal.entries (in_flight left name) (received core message.write))
-        (sym (name-received core message.write))
-        (received_is_sound b.first b.map b.journal.entries (in_flight b.flight.messages core.core) (in_flight left core.core) core message.write
-        sound.journal.legal (taken-own b.flight.messages at message core.core found own) before))
-        (λ other. subst (λ sent. IsSoundCore b.map b.journal.entries sent core)
+        (λ own. received_is_sound b b.flight.messages left core message.write sound
+        (taken-own b.flight.messages at message core.core found own) before)
+        (λ other. subst
+        (λ sent. IsSoundCore b.map b.journal.entries sent (sent ++ core.buffer ++ to_feed b.feeds core.core) core)
         (sym (taken-other b.flight.messages at message core.core found other)) before)
 
 -- what is true of each element is true of each that is left
@@ -136,7 +181,8 @@ pub IsSound-delivered : (b : Bucket) (at : ℕ) (message : Sent) (flight : Fligh
     → IsSound (with_cores b flight (delivered message b.replicas))
 IsSound-delivered b at message flight sound found left =
     let cores : List Core = delivered message b.replicas in
-    let names = names-delivered message b.replicas in
+    let new : Bucket = with_cores b flight cores in
+    let alike = AreAlike-delivered message b.replicas in
     let sound_cores : All (IsSoundIn b flight.messages) cores =
     subst (λ messages. All (IsSoundIn b messages) cores) (sym left) (cores_are_sound b at message sound found) in
     record {
@@ -146,22 +192,15 @@ IsSound-delivered b at message flight sound found left =
       held = λ k d below. (sound_cores k d below).held;
       in_range = λ k d below. (sound_cores k d below).in_range;
       clocks = λ k d below. (sound_cores k d below).clock;
-      searchers = HasSearchers-same b (with_cores b flight cores) refl refl refl sound.searchers;
-      messages = AreSent-left b at flight cores (slice_get_within b.flight.messages at message found) left names sound.messages;
+      searchers = HasSearchers-same b new refl refl refl sound.searchers;
+      prepared = sound.prepared;
+      messages = AreSent-left b at flight cores (slice_get_within b.flight.messages at message found) left
+          (names-alike b.replicas cores alike) sound.messages;
       spares = λ k d below. record { cells = (sound_cores k d below).cell_room; buffer = (sound_cores k d below).buffer_room };
-      apart = subst (IsDistinct is_core) (sym names) sound.apart;
-      phase = record {
-        idle = sound.phase.idle;
-        cores = keys-delivered message b.replicas ∙ sound.phase.cores;
-        active = All-map (λ (core : Core). core.mode ≡ Active) (received_by message.core message.write) b.replicas
-            (λ k d below. active (get_or b.replicas k d) (sound.phase.active k d below));
-      };
+      cores = HasCores-alike b new refl alike sound.cores;
+      feeds = AreFeeds-alike b new refl refl alike sound.feeds;
+      phase = IsInPhase-alike b new b.phase refl refl alike sound.phase;
     }
-  where
-    active : (core : Core) → core.mode ≡ Active → (received_by message.core message.write core).mode ≡ Active
-    active core is =
-        received_by_cases (λ (after : Core). after.mode ≡ Active) message.core message.write core
-        (λ own. mode-received core message.write ∙ is) (λ other. is)
 
 -- cores of other names stay
 stay : (message : Sent) (cores : List Core) → AllByRecursion (λ (name : CoreId). is_core message.core name ≡ false) (map name_of cores)
@@ -217,10 +256,11 @@ pub core_has_room : (b : Bucket) (at : ℕ) (message : Sent) (k : ℕ) (core : C
     → slice_get b.flight.messages at ≡ Some message → slice_get b.replicas k ≡ Some core → is_core message.core core.core ≡ true
     → (0 < core.cell_spare) × (0 < core.buffer_spare)
 core_has_room b at message k core sound found there is =
-    let spare = All-slice_get (HasSpare b.flight.messages) b.replicas k core sound.spares there in
+    let spare = All-slice_get (HasSpare b.flight.messages b.feeds) b.replicas k core sound.spares there in
     let named : core.core ≡ message.core = sym ((is_core-Decides message.core core.core).0 is) in
     let one = taken-own b.flight.messages at message core.core found ((is_core-Decides core.core message.core).1 named) in
-    (omega (arith, spare.cells, one.count, length-append (in_flight b.flight.messages core.core) core.buffer), omega (arith, spare.buffer, one.count))
+    let all = length-pending b.flight.messages b.feeds core in
+    (omega (arith, spare.cells, one.count, all), omega (arith, spare.buffer, one.count))
 
 -- what the search for a message's core finds is known by its place
 pub place_of_core : (cores : List Core) (name : CoreId) (found : Option ℕ) (k : ℕ) → IsCoreFound cores name found → found ≡ Some k
@@ -240,7 +280,8 @@ pub delivered_there : (b : Bucket) (message : Sent) (found : Option ℕ) (k : �
     → cores ≡ delivered message b.replicas
 delivered_there b message found k cores sound is same received_there =
     let (core, there, named) = place_of_core b.replicas message.core found k is same in
-    received_there core there ∙ sym (delivered_at message b.replicas k core sound.apart there named)
+    received_there core there
+    ∙ sym (delivered_at message b.replicas k core (AreApart-from_ascending b.replicas sound.cores.ascend) there named)
 
 -- and so the bucket is sound
 pub IsSound-received : (b : Bucket) (at : ℕ) (message : Sent) (flight : FlightState) (found : Option ℕ) (k : ℕ) (cores : List Core)
@@ -260,6 +301,7 @@ pub Delivers-received : (b : Bucket) (at : ℕ) (message : Sent) (flight : Fligh
     → Delivers b at message (with_cores b flight cores)
 Delivers-received b at message flight found k cores sound there left is same received_there = record {
   name = record { first = refl; limit = refl };
+  split = record { phase = refl; feeds = refl };
   map_is = refl;
   entries = refl;
   found = there;

@@ -1,5 +1,5 @@
--- What is true of a core stays true once a write that was in flight to it came there.
-use Rattle.std.proofs.Common.{◌≡◌, ◌⊎◌, inl, inr, ℕ, zero, suc, ◌≤◌, ℤ, ◌<ℤ◌, ◌≤ℤ◌, Bool, true, false, cond, IsTrue, List, [], ◌∷◌, ◌++◌, length, Option, Some, None, All, Contains, refl, sym, ap, ◌∙◌, subst, arith, length-append}
+-- What is true of a core stays true as what is pending for it comes to its cells, or from the flight into its buffer.
+use Rattle.std.proofs.Common.{◌≡◌, ◌⊎◌, inl, inr, ℕ, zero, suc, ◌≤◌, ◌+◌, ℤ, ◌<ℤ◌, ◌≤ℤ◌, Bool, true, false, cond, IsTrue, List, [], ◌∷◌, ◌++◌, length, Option, Some, None, All, Contains, refl, sym, ap, ◌∙◌, subst, arith, length-append}
 use Rattle.std.specs.Int.{int_max}
 use Rattle.std.specs.Prelude.{int_lt}
 use Rattle.std.proofs.lemmas.Int.{ints, clamps}
@@ -12,9 +12,10 @@ use Rattle.sc_record.specs.declared.write.Write.{Write}
 use Rattle.sc_record.specs.declared.entry.Entry.{Entry}
 use Rattle.sc_cluster.specs.declared.slice.Slice.{Slice}
 use Rattle.sc_cluster.proofs.ListLemmas.{Contains-map, Contains-filter}
-use Rattle.sc_ulog.specs.declared.mode.Mode.TheVariants.{Active, Buffering, Replaying}
+use Rattle.sc_ulog.specs.declared.mode.Mode.{Mode}
+use Rattle.sc_ulog.specs.declared.mode.Mode.TheVariants.{Active}
 use Rattle.sc_replica.specs.Cells.{applied}
-use Rattle.sc_replica.specs.Core.{Core, fed, buffered, received, received_in}
+use Rattle.sc_replica.specs.Core.{Core, fed, fed_all, buffered}
 use Rattle.sc_replica.proofs.CoreLemmas.{All-applied, spare_after-≥}
 use Rattle.sc_replica.proofs.GreatestLemmas.{greater, write_of-applied}
 use Rattle.sc_journal.specs.Journal.{writes, writes_of, last_write}
@@ -25,19 +26,21 @@ use Rattle.sc_journal.proofs.ListLemmas.{last_of_cases, split_at}
 use Rattle.sc_journal.proofs.VersionLemmas.{ascends_in_versions, legal_newest}
 use Rattle.sc_bucket.specs.Cores.{is_attached}
 use Rattle.sc_bucket.specs.Sound.{Serves, IsInRange}
-use Rattle.sc_bucket.proofs.FlightLemmas.{IsOneLess, one_less-append}
+use Rattle.sc_bucket.proofs.FlightLemmas.{IsOneLess, one_less}
 
--- what is true of a core of a bucket with this map and this journal, to which these writes are in flight
-pub record IsSoundCore (slices : List Slice) (journal : List Entry) (sent : List Write) (core : Core) : Type 0 where
+-- what is true of a core of a bucket with this map and this journal, to which `sent` is in flight and for which `pending` is
+-- all that is still to come to its cells
+pub record IsSoundCore (slices : List Slice) (journal : List Entry) (sent pending : List Write) (core : Core)
+    : Type 0 where
   pub serves : (slice : Slice) → Contains slices slice → slice.id ≡ core.core.slice → Serves journal slice core
-  pub written : All (Contains (writes journal)) core.cells × All (Contains (writes journal)) (sent ++ core.buffer)
+  pub written : All (Contains (writes journal)) core.cells × All (Contains (writes journal)) pending
   pub held : (slice : Slice) → Contains slices slice → slice.id ≡ core.core.slice → IsTrue (is_attached slice)
       → (id : List ℕ) (write : Write) → IsWithin slice.range.min slice.range.max (route_hash id)
-      → last_write journal id ≡ Some write → (write_of core.cells id ≡ Some write) ⊎ Contains (sent ++ core.buffer) write
+      → last_write journal id ≡ Some write → (write_of core.cells id ≡ Some write) ⊎ Contains pending write
   pub in_range : (slice : Slice) → Contains slices slice → slice.id ≡ core.core.slice
-      → All (IsInRange slice) core.cells × All (IsInRange slice) (sent ++ core.buffer)
+      → All (IsInRange slice) core.cells × All (IsInRange slice) pending
   pub clock : IsClock journal core.clock
-  pub cell_room : length (sent ++ core.buffer) ≤ core.cell_spare
+  pub cell_room : length pending ≤ core.cell_spare
   pub buffer_room : length sent ≤ core.buffer_spare
 
 -- a write of the id is of the id, and of a journal's writes one of the id's
@@ -147,34 +150,31 @@ clock-fed journal clock write there is = by (int_lt clock write.version) refl wh
       let greatest : int_max clock write.version ≡ clock = grind (arith, ints, clamps) in
       subst (IsClock journal) (sym greatest) is
 
--- a core that applies the write
-fed_is_sound : (first slices : List Slice) (journal : List Entry) (sent left : List Write) (core : Core) (write : Write)
-    → IsLegal first journal → IsOneLess sent write left → IsSoundCore slices journal sent core
-    → IsSoundCore slices journal left (fed core write)
-fed_is_sound first slices journal sent left core write legal one sound = record {
+-- a core that applies a write that is pending for it: one that it is sent, one that it is fed, or one of its buffer
+pub fed_is_sound : (first slices : List Slice) (journal : List Entry) (sent fewer pending left : List Write)
+    (core : Core) (write : Write) → IsLegal first journal → IsOneLess pending write left → length fewer ≤ length sent
+    → IsSoundCore slices journal sent pending core → IsSoundCore slices journal fewer left (fed core write)
+fed_is_sound first slices journal sent fewer pending left core write legal one few sound = record {
   serves = λ slice there named active leader.
       let before = sound.serves slice there named active leader in
       (before.0, λ id within. same_last id (before.1 id within));
   written = (
     All-applied (Contains (writes journal)) core.cells write sound.written.0 here,
-    all_from (Contains (writes journal)) (sent ++ core.buffer) (left ++ core.buffer) pending.from sound.written.1,
+    all_from (Contains (writes journal)) pending left one.from sound.written.1,
   );
   held = λ slice there named attached id last within is. by id last is (sound.held slice there named attached id last within is);
   in_range = λ slice there named.
       let before = sound.in_range slice there named in (
         All-applied (IsInRange slice) core.cells write before.0
-            (All-contains (IsInRange slice) (sent ++ core.buffer) write before.1 pending.there),
-        all_from (IsInRange slice) (sent ++ core.buffer) (left ++ core.buffer) pending.from before.1,
+            (All-contains (IsInRange slice) pending write before.1 one.there),
+        all_from (IsInRange slice) pending left one.from before.1,
       );
   clock = clock-fed journal core.clock write here sound.clock;
-  cell_room = omega (arith, pending.count, sound.cell_room, spare_after-≥ core.cells core.cell_spare write);
-  buffer_room = omega (arith, one.count, sound.buffer_room);
+  cell_room = omega (arith, one.count, sound.cell_room, spare_after-≥ core.cells core.cell_spare write);
+  buffer_room = omega (arith, few, sound.buffer_room);
 } where
-  pending : IsOneLess (sent ++ core.buffer) write (left ++ core.buffer)
-  pending = one_less-append sent left core.buffer write one
-
   here : Contains (writes journal) write
-  here = All-contains (Contains (writes journal)) (sent ++ core.buffer) write sound.written.1 pending.there
+  here = All-contains (Contains (writes journal)) pending write sound.written.1 one.there
 
   same_last : (id : List ℕ) → write_of core.cells id ≡ last_write journal id
       → write_of (applied core.cells write) id ≡ last_write journal id
@@ -188,80 +188,127 @@ fed_is_sound first slices journal sent left core write legal one sound = record 
         other = not_own journal id write here none
 
   by : (id : List ℕ) (last : Write) → last_write journal id ≡ Some last
-      → (write_of core.cells id ≡ Some last) ⊎ Contains (sent ++ core.buffer) last
-      → (write_of (applied core.cells write) id ≡ Some last) ⊎ Contains (left ++ core.buffer) last
+      → (write_of core.cells id ≡ Some last) ⊎ Contains pending last
+      → (write_of (applied core.cells write) id ≡ Some last) ⊎ Contains left last
   by id last is (inl cell) = inl (keeps_last first journal core.cells write id last legal here is cell)
-  by id last is (inr awaited) = cases (pending.kept last awaited) where
-    cases : Contains (left ++ core.buffer) last ⊎ (write ≡ last)
-        → (write_of (applied core.cells write) id ≡ Some last) ⊎ Contains (left ++ core.buffer) last
+  by id last is (inr awaited) = cases (one.kept last awaited) where
+    cases : Contains left last ⊎ (write ≡ last)
+        → (write_of (applied core.cells write) id ≡ Some last) ⊎ Contains left last
     cases (inl still) = inr still
     cases (inr same) =
         inl (ap (λ (w : Write). write_of (applied core.cells w) id) same
         ∙ takes_last first journal core.cells id last legal sound.written.0 is)
 
--- a core that puts the write into its buffer
-buffered_is_sound : (slices : List Slice) (journal : List Entry) (sent left : List Write) (core : Core) (write : Write)
-    → IsOneLess sent write left → IsSoundCore slices journal sent core → IsSoundCore slices journal left (buffered core write)
-buffered_is_sound slices journal sent left core write one sound = record {
+-- a core that applies writes that are pending for it, one after another
+pub fed_all_is_sound : (first slices : List Slice) (journal : List Entry) (sent before these after : List Write)
+    (core : Core) → IsLegal first journal → IsSoundCore slices journal sent (before ++ (these ++ after)) core
+    → IsSoundCore slices journal sent (before ++ after) (fed_all core these)
+fed_all_is_sound first slices journal sent before [] after core legal sound = sound
+fed_all_is_sound first slices journal sent before (write ∷ these) after core legal sound =
+    fed_all_is_sound first slices journal sent before these after (fed core write) legal
+    (fed_is_sound first slices journal sent sent (before ++ write ∷ (these ++ after)) (before ++ (these ++ after))
+    core write legal (one_less before (these ++ after) write) (omega arith) sound)
+
+-- one list of writes has the same writes as another, and is no longer
+pub record AreSame (old new : List Write) : Type 0 where
+  pub from : (write : Write) → Contains new write → Contains old write
+  pub to : (write : Write) → Contains old write → Contains new write
+  pub count : length new ≤ length old
+
+-- a core whose cells and clock stay, for which the same is pending
+pub same_pending_is_sound : (slices : List Slice) (journal : List Entry) (sent fewer old new : List Write) (core : Core)
+    → AreSame old new → length fewer ≤ length sent → IsSoundCore slices journal sent old core
+    → IsSoundCore slices journal fewer new core
+same_pending_is_sound slices journal sent fewer old new core same few sound = record {
   serves = sound.serves;
-  written = (
-    sound.written.0,
-    all_from (Contains (writes journal)) (sent ++ core.buffer) (left ++ (core.buffer ++ write ∷ [])) from sound.written.1,
-  );
+  written = (sound.written.0, all_from (Contains (writes journal)) old new same.from sound.written.1);
   held = λ slice there named attached id last within is. by id last (sound.held slice there named attached id last within is);
   in_range = λ slice there named.
       let before = sound.in_range slice there named in
-      (before.0, all_from (IsInRange slice) (sent ++ core.buffer) (left ++ (core.buffer ++ write ∷ [])) from before.1);
+      (before.0, all_from (IsInRange slice) old new same.from before.1);
   clock = sound.clock;
-  cell_room = omega (arith, one.count, sound.cell_room, length-append sent core.buffer, length-append left (core.buffer ++ write ∷ []), length-append core.buffer (write ∷ []));
-  buffer_room = omega (arith, one.count, sound.buffer_room);
+  cell_room = omega (arith, same.count, sound.cell_room);
+  buffer_room = omega (arith, few, sound.buffer_room);
+} where
+  by : (id : List ℕ) (last : Write) → (write_of core.cells id ≡ Some last) ⊎ Contains old last
+      → (write_of core.cells id ≡ Some last) ⊎ Contains new last
+  by id last (inl cell) = inl cell
+  by id last (inr awaited) = inr (same.to last awaited)
+
+-- a core with another log: its buffer is any, and it is still active where it was
+pub other_log_is_sound : (slices : List Slice) (journal : List Entry) (sent pending : List Write) (core : Core)
+    (mode : Mode) (buffer : List Write) → (core.mode ≡ Active → mode ≡ Active) → IsSoundCore slices journal sent pending core
+    → IsSoundCore slices journal sent pending (record core { mode = mode; buffer = buffer })
+other_log_is_sound slices journal sent pending core mode buffer still sound = record {
+  serves = λ slice there named active leader.
+      let before = sound.serves slice there named active leader in (still before.0, before.1);
+  written = sound.written;
+  held = sound.held;
+  in_range = sound.in_range;
+  clock = sound.clock;
+  cell_room = sound.cell_room;
+  buffer_room = sound.buffer_room;
+}
+
+-- a core that puts a write that it was sent into its buffer
+pub buffered_is_sound : (slices : List Slice) (journal : List Entry) (sent left old new : List Write) (core : Core)
+    (write : Write) → AreSame old new → length sent ≡ length left + 1 → IsSoundCore slices journal sent old core
+    → IsSoundCore slices journal left new (buffered core write)
+buffered_is_sound slices journal sent left old new core write same one sound =
+    let before = same_pending_is_sound slices journal sent sent old new core same (omega arith) sound in
+    record {
+      serves = before.serves;
+      written = before.written;
+      held = before.held;
+      in_range = before.in_range;
+      clock = before.clock;
+      cell_room = before.cell_room;
+      buffer_room = omega (arith, one, sound.buffer_room);
+    }
+
+-- so it is with other writes behind them
+pub AreSame-append : (old new more : List Write) → AreSame old new → AreSame (old ++ more) (new ++ more)
+AreSame-append old new more same = record {
+  from = λ write there. over new old write (same.from write) (Contains-append_cases new more write there);
+  to = λ write there. over old new write (same.to write) (Contains-append_cases old more write there);
+  count = omega (arith, length-append old more, length-append new more, same.count);
+} where
+  over : (some other : List Write) (write : Write) → (Contains some write → Contains other write)
+      → Contains some write ⊎ Contains more write → Contains (other ++ more) write
+  over some other write here (inl there) = Contains-append_left other more write (here there)
+  over some other write here (inr there) = Contains-append_right other more write there
+
+-- a write that goes from the one list to the end of the other
+pub AreSame-moved : (sent left buffer : List Write) (write : Write) → IsOneLess sent write left
+    → AreSame (sent ++ buffer) (left ++ (buffer ++ write ∷ []))
+AreSame-moved sent left buffer write one = record {
+  from = λ other there. by_from other (Contains-append_cases left later other there);
+  to = λ other there. by_to other (Contains-append_cases sent buffer other there);
+  count = omega (
+    arith,
+    one.count,
+    length-append sent buffer,
+    length-append left later,
+    length-append buffer (write ∷ []),
+  );
 } where
   later : List Write
-  later = core.buffer ++ write ∷ []
+  later = buffer ++ write ∷ []
 
-  from : (other : Write) → Contains (left ++ (core.buffer ++ write ∷ [])) other → Contains (sent ++ core.buffer) other
-  from other there = cases (Contains-append_cases left later other there) where
-    last : Contains core.buffer other ⊎ (write ≡ other) → Contains (sent ++ core.buffer) other
-    last (inl inside) = Contains-append_right sent core.buffer other inside
-    last (inr same) = Contains-append_left sent core.buffer other (subst (Contains sent) same one.there)
+  last : (other : Write) → Contains buffer other ⊎ (write ≡ other) → Contains (sent ++ buffer) other
+  last other (inl inside) = Contains-append_right sent buffer other inside
+  last other (inr same) = Contains-append_left sent buffer other (subst (Contains sent) same one.there)
 
-    cases : Contains left other ⊎ Contains later other → Contains (sent ++ core.buffer) other
-    cases (inl inside) = Contains-append_left sent core.buffer other (one.from other inside)
-    cases (inr inside) = last (Contains-push_cases core.buffer write other inside)
+  by_from : (other : Write) → Contains left other ⊎ Contains later other → Contains (sent ++ buffer) other
+  by_from other (inl inside) = Contains-append_left sent buffer other (one.from other inside)
+  by_from other (inr inside) = last other (Contains-push_cases buffer write other inside)
 
-  to : (other : Write) → Contains (sent ++ core.buffer) other → Contains (left ++ (core.buffer ++ write ∷ [])) other
-  to other there = cases (Contains-append_cases sent core.buffer other there) where
-    first : Contains left other ⊎ (write ≡ other) → Contains (left ++ later) other
-    first (inl inside) = Contains-append_left left later other inside
-    first (inr same) = Contains-append_right left later other (subst (Contains later) same (Contains-push core.buffer write))
+  first : (other : Write) → Contains left other ⊎ (write ≡ other) → Contains (left ++ later) other
+  first other (inl inside) = Contains-append_left left later other inside
+  first other (inr same) =
+      Contains-append_right left later other (subst (Contains later) same (Contains-push buffer write))
 
-    cases : Contains sent other ⊎ Contains core.buffer other → Contains (left ++ later) other
-    cases (inl inside) = first (one.kept other inside)
-    cases (inr inside) = Contains-append_right left later other (Contains-append_left core.buffer (write ∷ []) other inside)
-
-  by : (id : List ℕ) (last : Write) → (write_of core.cells id ≡ Some last) ⊎ Contains (sent ++ core.buffer) last
-      → (write_of core.cells id ≡ Some last) ⊎ Contains (left ++ (core.buffer ++ write ∷ [])) last
-  by id last (inl cell) = inl cell
-  by id last (inr awaited) = inr (to last awaited)
-
--- what a core does with a write that it receives it does by its mode
-pub received_cases : (P : Core → Type 0) (core : Core) (write : Write) → P (fed core write) → P (buffered core write)
-    → P (received core write)
-received_cases P core write is_fed is_buffered =
-    elim core.mode as (λ mode. P (received_in mode core write)) [ Active ↦ is_fed | Buffering ↦ is_buffered | Replaying ↦ is_fed ]
-
--- a core is sound once it received a write that was in flight to it
-pub received_is_sound : (first slices : List Slice) (journal : List Entry) (sent left : List Write) (core : Core) (write : Write)
-    → IsLegal first journal → IsOneLess sent write left → IsSoundCore slices journal sent core
-    → IsSoundCore slices journal left (received core write)
-received_is_sound first slices journal sent left core write legal one sound =
-    received_cases (IsSoundCore slices journal left) core write
-    (fed_is_sound first slices journal sent left core write legal one sound)
-    (buffered_is_sound slices journal sent left core write one sound)
-
--- and it keeps its name and its mode
-pub name-received : (core : Core) (write : Write) → (received core write).core ≡ core.core
-name-received core write = received_cases (λ (after : Core). after.core ≡ core.core) core write refl refl
-
-pub mode-received : (core : Core) (write : Write) → (received core write).mode ≡ core.mode
-mode-received core write = received_cases (λ (after : Core). after.mode ≡ core.mode) core write refl refl
+  by_to : (other : Write) → Contains sent other ⊎ Contains buffer other → Contains (left ++ later) other
+  by_to other (inl inside) = first other (one.kept other inside)
+  by_to other (inr inside) =
+      Contains-append_right left later other (Contains-append_left buffer (write ∷ []) other inside)

@@ -1,9 +1,9 @@
 -- What is left of the messages in flight once one of them was taken out.
-use Rattle.std.proofs.Common.{◌≡◌, ◌⊎◌, inl, inr, ℕ, zero, suc, ◌+◌, ◌<◌, true, false, List, [], ◌∷◌, ◌++◌, length, map, filter, take, drop, slice_get, Some, None, Option, MatchOption, All, ◌≢◌, Contains, refl, sym, ap, ◌∙◌, subst, arith, length-append, length-take}
+use Rattle.std.proofs.Common.{◌≡◌, ◌⊎◌, inl, inr, ℕ, zero, suc, ◌+◌, ◌<◌, true, false, List, [], ◌∷◌, ◌++◌, length, map, take, drop, slice_get, Some, None, Option, MatchOption, All, ◌≢◌, Contains, refl, sym, ap, ◌∙◌, subst, arith, length-append, length-take}
 use Rattle.std.specs.List.{remove, take-map, drop-map, AllWithin, HoldsAt}
 use Rattle.std.specs.Option.{option_map}
 use Rattle.std.proofs.lemmas.List.{get_or-take, map-append}
-use Rattle.std.proofs.lemmas.List.Elements.{All-map, filter-append, Contains-append_left, Contains-append_right, Contains-append_cases}
+use Rattle.std.proofs.lemmas.List.Elements.{All-map, Contains-append_left, Contains-append_right, Contains-append_cases}
 use Rattle.std.proofs.lemmas.Option.{none-some, same_Some, slice_get-map, get_or_from_slice_get}
 use Rattle.sc_record.specs.declared.slice.CoreId.{CoreId}
 use Rattle.sc_record.specs.declared.write.Write.{Write}
@@ -12,6 +12,7 @@ use Rattle.sc_bucket.specs.Cores.{is_core}
 use Rattle.sc_bucket.specs.declared.message.Message.{Message}
 use Rattle.sc_bucket.specs.Flight.{sent_of, in_flight, IsFirstOf}
 use Rattle.sc_bucket.proofs.PlaceLemmas.{some_at}
+use Rattle.sc_bucket.proofs.PendingLemmas.{in_flight-append}
 
 -- an element at a place stands between those before it and those after it
 pub split_get : {A : Type 0} (xs : List A) (k : ℕ) (x : A) → slice_get xs k ≡ Some x → xs ≡ take k xs ++ x ∷ drop (suc k) xs
@@ -19,14 +20,7 @@ split_get [] k x is = absurd (none-some x is)
 split_get (y ∷ ys) zero x is = ap (λ z. z ∷ ys) (same_Some y x is)
 split_get (y ∷ ys) (suc k) x is = ap (λ zs. y ∷ zs) (split_get ys k x is)
 
--- the messages to a core of two parts
-pub in_flight-append : (xs ys : List Sent) (core : CoreId) → in_flight (xs ++ ys) core ≡ in_flight xs core ++ in_flight ys core
-in_flight-append xs ys core =
-    let is_to : Sent → _ = λ (message : Sent). is_core core message.core in
-    ap (map (λ (message : Sent). message.write)) (filter-append is_to xs ys)
-    ∙ map-append (λ (message : Sent). message.write) (filter is_to xs) (filter is_to ys)
-
--- and of one message and others
+-- the messages to a core, of one message and others
 in_flight-own : (message : Sent) (messages : List Sent) (core : CoreId) → is_core core message.core ≡ true
     → in_flight (message ∷ messages) core ≡ message.write ∷ in_flight messages core
 in_flight-own message messages core is = rw is refl
@@ -42,7 +36,7 @@ pub record IsOneLess (more : List Write) (write : Write) (less : List Write) : T
   pub from : (other : Write) → Contains less other → Contains more other
   pub count : length more ≡ length less + 1
 
-one_less : (xs ys : List Write) (write : Write) → IsOneLess (xs ++ write ∷ ys) write (xs ++ ys)
+pub one_less : (xs ys : List Write) (write : Write) → IsOneLess (xs ++ write ∷ ys) write (xs ++ ys)
 one_less xs ys write = record {
   there = Contains-append_right xs (write ∷ ys) write (0, omega arith, refl);
   kept = λ other there. by_kept other (Contains-append_cases xs (write ∷ ys) other there);

@@ -17,8 +17,7 @@ use Rattle.sc_replica.specs.Core.{Core}
 use Rattle.sc_bucket.specs.Kept.{Sent}
 use Rattle.sc_bucket.specs.Cores.{is_core, is_attached, has_hash, follows, followers, AreApart}
 use Rattle.sc_bucket.specs.Flight.{is_same_message, sent_to}
-use Rattle.sc_bucket.proofs.CoreLemmas.{is_core-Decides}
-use Rattle.sc_bucket.proofs.SoundLemmas.{name_of}
+use Rattle.sc_bucket.proofs.CoreLemmas.{is_core-Decides, name_of}
 use Rattle.sc_bucket.proofs.SendLemmas.{takes, followers_in}
 
 -- what is true of each element is so at each place

@@ -3,8 +3,6 @@ use Rattle.std.proofs.Common.{◌≡◌, ◌≢◌, ℕ, ℤ, Bool, true, false,
 use Rattle.std.specs.declared.sync.Arc.{Arc}
 use Rattle.std.specs.declared.alloc.Global.{Global}
 use Rattle.std.proofs.lemmas.List.Elements.{All-contains, All-weaker, Contains-append_left, Contains-push}
-use Rattle.std.specs.List.{IsDistinct}
-use Rattle.std.proofs.Math.Seq.{map-set_same}
 use Rattle.std.proofs.lemmas.Bool.{eq-eqb, and_from}
 use Rattle.std.proofs.lemmas.Bool.Decides.{not_from_Decides}
 use Rattle.std.proofs.lemmas.Option.{slice_get_within, get_or_from_slice_get, same_Some}
@@ -25,7 +23,6 @@ use Rattle.sc_cluster.proofs.ItemLemmas.{count_by-positive}
 use Rattle.sc_cluster.proofs.ListLemmas.{Contains-map}
 use Rattle.sc_cluster.proofs.LeaderLemmas.{is_leader, leads_alone, same_from_id}
 use Rattle.sc_cluster.proofs.TileLemmas.{holders-filter}
-use Rattle.sc_ulog.specs.declared.mode.Mode.TheVariants.{Active}
 use Rattle.sc_replica.specs.Cells.{put}
 use Rattle.sc_replica.specs.Core.{Core, led}
 use Rattle.sc_replica.proofs.CellLemmas.{write_of-put}
@@ -34,13 +31,14 @@ use Rattle.sc_journal.specs.Journal.{writes, last_write}
 use Rattle.sc_journal.specs.Outcomes.{IsClock}
 use Rattle.sc_journal.proofs.JournalLemmas.{id_from_is_of, writes-push_write, last_write-push_write, last_write-push_write_other}
 use Rattle.sc_journal.proofs.VersionLemmas.{IsClock-append, IsClock-push_write}
-use Rattle.sc_bucket.specs.Kept.{Sent}
-use Rattle.sc_bucket.specs.Cores.{core_key, core_keys, is_core, is_attached, followers, AreApart, IsLeaderAt}
-use Rattle.sc_bucket.specs.Flight.{sent_to, pending}
+use Rattle.sc_bucket.specs.Kept.{Sent, FeedState}
+use Rattle.sc_bucket.specs.Cores.{is_core, is_attached, followers, AreApart, IsLeaderAt}
+use Rattle.sc_bucket.specs.Flight.{sent_to}
+use Rattle.sc_bucket.specs.Pending.{pending}
 use Rattle.sc_bucket.specs.Sound.{Serves, AreWritten, HasOrAwaits, IsInRange, AreInRange}
-use Rattle.sc_bucket.proofs.CoreLemmas.{is_core-Decides, core_alone}
-use Rattle.sc_bucket.proofs.SoundLemmas.{All-slice_get, name_of}
-use Rattle.sc_bucket.proofs.PlaceLemmas.{All-set_apart, keys-led}
+use Rattle.sc_bucket.proofs.CoreLemmas.{same_name_by, is_core-Decides, core_alone, name_of}
+use Rattle.sc_bucket.proofs.SoundLemmas.{All-slice_get}
+use Rattle.sc_bucket.proofs.PlaceLemmas.{All-set_apart}
 use Rattle.sc_bucket.proofs.PendingLemmas.{All-pending_sent, pending-stays, pending-sent}
 use Rattle.sc_bucket.proofs.FollowerLemmas.{IsFollower, are_followers, is_follower}
 
@@ -55,16 +53,14 @@ Contains-writes_push journal cell write there =
 abbrev pub OfSlices : List Slice → (Slice → Core → Type 0) → Core → Type 0
 OfSlices slices P core = (slice : Slice) → Contains slices slice → slice.id ≡ core.core.slice → P slice core
 
--- what is true of the cores of a bucket with this map, this journal and these messages
-pub record AreSound (slices : List Slice) (journal : List Entry) (messages : List Sent) (cores : List Core) : Type 0 where
+-- what is true of the cores of a bucket with this map, this journal, these messages and these feeds
+pub record AreSound (slices : List Slice) (journal : List Entry) (messages : List Sent) (feeds : List FeedState)
+    (cores : List Core) : Type 0 where
   pub leaders : All (OfSlices slices (Serves journal)) cores
-  pub written : All (AreWritten journal messages) cores
-  pub held : All (OfSlices slices (HasOrAwaits journal messages)) cores
-  pub in_range : All (OfSlices slices (AreInRange messages)) cores
+  pub written : All (AreWritten journal messages feeds) cores
+  pub held : All (OfSlices slices (HasOrAwaits journal messages feeds)) cores
+  pub in_range : All (OfSlices slices (AreInRange messages feeds)) cores
   pub clocks : All (λ (core : Core). IsClock journal core.clock) cores
-  pub apart : AreApart cores
-  pub keys : map core_key cores ≡ core_keys slices
-  pub active : All (λ (core : Core). core.mode ≡ Active) cores
 
 -- a hash that a slice leads is a hash
 pub leads_within : (slices : List Slice) (h : ℤ) (slice : Slice) → IsMap slices → Leads slices h slice
@@ -117,16 +113,17 @@ other_serves slices journal other cell hashed apart serves slice there named act
           absurd (apart slice leads named first)
 
 -- what was written stays written, and so is what is sent
-AreWritten-sent : (journal : List Entry) (messages : List Sent) (cell : Arc Write Global) (place : ℕ) (names : List CoreId) (core : Core)
-    → AreWritten journal messages core
-    → AreWritten (journal ++ entry.Write cell ∷ []) (messages ++ sent_to place cell.value names) core
-AreWritten-sent journal messages cell place names core before =
+AreWritten-sent : (journal : List Entry) (messages : List Sent) (cell : Arc Write Global) (place : ℕ)
+    (names : List CoreId)
+    (feeds : List FeedState) (core : Core) → AreWritten journal messages feeds core
+    → AreWritten (journal ++ entry.Write cell ∷ []) (messages ++ sent_to place cell.value names) feeds core
+AreWritten-sent journal messages cell place names feeds core before =
     let here : Contains (writes (journal ++ entry.Write cell ∷ [])) cell.value =
     subst (λ (ws : List Write). Contains ws cell.value) (sym (writes-push_write journal cell)) (Contains-push (writes journal) cell.value) in (
       All-weaker (Contains (writes journal)) (Contains (writes (journal ++ entry.Write cell ∷ []))) (λ w. Contains-writes_push journal cell w) core.cells before.0,
-      All-pending_sent (Contains (writes (journal ++ entry.Write cell ∷ []))) messages place cell.value names core
+      All-pending_sent (Contains (writes (journal ++ entry.Write cell ∷ []))) messages place cell.value names feeds core
           (All-weaker (Contains (writes journal)) (Contains (writes (journal ++ entry.Write cell ∷ []))) (λ w. Contains-writes_push journal cell w)
-          (pending messages core) before.1) (λ other there same. here),
+          (pending messages feeds core) before.1) (λ other there same. here),
     )
 
 -- what is sent to a core is in the range of its slice
@@ -148,103 +145,99 @@ name_there : (cores : List Core) (k : ℕ) (core : Core) → slice_get cores k �
 name_there cores k core there =
     Contains-map name_of cores core (k, slice_get_within cores k core there, get_or_from_slice_get cores k core core there)
 
--- and stays so where a core leads a write
-pub names-led : (cores : List Core) (at : ℕ) (core : Core) (write : Write) → slice_get cores at ≡ Some core
-    → map name_of (set cores at (led core write)) ≡ map name_of cores
-names-led cores at core write there =
-    map-set_same name_of cores at (led core write) core (ap name_of (sym (get_or_from_slice_get cores at core core there)))
-
--- names by their parts
-same_core : (one other : CoreId) → one.slice ≡ other.slice → one.replica ≡ other.replica → one ≡ other
-same_core one other slice replica =
-    (is_core-Decides one other).0
-    (and_from _ _ (eq-eqb one.slice.0 other.slice.0 (ap (λ (id : SliceId). id.0) slice)) (eq-eqb one.replica other.replica replica))
-
 -- of each id the core that led the write has the last write, or awaits it
-led_holds : (slices : List Slice) (journal : List Entry) (messages sent : List Sent) (core : Core) (cell : Arc Write Global)
-    → OfSlices slices (HasOrAwaits journal messages) core
-    → OfSlices slices (HasOrAwaits (journal ++ entry.Write cell ∷ []) (messages ++ sent)) (led core cell.value)
-led_holds slices journal messages sent core cell holds slice there named attached id write within last = by (is_of id cell.value) refl where
-  Held : Type 0
-  Held = (write_of (put core.cells cell.value) id ≡ Some write) ⊎ Contains (pending (messages ++ sent) core) write
+led_holds : (slices : List Slice) (journal : List Entry) (messages sent : List Sent) (feeds : List FeedState)
+    (core : Core) (cell : Arc Write Global)
+    → OfSlices slices (HasOrAwaits journal messages feeds) core
+    → OfSlices slices (HasOrAwaits (journal ++ entry.Write cell ∷ []) (messages ++ sent) feeds) (led core cell.value)
+led_holds slices journal messages sent feeds core cell holds slice there named attached id write within last =
+    by (is_of id cell.value) refl where
+      Held : Type 0
+      Held = (write_of (put core.cells cell.value) id ≡ Some write) ⊎ Contains (pending (messages ++ sent) feeds core) write
 
-  stays : (write_of (put core.cells cell.value) id ≡ write_of core.cells id)
-      → (write_of core.cells id ≡ Some write) ⊎ Contains (pending messages core) write → Held
-  stays same (inl has) = inl (same ∙ has)
-  stays same (inr awaits) = inr (pending-stays messages sent core write awaits)
+      stays : (write_of (put core.cells cell.value) id ≡ write_of core.cells id)
+          → (write_of core.cells id ≡ Some write) ⊎ Contains (pending messages feeds core) write → Held
+      stays same (inl has) = inl (same ∙ has)
+      stays same (inr awaits) = inr (pending-stays messages sent feeds core write awaits)
 
-  by : (b : Bool) → is_of id cell.value ≡ b → Held
-  by true is =
-      inl (write_of-put core.cells cell.value id ∙ ap (λ b. cond b (Some cell.value) (write_of core.cells id)) is
-      ∙ sym (last_write-push_write journal cell id is) ∙ last)
-  by false is =
-      stays (write_of-put core.cells cell.value id ∙ ap (λ b. cond b (Some cell.value) (write_of core.cells id)) is)
-      (holds slice there named attached id write within (sym (last_write-push_write_other journal cell id is) ∙ last))
+      by : (b : Bool) → is_of id cell.value ≡ b → Held
+      by true is =
+          inl (write_of-put core.cells cell.value id ∙ ap (λ b. cond b (Some cell.value) (write_of core.cells id)) is
+          ∙ sym (last_write-push_write journal cell id is) ∙ last)
+      by false is =
+          stays (write_of-put core.cells cell.value id ∙ ap (λ b. cond b (Some cell.value) (write_of core.cells id)) is)
+          (holds slice there named attached id write within (sym (last_write-push_write_other journal cell id is) ∙ last))
 
 -- and so of any other core, which is sent the write where it is to have it
-other_holds : (slices : List Slice) (journal : List Entry) (messages : List Sent) (place : ℕ) (names : List CoreId) (core : Core) (cell : Arc Write Global)
-    → cell.value.hash ≡ route_hash cell.value.id
+other_holds : (slices : List Slice) (journal : List Entry) (messages : List Sent) (place : ℕ) (names : List CoreId)
+    (feeds : List FeedState) (core : Core) (cell : Arc Write Global) → cell.value.hash ≡ route_hash cell.value.id
     → ((slice : Slice) → Contains slices slice → slice.id ≡ core.core.slice → IsTrue (is_attached slice)
     → IsWithin slice.range.min slice.range.max cell.value.hash → Contains names core.core)
-    → OfSlices slices (HasOrAwaits journal messages) core
-    → OfSlices slices (HasOrAwaits (journal ++ entry.Write cell ∷ []) (messages ++ sent_to place cell.value names)) core
-other_holds slices journal messages place names core cell hashed gets holds slice there named attached id write within last = by (is_of id cell.value) refl where
-  sent : List Sent
-  sent = sent_to place cell.value names
+    → OfSlices slices (HasOrAwaits journal messages feeds) core
+    → OfSlices slices
+    (HasOrAwaits (journal ++ entry.Write cell ∷ []) (messages ++ sent_to place cell.value names) feeds) core
+other_holds slices journal messages place names feeds core cell hashed gets holds slice there named attached id write within last =
+    by (is_of id cell.value) refl where
+      sent : List Sent
+      sent = sent_to place cell.value names
 
-  Held : Type 0
-  Held = (write_of core.cells id ≡ Some write) ⊎ Contains (pending (messages ++ sent) core) write
+      Held : Type 0
+      Held = (write_of core.cells id ≡ Some write) ⊎ Contains (pending (messages ++ sent) feeds core) write
 
-  stays : (write_of core.cells id ≡ Some write) ⊎ Contains (pending messages core) write → Held
-  stays (inl has) = inl has
-  stays (inr awaits) = inr (pending-stays messages sent core write awaits)
+      stays : (write_of core.cells id ≡ Some write) ⊎ Contains (pending messages feeds core) write → Held
+      stays (inl has) = inl has
+      stays (inr awaits) = inr (pending-stays messages sent feeds core write awaits)
 
-  by : (b : Bool) → is_of id cell.value ≡ b → Held
-  by true is =
-      let same : cell.value ≡ write = same_Some cell.value write (sym (last_write-push_write journal cell id is) ∙ last) in
-      let hash : route_hash id ≡ cell.value.hash = ap route_hash (sym (id_from_is_of id cell.value is)) ∙ sym hashed in
-      let among = gets slice there named attached (subst (IsWithin slice.range.min slice.range.max) hash within) in
-      inr (subst (Contains (pending (messages ++ sent) core)) same (pending-sent messages place cell.value names core among))
-  by false is = stays (holds slice there named attached id write within (sym (last_write-push_write_other journal cell id is) ∙ last))
+      by : (b : Bool) → is_of id cell.value ≡ b → Held
+      by true is =
+          let same : cell.value ≡ write = same_Some cell.value write (sym (last_write-push_write journal cell id is) ∙ last) in
+          let hash : route_hash id ≡ cell.value.hash = ap route_hash (sym (id_from_is_of id cell.value is)) ∙ sym hashed in
+          let among = gets slice there named attached (subst (IsWithin slice.range.min slice.range.max) hash within) in
+          inr (subst (Contains (pending (messages ++ sent) feeds core)) same
+          (pending-sent messages place cell.value names feeds core among))
+      by false is = stays (holds slice there named attached id write within (sym (last_write-push_write_other journal cell id is) ∙ last))
 
 -- the cores are sound once the one that leads the hash of a write led it, and it was sent to those that follow
-pub AreSound-led : (slices : List Slice) (journal : List Entry) (messages : List Sent) (cores : List Core) (at place : ℕ) (cell : Arc Write Global)
-    → IsMap slices → cell.value.hash ≡ route_hash cell.value.id → AreSound slices journal messages cores
+pub AreSound-led : (slices : List Slice) (journal : List Entry) (messages : List Sent) (feeds : List FeedState)
+    (cores : List Core) (at place : ℕ) (cell : Arc Write Global)
+    → IsMap slices → cell.value.hash ≡ route_hash cell.value.id → AreApart cores
+    → AreSound slices journal messages feeds cores
     → (leader : IsLeaderAt slices cores cell.value.hash at)
     → AreSound slices (journal ++ entry.Write cell ∷ [])
-    (messages ++ sent_to place cell.value (followers slices cores cell.value.hash leader.core.core)) (set cores at (led leader.core cell.value))
-AreSound-led slices journal messages cores at place cell is_map hashed sound leader = record {
+    (messages ++ sent_to place cell.value (followers slices cores cell.value.hash leader.core.core)) feeds
+    (set cores at (led leader.core cell.value))
+AreSound-led slices journal messages feeds cores at place cell is_map hashed distinct sound leader = record {
   leaders = All-set_apart (OfSlices slices (Serves longer)) cores at (led core cell.value)
       (led_serves slices journal core slice cell (of (OfSlices slices (Serves journal)) sound.leaders))
       (λ k other apart there. other_serves slices journal other cell hashed (no_other k other apart there)
       (All-slice_get (OfSlices slices (Serves journal)) cores k other sound.leaders there));
-  written = All-set_apart (AreWritten longer more) cores at (led core cell.value) written_led
-      (λ k other apart there. AreWritten-sent journal messages cell place names other
-      (All-slice_get (AreWritten journal messages) cores k other sound.written there));
-  held = All-set_apart (OfSlices slices (HasOrAwaits longer more)) cores at (led core cell.value)
-      (led_holds slices journal messages (sent_to place cell.value names) core cell (of (OfSlices slices (HasOrAwaits journal messages)) sound.held))
-      (λ k other apart there. other_holds slices journal messages place names other cell hashed (gets k other apart there)
-      (All-slice_get (OfSlices slices (HasOrAwaits journal messages)) cores k other sound.held there));
-  in_range = All-set_apart (OfSlices slices (AreInRange more)) cores at (led core cell.value)
+  written = All-set_apart (AreWritten longer more feeds) cores at (led core cell.value) written_led
+      (λ k other apart there. AreWritten-sent journal messages cell place names feeds other
+      (All-slice_get (AreWritten journal messages feeds) cores k other sound.written there));
+  held = All-set_apart (OfSlices slices (HasOrAwaits longer more feeds)) cores at (led core cell.value)
+      (led_holds slices journal messages (sent_to place cell.value names) feeds core cell
+      (of (OfSlices slices (HasOrAwaits journal messages feeds)) sound.held))
+      (λ k other apart there. other_holds slices journal messages place names feeds other cell hashed
+      (gets k other apart there)
+      (All-slice_get (OfSlices slices (HasOrAwaits journal messages feeds)) cores k other sound.held there));
+  in_range = All-set_apart (OfSlices slices (AreInRange more feeds)) cores at (led core cell.value)
       (λ other there named. (
-        All-put (IsInRange other) core.cells cell.value (of (OfSlices slices (AreInRange messages)) sound.in_range other there named).0
+        All-put (IsInRange other) core.cells cell.value
+            (of (OfSlices slices (AreInRange messages feeds)) sound.in_range other there named).0
             (here_in_range other there named),
-        All-pending_sent (IsInRange other) messages place cell.value names core
-            (of (OfSlices slices (AreInRange messages)) sound.in_range other there named).1
+        All-pending_sent (IsInRange other) messages place cell.value names feeds core
+            (of (OfSlices slices (AreInRange messages feeds)) sound.in_range other there named).1
             (λ name among same. sent_in_range slices cores cell.value core.core core other name is_map there named among same),
       ))
       (λ k other apart there one inside named.
-      let before = All-slice_get (OfSlices slices (AreInRange messages)) cores k other sound.in_range there one inside named in (
+      let before = All-slice_get (OfSlices slices (AreInRange messages feeds)) cores k other sound.in_range
+      there one inside named in (
         before.0,
-        All-pending_sent (IsInRange one) messages place cell.value names other before.1
+        All-pending_sent (IsInRange one) messages place cell.value names feeds other before.1
             (λ name among same. sent_in_range slices cores cell.value core.core other one name is_map inside named among same),
       ));
   clocks = All-set_apart (λ (other : Core). IsClock longer other.clock) cores at (led core cell.value) (IsClock-push_write journal cell)
       (λ k other apart there. IsClock-append journal (entry.Write cell ∷ []) other.clock (All-slice_get (λ (other : Core). IsClock journal other.clock) cores k other sound.clocks there));
-  apart = subst (IsDistinct is_core) (sym (names-led cores at core cell.value leader.found)) sound.apart;
-  keys = keys-led cores at core cell.value leader.found ∙ sound.keys;
-  active = All-set_apart (λ (other : Core). other.mode ≡ Active) cores at (led core cell.value) (of (λ (other : Core). other.mode ≡ Active) sound.active)
-      (λ k other apart there. All-slice_get (λ (other : Core). other.mode ≡ Active) cores k other sound.active there);
 } where
   core : Core
   core = leader.core
@@ -269,7 +262,8 @@ AreSound-led slices journal messages cores at place cell is_map hashed sound lea
   no_other k other apart there one one_leads named first =
       let same : one ≡ slice = leads_alone slices cell.value.hash one slice is_map (leads_within slices cell.value.hash slice is_map leader.leads) one_leads leader.leads in
       let ids : other.core.slice ≡ core.core.slice = sym named ∙ ap (λ (s : Slice). s.id) same ∙ sym leader.leader.0 in
-      apart (core_alone cores k at other core sound.apart there leader.found (same_core other.core core.core ids (first ∙ sym leader.leader.1)))
+      apart (core_alone cores k at other core distinct there leader.found
+      (same_name_by other.core core.core (ap (λ (id : SliceId). id.0) ids) (first ∙ sym leader.leader.1)))
 
   gets : (k : ℕ) (other : Core) → k ≢ at → slice_get cores k ≡ Some other → (one : Slice) → Contains slices one → one.id ≡ other.core.slice
       → IsTrue (is_attached one) → IsWithin one.range.min one.range.max cell.value.hash → Contains names other.core
@@ -279,14 +273,16 @@ AreSound-led slices journal messages cores at place cell is_map hashed sound lea
         differs : (b : Bool) → is_core core.core other.core ≡ b → is_core core.core other.core ≡ false
         differs false is = is
         differs true is =
-            absurd (apart (core_alone cores k at other core sound.apart there leader.found (sym ((is_core-Decides core.core other.core).0 is))))
+            absurd (apart (core_alone cores k at other core distinct there leader.found
+            (sym ((is_core-Decides core.core other.core).0 is))))
 
   written_here : Contains (writes longer) cell.value
   written_here = subst (λ (ws : List Write). Contains ws cell.value) (sym (writes-push_write journal cell)) (Contains-push (writes journal) cell.value)
 
-  written_led : AreWritten longer more (led core cell.value)
+  written_led : AreWritten longer more feeds (led core cell.value)
   written_led =
-      let before = AreWritten-sent journal messages cell place names core (of (AreWritten journal messages) sound.written) in
+      let before = AreWritten-sent journal messages cell place names feeds core
+      (of (AreWritten journal messages feeds) sound.written) in
       (All-put (Contains (writes longer)) core.cells cell.value before.0 written_here, before.1)
 
   here_in_range : (other : Slice) → Contains slices other → other.id ≡ core.core.slice → IsInRange other cell.value

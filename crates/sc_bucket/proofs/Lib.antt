@@ -19,3 +19,9 @@ pub mod DeliveredLemmas
 pub mod DeliverLemmas
 pub mod TakenLemmas
 pub mod CommitLemmas
+pub mod DeliverAllLemmas
+pub mod ArrivedLemmas
+pub mod FeedLemmas
+pub mod FindLemmas
+pub mod ReplicasLemmas
+pub mod SpareLemmas

@@ -8,18 +8,15 @@ use Rattle.sc_cluster.proofs.ListLemmas.{Contains-map, Contains-filter}
 use Rattle.sc_record.specs.declared.slice.CoreId.{CoreId}
 use Rattle.sc_record.specs.declared.write.Write.{Write}
 use Rattle.sc_replica.specs.Core.{Core}
-use Rattle.sc_bucket.specs.Kept.{Sent}
+use Rattle.sc_bucket.specs.Kept.{Sent, FeedState}
 use Rattle.sc_bucket.specs.Cores.{is_core}
-use Rattle.sc_bucket.specs.Flight.{sent_to, in_flight, pending}
+use Rattle.sc_bucket.specs.Flight.{sent_to, in_flight, is_to}
+use Rattle.sc_bucket.specs.Pending.{to_feed, pending}
 use Rattle.sc_bucket.proofs.CoreLemmas.{is_core-Decides, is_core-itself}
 
 -- the core that a message goes to
 abbrev pub goes_to : Sent → CoreId
 goes_to message = message.core
-
--- the message goes to the core of this name
-abbrev pub is_to : CoreId → Sent → Bool
-is_to name message = is_core name message.core
 
 -- what is in flight to a core, in two parts
 pub in_flight-append : (some more : List Sent) (name : CoreId) → in_flight (some ++ more) name ≡ in_flight some name ++ in_flight more name
@@ -79,12 +76,65 @@ in_flight-cases (message ∷ messages) name = by (is_core name message.core) ref
   by false other (inl none) = inl none
   by false other (inr (one, (k, below, is), same)) = inr (one, (suc k, omega arith, is), same)
 
--- what is pending for a core once more was sent
-pub length-pending : (some more : List Sent) (core : Core)
-    → length (pending (some ++ more) core) ≡ length (in_flight some core.core) + length (in_flight more core.core) + length core.buffer
-length-pending some more core =
-    length-append (in_flight (some ++ more) core.core) core.buffer
-    ∙ ap (λ n. n + length core.buffer) (ap length (in_flight-append some more core.core) ∙ length-append (in_flight some core.core) (in_flight more core.core))
+-- what arrives at a core: what is in flight to it, and what it keeps in its buffer
+abbrev pub arriving : List Sent → Core → List Write
+arriving messages core = in_flight messages core.core ++ core.buffer
+
+-- how much is pending for a core
+pub length-pending : (messages : List Sent) (feeds : List FeedState) (core : Core)
+    → length (pending messages feeds core)
+    ≡ length (in_flight messages core.core) + length core.buffer + length (to_feed feeds core.core)
+length-pending messages feeds core =
+    let all = length-append (arriving messages core) (to_feed feeds core.core) in
+    let some = length-append (in_flight messages core.core) core.buffer in
+    omega (arith, all, some)
+
+-- and once more was sent
+pub length-pending_more : (some more : List Sent) (feeds : List FeedState) (core : Core)
+    → length (pending (some ++ more) feeds core)
+    ≡ length (pending some feeds core) + length (in_flight more core.core)
+length-pending_more some more feeds core =
+    let before = length-pending some feeds core in
+    let after = length-pending (some ++ more) feeds core in
+    let sent = length-append (in_flight some core.core) (in_flight more core.core) in
+    let both = ap length (in_flight-append some more core.core) in
+    omega (arith, before, after, sent, both)
+
+-- what is in flight to a core, in its buffer, or still to be fed is pending for it
+pub pending-in_flight : (messages : List Sent) (feeds : List FeedState) (core : Core) (write : Write)
+    → Contains (in_flight messages core.core) write → Contains (pending messages feeds core) write
+pending-in_flight messages feeds core write sent =
+    Contains-append_left (arriving messages core) (to_feed feeds core.core) write
+    (Contains-append_left (in_flight messages core.core) core.buffer write sent)
+
+pub pending-buffered : (messages : List Sent) (feeds : List FeedState) (core : Core) (write : Write)
+    → Contains core.buffer write → Contains (pending messages feeds core) write
+pending-buffered messages feeds core write kept =
+    Contains-append_left (arriving messages core) (to_feed feeds core.core) write
+    (Contains-append_right (in_flight messages core.core) core.buffer write kept)
+
+pub pending-to_feed : (messages : List Sent) (feeds : List FeedState) (core : Core) (write : Write)
+    → Contains (to_feed feeds core.core) write → Contains (pending messages feeds core) write
+pending-to_feed messages feeds core write left =
+    Contains-append_right (arriving messages core) (to_feed feeds core.core) write left
+
+-- and nothing else is
+pub pending-cases : (messages : List Sent) (feeds : List FeedState) (core : Core) (write : Write)
+    → Contains (pending messages feeds core) write
+    → Contains (in_flight messages core.core) write
+    ⊎ (Contains core.buffer write ⊎ Contains (to_feed feeds core.core) write)
+pending-cases messages feeds core write there =
+    by (Contains-append_cases (arriving messages core) (to_feed feeds core.core) write there) where
+      Cases : Type 0
+      Cases = Contains (in_flight messages core.core) write
+          ⊎ (Contains core.buffer write ⊎ Contains (to_feed feeds core.core) write)
+
+      by : Contains (arriving messages core) write ⊎ Contains (to_feed feeds core.core) write → Cases
+      by (inr left) = inr (inr left)
+      by (inl comes) = some (Contains-append_cases (in_flight messages core.core) core.buffer write comes) where
+        some : Contains (in_flight messages core.core) write ⊎ Contains core.buffer write → Cases
+        some (inl sent) = inl sent
+        some (inr kept) = inr (inl kept)
 
 -- the writes of a write's messages are it
 pub All-in_flight_sent : (P : Write → Type 0) (place : ℕ) (write : Write) (names : List CoreId) (name : CoreId)
@@ -103,41 +153,70 @@ All-in_flight_sent P place write (first ∷ names) name holds =
       by true here all = All-cons P write (map (λ (m : Sent). m.write) rest) (holds first (0, omega arith, refl) here) all
       by false other all = all
 
--- what is said of each write that is pending for a core, once a write was sent that it may be said of
-pub All-pending_sent : (P : Write → Type 0) (messages : List Sent) (place : ℕ) (write : Write) (names : List CoreId) (core : Core)
-    → All P (pending messages core) → ((other : CoreId) → Contains names other → is_core core.core other ≡ true → P write)
-    → All P (pending (messages ++ sent_to place write names) core)
-All-pending_sent P messages place write names core all holds =
+-- what is said of each element of two lists is said of each of either
+All-append_parts : {X : Type 0} (P : X → Type 0) (xs ys : List X) → All P (xs ++ ys) → All P xs × All P ys
+All-append_parts P xs ys all = (
+  λ k d below. subst P (get_or_append_left xs ys d k below) (all k d (omega (arith, length-append xs ys))),
+  λ k d below. subst P (get_or-append-add xs ys k d) (all (length xs + k) d (omega (arith, length-append xs ys))),
+)
+
+-- what is said of each write that is pending for a core is said of each that is in flight to it, in its buffer, and
+-- still to be fed
+pub All-pending : (P : Write → Type 0) (messages : List Sent) (feeds : List FeedState) (core : Core)
+    → All P (in_flight messages core.core) → All P core.buffer → All P (to_feed feeds core.core)
+    → All P (pending messages feeds core)
+All-pending P messages feeds core sent kept left =
+    All-append P (arriving messages core) (to_feed feeds core.core)
+    (All-append P (in_flight messages core.core) core.buffer sent kept) left
+
+pub All-pending_parts : (P : Write → Type 0) (messages : List Sent) (feeds : List FeedState) (core : Core)
+    → All P (pending messages feeds core)
+    → All P (in_flight messages core.core) × All P core.buffer × All P (to_feed feeds core.core)
+All-pending_parts P messages feeds core all =
+    let outer = All-append_parts P (arriving messages core) (to_feed feeds core.core) all in
+    let inner = All-append_parts P (in_flight messages core.core) core.buffer outer.0 in
+    (inner.0, inner.1, outer.1)
+
+-- so it is once a write was sent that it may be said of
+pub All-pending_sent : (P : Write → Type 0) (messages : List Sent) (place : ℕ) (write : Write) (names : List CoreId)
+    (feeds : List FeedState) (core : Core) → All P (pending messages feeds core)
+    → ((other : CoreId) → Contains names other → is_core core.core other ≡ true → P write)
+    → All P (pending (messages ++ sent_to place write names) feeds core)
+All-pending_sent P messages place write names feeds core all holds =
     let before : List Write = in_flight messages core.core in
     let sent : List Write = in_flight (sent_to place write names) core.core in
-    let first : All P before = λ k d below.
-    subst P (get_or_append_left before core.buffer d k below) (all k d (omega (arith, length-append before core.buffer))) in
-    let last : All P core.buffer = λ k d below.
-    subst P (get_or-append-add before core.buffer k d) (all (length before + k) d (omega (arith, length-append before core.buffer))) in
-    subst (λ (ws : List Write). All P (ws ++ core.buffer)) (sym (in_flight-append messages (sent_to place write names) core.core))
-    (All-append P (before ++ sent) core.buffer (All-append P before sent first (All-in_flight_sent P place write names core.core holds)) last)
+    let parts = All-pending_parts P messages feeds core all in
+    All-pending P (messages ++ sent_to place write names) feeds core
+    (subst (All P) (sym (in_flight-append messages (sent_to place write names) core.core))
+    (All-append P before sent parts.0 (All-in_flight_sent P place write names core.core holds))) parts.1 parts.2
 
 -- what is pending for a core stays so when more is sent
-pub pending-stays : (some more : List Sent) (core : Core) (write : Write) → Contains (pending some core) write
-    → Contains (pending (some ++ more) core) write
-pending-stays some more core write there = by (Contains-append_cases (in_flight some core.core) core.buffer write there) where
-  by : Contains (in_flight some core.core) write ⊎ Contains core.buffer write → Contains (pending (some ++ more) core) write
+pub pending-stays : (some more : List Sent) (feeds : List FeedState) (core : Core) (write : Write)
+    → Contains (pending some feeds core) write → Contains (pending (some ++ more) feeds core) write
+pending-stays some more feeds core write there = by (pending-cases some feeds core write there) where
+  by : Contains (in_flight some core.core) write
+      ⊎ (Contains core.buffer write ⊎ Contains (to_feed feeds core.core) write)
+      → Contains (pending (some ++ more) feeds core) write
+  by (inr (inl kept)) = pending-buffered (some ++ more) feeds core write kept
+  by (inr (inr left)) = pending-to_feed (some ++ more) feeds core write left
   by (inl sent) =
-      Contains-append_left (in_flight (some ++ more) core.core) core.buffer write
+      pending-in_flight (some ++ more) feeds core write
       (subst (λ (ws : List Write). Contains ws write) (sym (in_flight-append some more core.core))
       (Contains-append_left (in_flight some core.core) (in_flight more core.core) write sent))
-  by (inr kept) = Contains-append_right (in_flight (some ++ more) core.core) core.buffer write kept
 
 -- and a write is pending for a core that it is sent to
-pub pending-sent : (messages : List Sent) (place : ℕ) (write : Write) (names : List CoreId) (core : Core) → Contains names core.core
-    → Contains (pending (messages ++ sent_to place write names) core) write
-pending-sent messages place write names core there =
+pub pending-sent : (messages : List Sent) (place : ℕ) (write : Write) (names : List CoreId) (feeds : List FeedState)
+    (core : Core) → Contains names core.core
+    → Contains (pending (messages ++ sent_to place write names) feeds core) write
+pending-sent messages place write names feeds core there =
     let send : CoreId → Sent = λ name. record { place = place; core = name; write = write } in
     let message : Contains (sent_to place write names) (send core.core) =
     Contains-map (λ (name : CoreId). record { place = place; core = name; write = write }) names core.core there in
-    let arrives = Contains-filter (is_to core.core) (sent_to place write names) (send core.core) message (is_core-itself core.core) in
+    let arrives =
+    Contains-filter (is_to core.core) (sent_to place write names) (send core.core) message (is_core-itself core.core) in
     let here : Contains (in_flight (sent_to place write names) core.core) write =
     Contains-map (λ (m : Sent). m.write) (filter (is_to core.core) (sent_to place write names)) (send core.core) arrives in
-    Contains-append_left (in_flight (messages ++ sent_to place write names) core.core) core.buffer write
-    (subst (λ (ws : List Write). Contains ws write) (sym (in_flight-append messages (sent_to place write names) core.core))
+    pending-in_flight (messages ++ sent_to place write names) feeds core write
+    (subst (λ (ws : List Write). Contains ws write)
+    (sym (in_flight-append messages (sent_to place write names) core.core))
     (Contains-append_right (in_flight messages core.core) (in_flight (sent_to place write names) core.core) write here))

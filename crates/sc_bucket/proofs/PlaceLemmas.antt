@@ -1,16 +1,15 @@
 -- Cores at the places of a list: what doesn't depend on their room, and which core is at which place.
 use Rattle.std.proofs.Common.{◌≡◌, ◌≢◌, ℕ, ℤ, zero, suc, ◌<◌, ◌⊎◌, inl, inr, List, [], ◌∷◌, length, map, get_or, set, Some, refl, sym, ap, ◌∙◌, subst, All, slice_get, arith}
 use Rattle.std.specs.Option.{option_map}
-use Rattle.std.proofs.Math.Seq.{map-set_same}
 use Rattle.std.proofs.lemmas.Bool.{cases_eq}
 use Rattle.std.proofs.lemmas.Grind.{get_or-set_at}
 use Rattle.std.proofs.lemmas.List.{get_or-set_same, get_or-set_other, length-map, length-set, map-set}
-use Rattle.std.proofs.lemmas.Option.{slice_get_within, slice_get-get_or, slice_get-map, get_or_from_slice_get, same_Some}
+use Rattle.std.proofs.lemmas.Option.{slice_get_within, slice_get-get_or, slice_get-map, same_Some}
 use Rattle.sc_record.specs.declared.write.Write.{Write}
 use Rattle.sc_record.specs.declared.slice.CoreId.{CoreId}
 use Rattle.sc_cluster.specs.declared.slice.Slice.{Slice}
 use Rattle.sc_replica.specs.Core.{Core, led}
-use Rattle.sc_bucket.specs.Cores.{core_key, with_room, IsLeaderAt}
+use Rattle.sc_bucket.specs.Cores.{IsLeaderAt}
 use Rattle.sc_bucket.specs.Events.{without_room, AreSameCores}
 
 -- there is an element at each place of a list
@@ -36,12 +35,6 @@ All-set_apart {X} P xs at y here others k d below = by (cases_eq k at) where
   by (inr other) =
       subst P (sym (get_or-set_other xs at k y d other)) (others k (get_or xs k d) other (slice_get-get_or xs k d within))
 
--- a write that a core leads leaves the names of the cores
-pub keys-led : (cores : List Core) (at : ℕ) (core : Core) (write : Write) → slice_get cores at ≡ Some core
-    → map core_key (set cores at (led core write)) ≡ map core_key cores
-keys-led cores at core write there =
-    map-set_same core_key cores at (led core write) core (ap core_key (sym (get_or_from_slice_get cores at core core there)))
-
 -- at each place of the same cores are cores that differ in their room alone
 pub same_core_at : (one other : List Core) (at : ℕ) (core other_core : Core) → AreSameCores one other
     → slice_get one at ≡ Some core → slice_get other at ≡ Some other_core → without_room other_core ≡ without_room core
@@ -53,12 +46,6 @@ same_core_at one other at core other_core same there other_there =
 -- and there are as many
 pub length-same_cores : (one other : List Core) → AreSameCores one other → length other ≡ length one
 length-same_cores one other same = sym (length-map other without_room) ∙ ap length same ∙ length-map one without_room
-
--- a core with more room is the same core
-pub AreSameCores-with_room : (cores : List Core) (at n : ℕ) (core : Core) → slice_get cores at ≡ Some core
-    → AreSameCores cores (set cores at (with_room n core))
-AreSameCores-with_room cores at n core there =
-    map-set_same without_room cores at (with_room n core) core (ap without_room (sym (get_or_from_slice_get cores at core core there)))
 
 -- the core that leads a hash is at the same place
 pub IsLeaderAt-same_cores : (slices : List Slice) (one other : List Core) (hash : ℤ) (at : ℕ) → AreSameCores one other

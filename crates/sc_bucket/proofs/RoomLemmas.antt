@@ -14,16 +14,17 @@ use Rattle.sc_journal.specs.Splits.{map_after, open_split, owed}
 use Rattle.sc_journal.specs.Legal.{IsLegal}
 use Rattle.sc_bucket.specs.declared.bucket.Bucket.{Bucket}
 use Rattle.sc_bucket.specs.declared.message.Message.{Message}
-use Rattle.sc_bucket.specs.Kept.{JournalState, PlacesState, Sent, FlightState}
+use Rattle.sc_bucket.specs.Kept.{JournalState, PlacesState, Sent, FlightState, FeedState}
 use Rattle.sc_bucket.specs.Cores.{is_core}
-use Rattle.sc_bucket.specs.Flight.{sent_of, in_flight, pending}
+use Rattle.sc_bucket.specs.Flight.{sent_of, in_flight}
+use Rattle.sc_bucket.specs.Pending.{to_feed, pending}
 use Rattle.sc_bucket.specs.Events.{HasSameName, IsSameBut}
 use Rattle.sc_bucket.specs.Accepting.{IsRoomier, HasMore, HasMoreAt, HasMemory}
 use Rattle.sc_bucket.specs.Sound.{AreActive, HasJournal, HasSpare, IsSound}
 use Rattle.sc_bucket.proofs.CoreLemmas.{is_core-Decides}
 use Rattle.sc_bucket.proofs.SearcherLemmas.{HasSearchers-same}
-use Rattle.sc_bucket.proofs.SoundLemmas.{All-slice_get, AreSent-same, IsSound-left}
-use Rattle.sc_bucket.proofs.PendingLemmas.{goes_to, in_flight-append, length-in_flight, in_flight-none, in_flight-once, in_flight-cases, length-pending}
+use Rattle.sc_bucket.proofs.SoundLemmas.{All-slice_get, ArePrepared-same, AreSent-same, IsSound-left}
+use Rattle.sc_bucket.proofs.PendingLemmas.{goes_to, in_flight-append, length-in_flight, in_flight-none, in_flight-once, in_flight-cases, length-pending, length-pending_more}
 use Rattle.sc_bucket.proofs.RoomierLemmas.{same-roomier, spares-roomier}
 
 -- a bucket's journal is sound, apart from its cores
@@ -46,12 +47,15 @@ HasJournal-same old new name map_is entries places owed_is room journal = record
 
 -- a bucket in which nothing changed but room is sound
 pub IsSound-same : (old new : Bucket) → IsSameBut old new → new.unsettled.places ≡ old.unsettled.places → new.owed ≡ old.owed
-    → new.owed ≤ new.journal.room → All (HasSpare new.flight.messages) new.replicas → IsSound old → IsSound new
-IsSound-same old new same places owed_is room spares sound =
-    IsSound-left old new sound (HasJournal-same old new same.name same.map_is same.entries places owed_is room sound.journal)
-    same.map_is same.cores (ap writes same.entries) (ap open_split same.entries) same.messages
+    → new.owed ≤ new.journal.room → new.spares ≡ old.spares → All (HasSpare new.flight.messages new.feeds) new.replicas
+    → IsSound old → IsSound new
+IsSound-same old new same places owed_is room same_spares spares sound =
+    IsSound-left old new sound same.split
+    (HasJournal-same old new same.name same.map_is same.entries places owed_is room sound.journal) same.map_is same.cores
+    (ap writes same.entries) (ap open_split same.entries) same.messages
     (AreSent-same old new same.cores same.entries same.messages sound.messages) spares
     (HasSearchers-same old new same.map_is same.searchers_are same.entries sound.searchers)
+    (ArePrepared-same old new same.split.phase same.map_is same.searchers_are same_spares sound.prepared)
 
 -- the bucket with other room in its parts
 abbrev pub with_parts : Bucket → JournalState → PlacesState → FlightState → List Core → Bucket
@@ -69,6 +73,7 @@ pub IsSameBut-with_parts : (b : Bucket) (journal : JournalState) (unsettled : Pl
     → HasMoreRoom b journal unsettled flight cores → IsSameBut b (with_parts b journal unsettled flight cores)
 IsSameBut-with_parts b journal unsettled flight cores more = record {
   name = record { first = refl; limit = refl };
+  split = record { phase = refl; feeds = refl };
   map_is = refl;
   entries = more.entries;
   messages = more.messages;
@@ -78,32 +83,40 @@ IsSameBut-with_parts b journal unsettled flight cores more = record {
 
 -- which has room for what is pending, and is sound
 pub spares-with_parts : (b : Bucket) (journal : JournalState) (unsettled : PlacesState) (flight : FlightState) (cores : List Core)
-    → HasMoreRoom b journal unsettled flight cores → IsSound b → All (HasSpare flight.messages) cores
+    → HasMoreRoom b journal unsettled flight cores → IsSound b → All (HasSpare flight.messages b.feeds) cores
 spares-with_parts b journal unsettled flight cores more sound =
-    subst (λ (messages : List Sent). All (HasSpare messages) cores) (sym more.messages)
-    (spares-roomier b.flight.messages b.replicas cores more.cores_are sound.spares)
+    subst (λ (messages : List Sent). All (HasSpare messages b.feeds) cores) (sym more.messages)
+    (spares-roomier b.flight.messages b.feeds b.replicas cores more.cores_are sound.spares)
 
 pub IsSound-with_parts : (b : Bucket) (journal : JournalState) (unsettled : PlacesState) (flight : FlightState) (cores : List Core)
     → HasMoreRoom b journal unsettled flight cores → IsSound b → IsSound (with_parts b journal unsettled flight cores)
 IsSound-with_parts b journal unsettled flight cores more sound =
     IsSound-same b (with_parts b journal unsettled flight cores) (IsSameBut-with_parts b journal unsettled flight cores more) more.places refl
-    (omega (arith, sound.journal.room, more.room)) (spares-with_parts b journal unsettled flight cores more sound) sound
+    (omega (arith, sound.journal.room, more.room)) refl
+    (spares-with_parts b journal unsettled flight cores more sound) sound
 
 -- a core has room for what is pending once more is sent, of which it gets at most one, where it has room for one more if it does
-cores_have_room : (flight sent : List Sent) (core : Core) → HasSpare flight core → IsDistinct is_core (map goes_to sent)
-    → ((other : CoreId) → Contains (map goes_to sent) other → is_core core.core other ≡ true → HasMore flight core)
-    → HasSpare (flight ++ sent) core
-cores_have_room flight sent core spare once more = by (in_flight-cases sent core.core) where
-  before : length (pending flight core) ≡ length (in_flight flight core.core) + length core.buffer
-  before = length-append (in_flight flight core.core) core.buffer
+cores_have_room : (flight sent : List Sent) (feeds : List FeedState) (core : Core) → HasSpare flight feeds core
+    → IsDistinct is_core (map goes_to sent)
+    → ((other : CoreId) → Contains (map goes_to sent) other → is_core core.core other ≡ true
+    → HasMore flight feeds core)
+    → HasSpare (flight ++ sent) feeds core
+cores_have_room flight sent feeds core spare once more = by (in_flight-cases sent core.core) where
+  before : length (pending flight feeds core)
+      ≡ length (in_flight flight core.core) + length core.buffer + length (to_feed feeds core.core)
+  before = length-pending flight feeds core
+
+  after : length (pending (flight ++ sent) feeds core)
+      ≡ length (pending flight feeds core) + length (in_flight sent core.core)
+  after = length-pending_more flight sent feeds core
 
   both : length (in_flight (flight ++ sent) core.core) ≡ length (in_flight flight core.core) + length (in_flight sent core.core)
   both = ap length (in_flight-append flight sent core.core) ∙ length-append (in_flight flight core.core) (in_flight sent core.core)
 
   by : (length (in_flight sent core.core) ≡ 0) ⊎ ((other : CoreId) × Contains (map goes_to sent) other × (is_core core.core other ≡ true))
-      → HasSpare (flight ++ sent) core
+      → HasSpare (flight ++ sent) feeds core
   by (inl none) = record {
-    cells = omega (arith, length-pending flight sent core, before, none, spare.cells);
+    cells = omega (arith, after, none, spare.cells);
     buffer = omega (arith, both, none, spare.buffer);
   }
   by (inr (other, there, same)) =
@@ -111,7 +124,7 @@ cores_have_room flight sent core spare once more = by (in_flight-cases sent core
       let one = in_flight-once sent core.core once in
       let most = length-in_flight flight core.core in
       record {
-        cells = omega (arith, length-pending flight sent core, one, most, room.cells);
+        cells = omega (arith, after, before, one, most, room.cells);
         buffer = omega (arith, both, one, most, room.buffer);
       }
 
@@ -121,19 +134,20 @@ names_of-sent messages = map-map goes_to sent_of messages
 
 -- there is memory for a write and its messages, where there is room in the journal and in each core that gets it
 pub memory_for : (b : Bucket) (leader : ℕ) (messages : List Message) → b.owed + 2 ≤ b.journal.room → 0 < b.unsettled.room
-    → length messages ≤ b.flight.room → All (HasSpare b.flight.messages) b.replicas
+    → length messages ≤ b.flight.room → All (HasSpare b.flight.messages b.feeds) b.replicas
     → IsDistinct is_core (map (λ (message : Message). message.core) messages)
     → ((core : Core) → slice_get b.replicas leader ≡ Some core
     → All (λ name. is_core core.core name ≡ false) (map (λ (message : Message). message.core) messages))
-    → All (HasMoreAt b.flight.messages b.replicas) (map (λ (message : Message). message.core) messages)
-    → ((core : Core) → slice_get b.replicas leader ≡ Some core → HasMore b.flight.messages core)
+    → All (HasMoreAt b.flight.messages b.feeds b.replicas) (map (λ (message : Message). message.core) messages)
+    → ((core : Core) → slice_get b.replicas leader ≡ Some core → HasMore b.flight.messages b.feeds core)
     → HasMemory b leader (map sent_of messages)
 memory_for b leader messages journal unsettled room spares once others more leads = record {
   journal = journal;
   unsettled = unsettled;
   flight = omega (arith, length-map messages sent_of);
-  cores = All-from_slice_get (HasSpare (b.flight.messages ++ sent)) b.replicas (λ k core found.
-      cores_have_room b.flight.messages sent core (All-slice_get (HasSpare b.flight.messages) b.replicas k core spares found)
+  cores = All-from_slice_get (HasSpare (b.flight.messages ++ sent) b.feeds) b.replicas (λ k core found.
+      cores_have_room b.flight.messages sent b.feeds core
+      (All-slice_get (HasSpare b.flight.messages b.feeds) b.replicas k core spares found)
       (subst (IsDistinct is_core) (sym (names_of-sent messages)) once)
       (λ other there same. has k core found other (subst (λ (names : List CoreId). Contains names other) (names_of-sent messages) there) same));
   one_more = λ core found.
@@ -141,27 +155,38 @@ memory_for b leader messages journal unsettled room spares once others more lead
       let none = in_flight-none sent core.core
       (subst (All (λ name. is_core core.core name ≡ false)) (sym (names_of-sent messages)) (others core found)) in
       let most = length-in_flight b.flight.messages core.core in
-      omega (arith, length-pending b.flight.messages sent core, ap length none, most, has_room.cells);
+      omega (
+        arith,
+        length-pending_more b.flight.messages sent b.feeds core,
+        length-pending b.flight.messages b.feeds core,
+        ap length none,
+        most,
+        has_room.cells,
+      );
 } where
   sent : List Sent
   sent = map sent_of messages
 
   has : (k : ℕ) (core : Core) → slice_get b.replicas k ≡ Some core → (other : CoreId)
-      → Contains (map (λ (message : Message). message.core) messages) other → is_core core.core other ≡ true → HasMore b.flight.messages core
+      → Contains (map (λ (message : Message). message.core) messages) other → is_core core.core other ≡ true
+      → HasMore b.flight.messages b.feeds core
   has k core found other there same =
-      let at = All-contains (HasMoreAt b.flight.messages b.replicas) (map (λ (message : Message). message.core) messages) other more there in
+      let at = All-contains (HasMoreAt b.flight.messages b.feeds b.replicas)
+      (map (λ (message : Message). message.core) messages) other more there in
       let alike : core.core ≡ other = (is_core-Decides core.core other).0 same in
-      All-slice_get (λ (one : Core). is_core other one.core ≡ true → HasMore b.flight.messages one) b.replicas k core at found
+      All-slice_get (λ (one : Core). is_core other one.core ≡ true → HasMore b.flight.messages b.feeds one)
+      b.replicas k core at found
       ((is_core-Decides other core.core).1 (sym alike))
 
 -- the same, by what a call answered that makes room in the cores
 pub memory-reserved : {T F : Type 0} (result : Result T F) (b : Bucket) (leader : ℕ) (messages : List Message) → b.owed + 2 ≤ b.journal.room
-    → 0 < b.unsettled.room → length messages ≤ b.flight.room → All (HasSpare b.flight.messages) b.replicas
+    → 0 < b.unsettled.room → length messages ≤ b.flight.room → All (HasSpare b.flight.messages b.feeds) b.replicas
     → IsDistinct is_core (map (λ (message : Message). message.core) messages)
     → ((core : Core) → slice_get b.replicas leader ≡ Some core
     → All (λ name. is_core core.core name ≡ false) (map (λ (message : Message). message.core) messages))
-    → OnOk result (All (HasMoreAt b.flight.messages b.replicas) (map (λ (message : Message). message.core) messages))
-    → OnOk result ((core : Core) → slice_get b.replicas leader ≡ Some core → HasMore b.flight.messages core)
+    → OnOk result
+    (All (HasMoreAt b.flight.messages b.feeds b.replicas) (map (λ (message : Message). message.core) messages))
+    → OnOk result ((core : Core) → slice_get b.replicas leader ≡ Some core → HasMore b.flight.messages b.feeds core)
     → OnOk result (HasMemory b leader (map sent_of messages))
 memory-reserved (Ok x) b leader messages journal unsettled room spares once others more leads =
     memory_for b leader messages journal unsettled room spares once others more leads

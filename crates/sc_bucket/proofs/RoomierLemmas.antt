@@ -9,16 +9,17 @@ use Rattle.std.proofs.lemmas.Option.{same_Some, slice_get_within}
 use Rattle.sc_record.specs.declared.slice.CoreId.{CoreId}
 use Rattle.sc_cluster.proofs.ListLemmas.{All-from_slice_get}
 use Rattle.sc_replica.specs.Core.{Core}
-use Rattle.sc_bucket.specs.Kept.{Sent}
+use Rattle.sc_bucket.specs.Kept.{Sent, FeedState}
 use Rattle.sc_bucket.specs.declared.message.Message.{Message}
 use Rattle.sc_bucket.specs.Cores.{is_core, with_room, AreApart}
-use Rattle.sc_bucket.specs.Flight.{in_flight, pending}
+use Rattle.sc_bucket.specs.Flight.{in_flight}
+use Rattle.sc_bucket.specs.Pending.{to_feed, pending}
 use Rattle.sc_bucket.specs.Sound.{HasSpare}
 use Rattle.sc_bucket.specs.Events.{without_room, AreSameCores}
 use Rattle.sc_bucket.specs.Accepting.{IsRoomier, HasMore, HasMoreAt}
 use Rattle.sc_bucket.proofs.PlaceLemmas.{some_at, slice_get-set, same_core_at, length-same_cores}
-use Rattle.sc_bucket.proofs.CoreLemmas.{is_core-Decides, core_alone}
-use Rattle.sc_bucket.proofs.SoundLemmas.{name_of, names-same_cores}
+use Rattle.sc_bucket.proofs.CoreLemmas.{is_core-Decides, core_alone, name_of}
+use Rattle.sc_bucket.proofs.SoundLemmas.{names-same_cores}
 
 -- a core is as roomy as itself, and roomier with more room
 IsRoomier-itself : (core : Core) → IsRoomier core core
@@ -77,10 +78,12 @@ All-roomier P (x ∷ xs) (y ∷ ys) keeps roomier all =
     All-cons P y ys (keeps x y roomier.0 (All-head P x xs all)) (All-roomier P xs ys keeps roomier.1 (All-tail P x xs all))
 
 -- as having room for what is pending, and for one more
-HasSpare-roomier : (messages : List Sent) (x y : Core) → IsRoomier x y → HasSpare messages x → HasSpare messages y
-HasSpare-roomier messages x y roomier spare =
-    let pending_same : length (pending messages y) ≡ length (pending messages x) =
-    ap (λ (core : Core). length (pending messages core)) roomier.same in
+HasSpare-roomier : (messages : List Sent) (feeds : List FeedState) (x y : Core) → IsRoomier x y
+    → HasSpare messages feeds x
+    → HasSpare messages feeds y
+HasSpare-roomier messages feeds x y roomier spare =
+    let pending_same : length (pending messages feeds y) ≡ length (pending messages feeds x) =
+    ap (λ (core : Core). length (pending messages feeds core)) roomier.same in
     let in_flight_same : length (in_flight messages y.core) ≡ length (in_flight messages x.core) =
     ap (λ (core : Core). length (in_flight messages core.core)) roomier.same in
     record {
@@ -88,37 +91,52 @@ HasSpare-roomier messages x y roomier spare =
       buffer = omega (arith, spare.buffer, roomier.buffer, in_flight_same);
     }
 
-pub spares-roomier : (messages : List Sent) (old new : List Core) → AllZip IsRoomier old new → All (HasSpare messages) old
-    → All (HasSpare messages) new
-spares-roomier messages old new roomier spares = All-roomier (HasSpare messages) old new (HasSpare-roomier messages) roomier spares
+pub spares-roomier : (messages : List Sent) (feeds : List FeedState) (old new : List Core) → AllZip IsRoomier old new
+    → All (HasSpare messages feeds) old → All (HasSpare messages feeds) new
+spares-roomier messages feeds old new roomier spares =
+    All-roomier (HasSpare messages feeds) old new (HasSpare-roomier messages feeds) roomier spares
 
-HasMore-roomier : (messages : List Sent) (x y : Core) → IsRoomier x y → HasMore messages x → HasMore messages y
-HasMore-roomier messages x y roomier more =
+HasMore-roomier : (messages : List Sent) (feeds : List FeedState) (x y : Core) → IsRoomier x y
+    → HasMore messages feeds x
+    → HasMore messages feeds y
+HasMore-roomier messages feeds x y roomier more =
     let same : length y.buffer ≡ length x.buffer = ap (λ (core : Core). length core.buffer) roomier.same in
+    let left : length (to_feed feeds y.core) ≡ length (to_feed feeds x.core) =
+    ap (λ (core : Core). length (to_feed feeds core.core)) roomier.same in
     record {
-      cells = omega (arith, more.cells, roomier.cells, same);
+      cells = omega (arith, more.cells, roomier.cells, same, left);
       buffer = omega (arith, more.buffer, roomier.buffer);
     }
 
-pub HasMoreAt-roomier : (messages : List Sent) (old new : List Core) (name : CoreId) → AllZip IsRoomier old new → HasMoreAt messages old name
-    → HasMoreAt messages new name
-HasMoreAt-roomier messages old new name roomier more =
-    All-roomier (λ (core : Core). is_core name core.core ≡ true → HasMore messages core) old new
-    (λ x y one has same. HasMore-roomier messages x y one (has (ap (λ (core : Core). is_core name core.core) (sym one.same) ∙ same)))
+pub HasMoreAt-roomier : (messages : List Sent) (feeds : List FeedState) (old new : List Core) (name : CoreId)
+    → AllZip IsRoomier old new → HasMoreAt messages feeds old name → HasMoreAt messages feeds new name
+HasMoreAt-roomier messages feeds old new name roomier more =
+    All-roomier (λ (core : Core). is_core name core.core ≡ true → HasMore messages feeds core) old new
+    (λ x y one has same.
+    HasMore-roomier messages feeds x y one (has (ap (λ (core : Core). is_core name core.core) (sym one.same) ∙ same)))
     roomier more
 
--- the core that was given room has it
-pub has_more : (messages : List Sent) (cores new : List Core) (at : ℕ) (core : Core) → slice_get cores at ≡ Some core
-    → at < length cores → new ≡ set cores at (with_room (length messages + length core.buffer + 1) core)
-    → (one : Core) → slice_get new at ≡ Some one → HasMore messages one
-has_more messages cores new at core there within is one found =
-    let roomy : Core = with_room (length messages + length core.buffer + 1) core in
+-- the room for one more write than all that could be pending for the core
+abbrev pub one_more : List Sent → List FeedState → Core → ℕ
+one_more messages feeds core = length messages + length core.buffer + length (to_feed feeds core.core) + 1
+
+-- the core that was given it has it
+pub has_more : (messages : List Sent) (feeds : List FeedState) (cores new : List Core) (at : ℕ) (core : Core)
+    → slice_get cores at ≡ Some core → at < length cores
+    → new ≡ set cores at (with_room (one_more messages feeds core) core)
+    → (one : Core) → slice_get new at ≡ Some one → HasMore messages feeds one
+has_more messages feeds cores new at core there within is one found =
+    let n : ℕ = one_more messages feeds core in
+    let roomy : Core = with_room n core in
     let same : roomy ≡ one =
-    same_Some roomy one (sym (slice_get-set cores at roomy within) ∙ ap (λ (cs : List Core). slice_get cs at) (sym is) ∙ found) in
-    let spare : max core.cell_spare (length messages + length core.buffer + 1) ≡ one.cell_spare = ap (λ (c : Core). c.cell_spare) same in
-    let buffer_spare : max core.buffer_spare (length messages + length core.buffer + 1) ≡ one.buffer_spare = ap (λ (c : Core). c.buffer_spare) same in
+    same_Some roomy one
+    (sym (slice_get-set cores at roomy within) ∙ ap (λ (cs : List Core). slice_get cs at) (sym is) ∙ found) in
+    let spare : max core.cell_spare n ≡ one.cell_spare = ap (λ (c : Core). c.cell_spare) same in
+    let buffer_spare : max core.buffer_spare n ≡ one.buffer_spare = ap (λ (c : Core). c.buffer_spare) same in
     let buffer : length core.buffer ≡ length one.buffer = ap (λ (c : Core). length c.buffer) same in
-    record { cells = omega arith; buffer = omega arith }
+    let left : length (to_feed feeds core.core) ≡ length (to_feed feeds one.core) =
+    ap (λ (c : Core). length (to_feed feeds c.core)) same in
+    record { cells = omega (arith, spare, buffer, left); buffer = omega (arith, buffer_spare) }
 
 -- so it is with what a call that makes room leaves, whether it made it or not
 pub roomier-reserved : {T F : Type 0} (result : Result T F) (cores new : List Core) (at n : ℕ) → at < length cores
@@ -129,13 +147,15 @@ roomier-reserved (Ok x) cores new at n within made same =
     subst (AllZip IsRoomier cores) (sym (made one.0 one.1)) (roomier-with_room cores at n one.0 one.1)
 roomier-reserved (Err x) cores new at n within made same = subst (AllZip IsRoomier cores) (sym same) (roomier-itself cores)
 
-pub more-reserved : {T F : Type 0} (result : Result T F) (messages : List Sent) (cores new : List Core) (at n : ℕ) (core : Core)
-    → slice_get cores at ≡ Some core → at < length cores → n ≡ length messages + length core.buffer + 1
+pub more-reserved : {T F : Type 0} (result : Result T F) (messages : List Sent) (feeds : List FeedState)
+    (cores new : List Core) (at n : ℕ) (core : Core)
+    → slice_get cores at ≡ Some core → at < length cores → n ≡ one_more messages feeds core
     → OnOk result ((core : Core) → slice_get cores at ≡ Some core → new ≡ set cores at (with_room n core))
-    → OnOk result ((one : Core) → slice_get new at ≡ Some one → HasMore messages one)
-more-reserved (Ok x) messages cores new at n core there within is made =
-    has_more messages cores new at core there within (made core there ∙ ap (λ k. set cores at (with_room k core)) is)
-more-reserved (Err x) messages cores new at n core there within is made = tt
+    → OnOk result ((one : Core) → slice_get new at ≡ Some one → HasMore messages feeds one)
+more-reserved (Ok x) messages feeds cores new at n core there within is made =
+    has_more messages feeds cores new at core there within
+    (made core there ∙ ap (λ k. set cores at (with_room k core)) is)
+more-reserved (Err x) messages feeds cores new at n core there within is made = tt
 
 -- roomier cores have the same names, and are as many
 pub names-roomier : (old new : List Core) → AllZip IsRoomier old new → map name_of new ≡ map name_of old
@@ -145,18 +165,21 @@ pub length-roomier : (old new : List Core) → AllZip IsRoomier old new → leng
 length-roomier old new roomier = length-same_cores old new (same-roomier old new roomier)
 
 -- the core of a name has room for one more where the one at its place has
-pub more_at : (messages : List Sent) (old new : List Core) (at : ℕ) (name : CoreId) (there : Core) → AreApart old → AllZip IsRoomier old new
-    → slice_get old at ≡ Some there → is_core name there.core ≡ true
-    → ((one : Core) → slice_get new at ≡ Some one → HasMore messages one) → HasMoreAt messages new name
-more_at messages old new at name there apart roomier found named more =
-    All-from_slice_get (λ (core : Core). is_core name core.core ≡ true → HasMore messages core) new by where
-      by : (k : ℕ) (core : Core) → slice_get new k ≡ Some core → is_core name core.core ≡ true → HasMore messages core
+pub more_at : (messages : List Sent) (feeds : List FeedState) (old new : List Core) (at : ℕ) (name : CoreId)
+    (there : Core)
+    → AreApart old → AllZip IsRoomier old new → slice_get old at ≡ Some there → is_core name there.core ≡ true
+    → ((one : Core) → slice_get new at ≡ Some one → HasMore messages feeds one) → HasMoreAt messages feeds new name
+more_at messages feeds old new at name there apart roomier found named more =
+    All-from_slice_get (λ (core : Core). is_core name core.core ≡ true → HasMore messages feeds core) new by where
+      by : (k : ℕ) (core : Core) → slice_get new k ≡ Some core → is_core name core.core ≡ true
+          → HasMore messages feeds core
       by k core at_k same =
           let inside = slice_get_within new k core at_k in
           let before = some_at old k (omega (arith, length-roomier old new roomier)) in
           let alike = same_core_at old new k before.0 core (same-roomier old new roomier) before.1 at_k in
           let named_alike : before.0.core ≡ there.core =
-          sym (ap (λ (c : Core). c.core) alike) ∙ sym ((is_core-Decides name core.core).0 same) ∙ (is_core-Decides name there.core).0 named in
+          sym (ap (λ (c : Core). c.core) alike) ∙ sym ((is_core-Decides name core.core).0 same)
+          ∙ (is_core-Decides name there.core).0 named in
           let place : k ≡ at = core_alone old k at before.0 there apart before.1 found named_alike in
           more core (subst (λ j. slice_get new j ≡ Some core) place at_k)
 
@@ -169,18 +192,22 @@ message_there messages k message names all within is =
     subst (Contains names) (get_or-map (λ (m : Message). m.core) messages k message message.core within ∙ ap (λ (m : Message). m.core) (sym is)) here
 
 -- one more message whose core has room for one more
-pub mores-push : (sent : List Sent) (old new : List Core) (messages : List Message) (k : ℕ) (message : Message) → AllZip IsRoomier old new
-    → k < length messages → message ≡ get_or messages k message
-    → All (HasMoreAt sent old) (map (λ (m : Message). m.core) (take k messages)) → HasMoreAt sent new message.core
-    → All (HasMoreAt sent new) (map (λ (m : Message). m.core) (take (k + 1) messages))
-mores-push sent old new messages k message roomier within is so_far here =
-    let kept : All (HasMoreAt sent new) (map (λ (m : Message). m.core) (take k messages)) =
-    All-weaker (HasMoreAt sent old) (HasMoreAt sent new) (λ name. HasMoreAt-roomier sent old new name roomier)
+pub mores-push : (sent : List Sent) (feeds : List FeedState) (old new : List Core) (messages : List Message) (k : ℕ)
+    (message : Message) → AllZip IsRoomier old new → k < length messages → message ≡ get_or messages k message
+    → All (HasMoreAt sent feeds old) (map (λ (m : Message). m.core) (take k messages))
+    → HasMoreAt sent feeds new message.core
+    → All (HasMoreAt sent feeds new) (map (λ (m : Message). m.core) (take (k + 1) messages))
+mores-push sent feeds old new messages k message roomier within is so_far here =
+    let kept : All (HasMoreAt sent feeds new) (map (λ (m : Message). m.core) (take k messages)) =
+    All-weaker (HasMoreAt sent feeds old) (HasMoreAt sent feeds new)
+    (λ name. HasMoreAt-roomier sent feeds old new name roomier)
     (map (λ (m : Message). m.core) (take k messages)) so_far in
-    let more : map (λ (m : Message). m.core) (take (k + 1) messages) ≡ map (λ (m : Message). m.core) (take k messages) ++ message.core ∷ [] =
+    let more : map (λ (m : Message). m.core) (take (k + 1) messages)
+    ≡ map (λ (m : Message). m.core) (take k messages) ++ message.core ∷ [] =
     map_more (λ (m : Message). m.core) messages k message within
     ∙ ap (λ (m : Message). map (λ (n : Message). n.core) (take k messages) ++ m.core ∷ []) (sym is) in
-    subst (All (HasMoreAt sent new)) (sym more) (All-push (HasMoreAt sent new) (map (λ (m : Message). m.core) (take k messages)) message.core kept here)
+    subst (All (HasMoreAt sent feeds new)) (sym more)
+    (All-push (HasMoreAt sent feeds new) (map (λ (m : Message). m.core) (take k messages)) message.core kept here)
 
 -- what is true whatever a call answered
 pub whatever : {T F P : Type 0} (result : Result T F) → P → OnOk result P

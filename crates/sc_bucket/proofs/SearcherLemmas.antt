@@ -1,7 +1,7 @@
 -- Searchers show what was committed as long as nothing more is committed; and those of a new bucket show nothing.
 use Rattle.std.proofs.Common.{◌≡◌, ◌∙◌, List, [], map, refl, sym, ap, subst, All, Contains, arith}
 use Rattle.std.specs.List.Sorted.{IsStrictlySortedBy}
-use Rattle.std.proofs.lemmas.List.Elements.{All-nil, All-weaker}
+use Rattle.std.proofs.lemmas.List.Elements.{All-nil, All-weaker, All-contains}
 use Rattle.std.proofs.lemmas.Option.{slice_get_within, get_or_from_slice_get}
 use Rattle.sc_record.specs.declared.write.Write.{Write}
 use Rattle.sc_record.specs.declared.entry.Entry.{Entry}
@@ -12,12 +12,12 @@ use Rattle.sc_cluster.proofs.LeaderLemmas.{same_from_id}
 use Rattle.sc_replica.specs.Core.{Core}
 use Rattle.sc_journal.specs.Journal.{writes, last_write}
 use Rattle.sc_journal.specs.Committed.{committed}
-use Rattle.sc_bucket.specs.Cores.{core_key, core_keys, IsNew}
+use Rattle.sc_bucket.specs.Cores.{core_key, IsNew}
 use Rattle.sc_bucket.specs.Searchers.{rows_of, AreOfEachSlice, ShowsCommitted, IsTaken, AreTaken, AreLed}
 use Rattle.sc_bucket.specs.Sound.{HasSearchers}
 use Rattle.sc_bucket.specs.declared.bucket.Bucket.{Bucket}
 use Rattle.sc_bucket.specs.declared.standing.Standing.{Standing}
-use Rattle.sc_bucket.proofs.CoreLemmas.{has_leader, element_from_map, IsLeaderOf-from_key}
+use Rattle.sc_bucket.proofs.CoreLemmas.{element_from_map, IsLeaderOf-from_key}
 
 -- each write of the one journal is one of the other
 abbrev pub KeepsWrites : List Entry → List Entry → Type 0
@@ -59,10 +59,13 @@ HasSearchers-same old new same_map same_searchers same_entries has =
     HasSearchers-grown old new same_map same_searchers (ap committed same_entries)
     (λ write there. subst (λ (entries : List Entry). Contains (writes entries) write) (sym same_entries) there) has
 
--- each slice of a map has a core that leads it, where the cores have the names of the map
-pub AreLed-from_keys : (slices : List Slice) (cores : List Core) → map core_key cores ≡ core_keys slices → AreLed slices cores
-AreLed-from_keys slices cores keys slice there active =
-    let (k, core, at, is) = element_from_map core_key cores (slice.id.0, 1) (has_leader slices cores slice keys there) in
+-- each slice of a map has a core that leads it, where there is a core of each leader's name
+pub AreLed-from_keys : (slices : List Slice) (cores : List Core)
+    → All (λ (slice : Slice). Contains (map core_key cores) (slice.id.0, 1)) slices → AreLed slices cores
+AreLed-from_keys slices cores leaders slice there active =
+    let named =
+    All-contains (λ (one : Slice). Contains (map core_key cores) (one.id.0, 1)) slices slice leaders there in
+    let (k, core, at, is) = element_from_map core_key cores (slice.id.0, 1) named in
     (core, (k, slice_get_within cores k core at, get_or_from_slice_get cores k core core at), IsLeaderOf-from_key slice.id core is)
 
 -- no cells may be rows

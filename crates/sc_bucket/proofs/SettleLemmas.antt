@@ -1,17 +1,14 @@
 -- Which writes of a bucket are settled, and that it is sound once one more is.
-use Rattle.std.proofs.Common.{◌≡◌, ◌≢◌, ◌<◌, ◌||◌, ◌≤◌, ◌∙◌, ℕ, suc, nat_eq, get_or, map, take, drop, All, ◌+◌, ◌^◌, ◌==◌, ◌++◌, [], ◌∷◌, List, length, filter, Bool, true, not, is_some, Option, Some, None, MatchOption, false, Contains, ◌↔◌, IsTrue, IsSome, refl, sym, ap, subst, arith}
-use Rattle.std.specs.List.{IsDistinct, remove}
+use Rattle.std.proofs.Common.{◌≡◌, ◌≢◌, ◌||◌, ◌≤◌, ◌∙◌, ℕ, nat_eq, get_or, map, take, All, ◌+◌, ◌^◌, ◌==◌, ◌++◌, [], ◌∷◌, List, length, filter, Bool, true, not, is_some, Option, Some, None, MatchOption, false, Contains, ◌↔◌, IsTrue, IsSome, refl, sym, ap, subst, arith}
+use Rattle.std.specs.List.{IsDistinct}
 use Rattle.std.proofs.lemmas.Bool.Decides.{Decides-eqb}
 use Rattle.std.proofs.lemmas.List.{length_push}
-use Rattle.std.proofs.lemmas.List.Edits.{length-remove}
-use Rattle.std.proofs.lemmas.List.Elements.{All-weaker, filter-append}
-use Rattle.std.proofs.lemmas.Option.{slice_get_within}
+use Rattle.std.proofs.lemmas.List.Elements.{All-weaker}
 use Rattle.sc_record.specs.declared.slice.CoreId.{CoreId}
 use Rattle.sc_record.specs.declared.write.Write.{Write}
 use Rattle.sc_record.specs.declared.entry.Entry.{Entry}
 use Rattle.sc_record.specs.declared.entry.Entry.TheVariants as entry
 use Rattle.sc_cluster.specs.Map.{IsMap}
-use Rattle.sc_cluster.proofs.ListLemmas.{filter-all, filter-none}
 use Rattle.sc_journal.specs.Journal.{write_at, is_settled, unsettled, writes}
 use Rattle.sc_journal.specs.Committed.{committed}
 use Rattle.sc_journal.proofs.CommittedLemmas.{committed-push_other}
@@ -22,13 +19,13 @@ use Rattle.sc_journal.proofs.SettledLemmas.{unsettled_is, unsettled_from, unsett
 use Rattle.sc_journal.proofs.SplitLemmas.{map_after-left, open_split-left, owed-push_settled, LeavesSlices-settled}
 use Rattle.sc_journal.proofs.LegalLemmas.{IsLegal-push}
 use Rattle.sc_bucket.specs.Kept.{Sent, FlightState}
-use Rattle.sc_bucket.specs.Flight.{is_of_write, is_same_message, delivered_all}
+use Rattle.sc_bucket.specs.Flight.{is_of_write, is_same_message}
 use Rattle.sc_bucket.specs.Sound.{AreActive, HasJournal, IsSent, HasSpare, IsSound}
-use Rattle.sc_bucket.specs.Events.{without_room, HasSameName, DeliversFirst, Settles, Notes}
+use Rattle.sc_bucket.specs.Events.{without_room, DeliversFirst, Settles, Notes}
 use Rattle.sc_bucket.specs.declared.bucket.Bucket.{Bucket}
 use Rattle.sc_bucket.proofs.SearcherLemmas.{HasSearchers-grown}
-use Rattle.sc_bucket.proofs.SoundLemmas.{IsSent-left, IsSound-left}
-use Rattle.sc_bucket.proofs.FlightLemmas.{split_get}
+use Rattle.sc_bucket.proofs.SoundLemmas.{IsSent-left, ArePrepared-same, IsSound-left}
+use Rattle.sc_bucket.proofs.DeliverAllLemmas.{NoneMeets, DeliversAll, DeliversAll-first}
 
 -- a write is settled where its place isn't among those that are not settled
 pub is_settled-from_kept : (journal : List Entry) (place : ℕ) (kept : Bool) → IsSome (write_at journal place)
@@ -51,6 +48,7 @@ pub record SettlesParts (old : Bucket) (place : ℕ) (new : Bucket) : Type 0 whe
   pub unsettled_are : new.unsettled.places ≡ filter (λ p. not (p == place)) old.unsettled.places
   pub owed_is : new.owed + 1 ≡ old.owed
   pub room : new.journal.room + 1 ≡ old.journal.room
+  pub spares_are : new.spares ≡ old.spares
 
 or_false : (b : Bool) → b || false ≡ b
 or_false true = refl
@@ -116,129 +114,44 @@ IsSound-settled old place new sound written still delivered noted parts =
     let messages : new.flight.messages ≡ old.flight.messages = ap (λ (flight : FlightState). flight.messages) noted.flight_is in
     let each : All (IsSent new) old.flight.messages =
     λ k d below. sent_still old place new (get_or old.flight.messages k d) noted (delivered k d below) (sound.messages.each k d below) in
-    IsSound-left old new sound (HasJournal-settled old place new sound.journal written still noted parts) noted.map_is
+    IsSound-left old new sound noted.split
+    (HasJournal-settled old place new sound.journal written still noted parts) noted.map_is
     (ap (map without_room) noted.cores)
     (ap writes noted.entries ∙ writes-push_other old.journal.entries one refl)
     (ap open_split noted.entries ∙ open_split-left old.journal.entries one (LeavesSlices-settled place))
     messages
     (record { each = subst (All (IsSent new)) (sym messages) each; once = subst (IsDistinct is_same_message) (sym messages) sound.messages.once })
-    (subst (λ these. All (HasSpare these) new.replicas) (sym messages)
-    (subst (All (HasSpare old.flight.messages)) (sym noted.cores) sound.spares))
+    (subst (λ these. All (HasSpare these new.feeds) new.replicas) (sym messages)
+    (subst (λ feeds. All (HasSpare old.flight.messages feeds) new.replicas) (sym noted.split.feeds)
+    (subst (All (HasSpare old.flight.messages old.feeds)) (sym noted.cores) sound.spares)))
     (HasSearchers-grown old new noted.map_is noted.searchers_are
     (ap committed noted.entries ∙ committed-push_other old.journal.entries one refl)
     (λ write there. subst (λ (these : List Write). Contains these write)
     (sym (ap writes noted.entries ∙ writes-push_other old.journal.entries one refl)) there)
     sound.searchers)
+    (ArePrepared-same old new noted.split.phase noted.map_is noted.searchers_are parts.spares_are sound.prepared)
 
--- the messages of a write, and the others
-abbrev own_of : ℕ → List Sent → List Sent
-own_of place messages = filter (is_of_write place) messages
+-- where no message is of the write, none is by the test
+pub none_of_write : (place : ℕ) (messages : List Sent) → All (λ (message : Sent). message.place ≢ place) messages
+    → NoneMeets (is_of_write place) messages
+none_of_write place messages apart =
+    All-weaker (λ (message : Sent). message.place ≢ place) (λ message. is_of_write place message ≡ false)
+    (λ message. apart_places message.place place) messages apart
 
-abbrev others_of : ℕ → List Sent → List Sent
-others_of place messages = filter (λ (message : Sent). not (is_of_write place message)) messages
-
--- all messages of the write at the place are delivered
-pub record DeliversAll (old : Bucket) (place : ℕ) (new : Bucket) : Type 0 where
-  pub name : HasSameName old new
-  pub map_is : new.map ≡ old.map
-  pub entries : new.journal.entries ≡ old.journal.entries
-  pub messages : new.flight.messages ≡ others_of place old.flight.messages
-  pub cores : new.replicas ≡ delivered_all (own_of place old.flight.messages) old.replicas
-  pub searchers_are : new.searchers ≡ old.searchers
-
--- the messages of a write are none where no message is of it
-none_own : (place : ℕ) (messages : List Sent) → All (λ (message : Sent). message.place ≢ place) messages → own_of place messages ≡ []
-none_own place messages apart =
-    filter-none (is_of_write place) messages
-    (All-weaker (λ (message : Sent). message.place ≢ place) (λ message. is_of_write place message ≡ false)
-    (λ message. apart_places message.place place) messages apart)
-
-all_others : (place : ℕ) (messages : List Sent) → All (λ (message : Sent). message.place ≢ place) messages
-    → others_of place messages ≡ messages
-all_others place messages apart =
-    filter-all (λ message. not (is_of_write place message)) messages
-    (All-weaker (λ (message : Sent). message.place ≢ place) (λ message. not (is_of_write place message) ≡ true)
-    (λ message other. ap not (apart_places message.place place other)) messages apart)
-
--- where none of them is in flight, nothing is to be done
-pub DeliversAll-none : (old : Bucket) (place : ℕ) (new : Bucket) → new ≡ old
-    → All (λ (message : Sent). message.place ≢ place) old.flight.messages → DeliversAll old place new
-DeliversAll-none old place new same apart = record {
-  name = record { first = ap (λ (b : Bucket). b.first) same; limit = ap (λ (b : Bucket). b.limit) same };
-  map_is = ap (λ (b : Bucket). b.map) same;
-  entries = ap (λ (b : Bucket). b.journal.entries) same;
-  messages = ap (λ (b : Bucket). b.flight.messages) same ∙ sym (all_others place old.flight.messages apart);
-  cores = ap (λ (b : Bucket). b.replicas) same
-      ∙ sym (ap (λ messages. delivered_all messages old.replicas) (none_own place old.flight.messages apart));
-  searchers_are = ap (λ (b : Bucket). b.searchers) same;
-}
-
--- the first one, and then the others
-pub DeliversAll-first : (old : Bucket) (place : ℕ) (core : CoreId) (mid new : Bucket) → DeliversFirst old place core mid
-    → DeliversAll mid place new → DeliversAll old place new
-DeliversAll-first old place core mid new first rest = record {
-  name = record {
-    first = rest.name.first ∙ first.delivers.name.first;
-    limit = rest.name.limit ∙ first.delivers.name.limit;
-  };
-  map_is = rest.map_is ∙ first.delivers.map_is;
-  entries = rest.entries ∙ first.delivers.entries;
-  messages = rest.messages ∙ ap (others_of place) first.delivers.messages ∙ others;
-  cores = rest.cores
-      ∙ ap (λ messages. delivered_all (own_of place messages) mid.replicas) first.delivers.messages
-      ∙ ap (delivered_all (own_of place (remove old.flight.messages first.at))) first.delivers.cores
-      ∙ ap (λ messages. delivered_all messages old.replicas) (sym own);
-  searchers_are = rest.searchers_are ∙ first.delivers.searchers_are;
-} where
-  message : Sent
-  message = first.message
-
-  before : List Sent
-  before = take first.at old.flight.messages
-
-  after : List Sent
-  after = drop (suc first.at) old.flight.messages
-
-  is_own : is_of_write place message ≡ true
-  is_own = (Decides-eqb message.place place).1 first.first.of_write
-
-  split : old.flight.messages ≡ before ++ message ∷ after
-  split = split_get old.flight.messages first.at message first.first.found
-
-  own_after : own_of place (message ∷ after) ≡ message ∷ own_of place after
-  own_after = rw is_own refl
-
-  others_after : others_of place (message ∷ after) ≡ others_of place after
-  others_after = rw is_own refl
-
-  own : own_of place old.flight.messages ≡ message ∷ own_of place (remove old.flight.messages first.at)
-  own =
-      ap (own_of place) split ∙ filter-append (is_of_write place) before (message ∷ after)
-      ∙ ap (λ these. these ++ own_of place (message ∷ after)) (none_own place before first.first.first)
-      ∙ own_after
-      ∙ ap (λ these. message ∷ (these ++ own_of place after)) (sym (none_own place before first.first.first))
-      ∙ ap (λ these. message ∷ these) (sym (filter-append (is_of_write place) before after))
-
-  others : others_of place (remove old.flight.messages first.at) ≡ others_of place old.flight.messages
-  others =
-      filter-append (λ m. not (is_of_write place m)) before after
-      ∙ ap (λ these. others_of place before ++ these) (sym others_after)
-      ∙ sym (filter-append (λ m. not (is_of_write place m)) before (message ∷ after))
-      ∙ ap (others_of place) (sym split)
-
--- fewer are in flight
-pub fewer_in_flight : (old : Bucket) (place : ℕ) (core : CoreId) (new : Bucket) → DeliversFirst old place core new
-    → length new.flight.messages < length old.flight.messages
-fewer_in_flight old place core new first =
-    let within = slice_get_within old.flight.messages first.at first.message first.first.found in
-    let one = length-remove old.flight.messages first.at within in
-    let same : length new.flight.messages ≡ length (remove old.flight.messages first.at) = ap length first.delivers.messages in
-    omega (arith, one, same)
+-- the first message of the write, and then the others
+pub DeliversAll-of_write : (old : Bucket) (place : ℕ) (core : CoreId) (mid new : Bucket)
+    → DeliversFirst old place core mid → DeliversAll mid (is_of_write place) new → DeliversAll old (is_of_write place) new
+DeliversAll-of_write old place core mid new first rest =
+    DeliversAll-first old (is_of_write place) first.at first.message mid new
+    ((Decides-eqb first.message.place place).1 first.first.of_write)
+    (none_of_write place (take first.at old.flight.messages) first.first.first) first.delivers rest
 
 -- once all are delivered and the entry is there, the write is settled
-pub Settles-noted : (old : Bucket) (place : ℕ) (mid new : Bucket) → DeliversAll old place mid → Notes mid place new → Settles old place new
+pub Settles-noted : (old : Bucket) (place : ℕ) (mid new : Bucket) → DeliversAll old (is_of_write place) mid
+    → Notes mid place new → Settles old place new
 Settles-noted old place mid new all noted = record {
   name = record { first = noted.name.first ∙ all.name.first; limit = noted.name.limit ∙ all.name.limit };
+  split = record { phase = noted.split.phase ∙ all.split.phase; feeds = noted.split.feeds ∙ all.split.feeds };
   map_is = noted.map_is ∙ all.map_is;
   entries = noted.entries ∙ ap (λ entries. entries ++ entry.Settled place ∷ []) all.entries;
   messages = ap (λ (flight : FlightState). flight.messages) noted.flight_is ∙ all.messages;

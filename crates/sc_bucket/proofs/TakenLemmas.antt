@@ -12,10 +12,15 @@ use Rattle.sc_cluster.specs.declared.slice.State.{State}
 use Rattle.sc_cluster.specs.declared.slice.State.TheVariants as states
 use Rattle.sc_cluster.specs.declared.slice.Slice.{Slice}
 use Rattle.sc_cluster.specs.Slices.{is_active_state, is_active}
+use Rattle.sc_cluster.specs.Changes.{IsSplit}
 use Rattle.sc_cluster.proofs.ListLemmas.{Contains-map, Contains-filter}
 use Rattle.sc_replica.specs.Core.{Core}
 use Rattle.sc_bucket.specs.Cores.{IsLeaderOf}
-use Rattle.sc_bucket.specs.Searchers.{AreOfEachSlice, NoneIsActive}
+use Rattle.sc_bucket.specs.Searchers.{AreOfEachSlice, NoneIsActive, IsSearched}
+use Rattle.sc_bucket.specs.Sound.{IsInPhase}
+use Rattle.sc_bucket.specs.declared.bucket.Bucket.{Bucket}
+use Rattle.sc_bucket.specs.declared.phase.Phase.{Phase}
+use Rattle.sc_bucket.specs.declared.phase.Phase.TheVariants as phases
 use Rattle.sc_bucket.specs.declared.standing.Standing.{Standing}
 use Rattle.sc_bucket.proofs.CoreLemmas.{is_core-Decides, element_from_map, IsCoreFound}
 
@@ -115,6 +120,20 @@ pub has_searcher : (slices : List Slice) (searchers : List Standing) (slice : Sl
 has_searcher slices searchers slice each there active =
     subst (λ (ids : List SliceId). Contains ids slice.id) (sym each)
     (Contains-map name_of (filter is_active slices) slice (Contains-filter is_active slices slice there (ap is_active_state active)))
+
+-- so where a split is open its parent has one
+pub IsSearched-in_phase : (b : Bucket) (phase : Phase) (searchers : List Standing) → IsInPhase b phase
+    → AreOfEachSlice b.map searchers → IsSearched phase searchers
+IsSearched-in_phase b phase searchers in_phase each = by phase in_phase where
+  of_parent : (parent : SliceId) → IsSplit b.map parent → Contains (map slice_of searchers) parent
+  of_parent parent (slice, same, splitting) =
+      subst (Contains (map slice_of searchers)) same
+      (has_searcher b.map searchers slice each splitting.there splitting.active)
+
+  by : (one : Phase) → IsInPhase b one → IsSearched one searchers
+  by phases.Idle idle = tt
+  by (phases.Building parent) is = of_parent parent is.split
+  by (phases.Recovering parent) is = of_parent parent is.0.split
 
 -- none of the slices of a part is active, nor is the next: so of one more
 pub NoneIsActive-more : (slices : List Slice) (from at : ℕ) (slice : Slice) → from ≤ at → slice_get slices at ≡ Some slice

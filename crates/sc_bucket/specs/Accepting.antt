@@ -11,11 +11,11 @@ use Rattle.sc_partial.specs.declared.fault.PartialFault.TheVariants as partial
 use Rattle.sc_bucket.specs.declared.bucket.Bucket.{Bucket}
 use Rattle.sc_bucket.specs.declared.accept.AcceptFault.{AcceptFault}
 use Rattle.sc_bucket.specs.declared.accept.AcceptFault.TheVariants as faults
-use Rattle.sc_bucket.specs.Kept.{Sent}
+use Rattle.sc_bucket.specs.Kept.{Sent, FeedState}
 use Rattle.sc_bucket.specs.Cores.{is_core}
-use Rattle.sc_bucket.specs.Flight.{pending}
+use Rattle.sc_bucket.specs.Pending.{to_feed, pending}
 use Rattle.sc_bucket.specs.Sound.{HasSpare}
-use Rattle.sc_bucket.specs.Events.{without_room, HasSameName}
+use Rattle.sc_bucket.specs.Events.{without_room, HasSameName, HasSameSplit}
 
 -- the fault of an order whose change makes no document
 abbrev pub accept_fault : PartialFault → AcceptFault
@@ -29,13 +29,13 @@ pub record IsRoomier (old new : Core) : Type 0 where
   pub buffer : old.buffer_spare ≤ new.buffer_spare
 
 -- the core has room for one more write than all that could be pending for it
-pub record HasMore (messages : List Sent) (core : Core) : Type 0 where
-  pub cells : length messages + length core.buffer < core.cell_spare
+pub record HasMore (messages : List Sent) (feeds : List FeedState) (core : Core) : Type 0 where
+  pub cells : length messages + length core.buffer + length (to_feed feeds core.core) < core.cell_spare
   pub buffer : length messages < core.buffer_spare
 
 -- the core of this name has it
-abbrev pub HasMoreAt : List Sent → List Core → CoreId → Type 0
-HasMoreAt messages cores name = All (λ (core : Core). is_core name core.core ≡ true → HasMore messages core) cores
+abbrev pub HasMoreAt : List Sent → List FeedState → List Core → CoreId → Type 0
+HasMoreAt messages feeds cores name = All (λ (core : Core). is_core name core.core ≡ true → HasMore messages feeds core) cores
 
 -- There is memory for a write that the core at the place leads and that these messages send to the others, for the entries that
 -- are owed with it, and in the cores.
@@ -43,14 +43,15 @@ pub record HasMemory (b : Bucket) (leader : ℕ) (messages : List Sent) : Type 0
   pub journal : b.owed + 2 ≤ b.journal.room
   pub unsettled : 0 < b.unsettled.room
   pub flight : length messages ≤ b.flight.room
-  pub cores : All (HasSpare (b.flight.messages ++ messages)) b.replicas
+  pub cores : All (HasSpare (b.flight.messages ++ messages) b.feeds) b.replicas
   pub one_more : (core : Core) → slice_get b.replicas leader ≡ Some core
-      → length (pending (b.flight.messages ++ messages) core) < core.cell_spare
+      → length (pending (b.flight.messages ++ messages) b.feeds core) < core.cell_spare
 
 -- A write was put into a bucket: at the end of its journal, with its place among those that are not settled, and into the
 -- core at a place, which led it; and these messages were sent.
 pub record IsPut (old : Bucket) (cell : Arc Write Global) (at : ℕ) (messages : List Sent) (new : Bucket) : Type 0 where
   pub name : HasSameName old new
+  pub split : HasSameSplit old new
   pub map_is : new.map ≡ old.map
   pub entries : new.journal.entries ≡ old.journal.entries ++ entry.Write cell ∷ []
   pub places : new.unsettled.places ≡ old.unsettled.places ++ length old.journal.entries ∷ []

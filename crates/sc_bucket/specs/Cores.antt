@@ -1,6 +1,7 @@
 -- The cores of a bucket, by their names.
-use Rattle.std.specs.Prelude.{◌≡◌, ℕ, ℤ, Bool, ◌&&◌, not, nat_eq, int_le, List, [], map, filter, max, pos, slice_get, Some}
-use Rattle.std.specs.List.{IsDistinct, flat_map, range_with_len}
+use Rattle.std.specs.Prelude.{◌≡◌, ◌<◌, ℕ, ◌+◌, ◌*◌, ◌^◌, ℤ, Bool, ◌&&◌, not, nat_eq, nat_lt, int_le, if◌then◌else◌, List, [], ◌∷◌, map, filter, max, pos, slice_get, Some}
+use Rattle.std.specs.List.{IsDistinct, flat_map, list_any, range_with_len}
+use Rattle.std.specs.List.Sorted.{IsStrictlyIncreasing}
 use Rattle.sc_record.specs.declared.slice.SliceId.{SliceId}
 use Rattle.sc_record.specs.declared.slice.CoreId.{CoreId}
 use Rattle.sc_cluster.specs.declared.slice.Slice.{Slice}
@@ -24,6 +25,25 @@ core_keys slices = flat_map keys_of slices
 -- the two names are those of one core
 abbrev pub is_core : CoreId → CoreId → Bool
 is_core one other = nat_eq one.slice.0 other.slice.0 && nat_eq one.replica other.replica
+
+-- the number of a core's name: cores are in the order of the slices, and of each slice in that of its replicas
+abbrev pub core_number : CoreId → ℕ
+core_number core = core.slice.0 * 256 + core.replica
+
+-- the cores ascend by their names, so that each stands once
+abbrev pub AscendByName : List Core → Type 0
+AscendByName cores = IsStrictlyIncreasing (map (λ (core : Core). core_number core.core) cores)
+
+-- the cores with one more, before the first whose name comes later
+abbrev pub put_by_name : Core → List Core → List Core
+put_by_name core [] = core ∷ []
+put_by_name core (other ∷ cores) =
+    if nat_lt (core_number core.core) (core_number other.core) then core ∷ other ∷ cores
+    else other ∷ put_by_name core cores
+
+-- the slice of a core is one of these
+abbrev pub is_of_one : List Slice → CoreId → Bool
+is_of_one slices core = list_any (λ (slice : Slice). nat_eq slice.id.0 core.slice.0) slices
 
 -- no two cores have one name
 abbrev pub AreApart : List Core → Type 0
@@ -59,6 +79,10 @@ pub record IsLeaderAt (slices : List Slice) (cores : List Core) (hash : ℤ) (at
   pub leads : Leads slices hash slice
   pub found : slice_get cores at ≡ Some core
   pub leader : IsLeaderOf slice.id core
+
+-- the core's replica is a number of eight bits
+abbrev pub IsCounted : Core → Type 0
+IsCounted core = core.core.replica < 2 ^ 8
 
 -- the core was made and nothing came to it yet
 pub record IsNew (core : Core) : Type 0 where

@@ -17,7 +17,7 @@ use Rattle.sc_journal.specs.Outcomes.{Outcome, accepted, conflict, partial, log_
 use Rattle.sc_bucket.specs.Kept.{Sent}
 use Rattle.sc_bucket.specs.Cores.{followers, IsLeaderOf}
 use Rattle.sc_bucket.specs.Searchers.{AreTaken}
-use Rattle.sc_bucket.specs.Flight.{is_of_write, sent_to, delivered, delivered_all, IsFirstOf}
+use Rattle.sc_bucket.specs.Flight.{is_of_write, is_to, sent_to, delivered, delivered_all, arrived, IsFirstOf}
 use Rattle.sc_bucket.specs.declared.bucket.Bucket.{Bucket}
 use Rattle.sc_bucket.specs.declared.accept.Accepted.{Accepted}
 use Rattle.sc_bucket.specs.declared.accept.AcceptFault.{AcceptFault}
@@ -36,9 +36,15 @@ pub record HasSameName (old new : Bucket) : Type 0 where
   pub first : new.first ≡ old.first
   pub limit : new.limit ≡ old.limit
 
+-- nothing of a split was changed
+pub record HasSameSplit (old new : Bucket) : Type 0 where
+  pub phase : new.phase ≡ old.phase
+  pub feeds : new.feeds ≡ old.feeds
+
 -- nothing was changed but room
 pub record IsSameBut (old new : Bucket) : Type 0 where
   pub name : HasSameName old new
+  pub split : HasSameSplit old new
   pub map_is : new.map ≡ old.map
   pub entries : new.journal.entries ≡ old.journal.entries
   pub messages : new.flight.messages ≡ old.flight.messages
@@ -49,6 +55,7 @@ pub record IsSameBut (old new : Bucket) : Type 0 where
 -- to each other core that takes it.
 pub record Accepts (old : Bucket) (order : Order) (now : ℕ) (version : ℤ) (new : Bucket) : Type 0 where
   pub name : HasSameName old new
+  pub split : HasSameSplit old new
   pub map_is : new.map ≡ old.map
   pub fitting : IsFitting old.journal.entries order
   pub room : HasRoom old.limit old.first old.journal.entries
@@ -70,6 +77,7 @@ pub record Accepts (old : Bucket) (order : Order) (now : ℕ) (version : ℤ) (n
 -- the message at this place of the flight is delivered: it leaves the flight, and its core receives the write
 pub record Delivers (old : Bucket) (at : ℕ) (message : Sent) (new : Bucket) : Type 0 where
   pub name : HasSameName old new
+  pub split : HasSameSplit old new
   pub map_is : new.map ≡ old.map
   pub entries : new.journal.entries ≡ old.journal.entries
   pub found : slice_get old.flight.messages at ≡ Some message
@@ -85,9 +93,20 @@ pub record DeliversFirst (old : Bucket) (place : ℕ) (core : CoreId) (new : Buc
   pub core_is : message.core ≡ core
   pub delivers : Delivers old at message new
 
+-- all that is in flight to the core of this name is delivered, in the order of sending
+pub record DeliversTo (old : Bucket) (core : CoreId) (new : Bucket) : Type 0 where
+  pub name : HasSameName old new
+  pub split : HasSameSplit old new
+  pub map_is : new.map ≡ old.map
+  pub entries : new.journal.entries ≡ old.journal.entries
+  pub messages : new.flight.messages ≡ filter (λ (message : Sent). not (is_to core message)) old.flight.messages
+  pub cores : new.replicas ≡ map (arrived old.flight.messages core) old.replicas
+  pub searchers_are : new.searchers ≡ old.searchers
+
 -- the write at the place is settled: its messages in flight are delivered, and its entry comes to the end of the journal
 pub record Settles (old : Bucket) (place : ℕ) (new : Bucket) : Type 0 where
   pub name : HasSameName old new
+  pub split : HasSameSplit old new
   pub map_is : new.map ≡ old.map
   pub entries : new.journal.entries ≡ old.journal.entries ++ entry.Settled place ∷ []
   pub messages : new.flight.messages ≡ filter (λ (message : Sent). not (is_of_write place message)) old.flight.messages
@@ -97,6 +116,7 @@ pub record Settles (old : Bucket) (place : ℕ) (new : Bucket) : Type 0 where
 -- the entry that settles the write at the place comes to the end of the journal
 pub record Notes (old : Bucket) (place : ℕ) (new : Bucket) : Type 0 where
   pub name : HasSameName old new
+  pub split : HasSameSplit old new
   pub map_is : new.map ≡ old.map
   pub entries : new.journal.entries ≡ old.journal.entries ++ entry.Settled place ∷ []
   pub flight_is : new.flight ≡ old.flight
@@ -107,6 +127,7 @@ pub record Notes (old : Bucket) (place : ℕ) (new : Bucket) : Type 0 where
 -- end of the journal
 pub record Commits (old new : Bucket) : Type 0 where
   pub name : HasSameName old new
+  pub split : HasSameSplit old new
   pub map_is : new.map ≡ old.map
   pub room : HasRoomToCommit old.limit old.first old.journal.entries
   pub entries : new.journal.entries ≡ old.journal.entries ++ entry.Committed ∷ []

@@ -1,9 +1,10 @@
 -- The messages in flight: to which cores they go, and what becomes of the cores once they are delivered.
-use Rattle.std.specs.Prelude.{◌≡◌, ◌≢◌, ℕ, Bool, nat_eq, ◌&&◌, if◌then◌else◌, All, List, [], ◌∷◌, ◌++◌, map, filter, take, slice_get, Some}
+use Rattle.std.specs.Prelude.{◌≡◌, ◌≢◌, ℕ, Bool, nat_eq, ◌&&◌, if◌then◌else◌, All, List, [], ◌∷◌, map, filter, take, slice_get, Some}
 use Rattle.std.specs.Arc.{arc_value}
 use Rattle.sc_record.specs.declared.slice.CoreId.{CoreId}
 use Rattle.sc_record.specs.declared.write.Write.{Write}
 use Rattle.sc_replica.specs.Core.{Core, received}
+use Rattle.sc_replica.specs.Deliveries.{received_all}
 use Rattle.sc_bucket.specs.declared.message.Message.{Message}
 use Rattle.sc_bucket.specs.Kept.{Sent}
 use Rattle.sc_bucket.specs.Cores.{is_core}
@@ -28,10 +29,6 @@ sent_to place write cores = map (λ core. record { place = place; core = core; w
 abbrev pub in_flight : List Sent → CoreId → List Write
 in_flight messages core = map (λ (message : Sent). message.write) (filter (λ (message : Sent). is_core core message.core) messages)
 
--- the writes that are pending for a core: those of the messages to it, and those in its buffer
-abbrev pub pending : List Sent → Core → List Write
-pending messages core = in_flight messages core.core ++ core.buffer
-
 -- the core of this name once it received the write; any other core stays
 abbrev pub received_by : CoreId → Write → Core → Core
 received_by name write core = if is_core name core.core then received core write else core
@@ -50,3 +47,11 @@ pub record IsFirstOf (write : ℕ) (messages : List Sent) (at : ℕ) (message : 
   pub found : slice_get messages at ≡ Some message
   pub of_write : message.place ≡ write
   pub first : All (λ (other : Sent). other.place ≢ write) (take at messages)
+
+-- the message goes to the core of this name
+abbrev pub is_to : CoreId → Sent → Bool
+is_to core message = is_core core message.core
+
+-- the core of this name once all that was in flight to it came there; any other core stays
+abbrev pub arrived : List Sent → CoreId → Core → Core
+arrived messages name core = if is_core name core.core then received_all core (in_flight messages name) else core

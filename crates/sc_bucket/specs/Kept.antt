@@ -1,5 +1,6 @@
 -- The parts of a bucket as contracts see them.
 use Rattle.std.specs.Prelude.{ℕ, List}
+use Rattle.sc_hash.specs.declared.range.Range.{Range}
 use Rattle.sc_record.specs.declared.entry.Entry.{Entry}
 use Rattle.sc_record.specs.declared.slice.CoreId.{CoreId}
 use Rattle.sc_record.specs.declared.write.Write.{Write}
@@ -24,3 +25,10 @@ pub record Sent : Type 0 where
 pub record FlightState : Type 0 where
   pub messages : List Sent
   pub room : ℕ
+
+-- a feed: the core that it feeds and that core's range, the rows of the snapshot that it feeds from, and the next one to look at
+pub record FeedState : Type 0 where
+  pub core : CoreId
+  pub range : Range
+  pub rows : List Write
+  pub next : ℕ

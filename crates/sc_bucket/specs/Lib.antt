@@ -3,6 +3,7 @@ pub mod Kept
 pub mod Cores
 pub mod Searchers
 pub mod Flight
+pub mod Pending
 pub mod Sound
 pub mod Events
 pub mod Accepting

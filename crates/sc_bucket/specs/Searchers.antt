@@ -1,18 +1,23 @@
 -- The searchers of a bucket: what a search finds in its slices.
-use Rattle.std.specs.Prelude.{◌≡◌, ◌≤◌, ℕ, ◌+◌, List, map, filter, take, drop, slice_get, Some, false, All, Contains}
+use Rattle.std.specs.Prelude.{◌≡◌, ◌≤◌, ℕ, ◌+◌, nat_eq, not, List, ◌++◌, map, filter, take, drop, slice_get, Option, Some, None, IsSome, IfSome, false, All, Contains, ⊤}
 use Rattle.std.specs.Arc.{arc_value}
 use Rattle.sc_hash.specs.Range.{IsWithin}
+use Rattle.sc_hash.specs.declared.range.Range.{Range}
 use Rattle.sc_router.specs.Route.{route_hash}
 use Rattle.sc_record.specs.Writes.{write_of}
+use Rattle.sc_record.specs.declared.slice.SliceId.{SliceId}
+use Rattle.sc_snapshot.specs.Rows.{SnapshotState}
 use Rattle.sc_record.specs.declared.write.Write.{Write}
 use Rattle.sc_record.specs.declared.entry.Entry.{Entry}
 use Rattle.sc_cluster.specs.declared.slice.State.TheVariants as states
 use Rattle.sc_cluster.specs.declared.slice.Slice.{Slice}
-use Rattle.sc_cluster.specs.Slices.{is_active}
+use Rattle.sc_cluster.specs.Slices.{is_active, forming}
 use Rattle.sc_replica.specs.Core.{Core}
 use Rattle.sc_journal.specs.Journal.{writes, last_write}
 use Rattle.sc_journal.specs.Committed.{committed}
 use Rattle.sc_bucket.specs.Cores.{IsLeaderOf}
+use Rattle.sc_bucket.specs.declared.phase.Phase.{Phase}
+use Rattle.sc_bucket.specs.declared.phase.Phase.TheVariants as phases
 use Rattle.sc_bucket.specs.declared.standing.Standing.{Standing}
 use Rattle.sc_bucket.specs.declared.standing.Searcher.{Searcher}
 
@@ -74,3 +79,36 @@ pub record IsFirstSearcher (slices : List Slice) (searchers : List Standing) (jo
   pub snapshot_is : arc_value found.snapshot ≡ arc_value searcher.snapshot
   pub range_is : found.range ≡ slice.range
   pub shows : ShowsCommitted journal slice (arc_value found.snapshot).rows
+
+-- a searcher as contracts see it
+pub record StandingState : Type 0 where
+  pub slice : SliceId
+  pub range : Range
+  pub snapshot : SnapshotState
+
+abbrev pub standing_of : Standing → StandingState
+standing_of searcher = record { slice = searcher.slice; range = searcher.range; snapshot = arc_value searcher.snapshot }
+
+-- the searcher of a sub that finds in its range what this one finds
+abbrev pub cut_to : Slice → StandingState → StandingState
+cut_to sub searcher = record { slice = sub.id; range = sub.range; snapshot = searcher.snapshot }
+
+-- The searchers as a switch leaves them: those of the other slices, and for each sub that of the parent, cut to its range.
+pub record AreHandedOn (slices : List Slice) (parent : SliceId) (old new : List Standing) : Type 0 where
+  pub searcher : Standing
+  pub there : Contains old searcher
+  pub of_parent : searcher.slice ≡ parent
+  pub handed : map standing_of new ≡ filter (λ (other : StandingState). not (nat_eq other.slice.0 parent.0)) (map standing_of old)
+      ++ map (λ (sub : Slice). cut_to sub (standing_of searcher)) (forming slices)
+
+-- where a split is open its parent has a searcher
+abbrev pub IsSearched : Phase → List Standing → Type 0
+IsSearched phases.Idle searchers = ⊤
+IsSearched (phases.Building parent) searchers = Contains (map (λ (searcher : Standing). searcher.slice) searchers) parent
+IsSearched (phases.Recovering parent) searchers = Contains (map (λ (searcher : Standing). searcher.slice) searchers) parent
+
+-- the searchers that a switch leaves are ready, where a split is open
+abbrev pub ArePrepared : Phase → List Slice → List Standing → Option (List Standing) → Type 0
+ArePrepared phases.Idle slices searchers spares = spares ≡ None
+ArePrepared (phases.Building parent) slices searchers spares = IfSome spares (AreHandedOn slices parent searchers) × IsSome spares
+ArePrepared (phases.Recovering parent) slices searchers spares = IfSome spares (AreHandedOn slices parent searchers) × IsSome spares

@@ -1,7 +1,8 @@
 -- What is true of a bucket before and after each of its events.
-use Rattle.std.specs.Prelude.{◌≡◌, ◌≤◌, ◌⊎◌, ℕ, ◌+◌, ◌^◌, Some, None, List, length, map, false, IsTrue, All, Contains}
+use Rattle.std.specs.Prelude.{◌≡◌, ◌≤◌, ◌⊎◌, ℕ, ◌+◌, ◌^◌, Some, None, List, [], ◌++◌, length, map, filter, not, true, false, IsTrue, All, Contains}
 use Rattle.std.specs.List.{IsDistinct}
 use Rattle.sc_record.specs.Writes.{write_of}
+use Rattle.sc_record.specs.declared.slice.SliceId.{SliceId}
 use Rattle.sc_record.specs.declared.write.Write.{Write}
 use Rattle.sc_record.specs.declared.entry.Entry.{Entry}
 use Rattle.sc_hash.specs.Range.{IsWithin}
@@ -9,17 +10,22 @@ use Rattle.sc_router.specs.Route.{route_hash}
 use Rattle.sc_cluster.specs.declared.slice.State.TheVariants as states
 use Rattle.sc_cluster.specs.declared.slice.Slice.{Slice}
 use Rattle.sc_cluster.specs.Map.{IsMap}
-use Rattle.sc_ulog.specs.declared.mode.Mode.TheVariants.{Active}
+use Rattle.sc_cluster.specs.Slices.{is_forming, forming}
+use Rattle.sc_cluster.specs.Changes.{IsSplit}
+use Rattle.sc_ulog.specs.declared.mode.Mode.TheVariants.{Active, Buffering}
 use Rattle.sc_replica.specs.Core.{Core}
 use Rattle.sc_journal.specs.Journal.{writes, write_at, last_write, is_settled, unsettled}
 use Rattle.sc_journal.specs.Splits.{map_after, open_split, owed}
 use Rattle.sc_journal.specs.Legal.{IsLegal}
 use Rattle.sc_journal.specs.Outcomes.{IsClock}
-use Rattle.sc_bucket.specs.Kept.{Sent}
-use Rattle.sc_bucket.specs.Cores.{core_key, core_keys, is_attached, AreApart}
-use Rattle.sc_bucket.specs.Searchers.{rows_of, AreOfEachSlice, ShowsCommitted}
-use Rattle.sc_bucket.specs.Flight.{in_flight, pending, is_same_message}
+use Rattle.sc_bucket.specs.Kept.{Sent, FeedState}
+use Rattle.sc_bucket.specs.Cores.{core_key, core_keys, keys_of, is_attached, AscendByName, IsCounted, is_core}
+use Rattle.sc_bucket.specs.Searchers.{rows_of, AreOfEachSlice, ShowsCommitted, ArePrepared}
+use Rattle.sc_bucket.specs.Flight.{in_flight, is_same_message}
+use Rattle.sc_bucket.specs.Pending.{pending}
 use Rattle.sc_bucket.specs.declared.bucket.Bucket.{Bucket}
+use Rattle.sc_bucket.specs.declared.phase.Phase.{Phase}
+use Rattle.sc_bucket.specs.declared.phase.Phase.TheVariants as phases
 use Rattle.sc_bucket.specs.declared.standing.Standing.{Standing}
 
 -- every slice is active
@@ -55,23 +61,24 @@ Serves journal slice core = slice.state ≡ states.Active → core.core.replica 
     → (core.mode ≡ Active) × HasLastWrites journal slice core
 
 -- each cell of a core and each write that is pending for it is a write of the journal
-abbrev pub AreWritten : List Entry → List Sent → Core → Type 0
-AreWritten journal messages core = All (Contains (writes journal)) core.cells × All (Contains (writes journal)) (pending messages core)
+abbrev pub AreWritten : List Entry → List Sent → List FeedState → Core → Type 0
+AreWritten journal messages feeds core =
+    All (Contains (writes journal)) core.cells × All (Contains (writes journal)) (pending messages feeds core)
 
 -- of each id whose hash is in the range of an attached slice the core has the last write, or it is pending for it, unless the id
 -- was never written
-abbrev pub HasOrAwaits : List Entry → List Sent → Slice → Core → Type 0
-HasOrAwaits journal messages slice core = IsTrue (is_attached slice) → (id : List ℕ) (write : Write)
+abbrev pub HasOrAwaits : List Entry → List Sent → List FeedState → Slice → Core → Type 0
+HasOrAwaits journal messages feeds slice core = IsTrue (is_attached slice) → (id : List ℕ) (write : Write)
     → IsWithin slice.range.min slice.range.max (route_hash id) → last_write journal id ≡ Some write
-    → (write_of core.cells id ≡ Some write) ⊎ Contains (pending messages core) write
+    → (write_of core.cells id ≡ Some write) ⊎ Contains (pending messages feeds core) write
 
 -- the write's hash is in the slice's range
 abbrev pub IsInRange : Slice → Write → Type 0
 IsInRange slice write = IsWithin slice.range.min slice.range.max write.hash
 
 -- no cell, and no write that is pending, has a hash outside the slice's range
-abbrev pub AreInRange : List Sent → Slice → Core → Type 0
-AreInRange messages slice core = All (IsInRange slice) core.cells × All (IsInRange slice) (pending messages core)
+abbrev pub AreInRange : List Sent → List FeedState → Slice → Core → Type 0
+AreInRange messages feeds slice core = All (IsInRange slice) core.cells × All (IsInRange slice) (pending messages feeds core)
 
 -- Each active slice has a searcher, in the order of the map, and no other has one. It has the slice's range, and shows what was
 -- committed there.
@@ -92,26 +99,72 @@ pub record AreSent (b : Bucket) : Type 0 where
   pub once : IsDistinct is_same_message b.flight.messages
 
 -- the core has room for each write that is pending for it, wherever it is put
-pub record HasSpare (messages : List Sent) (core : Core) : Type 0 where
-  pub cells : length (pending messages core) ≤ core.cell_spare
+pub record HasSpare (messages : List Sent) (feeds : List FeedState) (core : Core) : Type 0 where
+  pub cells : length (pending messages feeds core) ≤ core.cell_spare
   pub buffer : length (in_flight messages core.core) ≤ core.buffer_spare
 
--- no split is open, and every core of the map is there, and active
+-- The cores that are there, in the order of their names: each is of a slice of the map, and each slice's leader is among them. Of a
+-- slice that no split is making each replica is there, and active.
+pub record HasCores (b : Bucket) : Type 0 where
+  pub counted : All IsCounted b.replicas
+  pub ascend : AscendByName b.replicas
+  pub of_map : All (Contains (core_keys b.map)) (map core_key b.replicas)
+  pub leaders : All (λ (slice : Slice). Contains (map core_key b.replicas) (slice.id.0, 1)) b.map
+  pub whole : All (λ (slice : Slice). is_forming slice ≡ false → All (Contains (map core_key b.replicas)) (keys_of slice)) b.map
+  pub active : OfEachCore b (λ (slice : Slice) (core : Core). is_forming slice ≡ false → core.mode ≡ Active)
+
+-- A feed is of a core that buffers what comes, of a slice that a split is making, and has that slice's range.
+pub record IsFeed (b : Bucket) (feed : FeedState) : Type 0 where
+  pub slice : Slice
+  pub there : Contains b.map slice
+  pub forming : is_forming slice ≡ true
+  pub of_slice : feed.core.slice ≡ slice.id
+  pub range_is : feed.range ≡ slice.range
+  pub core : Core
+  pub core_there : Contains b.replicas core
+  pub core_is : core.core ≡ feed.core
+  pub buffering : core.mode ≡ Buffering
+  pub within : feed.next ≤ length feed.rows
+
+-- each feed is one, and no two are of one core
+pub record AreFeeds (b : Bucket) : Type 0 where
+  pub each : All (IsFeed b) b.feeds
+  pub once : IsDistinct is_core (map (λ (feed : FeedState). feed.core) b.feeds)
+
+-- no split is open
 pub record IsIdle (b : Bucket) : Type 0 where
   pub idle : open_split b.journal.entries ≡ None
-  pub cores : map core_key b.replicas ≡ core_keys b.map
-  pub active : All (λ (core : Core). core.mode ≡ Active) b.replicas
+  pub whole : forming b.map ≡ []
+
+-- A split of the parent is open. Its subs are in construction, and come after all other slices.
+pub record IsOpen (b : Bucket) (parent : SliceId) : Type 0 where
+  pub begun : open_split b.journal.entries ≡ Some parent
+  pub split : IsSplit b.map parent
+  pub constructed : All (λ (slice : Slice). slice.state ≡ states.Construction) (forming b.map)
+  pub last : b.map ≡ filter (λ (slice : Slice). not (is_forming slice)) b.map ++ forming b.map
+
+-- the leader of each slice that a split is making is active
+abbrev pub AreLedActively : Bucket → Type 0
+AreLedActively b = OfEachCore b (λ (slice : Slice) (core : Core). is_forming slice ≡ true → core.core.replica ≡ 1 → core.mode ≡ Active)
+
+-- the bucket is in this phase
+abbrev pub IsInPhase : Bucket → Phase → Type 0
+IsInPhase b phases.Idle = IsIdle b
+IsInPhase b (phases.Building parent) = IsOpen b parent
+IsInPhase b (phases.Recovering parent) = IsOpen b parent × AreLedActively b
 
 -- What is true of a bucket. Each part is kept by every event.
 pub record IsSound (b : Bucket) : Type 0 where
   pub journal : HasJournal b
   pub leaders : OfEachCore b (Serves b.journal.entries)
-  pub written : All (AreWritten b.journal.entries b.flight.messages) b.replicas
-  pub held : OfEachCore b (HasOrAwaits b.journal.entries b.flight.messages)
-  pub in_range : OfEachCore b (AreInRange b.flight.messages)
+  pub written : All (AreWritten b.journal.entries b.flight.messages b.feeds) b.replicas
+  pub held : OfEachCore b (HasOrAwaits b.journal.entries b.flight.messages b.feeds)
+  pub in_range : OfEachCore b (AreInRange b.flight.messages b.feeds)
   pub clocks : All (λ (core : Core). IsClock b.journal.entries core.clock) b.replicas
   pub searchers : HasSearchers b
+  pub prepared : ArePrepared b.phase b.map b.searchers b.spares
   pub messages : AreSent b
-  pub spares : All (HasSpare b.flight.messages) b.replicas
-  pub apart : AreApart b.replicas
-  pub phase : IsIdle b
+  pub spares : All (HasSpare b.flight.messages b.feeds) b.replicas
+  pub cores : HasCores b
+  pub feeds : AreFeeds b
+  pub phase : IsInPhase b b.phase

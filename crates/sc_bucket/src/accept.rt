@@ -8,7 +8,8 @@ ghost use Rattle.sc_replica.specs.Core.{Core};
 ghost use Rattle.sc_partial.specs.Resolved.{IsRefusalOf, fields_of};
 ghost use Rattle.sc_journal.specs.Legal.{HasTerms, MayWrite};
 ghost use Rattle.sc_journal.specs.Outcomes.{Makes, refused, HasRoom, IsWriteOf, IsFitting, IsOutcome, live_fields};
-ghost use Rattle.sc_bucket.specs.Cores.{is_core, is_attached, has_hash, AreApart, follows, followers, IsLeaderAt};
+ghost use Rattle.sc_bucket.specs.Cores.{is_core, is_attached, has_hash, AscendByName, follows, followers, IsLeaderAt};
+ghost use Rattle.sc_bucket.specs.Kept.{FeedState};
 ghost use Rattle.sc_bucket.specs.Flight.{sent_of, sent_to};
 ghost use Rattle.sc_bucket.specs.Sound.{IsSound};
 ghost use Rattle.sc_bucket.specs.Events.{Accepts, IsSameBut, outcome_of};
@@ -219,12 +220,13 @@ impl Bucket {
     // for it.
     fn reserve_in_cores(&mut self, leader: usize, messages: &[Message]) -> Result<(), AllocError>
         requires within { leader < length self.old.replicas }
-        requires apart { AreApart self.old.replicas }
+        requires ascend { AscendByName self.old.replicas }
+        requires feeds { IsDistinct is_core (map (λ (feed : FeedState). feed.core) self.old.feeds) }
         requires there { All (Contains (map (λ (core : Core). core.core) self.old.replicas)) (map (λ (message : Message). message.core) messages.now) }
         ensures rest { self.new ≡ record self.old { replicas = self.new.replicas } }
         ensures cores { AllZip IsRoomier self.old.replicas self.new.replicas }
-        ensures messages { OnOk result (All (HasMoreAt self.old.flight.messages self.new.replicas) (map (λ (message : Message). message.core) messages.now)) }
-        ensures leader { OnOk result ((core : Core) → slice_get self.new.replicas leader ≡ Some core → HasMore self.old.flight.messages core) }
+        ensures messages { OnOk result (All (HasMoreAt self.old.flight.messages self.old.feeds self.new.replicas) (map (λ (message : Message). message.core) messages.now)) }
+        ensures leader { OnOk result ((core : Core) → slice_get self.new.replicas leader ≡ Some core → HasMore self.old.flight.messages self.old.feeds core) }
     {
         for message in messages {
             let core = self.replicas.position(message.core).unwrap();
@@ -235,13 +237,21 @@ impl Bucket {
 
     // Makes room in the core at this place for one more write than all that could be pending for it.
     fn reserve_in(&mut self, at: usize) -> Result<(), AllocError>
-        requires { at < length self.old.replicas }
+        requires within { at < length self.old.replicas }
+        requires feeds { IsDistinct is_core (map (λ (feed : FeedState). feed.core) self.old.feeds) }
         ensures rest { self.new ≡ record self.old { replicas = self.new.replicas } }
         ensures cores { AllZip IsRoomier self.old.replicas self.new.replicas }
-        ensures more { OnOk result ((core : Core) → slice_get self.new.replicas at ≡ Some core → HasMore self.old.flight.messages core) }
+        ensures more { OnOk result ((core : Core) → slice_get self.new.replicas at ≡ Some core → HasMore self.old.flight.messages self.old.feeds core) }
     {
-        let buffered = self.replicas.get(at).buffered();
-        let pending = self.flight.len().checked_add(buffered).ok_or(AllocError)?;
+        let replica = self.replicas.get(at);
+        let arriving = self
+            .flight
+            .len()
+            .checked_add(replica.buffered())
+            .ok_or(AllocError)?;
+        let pending = arriving
+            .checked_add(self.feeds.pending_for(replica.core()))
+            .ok_or(AllocError)?;
         let more = pending.checked_add(1).ok_or(AllocError)?;
         self.replicas.reserve(at, more)
     }

@@ -1,6 +1,8 @@
 use crate::commit::searchers_at;
+use crate::feeds::Feeds;
 use crate::flight::Flight;
 use crate::journal::Journal;
+use crate::phase::Phase;
 use crate::replicas::Replicas;
 use crate::standing::Standing;
 use crate::unsettled::Unsettled;
@@ -20,12 +22,18 @@ pub struct Bucket {
     pub journal: Journal,
     /// The places of the writes that are not settled.
     pub unsettled: Unsettled,
-    /// The cores: a replica for each, in the order of the map's slices, and of each slice from 1.
+    /// The cores that are there: a replica for each, in the order of the map's slices, and of each slice from 1.
     pub replicas: Replicas,
     /// The writes that are sent to cores and did not come there yet.
     pub flight: Flight,
     /// What serves searches: for each active slice, in the map's order, what was committed there.
     pub searchers: List<Standing>,
+    /// How far its split has come.
+    pub phase: Phase,
+    /// What the cores that a split makes are fed from.
+    pub feeds: Feeds,
+    /// The searchers as the switch will leave them; None where no split is open.
+    pub spares: Option<List<Standing>>,
     /// How many entries the journal has still to get.
     pub owed: u64,
     /// How many entries the journal may have.
@@ -61,6 +69,9 @@ impl Bucket {
             searchers: searchers_at(alloc, map, &replicas, 0)?,
             replicas,
             flight: Flight::new(alloc),
+            phase: Phase::Idle,
+            feeds: Feeds::new(alloc),
+            spares: None,
             owed: 0,
             limit,
         })

@@ -7,11 +7,14 @@ ghost use Rattle.sc_journal.specs.Splits.{owed};
 ghost use Rattle.sc_journal.specs.Committed.{HasRoomToCommit};
 ghost use Rattle.sc_bucket.specs.Cores.{IsLeaderOf};
 ghost use Rattle.sc_bucket.specs.Sound.{IsSound};
-ghost use Rattle.sc_bucket.specs.Searchers.{AreLed, AreTaken, IsTaken};
+ghost use Rattle.sc_bucket.specs.declared.standing.Standing.{Standing};
+ghost use Rattle.sc_bucket.specs.Searchers.{AreLed, AreTaken, IsTaken, IsSearched, ArePrepared};
 ghost use Rattle.sc_bucket.specs.Events.{IsSameBut, Commits};
 
 use crate::bucket::Bucket;
+use crate::phase::Phase;
 use crate::replicas::Replicas;
+use crate::spares::hand_on;
 use crate::standing::Standing;
 use sc_cluster::{ClusterMap, Slice, State};
 use sc_record::{CoreId, Entry, List};
@@ -58,27 +61,30 @@ impl Bucket {
             return Err(CommitFault::LogFull);
         }
         let searchers = searchers_at(alloc, &self.map, &self.replicas, place)?;
+        let spares = spares_at(alloc, self.phase, &self.map, &searchers)?;
         self.journal.reserve(self.owed as usize + 1)?;
-        self.put_commit(searchers);
+        self.put_commit(searchers, spares);
         Ok(())
     }
 
-    // Puts the entry that commits into the journal, with these searchers. It takes no memory.
-    fn put_commit(&mut self, searchers: List<Standing>)
+    // Puts the entry that commits into the journal, with these searchers and those that a switch leaves. It takes no memory.
+    fn put_commit(&mut self, searchers: List<Standing>, spares: Option<List<Standing>>)
         requires sound { IsSound self.old }
         requires memory { self.old.owed < self.old.journal.room }
         requires room { HasRoomToCommit self.old.limit self.old.first self.old.journal.entries }
         requires taken { AreTaken self.old.map self.old.replicas (length self.old.journal.entries) searchers }
+        requires prepared { ArePrepared self.old.phase self.old.map searchers spares }
         ensures sound { IsSound self.new }
         ensures committed { Commits self.old self.new }
     {
         self.searchers = searchers;
+        self.spares = spares;
         self.journal.append(Entry::Committed);
     }
 }
 
 /// A searcher for each active slice, of its leader's cells as they are when the journal has `place` entries.
-pub(crate) fn searchers_at(
+pub fn searchers_at(
     alloc: Global,
     slices: &ClusterMap,
     replicas: &Replicas,
@@ -97,6 +103,24 @@ pub(crate) fn searchers_at(
     }
     searchers.shrink_to_fit();
     Ok(List::from_vec(searchers))
+}
+
+// The searchers that a switch leaves, where these are the searchers; none where no split is open.
+fn spares_at(
+    alloc: Global,
+    phase: Phase,
+    slices: &ClusterMap,
+    searchers: &List<Standing>,
+) -> Result<Option<List<Standing>>, AllocError>
+    requires { IsSearched phase searchers.now }
+    ensures { IfOk result (ArePrepared phase slices.now searchers.now) }
+{
+    match phase {
+        Phase::Idle => Ok(None),
+        Phase::Building { parent } | Phase::Recovering { parent } => {
+            Ok(Some(hand_on(alloc, slices, parent, searchers)?))
+        }
+    }
 }
 
 // The searcher of an active slice, of its leader's cells.

@@ -1,7 +1,7 @@
 ghost use Rattle.std.specs.Prelude.{◌≡◌, ◌≢◌, ◌<◌, ◌≤◌, length, slice_get, Some, MatchOption, All};
 ghost use Rattle.sc_bucket.specs.Kept.{Sent};
 ghost use Rattle.sc_bucket.specs.Sound.{IsSound};
-ghost use Rattle.sc_bucket.specs.Events.{Delivers, DeliversFirst};
+ghost use Rattle.sc_bucket.specs.Events.{Delivers, DeliversFirst, DeliversTo};
 
 use crate::bucket::Bucket;
 use sc_record::CoreId;
@@ -32,6 +32,17 @@ impl Bucket {
             return None;
         }
         Some(self.deliver_at(k))
+    }
+
+    /// Delivers all that is in flight to this core, in the order of sending. It takes no memory.
+    pub fn deliver_to(&mut self, core: CoreId)
+        requires sound { IsSound self.old }
+        ensures sound { IsSound self.new }
+        ensures delivered { DeliversTo self.old core self.new }
+    {
+        while let Some(at) = self.flight.first_to(core) {
+            self.deliver_at(at);
+        }
     }
 
     // Delivers the message at this place of the flight, and reports to which core.

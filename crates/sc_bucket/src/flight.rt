@@ -1,9 +1,13 @@
-ghost use Rattle.std.specs.Prelude.{◌≡◌, ◌≢◌, ◌<◌, ◌≤◌, ◌-◌, [], ◌++◌, length, map, max, slice_get, Some, MatchOption, OnOk, OnErr, All};
+ghost use Rattle.std.specs.Prelude.{◌≡◌, ◌≢◌, ◌<◌, ◌≤◌, ◌-◌, [], ◌++◌, length, map, filter, take, max, slice_get, Some, true, false, MatchOption, OnOk, OnErr, All};
 ghost use Rattle.std.specs.List.{remove};
 ghost use Rattle.sc_bucket.specs.Kept.{Sent};
-ghost use Rattle.sc_bucket.specs.Flight.{sent_of, IsFirstOf};
+ghost use Rattle.sc_bucket.specs.Cores.{is_of_one};
+ghost use Rattle.sc_bucket.specs.Flight.{sent_of, is_to, IsFirstOf};
 
 use crate::message::Message;
+use crate::replicas::is_of_one;
+use sc_cluster::ClusterMap;
+use sc_record::CoreId;
 use std::alloc::{AllocError, Global};
 use std::marker::Model;
 
@@ -83,6 +87,25 @@ impl Flight {
         self.messages
             .iter()
             .position(|message| message.place == place)
+    }
+
+    /// The place in the flight of the first message to this core; None where there is none.
+    pub fn first_to(&self, core: CoreId) -> Option<usize>
+        ensures { MatchOption result (All (λ (message : Sent). is_to core message ≡ false) self.now.messages)
+            (λ at. (message : Sent) × (slice_get self.now.messages at ≡ Some message) × (is_to core message ≡ true)
+            × All (λ (other : Sent). is_to core other ≡ false) (take at self.now.messages)) }
+    {
+        self.messages
+            .iter()
+            .position(|message| message.core == core)
+    }
+
+    /// Keeps the messages to cores of the map's slices.
+    pub fn keep_of(&mut self, slices: &ClusterMap)
+        ensures { self.new ≡ record self.old { messages = filter (λ (message : Sent). is_of_one slices.now message.core) self.old.messages } }
+    {
+        self.messages
+            .retain(|message| is_of_one(slices, message.core));
     }
 
     /// Takes the message at this place of the flight out.

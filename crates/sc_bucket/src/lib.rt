@@ -3,10 +3,14 @@
 #![tactic(auto)]
 
 // What a bucket keeps.
+mod feed;
+mod feeds;
 mod flight;
 mod journal;
 mod message;
+mod phase;
 mod replicas;
+mod spares;
 mod standing;
 mod unsettled;
 
@@ -20,11 +24,15 @@ mod settle;
 
 pub use accept::{AcceptFault, Accepted};
 pub use bucket::Bucket;
-pub use commit::CommitFault;
+pub use commit::{CommitFault, searchers_at};
+pub use feed::Feed;
+pub use feeds::Feeds;
 pub use flight::Flight;
 pub use journal::Journal;
 pub use message::Message;
+pub use phase::Phase;
 pub use replicas::Replicas;
+pub use spares::hand_on;
 pub use standing::{Searcher, Standing};
 pub use unsettled::Unsettled;
 

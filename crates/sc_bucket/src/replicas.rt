@@ -1,7 +1,9 @@
-ghost use Rattle.std.specs.Prelude.{◌≡◌, ◌++◌, true, false, ◌<◌, ◌<ℤ◌, length, map, slice_get, slice_set, Some, MatchOption, IfOk, OnOk, OnErr, IsTrue, All, ◌↔◌, ◌≢◌};
+ghost use Rattle.std.specs.Prelude.{◌≡◌, [], ◌++◌, true, false, ◌<◌, ◌≤◌, ◌<ℤ◌, length, map, filter, slice_get, slice_set, Some, MatchOption, IfOk, OnOk, OnErr, IsTrue, All, ◌↔◌, ◌≢◌};
 ghost use Rattle.std.specs.Arc.{arc_value};
-ghost use Rattle.sc_replica.specs.Core.{Core, led, received};
-ghost use Rattle.sc_bucket.specs.Cores.{core_key, core_keys, keys_of, is_core, IsNew, with_room};
+ghost use Rattle.std.specs.List.{insert};
+ghost use Rattle.sc_replica.specs.Core.{Core, led, received, fed, replayed};
+ghost use Rattle.sc_replica.specs.Deliveries.{replaying};
+ghost use Rattle.sc_bucket.specs.Cores.{core_key, core_keys, keys_of, core_number, put_by_name, is_of_one, is_core, IsCounted, IsNew, with_room};
 
 use sc_cluster::{ClusterMap, Slice};
 use sc_record::{Cell, CoreId};
@@ -30,6 +32,7 @@ impl Replicas {
     pub fn new(alloc: Global, slices: &ClusterMap) -> Result<Replicas, AllocError>
         ensures keys { IfOk result (λ cores. map core_key cores ≡ core_keys slices.now) }
         ensures new { IfOk result (All IsNew) }
+        ensures counted { IfOk result (All IsCounted) }
     {
         let mut replicas = Vec::new(alloc);
         for at in 0..slices.len() {
@@ -73,6 +76,75 @@ impl Replicas {
         self.replicas[at].reserve(n)
     }
 
+    /// Puts more cores at the end, all of them or, where memory was refused, none.
+    pub fn append(&mut self, mut more: Vec<Replica>) -> Result<(), AllocError>
+        ensures ok { OnOk result (self.new ≡ self.old ++ more.items) }
+        ensures err { OnErr result (self.new ≡ self.old) }
+    {
+        self.replicas.append(&mut more)
+    }
+
+    /// Puts a core in before the first whose name comes later. After an error they are as before: memory was refused.
+    pub fn insert(&mut self, replica: Replica) -> Result<(), AllocError>
+        ensures ok { OnOk result (self.new ≡ put_by_name replica self.old) }
+        ensures err { OnErr result (self.new ≡ self.old) }
+    {
+        let at = self.place_for(replica.core());
+        self.replicas.insert(at, replica)?;
+        Ok(())
+    }
+
+    // The place of the first core whose name comes after this one; the end where there is none.
+    fn place_for(&self, core: CoreId) -> usize
+        ensures within { result ≤ length self.now }
+        ensures place { (named : Core) → named.core ≡ core → insert self.now result named ≡ put_by_name named self.now }
+    {
+        let number = number(core);
+        self.replicas
+            .iter()
+            .position(|other| number < number_of(other))
+            .unwrap_or(self.replicas.len())
+    }
+
+    /// Keeps the cores of the map's slices.
+    pub fn keep_of(&mut self, slices: &ClusterMap)
+        ensures { self.new ≡ filter (λ (core : Core). is_of_one slices.now core.core) self.old }
+    {
+        self.replicas
+            .retain(|replica| is_of_one(slices, replica.core()));
+    }
+
+    /// Feeds the core at this place a write of a snapshot. It takes no memory.
+    pub fn feed(&mut self, at: usize, write: Cell)
+        requires within { at < length self.old }
+        requires room { (core : Core) → slice_get self.old at ≡ Some core → 0 < core.cell_spare }
+        ensures { (core : Core) → slice_get self.old at ≡ Some core → self.new ≡ slice_set self.old at (fed core (arc_value write)) }
+    {
+        self.replicas[at].feed(write);
+    }
+
+    /// From here on the core at this place replays what it buffered, and applies what comes.
+    pub fn start_replay(&mut self, at: usize)
+        requires within { at < length self.old }
+        requires buffering { (core : Core) → slice_get self.old at ≡ Some core → core.mode ≡ Mode.Buffering }
+        ensures { (core : Core) → slice_get self.old at ≡ Some core → self.new ≡ slice_set self.old at (replaying core) }
+    {
+        self.replicas[at].start_replay();
+    }
+
+    /// Has the core at this place apply the oldest 64 writes of its buffer, or all where they are fewer, and says whether its buffer is
+    /// empty then. With that the core is active. It takes no memory.
+    pub fn replay(&mut self, at: usize) -> bool
+        requires within { at < length self.old }
+        requires replaying { (core : Core) → slice_get self.old at ≡ Some core → core.mode ≡ Mode.Replaying }
+        requires room { (core : Core) → slice_get self.old at ≡ Some core → length core.buffer ≤ core.cell_spare }
+        ensures value { (core : Core) → slice_get self.old at ≡ Some core → self.new ≡ slice_set self.old at (replayed core) }
+        ensures done { (core : Core) → slice_get self.old at ≡ Some core → IsTrue result ↔ ((replayed core).buffer ≡ []) }
+        ensures active { (core : Core) → slice_get self.old at ≡ Some core → IsTrue result ↔ ((replayed core).mode ≡ Mode.Active) }
+    {
+        self.replicas[at].replay()
+    }
+
     /// Has the core at this place lead the write. It takes no memory.
     pub fn lead(&mut self, at: usize, write: Cell)
         requires within { at < length self.old }
@@ -93,6 +165,26 @@ impl Replicas {
     }
 }
 
+/// The core's slice is one of the map's.
+pub(crate) fn is_of_one(slices: &ClusterMap, core: CoreId) -> bool
+    ensures { result ≡ is_of_one slices.now core }
+{
+    slices.by_id(core.slice).is_some()
+}
+
+// The number of a core's name.
+fn number(core: CoreId) -> u64
+    ensures { result ≡ core_number core }
+{
+    u64::from(core.slice.0) * 256 + u64::from(core.replica)
+}
+
+fn number_of(replica: &Replica) -> u64
+    ensures { result ≡ core_number replica.now.core }
+{
+    number(replica.core())
+}
+
 // Puts the replicas of a slice at the end, from 1, without cells.
 fn push_replicas(
     alloc: Global,
@@ -101,6 +193,7 @@ fn push_replicas(
 ) -> Result<(), AllocError>
     ensures keys { OnOk result (map core_key replicas.new.items ≡ map core_key replicas.old.items ++ keys_of slice.now) }
     ensures new { All IsNew replicas.old.items → All IsNew replicas.new.items }
+    ensures counted { All IsCounted replicas.old.items → All IsCounted replicas.new.items }
 {
     for below in 0..slice.replicas {
         let core = CoreId {

@@ -44,6 +44,7 @@ MayReplace-delivered layout held given place None is_of sound leaves =
       entries = ap (λ (bucket : Bucket). bucket.journal.entries) leaves.0;
       messages = ap (λ (bucket : Bucket). bucket.flight.messages) leaves.0;
       cores = ap (λ (bucket : Bucket). map without_room bucket.replicas) leaves.0;
+      split = record { phase = ap (λ (bucket : Bucket). bucket.phase) leaves.0; feeds = ap (λ (bucket : Bucket). bucket.feeds) leaves.0 };
       searchers_are = ap (λ (bucket : Bucket). bucket.searchers) leaves.0;
     })
 MayReplace-delivered layout held given place (Some core) is_of sound leaves =

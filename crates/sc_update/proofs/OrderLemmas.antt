@@ -138,7 +138,7 @@ MayReplace-settled layout number place false old new of sound written settles =
     subst (λ (bucket : Bucket). MayReplace layout (record { number = number; bucket = old }) bucket) (sym settles.0) (record {
       sound = subst IsSound settles.0 sound;
       is_of = of;
-      step = IsStep.stays (record { name = record { first = refl; limit = refl }; map_is = refl; entries = refl; messages = refl; cores = refl; searchers_are = refl });
+      step = IsStep.stays (record { name = record { first = refl; limit = refl }; split = record { phase = refl; feeds = refl }; map_is = refl; entries = refl; messages = refl; cores = refl; searchers_are = refl });
     })
 
 -- the entries that this adds

@@ -1,8 +1,9 @@
 -- One more core is the next replica of the slice.
-use Rattle.std.proofs.Common.{◌∙◌, All, map, sym, ap, subst}
+use Rattle.std.proofs.Common.{◌∙◌, All, map, sym, ap, subst, arith}
+use Rattle.std.proofs.lemmas.Int.{ints}
 use Rattle.std.proofs.lemmas.List.Elements.{All-push}
 use Rattle.sc_replica.specs.Core.{Core}
-use Rattle.sc_bucket.specs.Cores.{core_key, IsNew}
+use Rattle.sc_bucket.specs.Cores.{core_key, IsCounted, IsNew}
 use Rattle.sc_bucket.proofs.CoreLemmas.{keys_more}
 use Rattle.sc_bucket.proofs.replicas.push_replicas.Goals as goal
 
@@ -15,10 +16,15 @@ loop-below-preserved c =
       active = ap (λ (core : Core). core.mode) c.new.ensures.value;
       clock = ap (λ (core : Core). core.clock) c.new.ensures.value;
     } in
+    let inv = c.new.type_inv in
+    let named = c.new.ensures.core in
+    let counted : IsCounted core = grind (arith, ints) in
     record {
       keys = ap (map core_key) c.in_ok-push.ensures.items
           ∙ keys_more c.args.slice.now.id.0 c.loop-below.below (map core_key c.args.replicas.now.items) c.loop-below.replicas.items core
           c.loop-below.invariant.keys (ap core_key c.new.ensures.value);
       new = λ all. subst (All IsNew) (sym c.in_ok-push.ensures.items)
           (All-push IsNew c.loop-below.replicas.items core (c.loop-below.invariant.new all) is_new);
+      counted = λ all. subst (All IsCounted) (sym c.in_ok-push.ensures.items)
+          (All-push IsCounted c.loop-below.replicas.items core (c.loop-below.invariant.counted all) counted);
     }

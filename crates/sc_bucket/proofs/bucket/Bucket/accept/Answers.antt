@@ -11,7 +11,7 @@ use Rattle.sc_journal.specs.Outcomes.{IsWriteOf}
 use Rattle.sc_bucket.specs.declared.message.Message.{Message}
 use Rattle.sc_bucket.specs.Cores.{is_core, followers, IsLeaderAt}
 use Rattle.sc_bucket.specs.Flight.{sent_of}
-use Rattle.sc_bucket.proofs.SoundLemmas.{name_of}
+use Rattle.sc_bucket.proofs.CoreLemmas.{name_of, AreApart-from_ascending}
 use Rattle.sc_bucket.proofs.SendLemmas.{names-sent}
 use Rattle.sc_bucket.proofs.FollowerLemmas.{IsFollower, are_followers, followers_apart}
 use Rattle.sc_bucket.proofs.AcceptLemmas.{bucket_has_map}
@@ -64,7 +64,8 @@ make_room-requires-clause-once c =
     ∙ names-sent (length b.journal.entries) share (followers b.map b.replicas share.hash leader.core.core) c.in_ok-messages.messages.items
     (c.in_ok-messages.ensures leader.core leader.found) in
     subst (IsDistinct is_core) (sym names)
-    (followers_apart b.map b.replicas share.hash leader.core.core (bucket_has_map b c.requires.sound.journal) c.requires.sound.apart)
+    (followers_apart b.map b.replicas share.hash leader.core.core (bucket_has_map b c.requires.sound.journal)
+    (AreApart-from_ascending b.replicas c.requires.sound.cores.ascend))
 
 pub make_room-requires-clause-others : goal.make_room-requires-clause-others
 make_room-requires-clause-others c core there =

@@ -1,7 +1,9 @@
 -- Each active slice has a leader, whose cells are few enough, and a bucket with more room is sound.
-use Rattle.std.proofs.Common.{refl, ap, arith}
+use Rattle.std.proofs.Common.{refl, sym, ap, subst, arith}
 use Rattle.sc_bucket.specs.Kept.{JournalState}
+use Rattle.sc_bucket.specs.Sound.{IsSound}
 use Rattle.sc_bucket.proofs.SearcherLemmas.{AreLed-from_keys}
+use Rattle.sc_bucket.proofs.TakenLemmas.{IsSearched-in_phase}
 use Rattle.sc_bucket.proofs.RoomLemmas.{IsSound-with_parts}
 use Rattle.sc_bucket.proofs.RoomierLemmas.{roomier-itself}
 use Rattle.sc_bucket.proofs.CommitLemmas.{AreRows-sound}
@@ -9,10 +11,16 @@ use Rattle.sc_bucket.proofs.bucket.Bucket.commit.Goals as goal
 
 pub searchers_at-requires-clause-led : goal.searchers_at-requires-clause-led
 searchers_at-requires-clause-led c =
-    AreLed-from_keys c.args.self.now.map c.args.self.now.replicas c.requires.sound.phase.cores
+    AreLed-from_keys c.args.self.now.map c.args.self.now.replicas c.requires.sound.cores.leaders
 
 pub searchers_at-requires-clause-rows : goal.searchers_at-requires-clause-rows
 searchers_at-requires-clause-rows c = AreRows-sound c.args.self.now c.requires.sound
+
+pub spares_at-requires : goal.spares_at-requires
+spares_at-requires c =
+    let b = c.args.self.now in
+    IsSearched-in_phase b b.phase c.in_ok-searchers.searchers c.requires.sound.phase
+    c.in_ok-searchers.ensures.each_slice
 
 pub put_commit-requires-clause-sound : goal.put_commit-requires-clause-sound
 put_commit-requires-clause-sound c =
@@ -26,3 +34,8 @@ put_commit-requires-clause-sound c =
       messages = refl;
       cores_are = roomier-itself b.replicas;
     }) c.requires.sound
+
+pub returns-in_err-reserve-clause-sound : goal.returns-in_err-reserve-clause-sound
+returns-in_err-reserve-clause-sound c =
+    subst (λ (journal : JournalState). IsSound (record c.args.self.now { journal = journal }))
+    (sym c.in_err-reserve.ensures.err) c.requires.sound

@@ -1,8 +1,11 @@
 -- The leader of the slice that serves the hash is there.
-use Rattle.std.proofs.Common.{refl, arith}
+use Rattle.std.proofs.Common.{map, Contains, refl, arith}
 use Rattle.sc_record.specs.declared.slice.SliceId.{SliceId}
 use Rattle.sc_record.specs.declared.slice.CoreId.{CoreId}
 use Rattle.std.proofs.lemmas.Int.{to_z-of_z}
+use Rattle.std.proofs.lemmas.List.Elements.{All-contains}
+use Rattle.sc_cluster.specs.declared.slice.Slice.{Slice}
+use Rattle.sc_bucket.specs.Cores.{core_key}
 use Rattle.sc_bucket.proofs.CoreLemmas.{leader_is_found, leader_at, IsLeaderAt-within}
 use Rattle.sc_bucket.proofs.bucket.Bucket.leader.Goals as goal
 
@@ -14,7 +17,10 @@ pub unwrap-requires : goal.unwrap-requires
 unwrap-requires c =
     let b = c.args.self.now in
     let leads = c.leads-slice.ensures.leads in
-    leader_is_found b.map b.replicas leads.0 (leader_of c.leads-slice.result) c.position.result c.requires.phase.cores leads.1.there leads.2 refl c.position.ensures
+    let first = All-contains (λ (slice : Slice). Contains (map core_key b.replicas) (slice.id.0, 1)) b.map leads.0
+    c.requires.cores.leaders leads.1.there in
+    leader_is_found b.replicas leads.0.id (leader_of c.leads-slice.result) c.position.result first leads.2 refl
+    c.position.ensures
 
 pub returns-clause-leader : goal.returns-clause-leader
 returns-clause-leader c =

@@ -5,12 +5,15 @@ use Rattle.sc_snapshot.specs.Rows.{AreRows}
 use Rattle.sc_cluster.specs.Map.{IsMap}
 use Rattle.sc_replica.specs.Core.{Core, IsCore}
 use Rattle.sc_bucket.specs.Kept.{JournalState, PlacesState, FlightState}
+use Rattle.sc_bucket.proofs.CoreLemmas.{have_leaders}
 use Rattle.sc_bucket.proofs.NewLemmas.{IsSound-new}
 use Rattle.sc_bucket.proofs.SearcherLemmas.{AreLed-from_keys, AreRows-new}
 use Rattle.sc_bucket.proofs.bucket.Bucket.new.Goals as goal
 
 pub searchers_at-requires-clause-led : goal.searchers_at-requires-clause-led
-searchers_at-requires-clause-led c = AreLed-from_keys c.args.map.now c.in_ok-replicas.replicas c.in_ok-replicas.ensures.keys
+searchers_at-requires-clause-led c =
+    AreLed-from_keys c.args.map.now c.in_ok-replicas.replicas
+    (have_leaders c.args.map.now c.in_ok-replicas.replicas c.in_ok-replicas.ensures.keys)
 
 pub searchers_at-requires-clause-rows : goal.searchers_at-requires-clause-rows
 searchers_at-requires-clause-rows c =
@@ -33,5 +36,9 @@ returns-clause-sound c =
       keys = c.in_ok-replicas.ensures.keys;
       messages = ap (λ (flight : FlightState). flight.messages) c.new-4.ensures;
       new = c.in_ok-replicas.ensures.new;
+      counted = c.in_ok-replicas.ensures.counted;
       searchers = c.in_ok-searchers_at.ensures;
+      phase_is = refl;
+      feeds_are = c.new-5.ensures;
+      spares_are = refl;
     })

@@ -21,6 +21,7 @@ returns-clause-sound c =
     IsSound-settled old c.args.place _ c.requires.sound c.requires.written c.requires.unsettled c.requires.delivered
     (record {
       name = record { first = refl; limit = refl };
+      split = record { phase = refl; feeds = refl };
       map_is = refl;
       entries = ap (λ (journal : JournalState). journal.entries) c.append.ensures;
       flight_is = refl;
@@ -31,4 +32,5 @@ returns-clause-sound c =
       unsettled_are = ap (λ (places : PlacesState). places.places) c.remove.ensures;
       owed_is = omega (arith, owes.0);
       room = omega (arith, owes.1, left);
+      spares_are = refl;
     })

@@ -10,6 +10,7 @@ returns-clause-sound c =
     IsSound-committed c.args.self.now _ c.requires.sound
     (record {
       name = record { first = refl; limit = refl };
+      split = record { phase = refl; feeds = refl };
       map_is = refl;
       room = c.requires.room;
       entries = ap (λ (journal : JournalState). journal.entries) c.append.ensures;
@@ -21,4 +22,5 @@ returns-clause-sound c =
       unsettled_are = refl;
       owed_is = refl;
       room = omega (arith, left, c.requires.memory);
+      prepared = c.requires.prepared;
     })

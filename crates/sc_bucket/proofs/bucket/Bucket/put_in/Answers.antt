@@ -27,6 +27,7 @@ put_into : (b : Bucket) (journal : JournalState) (unsettled : PlacesState) (flig
     → IsPut b cell at messages (with_write b journal unsettled flight cores)
 put_into b journal unsettled flight cores cell share at place messages memory same journal_is place_is unsettled_is flight_is cores_are = record {
   name = record { first = refl; limit = refl };
+  split = record { phase = refl; feeds = refl };
   map_is = refl;
   entries = ap (λ (j : JournalState). j.entries) journal_is;
   places = ap (λ (p : PlacesState). p.places) unsettled_is ∙ ap (λ n. b.unsettled.places ++ n ∷ []) place_is;
@@ -52,5 +53,5 @@ returns-clause-sound c =
     c.len.result messages c.requires.memory c.requires.shares c.append-2.ensures c.len.ensures c.append.ensures
     (ap (λ (f : FlightState). f.messages) c.append-3.ensures) c.lead.ensures in
     IsSound-put c.args.self.now (with_write c.args.self.now c.append-2.new.self c.append.new.self c.append-3.new.self c.lead.new.self)
-    c.args.entry c.args.leader messages put c.requires.next c.requires.room c.requires.memory c.requires.leader
+    c.args.entry c.args.leader messages put refl c.requires.next c.requires.room c.requires.memory c.requires.leader
     (c.requires.sent c.requires.leader.core c.requires.leader.found) c.requires.sound

@@ -9,5 +9,6 @@ abbrev pub invariant-loop-message : goal.invariant-loop-message
 invariant-loop-message l = record {
   rest : l.self ≡ record l.initial.self { replicas = l.self.replicas };
   cores : AllZip IsRoomier l.initial.self.replicas l.self.replicas;
-  more : All (HasMoreAt l.initial.self.flight.messages l.self.replicas) (map (λ (message : Message). message.core) (take l.message-index l.messages));
+  more : All (HasMoreAt l.initial.self.flight.messages l.initial.self.feeds l.self.replicas)
+      (map (λ (message : Message). message.core) (take l.message-index l.messages));
 }

@@ -14,4 +14,5 @@ loop-at-preserved c =
           ∙ ap (λ keys. keys ++ keys_of slice) c.loop-at.invariant.keys
           ∙ keys-push c.args.slices.now c.loop-at.at slice there;
       new = c.push_replicas.ensures.new c.loop-at.invariant.new;
+      counted = c.push_replicas.ensures.counted c.loop-at.invariant.counted;
     }

@@ -1,0 +1,19 @@
+-- The shares are those of the rows in the range.
+use Rattle.std.proofs.Common.{◌≡◌, ◌∙◌, ◌++◌, ◌∷◌, [], Some, slice_get, ap, sym, filter}
+use Rattle.std.specs.Option.{option_map, option_copied}
+use Rattle.std.specs.Arc.{arc_value}
+use Rattle.sc_snapshot.specs.Rows.{SnapshotState}
+use Rattle.sc_bucket.specs.Pending.{is_within}
+use Rattle.sc_bucket.proofs.FindLemmas.{filter_take-next}
+use Rattle.sc_bucket.proofs.feed.Feed.new.Goals as goal
+
+pub loop-at-preserved : goal.loop-at-preserved
+loop-at-preserved c =
+    let row = arc_value c.unwrap.result.now in
+    let rows = (arc_value c.args.snapshot).rows in
+    let there : slice_get rows c.loop-at.at ≡ Some row =
+    ap (λ (s : SnapshotState). slice_get s.rows c.loop-at.at) (sym c.deref-in-loop-at.ensures)
+    ∙ sym c.row.ensures.row ∙ ap (λ found. option_map arc_value (option_copied found)) c.unwrap.ensures in
+    c.in_ok-push_share.ensures
+    ∙ ap (λ these. these ++ filter (is_within c.args.range) (row ∷ [])) c.loop-at.invariant
+    ∙ filter_take-next (is_within c.args.range) rows c.loop-at.at row there

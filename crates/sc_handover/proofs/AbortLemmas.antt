@@ -1,0 +1,80 @@
+-- A bucket whose split is given up owes two entries less, and is sound.
+use Rattle.std.proofs.Common.{◌≡◌, ◌∙◌, ◌≤◌, true, not, List, filter, Some, Contains, refl, ap, subst, arith}
+use Rattle.std.proofs.lemmas.Option.{none-some, same_Some}
+use Rattle.sc_record.specs.declared.slice.SliceId.{SliceId}
+use Rattle.sc_record.specs.declared.entry.Entry.{Entry}
+use Rattle.sc_record.specs.declared.entry.Entry.TheVariants as entry
+use Rattle.sc_cluster.specs.declared.slice.Slice.{Slice}
+use Rattle.sc_cluster.specs.Slices.{is_active, forming}
+use Rattle.sc_cluster.specs.Changes.{Change}
+use Rattle.sc_cluster.proofs.LeaderLemmas.{active_from_test}
+use Rattle.sc_cluster.proofs.ListLemmas.{filter-filter, Contains-from_filter}
+use Rattle.sc_cluster.proofs.MapLemmas.{failed_is_idle}
+use Rattle.sc_cluster.proofs.StateLemmas.{is_settled, active_settled}
+use Rattle.sc_journal.specs.Splits.{open_split}
+use Rattle.sc_journal.proofs.SplitLemmas.{open_split-push}
+use Rattle.sc_bucket.specs.Sound.{IsOpen, IsInPhase, IsSound}
+use Rattle.sc_bucket.specs.declared.bucket.Bucket.{Bucket}
+use Rattle.sc_bucket.specs.declared.phase.Phase.{Phase}
+use Rattle.sc_bucket.specs.declared.phase.Phase.TheVariants as phases
+use Rattle.sc_handover.specs.Conditions.{split_of, CanAbort}
+use Rattle.sc_handover.specs.Events.{Aborts}
+use Rattle.sc_handover.proofs.NotedLemmas.{EndsParts, owed-push_failed, HasJournal-noted}
+use Rattle.sc_handover.proofs.LeftOutLemmas.{IsSound-left_out}
+
+-- the split of the parent is open
+pub is_open : (b : Bucket) (parent : SliceId) → IsSound b → CanAbort b parent → IsOpen b parent
+is_open b parent sound can = by b.phase can sound.phase where
+  by : (phase : Phase) → split_of phase ≡ Some parent → IsInPhase b phase → IsOpen b parent
+  by phases.Idle none is = absurd (none-some parent none)
+  by (phases.Building building) some is = subst (IsOpen b) (same_Some building parent some) is
+  by (phases.Recovering recovering) some is = subst (IsOpen b) (same_Some recovering parent some) is.0
+
+-- so two entries are owed, and have their room
+pub owes_failed : (b : Bucket) (parent : SliceId) → IsSound b → CanAbort b parent → (2 ≤ b.owed) × (1 ≤ b.journal.room)
+owes_failed b parent sound can =
+    let less = owed-push_failed b.first b.journal.entries parent (is_open b parent sound can).begun in
+    let journal = sound.journal in
+    (omega (arith, less, journal.owed_is), omega (arith, less, journal.owed_is, journal.room))
+
+-- an active slice is none that a split is making
+stays-active : (slice : Slice) → is_active slice ≡ true → is_settled slice ≡ true
+stays-active slice active = ap not (active_settled slice (active_from_test slice.state active))
+
+-- and the bucket is sound
+pub IsSound-aborted : (old : Bucket) (parent : SliceId) (new : Bucket) → IsSound old → CanAbort old parent
+    → Aborts old parent new → EndsParts old 2 new → IsSound new
+IsSound-aborted old parent new sound can aborts parts =
+    let one : Entry = entry.Failed parent in
+    let opened = is_open old parent sound can in
+    IsSound-left_out old one new sound
+    (HasJournal-noted old new one (Change.Failed parent) 2 sound.journal (record {
+      name = aborts.name;
+      entries = aborts.entries;
+      may = opened.begun;
+      change_is = refl;
+      no_write = refl;
+      settles_nothing = λ place. refl;
+      map_is = aborts.map_is;
+      some = omega arith;
+      owed_less = owed-push_failed old.first old.journal.entries parent opened.begun;
+      parts = parts;
+    }))
+    (record {
+      some = λ slice there.
+          (Contains-from_filter is_settled old.map slice
+          (subst (λ (these : List Slice). Contains these slice) aborts.map_is there)).0;
+      same_active = ap (filter is_active) aborts.map_is ∙ filter-filter is_active is_settled stays-active old.map;
+      entries = aborts.entries;
+      no_write = refl;
+      no_commit = refl;
+      settles_nothing = λ place. refl;
+      phase_is = aborts.phase_is;
+      idle = ap open_split aborts.entries ∙ open_split-push old.journal.entries one;
+      whole = ap forming aborts.map_is ∙ failed_is_idle old.map parent;
+      messages = aborts.messages;
+      cores = aborts.cores;
+      feeds_are = aborts.feeds_are;
+      searchers_are = aborts.searchers_are;
+      spares_are = parts.spares_are;
+    })

@@ -1,0 +1,128 @@
+-- The journal, the map and the searchers of a bucket once a split has begun.
+use Rattle.std.proofs.Common.{◌≡◌, ◌≤◌, ◌+◌, ◌∙◌, not, true, false, cond, None, List, [], ◌∷◌, ◌++◌, length, map, filter, count_by, All, refl, sym, ap, subst, arith}
+use Rattle.std.proofs.lemmas.List.{append-nil, length_push}
+use Rattle.std.proofs.lemmas.List.Elements.{All-map, All-weaker, filter-append}
+use Rattle.std.proofs.lemmas.List.Sums.{sum_by-append}
+use Rattle.sc_record.specs.declared.slice.SliceId.{SliceId}
+use Rattle.sc_record.specs.declared.slice.SubSlice.{SubSlice}
+use Rattle.sc_record.specs.declared.entry.Entry.{Entry}
+use Rattle.sc_record.specs.declared.entry.Entry.TheVariants as entry
+use Rattle.sc_cluster.specs.declared.slice.Slice.{Slice}
+use Rattle.sc_cluster.specs.declared.slice.State.TheVariants as states
+use Rattle.sc_cluster.specs.Slices.{is_active, is_forming, forming}
+use Rattle.sc_cluster.specs.Map.{IsMap}
+use Rattle.sc_cluster.specs.Plans.{IsPlan}
+use Rattle.sc_cluster.specs.Changes.{Change, after, begun_slice, IsSplit}
+use Rattle.sc_cluster.proofs.BegunLemmas.{All-forming_begun}
+use Rattle.sc_cluster.proofs.CountLemmas.{count_by-none}
+use Rattle.sc_cluster.proofs.ListLemmas.{filter-none, filter-all, none_from_filter}
+use Rattle.sc_cluster.proofs.MapLemmas.{begun_is_split}
+use Rattle.sc_cluster.proofs.StateLemmas.{is_settled, forming-begun}
+use Rattle.sc_journal.specs.Journal.{unsettled}
+use Rattle.sc_journal.specs.Splits.{map_after, open_split, owed, owed_by_split, is_inactive}
+use Rattle.sc_journal.specs.Legal.{IsLegal}
+use Rattle.sc_journal.proofs.SettledLemmas.{unsettled-push_other}
+use Rattle.sc_journal.proofs.SplitLemmas.{map_after-push, open_split-push}
+use Rattle.sc_journal.proofs.LegalLemmas.{IsLegal-push}
+use Rattle.sc_bucket.specs.Sound.{AreActive, HasJournal, IsIdle, IsOpen}
+use Rattle.sc_bucket.specs.declared.bucket.Bucket.{Bucket}
+use Rattle.sc_bucket.proofs.AcceptLemmas.{bucket_has_map}
+use Rattle.sc_handover.specs.Events.{Begins}
+
+-- the subs make no slice inactive, and no slice active
+inactive-begun : (slices : List Slice) (subs : List SubSlice)
+    → count_by is_inactive (slices ++ map begun_slice subs) ≡ count_by is_inactive slices
+inactive-begun slices subs =
+    let none : count_by is_inactive (map begun_slice subs) ≡ 0 =
+    count_by-none is_inactive (map begun_slice subs)
+    (All-map (λ (slice : Slice). is_inactive slice ≡ false) begun_slice subs (λ _ _ _. refl)) in
+    let all : count_by is_inactive (slices ++ map begun_slice subs)
+    ≡ count_by is_inactive slices + count_by is_inactive (map begun_slice subs) =
+    sum_by-append (λ (slice : Slice). cond (is_inactive slice) 1 0) slices (map begun_slice subs) in
+    omega (arith, none, all)
+
+pub active-begun : (slices : List Slice) (subs : List SubSlice)
+    → filter is_active (slices ++ map begun_slice subs) ≡ filter is_active slices
+active-begun slices subs =
+    filter-append is_active slices (map begun_slice subs)
+    ∙ ap (λ (rest : List Slice). filter is_active slices ++ rest) (filter-none is_active (map begun_slice subs)
+    (All-map (λ (slice : Slice). is_active slice ≡ false) begun_slice subs (λ _ _ _. refl)))
+    ∙ append-nil (filter is_active slices)
+
+-- two entries more are owed
+owed-push_begun : (first : List Slice) (journal : List Entry) (parent : SliceId) (subs : List SubSlice)
+    → open_split journal ≡ None → owed first (journal ++ entry.Begun parent subs ∷ []) ≡ owed first journal + 2
+owed-push_begun first journal parent subs idle =
+    let one : Entry = entry.Begun parent subs in
+    let places = ap length (unsettled-push_other journal one refl (λ place. refl)) in
+    let before = ap owed_by_split idle in
+    let after = ap owed_by_split (open_split-push journal one) in
+    let slices = ap (count_by is_inactive) (map_after-push first journal one (Change.Begun parent subs) refl)
+    ∙ inactive-begun (map_after first journal) subs in
+    omega (arith, places, before, after, slices)
+
+-- the journal is as it has to be
+pub HasJournal-begun : (old new : Bucket) (parent : SliceId) (subs : List SubSlice) → HasJournal old → IsIdle old
+    → IsPlan old.map parent subs → Begins old parent subs new → new.unsettled.places ≡ old.unsettled.places
+    → new.owed ≡ old.owed + 2 → new.owed ≤ new.journal.room → HasJournal new
+HasJournal-begun old new parent subs journal idle plan begins places owed_is room =
+    let one : Entry = entry.Begun parent subs in
+    let entries : List Entry = old.journal.entries in
+    let legal : IsLegal old.first (entries ++ one ∷ []) = IsLegal-push old.first entries one journal.legal (record {
+      idle = idle.idle;
+      plan = subst (λ slices. IsPlan slices parent subs) journal.map_is plan;
+    }) in
+    let count : length new.journal.entries ≡ length entries + 1 = ap length begins.entries ∙ length_push entries one in
+    let owes : owed new.first new.journal.entries ≡ owed old.first entries + 2 =
+    ap (λ first. owed first new.journal.entries) begins.name.first ∙ ap (owed old.first) begins.entries
+    ∙ owed-push_begun old.first entries parent subs idle.idle in
+    record {
+      first = subst IsMap (sym begins.name.first) journal.first;
+      begins = subst AreActive (sym begins.name.first) journal.begins;
+      legal = subst (λ first. IsLegal first new.journal.entries) (sym begins.name.first)
+          (subst (IsLegal old.first) (sym begins.entries) legal);
+      map_is = begins.map_is ∙ ap (λ slices. after slices (Change.Begun parent subs)) journal.map_is
+          ∙ sym (map_after-push old.first entries one (Change.Begun parent subs) refl)
+          ∙ ap (map_after old.first) (sym begins.entries)
+          ∙ ap (λ first. map_after first new.journal.entries) (sym begins.name.first);
+      unsettled_are = places ∙ journal.unsettled_are
+          ∙ sym (unsettled-push_other entries one refl (λ place. refl)) ∙ ap unsettled (sym begins.entries);
+      owed_is = omega (arith, owed_is, journal.owed_is, owes);
+      room = room;
+      within = omega (arith, count, owed_is, journal.owed_is, begins.name.limit, begins.room);
+      limit_from = omega (arith, begins.name.limit, journal.limit_from);
+      limit_to = omega (arith, begins.name.limit, journal.limit_to);
+    }
+
+-- a split is open, and the slices that it makes come last
+pub IsOpen-begun : (old new : Bucket) (parent : SliceId) (subs : List SubSlice) → HasJournal old → IsIdle old
+    → IsPlan old.map parent subs → Begins old parent subs new → IsOpen new parent
+IsOpen-begun old new parent subs journal idle plan begins =
+    let subs_are : List Slice = map begun_slice subs in
+    let made = forming-begun old.map subs idle.whole in
+    let before : filter is_settled old.map ≡ old.map =
+    filter-all is_settled old.map
+    (All-weaker (λ (slice : Slice). is_forming slice ≡ false) (λ (slice : Slice). not (is_forming slice) ≡ true)
+    (λ slice is. ap not is) old.map (none_from_filter is_forming old.map idle.whole)) in
+    let none : filter is_settled subs_are ≡ [] =
+    filter-none is_settled subs_are
+    (All-map (λ (slice : Slice). not (is_forming slice) ≡ false) begun_slice subs (λ _ _ _. refl)) in
+    let rest : filter is_settled (old.map ++ subs_are) ≡ old.map =
+    filter-append is_settled old.map subs_are
+    ∙ ap (λ (these : List Slice). these ++ filter is_settled subs_are) before
+    ∙ ap (λ (these : List Slice). old.map ++ these) none ∙ append-nil old.map in
+    let last : old.map ++ subs_are
+    ≡ filter is_settled (old.map ++ subs_are) ++ forming (old.map ++ subs_are) =
+    ap (λ (these : List Slice). these ++ subs_are) (sym rest)
+    ∙ ap (λ (these : List Slice). filter is_settled (old.map ++ subs_are) ++ these)
+    (sym made) in
+    record {
+      begun = ap open_split begins.entries ∙ open_split-push old.journal.entries (entry.Begun parent subs);
+      split = subst (λ slices. IsSplit slices parent) (sym begins.map_is)
+          (begun_is_split old.map parent subs (bucket_has_map old journal) plan);
+      constructed = subst (λ (slices : List Slice). All (λ (slice : Slice). slice.state ≡ states.Construction)
+          (forming slices))
+          (sym begins.map_is) (All-forming_begun old.map subs idle.whole);
+      last = subst (λ (slices : List Slice). slices ≡ filter is_settled slices ++ forming slices)
+          (sym begins.map_is) last;
+    }

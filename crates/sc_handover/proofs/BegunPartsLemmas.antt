@@ -1,0 +1,222 @@
+-- The cores, the feeds and the messages of a bucket once a split has begun.
+use Rattle.std.proofs.Common.{◌≡◌, ◌≤◌, ◌<◌, ◌+◌, ◌*◌, ◌^◌, ◌∙◌, ℕ, true, false, List, [], ◌∷◌, ◌++◌, map, All, Contains, refl, sym, ap, subst, arith}
+use Rattle.std.specs.Prelude.{IsSome}
+use Rattle.std.specs.List.{IsDistinct}
+use Rattle.std.specs.List.Sorted.{IsStrictlyIncreasing}
+use Rattle.std.proofs.lemmas.List.{map-append}
+use Rattle.std.proofs.lemmas.List.Concat.{flat_map-append}
+use Rattle.std.proofs.lemmas.List.Elements.{All-map, All-weaker, All-contains, All-contains_itself, All-append, Contains-append_left, Contains-append_right}
+use Rattle.sc_record.specs.declared.slice.SliceId.{SliceId}
+use Rattle.sc_record.specs.declared.slice.SubSlice.{SubSlice}
+use Rattle.sc_record.specs.declared.slice.CoreId.{CoreId}
+use Rattle.sc_record.specs.declared.write.Write.{Write}
+use Rattle.sc_record.specs.declared.entry.Entry.{Entry}
+use Rattle.sc_cluster.specs.declared.slice.Slice.{Slice}
+use Rattle.sc_cluster.specs.Slices.{is_forming, greatest_id}
+use Rattle.sc_cluster.specs.Map.{IsMap}
+use Rattle.sc_cluster.specs.Plans.{IsPlan}
+use Rattle.sc_cluster.specs.Changes.{begun_slice}
+use Rattle.sc_cluster.proofs.ListLemmas.{Contains-map}
+use Rattle.sc_cluster.proofs.OrderLemmas.{IsStrictlyIncreasing-append, AreBelow-between}
+use Rattle.sc_cluster.proofs.PairLemmas.{Contains-from_map}
+use Rattle.sc_ulog.specs.declared.mode.Mode.TheVariants.{Active}
+use Rattle.sc_replica.specs.Core.{Core}
+use Rattle.sc_journal.specs.Journal.{write_at, is_settled}
+use Rattle.sc_journal.proofs.JournalLemmas.{write_at-append, write_at_within}
+use Rattle.sc_bucket.specs.Kept.{Sent, FeedState}
+use Rattle.sc_bucket.specs.Cores.{core_key, core_keys, keys_of, core_number, is_core, IsCounted}
+use Rattle.sc_bucket.specs.Flight.{is_same_message}
+use Rattle.sc_bucket.specs.Sound.{IsSent, AreSent, HasCores, IsFeed, AreFeeds}
+use Rattle.sc_bucket.specs.Events.{without_room}
+use Rattle.sc_bucket.specs.declared.bucket.Bucket.{Bucket}
+use Rattle.sc_bucket.proofs.CoreLemmas.{name_of, keys_among}
+use Rattle.sc_bucket.proofs.FeedLemmas.{fed_core}
+use Rattle.sc_handover.specs.Made.{first_feed}
+use Rattle.sc_handover.proofs.PlanLemmas.{leader_number, leaders_rise, sub_above, was_there, is_begun}
+use Rattle.sc_handover.proofs.MadeLemmas.{made_core, IsMade, map-made, feeds_apart, first_key}
+use Rattle.sc_handover.proofs.BegunCoreLemmas.{core_below}
+
+-- the number of a core's name
+abbrev number_of : Core → ℕ
+number_of core = core_number core.core
+
+-- the names of the cores ascend: those of the subs come last
+ascend-begun : (old : Bucket) (parent : SliceId) (subs : List SubSlice) (made : List Core) → HasCores old
+    → IsPlan old.map parent subs → map without_room made ≡ map made_core subs
+    → IsStrictlyIncreasing (map number_of (old.replicas ++ made))
+ascend-begun old parent subs made has plan same =
+    let numbers : map number_of made ≡ map leader_number subs = map-made number_of subs made same in
+    let most : ℕ = greatest_id old.map * 256 + 255 in
+    let low : All (λ (n : ℕ). n ≤ most) (map number_of old.replicas) =
+    All-map (λ (n : ℕ). n ≤ most) number_of old.replicas
+    (λ k d below. let counted = has.counted k d below in
+    let slice = core_below old _ has (All-contains_itself old.replicas k d below) in
+    omega (arith, counted, slice)) in
+    let high : All (λ (n : ℕ). most < n) (map leader_number subs) =
+    All-map (λ (n : ℕ). most < n) leader_number subs
+    (All-weaker (Contains subs) (λ (sub : SubSlice). most < leader_number sub)
+    (λ sub there. let above = sub_above old.map parent subs sub plan there in omega (arith, above)) subs
+    (All-contains_itself subs)) in
+    subst IsStrictlyIncreasing
+    (ap (λ (rest : List ℕ). map number_of old.replicas ++ rest) (sym numbers)
+    ∙ sym (map-append number_of old.replicas made))
+    (IsStrictlyIncreasing-append (map number_of old.replicas) (map leader_number subs) has.ascend
+    (leaders_rise old.map parent subs plan)
+    (AreBelow-between (map number_of old.replicas) (map leader_number subs) most low high))
+
+-- the cores are those that have to be there
+pub HasCores-begun : (old new : Bucket) (parent : SliceId) (subs : List SubSlice) (rows : List Write) (made : List Core)
+    → HasCores old → IsPlan old.map parent subs → IsMap (old.map ++ map begun_slice subs)
+    → new.map ≡ old.map ++ map begun_slice subs → new.replicas ≡ old.replicas ++ made
+    → map without_room made ≡ map made_core subs → All (IsMade rows subs) made → HasCores new
+HasCores-begun old new parent subs rows made has plan is_map map_is replicas_are same each = record {
+  counted = subst (All IsCounted) (sym replicas_are)
+      (All-append IsCounted old.replicas made has.counted (All-weaker (IsMade rows subs) IsCounted counted made each));
+  ascend = subst (λ (cores : List Core). IsStrictlyIncreasing (map number_of cores)) (sym replicas_are)
+      (ascend-begun old parent subs made has plan same);
+  of_map = subst (All (Contains (core_keys new.map))) (sym keys_are)
+      (subst (λ (slices : List Slice). All (Contains (core_keys slices)) (old_keys ++ new_keys)) (sym map_is)
+      (All-append (Contains (core_keys others)) old_keys new_keys
+      (All-weaker (Contains (core_keys old.map)) (Contains (core_keys others)) among old_keys has.of_map)
+      (All-map (Contains (core_keys others)) key_of subs
+      (All-weaker (Contains subs) (λ (sub : SubSlice). Contains (core_keys others) (key_of sub)) its_key subs
+      (All-contains_itself subs)))));
+  leaders = subst (All (λ (slice : Slice). Contains (map core_key new.replicas) (slice.id.0, 1))) (sym map_is)
+      (subst (λ (keys : List (ℕ × ℕ)). All (λ (slice : Slice). Contains keys (slice.id.0, 1)) others) (sym keys_are)
+      (All-append (λ (slice : Slice). Contains (old_keys ++ new_keys) (slice.id.0, 1)) old.map (map begun_slice subs)
+      (All-weaker (λ (slice : Slice). Contains old_keys (slice.id.0, 1))
+      (λ (slice : Slice). Contains (old_keys ++ new_keys) (slice.id.0, 1))
+      (λ slice there. Contains-append_left old_keys new_keys (slice.id.0, 1) there) old.map has.leaders)
+      (All-map (λ (slice : Slice). Contains (old_keys ++ new_keys) (slice.id.0, 1)) begun_slice subs
+      (All-weaker (Contains subs) (λ (sub : SubSlice). Contains (old_keys ++ new_keys) (sub.id.0, 1))
+      (λ sub there. Contains-append_right old_keys new_keys (sub.id.0, 1) (Contains-map key_of subs sub there)) subs
+      (All-contains_itself subs)))));
+  whole = subst (All (IsWhole (map core_key new.replicas))) (sym map_is)
+      (subst (λ (keys : List (ℕ × ℕ)). All (IsWhole keys) others) (sym keys_are)
+      (All-append (IsWhole (old_keys ++ new_keys)) old.map (map begun_slice subs)
+      (All-weaker (IsWhole old_keys) (IsWhole (old_keys ++ new_keys)) still_whole old.map has.whole)
+      (All-map (IsWhole (old_keys ++ new_keys)) begun_slice subs (λ _ _ _ settled. absurd (cc)))));
+  active = subst (All (IsActiveOf new.map)) (sym replicas_are)
+      (subst (λ (slices : List Slice). All (IsActiveOf slices) (old.replicas ++ made)) (sym map_is)
+      (All-append (IsActiveOf others) old.replicas made
+      (All-weaker (Contains old.replicas) (IsActiveOf others) still_active old.replicas
+      (All-contains_itself old.replicas))
+      (All-weaker (IsMade rows subs) (IsActiveOf others) no_matter made each)));
+} where
+  others : List Slice
+  others = old.map ++ map begun_slice subs
+
+  key_of : SubSlice → ℕ × ℕ
+  key_of sub = (sub.id.0, 1)
+
+  old_keys : List (ℕ × ℕ)
+  old_keys = map core_key old.replicas
+
+  new_keys : List (ℕ × ℕ)
+  new_keys = map key_of subs
+
+  IsWhole : List (ℕ × ℕ) → Slice → Type 0
+  IsWhole keys slice = is_forming slice ≡ false → All (Contains keys) (keys_of slice)
+
+  IsActiveOf : List Slice → Core → Type 0
+  IsActiveOf slices core = (slice : Slice) → Contains slices slice → slice.id ≡ core.core.slice
+      → is_forming slice ≡ false → core.mode ≡ Active
+
+  keys_are : map core_key new.replicas ≡ old_keys ++ new_keys
+  keys_are =
+      ap (map core_key) replicas_are ∙ map-append core_key old.replicas made
+      ∙ ap (λ (rest : List (ℕ × ℕ)). old_keys ++ rest) (map-made core_key subs made same)
+
+  counted : (core : Core) → IsMade rows subs core → IsCounted core
+  counted core is =
+      subst (λ (name : CoreId). name.replica < 2 ^ 8) (sym (ap (λ (c : Core). c.core) is.core_is)) (omega arith)
+
+  among : (key : ℕ × ℕ) → Contains (core_keys old.map) key → Contains (core_keys others) key
+  among key there =
+      subst (λ (keys : List (ℕ × ℕ)). Contains keys key) (sym (flat_map-append keys_of old.map (map begun_slice subs)))
+      (Contains-append_left (core_keys old.map) (core_keys (map begun_slice subs)) key there)
+
+  its_key : (sub : SubSlice) → Contains subs sub → Contains (core_keys others) (key_of sub)
+  its_key sub there =
+      keys_among others (begun_slice sub) (sub.id.0, 1)
+      (Contains-append_right old.map (map begun_slice subs) (begun_slice sub) (Contains-map begun_slice subs sub there))
+      (first_key (begun_slice sub))
+
+  still_whole : (slice : Slice) → IsWhole old_keys slice → IsWhole (old_keys ++ new_keys) slice
+  still_whole slice whole settled =
+      All-weaker (Contains old_keys) (Contains (old_keys ++ new_keys))
+      (λ key there. Contains-append_left old_keys new_keys key there) (keys_of slice) (whole settled)
+
+  still_active : (core : Core) → Contains old.replicas core → IsActiveOf others core
+  still_active core inside slice there named settled =
+      let low : slice.id.0 ≤ greatest_id old.map =
+      subst (λ (id : SliceId). id.0 ≤ greatest_id old.map) (sym named) (core_below old core has inside) in
+      All-contains (IsActiveOf old.map) old.replicas core has.active inside slice
+      (was_there old.map parent subs slice plan low there) named settled
+
+  no_matter : (core : Core) → IsMade rows subs core → IsActiveOf others core
+  no_matter core is slice there named settled =
+      let begun : begun_slice is.sub ≡ slice =
+      is_begun old.map subs is.sub slice is_map is.there there
+      (named ∙ ap (λ (c : Core). c.core.slice) is.core_is) in
+      let both : true ≡ false = ap is_forming begun ∙ settled in
+      absurd (cc)
+
+-- so are the feeds
+pub AreFeeds-begun : (new : Bucket) (slices : List Slice) (parent : SliceId) (subs : List SubSlice) (rows : List Write)
+    (cores made : List Core) → IsPlan slices parent subs → new.map ≡ slices ++ map begun_slice subs
+    → new.replicas ≡ cores ++ made → new.feeds ≡ map (first_feed rows) subs
+    → map without_room made ≡ map made_core subs → AreFeeds new
+AreFeeds-begun new slices parent subs rows cores made plan map_is replicas_are feeds_are same = record {
+  each = subst (All (IsFeed new)) (sym feeds_are)
+      (All-map (IsFeed new) (first_feed rows) subs
+      (All-weaker (Contains subs) (λ (sub : SubSlice). IsFeed new (first_feed rows sub)) each subs
+      (All-contains_itself subs)));
+  once = subst (λ (feeds : List FeedState). IsDistinct is_core (map fed_core feeds)) (sym feeds_are)
+      (feeds_apart slices parent subs rows plan);
+} where
+  each : (sub : SubSlice) → Contains subs sub → IsFeed new (first_feed rows sub)
+  each sub there =
+      let as_made : Contains (map without_room made) (made_core sub) =
+      subst (λ (these : List Core). Contains these (made_core sub)) (sym same)
+      (Contains-map made_core subs sub there) in
+      let (core, inside, is) = Contains-from_map without_room made (made_core sub) as_made in
+      record {
+        slice = begun_slice sub;
+        there = subst (λ (these : List Slice). Contains these (begun_slice sub)) (sym map_is)
+            (Contains-append_right slices (map begun_slice subs) (begun_slice sub)
+            (Contains-map begun_slice subs sub there));
+        forming = refl;
+        of_slice = refl;
+        range_is = refl;
+        core = core;
+        core_there = subst (λ (these : List Core). Contains these core) (sym replicas_are)
+            (Contains-append_right cores made core inside);
+        core_is = ap (λ (c : Core). c.core) is;
+        buffering = ap (λ (c : Core). c.mode) is;
+        within = omega arith;
+      }
+
+-- and the messages
+pub AreSent-more : (old new : Bucket) (one : Entry) (made : List Core) → AreSent old
+    → new.journal.entries ≡ old.journal.entries ++ one ∷ []
+    → ((place : ℕ) → is_settled (old.journal.entries ++ one ∷ []) place ≡ is_settled old.journal.entries place)
+    → new.replicas ≡ old.replicas ++ made → new.flight.messages ≡ old.flight.messages → AreSent new
+AreSent-more old new one made sent entries settled replicas_are messages_are = record {
+  each = subst (All (IsSent new)) (sym messages_are)
+      (All-weaker (IsSent old) (IsSent new) still old.flight.messages sent.each);
+  once = subst (IsDistinct is_same_message) (sym messages_are) sent.once;
+} where
+  still : (message : Sent) → IsSent old message → IsSent new message
+  still message is =
+      let written : IsSome (write_at old.journal.entries message.place) = subst IsSome (sym is.write) refl in
+      record {
+        write = ap (λ (these : List Entry). write_at these message.place) entries
+            ∙ write_at-append old.journal.entries (one ∷ []) message.place
+            (write_at_within old.journal.entries message.place written) ∙ is.write;
+        unsettled = ap (λ (these : List Entry). is_settled these message.place) entries ∙ settled message.place
+            ∙ is.unsettled;
+        core = subst (λ (names : List CoreId). Contains names message.core)
+            (sym (ap (map name_of) replicas_are ∙ map-append name_of old.replicas made))
+            (Contains-append_left (map name_of old.replicas) (map name_of made) message.core is.core);
+      }

@@ -1,0 +1,178 @@
+-- A bucket is sound once one of its cores, or its feeds, or both were changed, where that core is.
+use Rattle.std.proofs.Common.{◌≡◌, ◌≢◌, ℕ, Bool, true, false, List, ◌++◌, map, get_or, set, slice_get, Some, All, Contains, refl, sym, ap, ◌∙◌, subst}
+use Rattle.std.proofs.Math.Seq.{map-set_same}
+use Rattle.std.proofs.lemmas.List.Elements.{All-weaker}
+use Rattle.std.proofs.lemmas.Option.{get_or_from_slice_get}
+use Rattle.sc_record.specs.declared.slice.CoreId.{CoreId}
+use Rattle.sc_record.specs.declared.write.Write.{Write}
+use Rattle.sc_cluster.specs.declared.slice.Slice.{Slice}
+use Rattle.sc_cluster.specs.Slices.{is_forming}
+use Rattle.sc_ulog.specs.declared.mode.Mode.TheVariants.{Active}
+use Rattle.sc_replica.specs.Core.{Core}
+use Rattle.sc_bucket.specs.Kept.{Sent, FeedState}
+use Rattle.sc_bucket.specs.Cores.{is_core}
+use Rattle.sc_bucket.specs.Flight.{in_flight}
+use Rattle.sc_bucket.specs.Pending.{to_feed}
+use Rattle.sc_bucket.specs.Sound.{HasJournal, OfEachCore, IsSent, AreSent, AreFeeds, AreLedActively, IsInPhase, IsSound}
+use Rattle.sc_bucket.specs.declared.bucket.Bucket.{Bucket}
+use Rattle.sc_bucket.specs.declared.phase.Phase.{Phase}
+use Rattle.sc_bucket.specs.declared.phase.Phase.TheVariants as phases
+use Rattle.sc_bucket.proofs.CoreLemmas.{name_of, is_core-Decides, AreApart-from_ascending, core_alone}
+use Rattle.sc_bucket.proofs.PlaceLemmas.{All-set_apart}
+use Rattle.sc_bucket.proofs.SearcherLemmas.{HasSearchers-same}
+use Rattle.sc_bucket.proofs.SoundLemmas.{All-slice_get, HasCores-named, IsIdle-same, IsOpen-same}
+use Rattle.sc_bucket.proofs.DeliveredLemmas.{IsSoundCore}
+use Rattle.sc_bucket.proofs.DeliverLemmas.{IsSoundIn, core_is_sound}
+
+-- the bucket with these feeds and these cores
+abbrev pub with_fed : Bucket → List FeedState → List Core → Bucket
+with_fed b feeds cores = record b { feeds = feeds; replicas = cores }
+
+-- a core is sound there where it is with the name, the buffer and the writes to feed that it has
+pub IsSoundIn-parts : (b : Bucket) (feeds : List FeedState) (cores : List Core) (core : Core) (name : CoreId)
+    (buffer left : List Write) → core.core ≡ name → core.buffer ≡ buffer → to_feed feeds name ≡ left
+    → IsSoundCore b.map b.journal.entries (in_flight b.flight.messages name)
+    (in_flight b.flight.messages name ++ buffer ++ left) core
+    → IsSoundIn (with_fed b feeds cores) b.flight.messages core
+IsSoundIn-parts b feeds cores core name buffer left named kept fed sound =
+    let messages : List Sent = b.flight.messages in
+    subst (λ (n : CoreId). IsSoundCore b.map b.journal.entries (in_flight messages n)
+    (in_flight messages n ++ core.buffer ++ to_feed feeds n) core) (sym named)
+    (subst (λ (these : List Write). IsSoundCore b.map b.journal.entries (in_flight messages name)
+    (in_flight messages name ++ these ++ to_feed feeds name) core) (sym kept)
+    (subst (λ (these : List Write). IsSoundCore b.map b.journal.entries (in_flight messages name)
+    (in_flight messages name ++ buffer ++ these) core) (sym fed) sound))
+
+-- nothing of its journal was changed
+same_journal : (b : Bucket) (feeds : List FeedState) (cores : List Core) → HasJournal b
+    → HasJournal (with_fed b feeds cores)
+same_journal b feeds cores journal = record {
+  first = journal.first;
+  begins = journal.begins;
+  legal = journal.legal;
+  map_is = journal.map_is;
+  unsettled_are = journal.unsettled_are;
+  owed_is = journal.owed_is;
+  room = journal.room;
+  within = journal.within;
+  limit_from = journal.limit_from;
+  limit_to = journal.limit_to;
+}
+
+-- and the messages are to cores that are there, since the names are the same
+same_messages : (b : Bucket) (feeds : List FeedState) (cores : List Core) → map name_of cores ≡ map name_of b.replicas
+    → AreSent b → AreSent (with_fed b feeds cores)
+same_messages b feeds cores names sent = record {
+  each = All-weaker (IsSent b) (IsSent (with_fed b feeds cores)) same b.flight.messages sent.each;
+  once = sent.once;
+} where
+  same : (message : Sent) → IsSent b message → IsSent (with_fed b feeds cores) message
+  same message is = record {
+    write = is.write;
+    unsettled = is.unsettled;
+    core = subst (λ (those : List CoreId). Contains those message.core) (sym names) is.core;
+  }
+
+-- it is in the same phase
+same_phase : (b : Bucket) (feeds : List FeedState) (cores : List Core) (phase : Phase)
+    → (AreLedActively b → AreLedActively (with_fed b feeds cores)) → IsInPhase b phase
+    → IsInPhase (with_fed b feeds cores) phase
+same_phase b feeds cores phases.Idle led is = IsIdle-same b (with_fed b feeds cores) refl refl is
+same_phase b feeds cores (phases.Building parent) led is = IsOpen-same b (with_fed b feeds cores) parent refl refl is
+same_phase b feeds cores (phases.Recovering parent) led is =
+    (IsOpen-same b (with_fed b feeds cores) parent refl refl is.0, led is.1)
+
+-- It is sound where each core is, the cores have the same names and are active where they have to be, and the feeds
+-- are as they have to be.
+pub IsSound-changed : (b : Bucket) (feeds : List FeedState) (cores : List Core) → IsSound b
+    → All (IsSoundIn (with_fed b feeds cores) b.flight.messages) cores → map name_of cores ≡ map name_of b.replicas
+    → OfEachCore (with_fed b feeds cores)
+    (λ (slice : Slice) (core : Core). is_forming slice ≡ false → core.mode ≡ Active)
+    → (AreLedActively b → AreLedActively (with_fed b feeds cores)) → AreFeeds (with_fed b feeds cores)
+    → IsSound (with_fed b feeds cores)
+IsSound-changed b feeds cores sound each names active led are =
+    let new : Bucket = with_fed b feeds cores in
+    record {
+      journal = same_journal b feeds cores sound.journal;
+      leaders = λ k d below. (each k d below).serves;
+      written = λ k d below. (each k d below).written;
+      held = λ k d below. (each k d below).held;
+      in_range = λ k d below. (each k d below).in_range;
+      clocks = λ k d below. (each k d below).clock;
+      searchers = HasSearchers-same b new refl refl refl sound.searchers;
+      prepared = sound.prepared;
+      messages = same_messages b feeds cores names sound.messages;
+      spares = λ k d below. record { cells = (each k d below).cell_room; buffer = (each k d below).buffer_room };
+      cores = HasCores-named b new refl names active sound.cores;
+      feeds = are;
+      phase = same_phase b feeds cores b.phase led sound.phase;
+    }
+
+-- a core for which the same is still to be fed is sound as before
+still_sound : (b : Bucket) (feeds : List FeedState) (cores : List Core) (core : Core)
+    → to_feed feeds core.core ≡ to_feed b.feeds core.core → IsSoundIn b b.flight.messages core
+    → IsSoundIn (with_fed b feeds cores) b.flight.messages core
+still_sound b feeds cores core same before =
+    IsSoundIn-parts b feeds cores core core.core core.buffer (to_feed b.feeds core.core) refl refl same before
+
+-- It is sound where the feeds alone were changed, and each core is still to be fed the same.
+pub IsSound-other_feeds : (b : Bucket) (feeds : List FeedState) → IsSound b
+    → ((name : CoreId) → to_feed feeds name ≡ to_feed b.feeds name) → AreFeeds (with_fed b feeds b.replicas)
+    → IsSound (with_fed b feeds b.replicas)
+IsSound-other_feeds b feeds sound same are =
+    IsSound-changed b feeds b.replicas sound
+    (λ k d below. still_sound b feeds b.replicas (get_or b.replicas k d) (same (get_or b.replicas k d).core)
+    (core_is_sound b k d below sound))
+    refl sound.cores.active (λ led. led) are
+
+-- what is said of each core and its slice is said of each once the core at a place was changed, where it is said of
+-- that one
+changed_of_each : (P : Slice → Core → Type 0) (b : Bucket) (feeds : List FeedState) (at : ℕ) (core new : Core)
+    → slice_get b.replicas at ≡ Some core → new.core ≡ core.core → ((slice : Slice) → P slice core → P slice new)
+    → OfEachCore b P → OfEachCore (with_fed b feeds (set b.replicas at new)) P
+changed_of_each P b feeds at core new there named step each =
+    All-set_apart Of b.replicas at new
+    (λ slice inside of_slice. step slice
+    (All-slice_get Of b.replicas at core each there slice inside
+    (of_slice ∙ ap (λ (name : CoreId). name.slice) named)))
+    (λ k other apart is. All-slice_get Of b.replicas k other each is)
+  where
+    Of : Core → Type 0
+    Of one = (slice : Slice) → Contains b.map slice → slice.id ≡ one.core.slice → P slice one
+
+-- a core at another place has another name
+apart_from : (b : Bucket) (at k : ℕ) (core other : Core) → IsSound b → slice_get b.replicas at ≡ Some core
+    → slice_get b.replicas k ≡ Some other → k ≢ at → is_core other.core core.core ≡ false
+apart_from b at k core other sound there is differ = by (is_core other.core core.core) refl where
+  by : (test : Bool) → is_core other.core core.core ≡ test → is_core other.core core.core ≡ false
+  by false differs = differs
+  by true same =
+      absurd (differ
+      (core_alone b.replicas k at other core (AreApart-from_ascending b.replicas sound.cores.ascend) is there
+      ((is_core-Decides other.core core.core).0 same)))
+
+-- It is sound where the core at a place was changed, and perhaps the feeds: that core has its name, is active where
+-- it was, and is sound with what is pending for it now; each other is still to be fed the same; and the feeds are as
+-- they have to be.
+pub IsSound-core_changed : (b : Bucket) (feeds : List FeedState) (at : ℕ) (core new : Core) → IsSound b
+    → slice_get b.replicas at ≡ Some core → new.core ≡ core.core → (core.mode ≡ Active → new.mode ≡ Active)
+    → IsSoundIn (with_fed b feeds (set b.replicas at new)) b.flight.messages new
+    → ((name : CoreId) → is_core name core.core ≡ false → to_feed feeds name ≡ to_feed b.feeds name)
+    → AreFeeds (with_fed b feeds (set b.replicas at new)) → IsSound (with_fed b feeds (set b.replicas at new))
+IsSound-core_changed b feeds at core new sound there named still own others are =
+    let cores : List Core = set b.replicas at new in
+    IsSound-changed b feeds cores sound
+    (All-set_apart (IsSoundIn (with_fed b feeds cores) b.flight.messages) b.replicas at new own
+    (λ k other differ is. still_sound b feeds cores other
+    (others other.core (apart_from b at k core other sound there is differ))
+    (All-slice_get (IsSoundIn b b.flight.messages) b.replicas k other
+    (λ j d below. core_is_sound b j d below sound) is)))
+    (map-set_same name_of b.replicas at new core
+    (named ∙ ap name_of (sym (get_or_from_slice_get b.replicas at core core there))))
+    (changed_of_each (λ slice one. is_forming slice ≡ false → one.mode ≡ Active) b feeds at core new there named
+    (λ slice active free. still (active free)) sound.cores.active)
+    (λ led. changed_of_each (λ slice one. is_forming slice ≡ true → one.core.replica ≡ 1 → one.mode ≡ Active)
+    b feeds at core new there named
+    (λ slice active forming first. still (active forming (ap (λ (name : CoreId). name.replica) (sym named) ∙ first)))
+    led)
+    are

@@ -1,0 +1,141 @@
+-- A bucket without an inactive slice owes one entry less, and is sound.
+use Rattle.std.proofs.Common.{◌≡◌, ◌∙◌, ◌+◌, ◌≤◌, Bool, true, false, cond, not, eqb, List, [], ◌∷◌, ◌++◌, length, filter, None, All, Contains, refl, sym, ap, subst, arith}
+use Rattle.std.proofs.lemmas.Bool.{eqb-true}
+use Rattle.std.proofs.lemmas.List.Elements.{All-contains_itself, All-head, All-tail, All-weaker}
+use Rattle.sc_record.specs.declared.slice.SliceId.{SliceId}
+use Rattle.sc_record.specs.declared.entry.Entry.{Entry}
+use Rattle.sc_record.specs.declared.entry.Entry.TheVariants as entry
+use Rattle.sc_cluster.specs.declared.slice.Slice.{Slice}
+use Rattle.sc_cluster.specs.Map.{IsMap}
+use Rattle.sc_cluster.specs.Slices.{is_active_state, is_active, is_forming, forming}
+use Rattle.sc_cluster.specs.Changes.{Change, IsInactive}
+use Rattle.sc_cluster.proofs.LeaderLemmas.{same_from_id}
+use Rattle.sc_cluster.proofs.ListLemmas.{Contains-filter, Contains-from_filter}
+use Rattle.sc_cluster.proofs.MapLemmas.{dropped_is_idle}
+use Rattle.sc_cluster.proofs.StateLemmas.{is_other}
+use Rattle.sc_journal.specs.Splits.{open_split, owed}
+use Rattle.sc_journal.specs.Legal.{MayDrop}
+use Rattle.sc_journal.proofs.SplitLemmas.{open_split-push}
+use Rattle.sc_bucket.specs.Kept.{FeedState}
+use Rattle.sc_bucket.specs.Searchers.{ArePrepared}
+use Rattle.sc_bucket.specs.Sound.{IsFeed, IsIdle, IsInPhase, IsSound}
+use Rattle.sc_bucket.specs.declared.bucket.Bucket.{Bucket}
+use Rattle.sc_bucket.specs.declared.phase.Phase.TheVariants as phases
+use Rattle.sc_bucket.proofs.AcceptLemmas.{bucket_has_map}
+use Rattle.sc_handover.specs.Conditions.{CanDrop}
+use Rattle.sc_handover.specs.Events.{Drops}
+use Rattle.sc_handover.proofs.KeptLemmas.{same_number}
+use Rattle.sc_handover.proofs.NotedLemmas.{EndsParts, owed-push_dropped, HasJournal-noted}
+use Rattle.sc_handover.proofs.LeftOutLemmas.{IsSound-left_out}
+
+-- where no split is open
+pub is_idle : (b : Bucket) → IsSound b → b.phase ≡ phases.Idle → IsIdle b
+is_idle b sound idle = subst (IsInPhase b) idle sound.phase
+
+-- no searchers are ready for a switch
+pub no_spares : (b : Bucket) → IsSound b → b.phase ≡ phases.Idle → b.spares ≡ None
+no_spares b sound idle = subst (λ phase. ArePrepared phase b.map b.searchers b.spares) idle sound.prepared
+
+-- and no core is fed
+no_feeds : (b : Bucket) → IsSound b → b.phase ≡ phases.Idle → b.feeds ≡ []
+no_feeds b sound idle = by b.feeds sound.feeds.each where
+  by : (feeds : List FeedState) → All (IsFeed b) feeds → feeds ≡ []
+  by [] each = refl
+  by (feed ∷ feeds) each =
+      let is : IsFeed b feed = All-head (IsFeed b) feed feeds each in
+      let (k, below, there) : Contains (forming b.map) is.slice =
+      Contains-filter is_forming b.map is.slice is.there is.forming in
+      let none : length (forming b.map) ≡ 0 = ap length (is_idle b sound idle).whole in
+      absurd (omega arith)
+
+-- the slice may be dropped
+may_drop : (b : Bucket) (slice : SliceId) → IsSound b → CanDrop b slice → MayDrop b.first b.journal.entries slice
+may_drop b slice sound can = record {
+  idle = (is_idle b sound can.0).idle;
+  inactive = subst (λ slices. IsInactive slices slice) sound.journal.map_is can.1;
+}
+
+-- the entry that drops it is owed
+owed_dropped : (b : Bucket) (slice : SliceId) → IsSound b → CanDrop b slice
+    → owed b.first (b.journal.entries ++ entry.Dropped slice ∷ []) + 1 ≡ owed b.first b.journal.entries
+owed_dropped b slice sound can =
+    owed-push_dropped b.first b.journal.entries slice
+    (subst IsMap sound.journal.map_is (bucket_has_map b sound.journal)) (may_drop b slice sound can).inactive
+
+-- and has its room
+pub owes_dropped : (b : Bucket) (slice : SliceId) → IsSound b → CanDrop b slice → (1 ≤ b.owed) × (1 ≤ b.journal.room)
+owes_dropped b slice sound can =
+    let less = owed_dropped b slice sound can in
+    let journal = sound.journal in
+    (omega (arith, less, journal.owed_is), omega (arith, less, journal.owed_is, journal.room))
+
+-- a filter of what another left, which keeps all that passes the first
+filter-left : {A : Type 0} (p q : A → Bool) (xs : List A) → All (λ x. p x ≡ true → q x ≡ true) xs
+    → filter p (filter q xs) ≡ filter p xs
+filter-left p q [] all = refl
+filter-left p q (x ∷ xs) all =
+    by (q x) refl (p x) refl (filter-left p q xs (All-tail (λ y. p y ≡ true → q y ≡ true) x xs all)) where
+      by : (t : Bool) → q x ≡ t → (u : Bool) → p x ≡ u → filter p (filter q xs) ≡ filter p xs
+          → filter p (cond t (x ∷ filter q xs) (filter q xs)) ≡ cond u (x ∷ filter p xs) (filter p xs)
+      by true is true passes rest = rw passes (ap (λ ys. x ∷ ys) rest)
+      by true is false fails rest = rw fails rest
+      by false is true passes rest =
+          let both : true ≡ false = sym (All-head (λ y. p y ≡ true → q y ≡ true) x xs all passes) ∙ is in absurd (cc)
+      by false is false fails rest = rest
+
+-- the active slices stay
+active-other : (slices : List Slice) (dropped : SliceId) → IsMap slices → IsInactive slices dropped
+    → filter is_active (filter (is_other dropped) slices) ≡ filter is_active slices
+active-other slices dropped is_map (slice, there, named, inactive) =
+    filter-left is_active (is_other dropped) slices
+    (All-weaker (Contains slices) (λ (s : Slice). is_active s ≡ true → is_other dropped s ≡ true) stays slices
+    (All-contains_itself slices))
+  where
+    stays : (one : Slice) → Contains slices one → is_active one ≡ true → is_other dropped one ≡ true
+    stays one inside active = by (eqb one.id.0 dropped.0) refl where
+      by : (b : Bool) → eqb one.id.0 dropped.0 ≡ b → is_other dropped one ≡ true
+      by false other = ap not other
+      by true same =
+          let id : one.id ≡ dropped = same_number one.id dropped (eqb-true one.id.0 dropped.0 same) in
+          let alike : one ≡ slice = same_from_id slices one slice is_map inside there (id ∙ sym named) in
+          let both : true ≡ false = sym active ∙ ap is_active alike ∙ ap is_active_state inactive in
+          absurd (cc)
+
+-- and the bucket is sound
+pub IsSound-dropped : (old : Bucket) (slice : SliceId) (new : Bucket) → IsSound old → CanDrop old slice
+    → Drops old slice new → EndsParts old 1 new → IsSound new
+IsSound-dropped old slice new sound can drops parts =
+    let one : Entry = entry.Dropped slice in
+    let idle = is_idle old sound can.0 in
+    IsSound-left_out old one new sound
+    (HasJournal-noted old new one (Change.Dropped slice) 1 sound.journal (record {
+      name = drops.name;
+      entries = drops.entries;
+      may = may_drop old slice sound can;
+      change_is = refl;
+      no_write = refl;
+      settles_nothing = λ place. refl;
+      map_is = drops.map_is;
+      some = omega arith;
+      owed_less = owed_dropped old slice sound can;
+      parts = parts;
+    }))
+    (record {
+      some = λ one there.
+          (Contains-from_filter (is_other slice) old.map one
+          (subst (λ (these : List Slice). Contains these one) drops.map_is there)).0;
+      same_active = ap (filter is_active) drops.map_is
+          ∙ active-other old.map slice (bucket_has_map old sound.journal) can.1;
+      entries = drops.entries;
+      no_write = refl;
+      no_commit = refl;
+      settles_nothing = λ place. refl;
+      phase_is = drops.phase_is ∙ can.0;
+      idle = ap open_split drops.entries ∙ open_split-push old.journal.entries one ∙ idle.idle;
+      whole = ap forming drops.map_is ∙ dropped_is_idle old.map slice idle.whole;
+      messages = drops.messages;
+      cores = drops.cores;
+      feeds_are = drops.feeds_are ∙ no_feeds old sound can.0;
+      searchers_are = drops.searchers_are;
+      spares_are = parts.spares_are;
+    })

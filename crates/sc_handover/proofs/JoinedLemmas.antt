@@ -1,0 +1,431 @@
+-- A bucket is sound once a further replica of a sub joined with its feed.
+use Rattle.std.proofs.Common.{◌≡◌, inl, inr, ℕ, ◌+◌, ◌-◌, ◌<◌, nat_lt, Bool, true, false, cond, List, [], ◌∷◌, ◌++◌, length, map, filter, Some, All, Contains, ◌≢◌, refl, sym, ap, ◌∙◌, subst, arith}
+use Rattle.std.specs.List.{IsDistinct, flat_map, range_with_len, remove}
+use Rattle.std.proofs.lemmas.List.{append-nil, map-append, length_push}
+use Rattle.std.proofs.lemmas.List.Elements.{All-cons, All-contains, All-contains_itself, All-filter, All-map, All-nil, All-push, All-weaker, filter-append}
+use Rattle.std.proofs.lemmas.List.FromFn.{length-range_with_len, get_or-range_with_len}
+use Rattle.std.proofs.lemmas.Map.Keys.{IsDistinct-from_apart}
+use Rattle.sc_hash.proofs.BoundsLemmas.{contains-Decides}
+use Rattle.sc_record.specs.Writes.{is_of, write_of}
+use Rattle.sc_record.specs.declared.slice.SliceId.{SliceId}
+use Rattle.sc_record.specs.declared.slice.CoreId.{CoreId}
+use Rattle.sc_record.specs.declared.write.Write.{Write}
+use Rattle.sc_cluster.specs.declared.slice.Slice.{Slice}
+use Rattle.sc_cluster.specs.Slices.{is_forming}
+use Rattle.sc_cluster.proofs.LeaderLemmas.{same_from_id}
+use Rattle.sc_cluster.proofs.ListLemmas.{Contains-map, Contains-filter, filter-none}
+use Rattle.sc_cluster.proofs.StateLemmas.{active_settled}
+use Rattle.sc_ulog.specs.declared.mode.Mode.TheVariants.{Active}
+use Rattle.sc_replica.specs.Core.{Core}
+use Rattle.sc_journal.specs.Journal.{writes}
+use Rattle.sc_bucket.specs.Kept.{Sent, FeedState}
+use Rattle.sc_bucket.specs.Cores.{core_key, core_keys, keys_of, is_core, core_number, IsCounted, put_by_name}
+use Rattle.sc_bucket.specs.Flight.{in_flight, is_to}
+use Rattle.sc_bucket.specs.Pending.{is_within, is_feed_of, left_of, to_feed, pending}
+use Rattle.sc_bucket.specs.Sound.{HasLastWrites, IsInRange, IsSent, AreSent, HasCores, IsFeed, AreFeeds, IsInPhase, IsSound}
+use Rattle.sc_bucket.specs.Events.{without_room}
+use Rattle.sc_bucket.specs.declared.bucket.Bucket.{Bucket}
+use Rattle.sc_bucket.proofs.AcceptLemmas.{bucket_has_map}
+use Rattle.sc_bucket.proofs.CoreLemmas.{name_of, is_core-Decides, keys_among, element_from_map}
+use Rattle.sc_bucket.proofs.DeliveredLemmas.{IsSoundCore}
+use Rattle.sc_bucket.proofs.FeedLemmas.{fed_core}
+use Rattle.sc_bucket.proofs.FollowerLemmas.{IsDistinct-append}
+use Rattle.sc_bucket.proofs.RoomLemmas.{HasJournal-same}
+use Rattle.sc_bucket.proofs.SearcherLemmas.{HasSearchers-same}
+use Rattle.sc_bucket.proofs.SoundLemmas.{IsOpen-same}
+use Rattle.sc_bucket.proofs.TakenLemmas.{Contains-slice_get}
+use Rattle.sc_bucket.proofs.WriteLemmas.{Contains-find}
+use Rattle.sc_handover.specs.Conditions.{CanGrow}
+use Rattle.sc_handover.specs.Made.{empty_core}
+use Rattle.sc_handover.specs.Parts.{IsMade, Joins}
+use Rattle.sc_handover.proofs.LastWriteLemmas.{not_passed, core_in}
+use Rattle.sc_handover.proofs.SettleSubsLemmas.{in_flight-no_message}
+use Rattle.sc_handover.proofs.SwitchedMapLemmas.{split_is_open}
+use Rattle.sc_handover.proofs.HandedOnLemmas.{All-from_map}
+use Rattle.sc_handover.proofs.PutLemmas.{All-put, Contains-put_own, Contains-put, Contains-map_put, AscendByName-put, other_number}
+
+-- the bucket with the core and its feed
+abbrev pub joined : Bucket → Core → FeedState → Bucket
+joined b core feed = record b { replicas = put_by_name core b.replicas; feeds = b.feeds ++ feed ∷ [] }
+
+-- a core and its feed may join a sound bucket
+pub record MayJoin (b : Bucket) (name : CoreId) (sub : Slice) (core : Core) (feed : FeedState) : Type 0 where
+  pub sound : IsSound b
+  pub can : CanGrow b name sub
+  pub made : IsMade b name sub core feed
+
+-- ---- names
+core_named : (b : Bucket) (name : CoreId) (sub : Slice) (core : Core) (feed : FeedState) → IsMade b name sub core feed
+    → core.core ≡ name
+core_named b name sub core feed made = ap (λ (c : Core). c.core) made.core_is
+
+feed_named : (b : Bucket) (name : CoreId) (sub : Slice) (core : Core) (feed : FeedState) → IsMade b name sub core feed
+    → feed.core ≡ name
+feed_named b name sub core feed made = ap (λ (f : FeedState). f.core) made.feed_is
+
+-- each core that is there has another name
+other_name : (b : Bucket) (name : CoreId) (sub : Slice) (other : Core) → CanGrow b name sub → Contains b.replicas other
+    → is_core name other.core ≡ false
+other_name b name sub other can there =
+    All-contains (λ (c : Core). is_core name c.core ≡ false) b.replicas other can.missing there
+
+-- the test is the same the other way round
+apart_turned : (one other : CoreId) → is_core one other ≡ false → is_core other one ≡ false
+apart_turned one other apart = not_passed (is_core other one) (λ is.
+    let both : true ≡ false = sym ((is_core-Decides one other).1 (sym ((is_core-Decides other one).0 is))) ∙ apart in
+    cc)
+
+-- so a feed that is there is another's
+other_feed : (b : Bucket) (name : CoreId) (sub : Slice) (feed : FeedState) → CanGrow b name sub → IsFeed b feed
+    → is_core name feed.core ≡ false
+other_feed b name sub feed can is =
+    ap (is_core name) (sym is.core_is) ∙ other_name b name sub is.core can is.core_there
+
+-- and a message in flight is to another
+other_message : (b : Bucket) (name : CoreId) (sub : Slice) (message : Sent) → CanGrow b name sub → IsSent b message
+    → is_core name message.core ≡ false
+other_message b name sub message can sent =
+    let (k, core, at, is) = element_from_map name_of b.replicas message.core sent.core in
+    ap (is_core name) (sym is) ∙ other_name b name sub core can (Contains-slice_get b.replicas k core at)
+
+-- ---- what is to be fed
+-- to another core what was
+to_feed-other : (feeds : List FeedState) (feed : FeedState) (core : CoreId) → is_feed_of core feed ≡ false
+    → to_feed (feeds ++ feed ∷ []) core ≡ to_feed feeds core
+to_feed-other feeds feed core other =
+    ap (flat_map left_of) (filter-append (is_feed_of core) feeds (feed ∷ [])
+    ∙ ap (λ b. filter (is_feed_of core) feeds ++ cond b (feed ∷ []) []) other
+    ∙ append-nil (filter (is_feed_of core) feeds))
+
+-- and to its own what it has left
+to_feed-own : (feeds : List FeedState) (feed : FeedState) (core : CoreId)
+    → All (λ (other : FeedState). is_feed_of core other ≡ false) feeds → is_feed_of core feed ≡ true
+    → to_feed (feeds ++ feed ∷ []) core ≡ left_of feed
+to_feed-own feeds feed core none own =
+    ap (flat_map left_of) (filter-append (is_feed_of core) feeds (feed ∷ [])
+    ∙ ap (λ these. these ++ filter (is_feed_of core) (feed ∷ [])) (filter-none (is_feed_of core) feeds none)
+    ∙ ap (λ b. cond b (feed ∷ []) []) own)
+    ∙ append-nil (left_of feed)
+
+-- ---- the cores
+-- the core is sound, where these messages are in flight and these are the feeds
+abbrev IsSoundFed : Bucket → List FeedState → Core → Type 0
+IsSoundFed b feeds core =
+    IsSoundCore b.map b.journal.entries (in_flight b.flight.messages core.core) (pending b.flight.messages feeds core) core
+
+-- each of the others is
+other_is_sound : (b : Bucket) (name : CoreId) (sub : Slice) (core : Core) (feed : FeedState) (other : Core)
+    → MayJoin b name sub core feed → Contains b.replicas other → IsSoundFed b (b.feeds ++ feed ∷ []) other
+other_is_sound b name sub core feed other may there =
+    let apart : is_feed_of other.core feed ≡ false =
+    ap (is_core other.core) (feed_named b name sub core feed may.made)
+    ∙ apart_turned name other.core (other_name b name sub other may.can there) in
+    subst (λ (left : List Write). IsSoundCore b.map b.journal.entries (in_flight b.flight.messages other.core)
+    (in_flight b.flight.messages other.core ++ other.buffer ++ left) other)
+    (sym (to_feed-other b.feeds feed other.core apart)) (core_in b other may.sound there)
+
+-- nothing is in flight to the new core
+none_in_flight : (b : Bucket) (name : CoreId) (sub : Slice) → IsSound b → CanGrow b name sub → in_flight b.flight.messages name ≡ []
+none_in_flight b name sub sound can =
+    in_flight-no_message b.flight.messages name
+    (All-weaker (IsSent b) (λ (message : Sent). is_to name message ≡ false)
+    (λ message. other_message b name sub message can) b.flight.messages sound.messages.each)
+
+-- and all that is pending for it are its leader's cells
+abbrev rows_for : Slice → Core → List Write
+rows_for sub leader = filter (is_within sub.range) leader.cells
+
+pending_for : (b : Bucket) (name : CoreId) (sub : Slice) (core : Core) (feed : FeedState) → (may : MayJoin b name sub core feed)
+    → pending b.flight.messages (b.feeds ++ feed ∷ []) core ≡ rows_for sub may.made.leader
+pending_for b name sub core feed may =
+    ap (λ (these : List Write). these ++ core.buffer ++ left) sent
+    ∙ ap (λ (these : List Write). these ++ left) (ap (λ (c : Core). c.buffer) may.made.core_is)
+    ∙ fed
+  where
+    named : core.core ≡ name
+    named = core_named b name sub core feed may.made
+
+    left : List Write
+    left = to_feed (b.feeds ++ feed ∷ []) core.core
+
+    sent : in_flight b.flight.messages core.core ≡ []
+    sent = ap (in_flight b.flight.messages) named ∙ none_in_flight b name sub may.sound may.can
+
+    none : All (λ (other : FeedState). is_feed_of core.core other ≡ false) b.feeds
+    none =
+        All-weaker (IsFeed b) (λ (other : FeedState). is_feed_of core.core other ≡ false)
+        (λ other is. ap (λ (n : CoreId). is_core n other.core) named ∙ other_feed b name sub other may.can is)
+        b.feeds may.sound.feeds.each
+
+    own : is_feed_of core.core feed ≡ true
+    own = (is_core-Decides core.core feed.core).1 (named ∙ sym (feed_named b name sub core feed may.made))
+
+    fed : left ≡ rows_for sub may.made.leader
+    fed = to_feed-own b.feeds feed core.core none own ∙ ap left_of may.made.feed_is
+
+-- so it is sound too
+core_is_sound : (b : Bucket) (name : CoreId) (sub : Slice) (core : Core) (feed : FeedState) → MayJoin b name sub core feed
+    → IsSoundFed b (b.feeds ++ feed ∷ []) core
+core_is_sound b name sub core feed may =
+    subst (λ these. IsSoundCore b.map b.journal.entries (in_flight b.flight.messages core.core) these core)
+    (sym (pending_for b name sub core feed may)) (record {
+      serves = λ slice there of_core active leads.
+          let same = is_sub slice there of_core in
+          let both : true ≡ false = sym (ap is_forming same ∙ may.can.forming) ∙ active_settled slice active in
+          absurd (cc);
+      written = (
+        no_cells (Contains (writes b.journal.entries)),
+        All-filter (is_within sub.range) (Contains (writes b.journal.entries)) leader.cells leader_sound.written.0,
+      );
+      held = λ slice there of_core attached id write within is.
+          let same = is_sub slice there of_core in
+          let cell : write_of leader.cells id ≡ Some write = last_in slice same id within ∙ is in
+          inr (Contains-filter (is_within sub.range) leader.cells write (Contains-find (is_of id) leader.cells write cell)
+          (inside write (Contains-find (is_of id) leader.cells write cell)));
+      in_range = λ slice there of_core. (
+        no_cells (IsInRange slice),
+        subst (λ s. All (IsInRange s) (rows_for sub leader)) (sym (is_sub slice there of_core))
+            (All-filter (is_within sub.range) (IsInRange sub) leader.cells in_sub),
+      );
+      clock = inl (ap (λ (c : Core). c.clock) may.made.core_is);
+      cell_room = omega (arith, may.made.roomy, ap length (sym (ap left_of may.made.feed_is)));
+      buffer_room = omega (
+        arith,
+        ap length (ap (in_flight b.flight.messages) (core_named b name sub core feed may.made)
+            ∙ none_in_flight b name sub may.sound may.can),
+      );
+    })
+  where
+    leader : Core
+    leader = may.made.leader
+
+    leader_sound : IsSoundFed b b.feeds leader
+    leader_sound = core_in b leader may.sound may.made.leader_there
+
+    in_sub : All (IsInRange sub) leader.cells
+    in_sub = (leader_sound.in_range sub may.can.there (sym may.made.leader_is.0)).0
+
+    inside : (write : Write) → Contains leader.cells write → is_within sub.range write ≡ true
+    inside write there =
+        (contains-Decides write.hash sub.range.min sub.range.max).1 (All-contains (IsInRange sub) leader.cells write in_sub there)
+
+    no_cells : (P : Write → Type 0) → All P core.cells
+    no_cells P = subst (All P) (sym (ap (λ (c : Core). c.cells) may.made.core_is)) (All-nil P)
+
+    is_sub : (slice : Slice) → Contains b.map slice → slice.id ≡ core.core.slice → slice ≡ sub
+    is_sub slice there of_core =
+        same_from_id b.map slice sub (bucket_has_map b may.sound.journal) there may.can.there
+        (of_core ∙ ap (λ (n : CoreId). n.slice) (core_named b name sub core feed may.made) ∙ may.can.of_sub)
+
+    last_in : (slice : Slice) → slice ≡ sub → HasLastWrites b.journal.entries slice leader
+    last_in slice same = subst (λ s. HasLastWrites b.journal.entries s leader) (sym same) may.made.last
+
+-- ---- the names of the cores
+-- the new core's is one of the sub's
+key_of_sub : (b : Bucket) (name : CoreId) (sub : Slice) → CanGrow b name sub
+    → Contains (keys_of sub) (name.slice.0, name.replica)
+key_of_sub b name sub can =
+    let count = length-range_with_len 1 sub.replicas in
+    let below : name.replica - 1 < length (range_with_len 1 sub.replicas) = omega (arith, count, can.above, can.planned) in
+    let replica : Contains (range_with_len 1 sub.replicas) name.replica = (
+      name.replica - 1,
+      below,
+      get_or-range_with_len 1 sub.replicas (name.replica - 1) name.replica (omega (arith, can.above, can.planned))
+          ∙ omega (arith, can.above),
+    ) in
+    subst (λ (id : SliceId). Contains (keys_of sub) (id.0, name.replica)) (sym can.of_sub)
+    (Contains-map (λ (n : ℕ). (sub.id.0, n)) (range_with_len 1 sub.replicas) name.replica replica)
+
+HasCores-joined : (b : Bucket) (name : CoreId) (sub : Slice) (core : Core) (feed : FeedState) → MayJoin b name sub core feed
+    → HasCores (joined b core feed)
+HasCores-joined b name sub core feed may = record {
+  counted = All-put IsCounted core b.replicas may.made.counted has.counted;
+  ascend = AscendByName-put core b.replicas has.ascend
+      (All-weaker (Contains b.replicas) (λ (other : Core). core_number other.core ≢ core_number core.core) differ b.replicas
+      (All-contains_itself b.replicas));
+  of_map = All-map (Contains (core_keys b.map)) core_key (put_by_name core b.replicas)
+      (All-put (λ (c : Core). Contains (core_keys b.map) (core_key c)) core b.replicas key
+      (All-from_map (Contains (core_keys b.map)) core_key b.replicas has.of_map));
+  leaders = All-weaker (λ (slice : Slice). Contains (map core_key b.replicas) (slice.id.0, 1))
+      (λ (slice : Slice). Contains (map core_key (put_by_name core b.replicas)) (slice.id.0, 1))
+      (λ slice there. Contains-map_put core_key core b.replicas (slice.id.0, 1) there) b.map has.leaders;
+  whole = All-weaker (λ (slice : Slice). is_forming slice ≡ false → All (Contains (map core_key b.replicas)) (keys_of slice))
+      (λ (slice : Slice). is_forming slice ≡ false → All (Contains (map core_key (put_by_name core b.replicas))) (keys_of slice))
+      (λ slice all settled. All-weaker (Contains (map core_key b.replicas)) (Contains (map core_key (put_by_name core b.replicas)))
+      (λ one there. Contains-map_put core_key core b.replicas one there) (keys_of slice) (all settled)) b.map has.whole;
+  active = All-put (λ (c : Core). (slice : Slice) → Contains b.map slice → slice.id ≡ c.core.slice → is_forming slice ≡ false → c.mode ≡ Active)
+      core b.replicas
+      (λ slice there of_core settled.
+      let same : slice ≡ sub = same_from_id b.map slice sub (bucket_has_map b may.sound.journal) there may.can.there
+      (of_core ∙ ap (λ (n : CoreId). n.slice) named ∙ may.can.of_sub) in
+      let both : true ≡ false = sym (ap is_forming same ∙ may.can.forming) ∙ settled in
+      absurd (cc))
+      has.active;
+} where
+  has : HasCores b
+  has = may.sound.cores
+
+  named : core.core ≡ name
+  named = core_named b name sub core feed may.made
+
+  differ : (other : Core) → Contains b.replicas other → core_number other.core ≢ core_number core.core
+  differ other there =
+      other_number core other may.made.counted (All-contains IsCounted b.replicas other has.counted there)
+      (ap (λ (n : CoreId). is_core n other.core) named ∙ other_name b name sub other may.can there)
+
+  key : Contains (core_keys b.map) (core_key core)
+  key =
+      subst (λ (n : CoreId). Contains (core_keys b.map) (n.slice.0, n.replica)) (sym named)
+      (keys_among b.map sub (name.slice.0, name.replica) may.can.there (key_of_sub b name sub may.can))
+
+-- ---- the feeds
+AreFeeds-joined : (b : Bucket) (name : CoreId) (sub : Slice) (core : Core) (feed : FeedState) → MayJoin b name sub core feed
+    → AreFeeds (joined b core feed)
+AreFeeds-joined b name sub core feed may = record {
+  each = All-push (IsFeed (joined b core feed)) b.feeds feed
+      (All-weaker (IsFeed b) (IsFeed (joined b core feed)) still b.feeds may.sound.feeds.each) own;
+  once = subst (IsDistinct is_core) (sym (map-append fed_core b.feeds (feed ∷ [])))
+      (IsDistinct-append is_core (map fed_core b.feeds) (feed.core ∷ []) may.sound.feeds.once
+      (IsDistinct-from_apart is_core (feed.core ∷ []) (λ i j d before below. absurd (omega arith)))
+      (All-map (λ (one : CoreId). All (λ (other : CoreId). is_core one other ≡ false) (feed.core ∷ [])) fed_core b.feeds
+      (All-weaker (IsFeed b) (λ (other : FeedState). All (λ (n : CoreId). is_core other.core n ≡ false) (feed.core ∷ []))
+      (λ other is. All-cons (λ (n : CoreId). is_core other.core n ≡ false) feed.core []
+      (ap (is_core other.core) (feed_named b name sub core feed may.made)
+      ∙ apart_turned name other.core (other_feed b name sub other may.can is))
+      (All-nil (λ (n : CoreId). is_core other.core n ≡ false))) b.feeds may.sound.feeds.each)));
+} where
+  still : (other : FeedState) → IsFeed b other → IsFeed (joined b core feed) other
+  still other is = record {
+    slice = is.slice;
+    there = is.there;
+    forming = is.forming;
+    of_slice = is.of_slice;
+    range_is = is.range_is;
+    core = is.core;
+    core_there = Contains-put core b.replicas is.core is.core_there;
+    core_is = is.core_is;
+    buffering = is.buffering;
+    within = is.within;
+  }
+
+  own : IsFeed (joined b core feed) feed
+  own = record {
+    slice = sub;
+    there = may.can.there;
+    forming = may.can.forming;
+    of_slice = ap (λ (n : CoreId). n.slice) (feed_named b name sub core feed may.made) ∙ may.can.of_sub;
+    range_is = ap (λ (f : FeedState). f.range) may.made.feed_is;
+    core = core;
+    core_there = Contains-put_own core b.replicas;
+    core_is = core_named b name sub core feed may.made ∙ sym (feed_named b name sub core feed may.made);
+    buffering = ap (λ (c : Core). c.mode) may.made.core_is;
+    within = omega (arith, ap (λ (f : FeedState). f.next) may.made.feed_is);
+  }
+
+-- ---- the rest
+AreSent-joined : (b : Bucket) (core : Core) (feed : FeedState) → AreSent b → AreSent (joined b core feed)
+AreSent-joined b core feed sent = record {
+  each = All-weaker (IsSent b) (IsSent (joined b core feed)) still b.flight.messages sent.each;
+  once = sent.once;
+} where
+  still : (message : Sent) → IsSent b message → IsSent (joined b core feed) message
+  still message is = record {
+    write = is.write;
+    unsettled = is.unsettled;
+    core = Contains-map_put name_of core b.replicas message.core is.core;
+  }
+
+phase-joined : (b : Bucket) (name : CoreId) (sub : Slice) (core : Core) (feed : FeedState) → MayJoin b name sub core feed
+    → IsInPhase (joined b core feed) b.phase
+phase-joined b name sub core feed may =
+    let (split, led) = split_is_open b may.can.parent may.sound may.can.recovering in
+    subst (IsInPhase (joined b core feed)) (sym may.can.recovering) (
+      IsOpen-same b (joined b core feed) may.can.parent refl refl split,
+      All-put (λ (c : Core). (slice : Slice) → Contains b.map slice → slice.id ≡ c.core.slice → is_forming slice ≡ true
+          → c.core.replica ≡ 1 → c.mode ≡ Active) core b.replicas
+          (λ slice there of_core forms leads.
+          let first : name.replica ≡ 1 = ap (λ (n : CoreId). n.replica) (sym (core_named b name sub core feed may.made)) ∙ leads in
+          absurd (omega (arith, may.can.above)))
+          led,
+    )
+
+-- so a bucket is sound once both joined
+pub IsSound-joined : (b : Bucket) (name : CoreId) (sub : Slice) (core : Core) (feed : FeedState) → MayJoin b name sub core feed
+    → IsSound (joined b core feed)
+IsSound-joined b name sub core feed may =
+    let cores : All (IsSoundFed b (b.feeds ++ feed ∷ [])) (put_by_name core b.replicas) =
+    All-put (IsSoundFed b (b.feeds ++ feed ∷ [])) core b.replicas (core_is_sound b name sub core feed may)
+    (All-weaker (Contains b.replicas) (IsSoundFed b (b.feeds ++ feed ∷ []))
+    (λ other there. other_is_sound b name sub core feed other may there) b.replicas (All-contains_itself b.replicas)) in
+    record {
+      journal = HasJournal-same b (joined b core feed) (record { first = refl; limit = refl }) refl refl refl refl
+          may.sound.journal.room may.sound.journal;
+      leaders = λ k d below. (cores k d below).serves;
+      written = λ k d below. (cores k d below).written;
+      held = λ k d below. (cores k d below).held;
+      in_range = λ k d below. (cores k d below).in_range;
+      clocks = λ k d below. (cores k d below).clock;
+      searchers = HasSearchers-same b (joined b core feed) refl refl refl may.sound.searchers;
+      prepared = may.sound.prepared;
+      messages = AreSent-joined b core feed may.sound.messages;
+      spares = λ k d below. record { cells = (cores k d below).cell_room; buffer = (cores k d below).buffer_room };
+      cores = HasCores-joined b name sub core feed may;
+      feeds = AreFeeds-joined b name sub core feed may;
+      phase = phase-joined b name sub core feed may;
+    }
+
+-- the cores are those with an empty one more
+pub AreSameCores-put : (core : Core) (cores : List Core) → map without_room (put_by_name core cores) ≡ map without_room (put_by_name (without_room core) cores)
+AreSameCores-put core [] = refl
+AreSameCores-put core (other ∷ cores) =
+    by (nat_lt (core_number core.core) (core_number other.core)) (AreSameCores-put core cores)
+  where
+    by : (b : Bool) → map without_room (put_by_name core cores) ≡ map without_room (put_by_name (without_room core) cores)
+        → map without_room (cond b (core ∷ other ∷ cores) (other ∷ put_by_name core cores))
+        ≡ map without_room (cond b (without_room core ∷ other ∷ cores) (other ∷ put_by_name (without_room core) cores))
+    by true rest = refl
+    by false rest = ap (λ these. without_room other ∷ these) rest
+
+-- as the calls leave it
+pub IsSound-put_in : (b : Bucket) (name : CoreId) (sub : Slice) (core : Core) (feed : FeedState) (cores : List Core)
+    (feeds : List FeedState) → MayJoin b name sub core feed → cores ≡ put_by_name core b.replicas → feeds ≡ b.feeds ++ feed ∷ []
+    → IsSound (record b { replicas = cores; feeds = feeds })
+IsSound-put_in b name sub core feed cores feeds may cores_are feeds_are =
+    subst (λ (these : List Core). IsSound (record b { replicas = these; feeds = feeds })) (sym cores_are)
+    (subst (λ (these : List FeedState). IsSound (record b { replicas = put_by_name core b.replicas; feeds = these })) (sym feeds_are)
+    (IsSound-joined b name sub core feed may))
+
+pub Joins-put_in : (b : Bucket) (name : CoreId) (sub : Slice) (core : Core) (feed : FeedState) (cores : List Core)
+    (feeds : List FeedState) → IsMade b name sub core feed → cores ≡ put_by_name core b.replicas → feeds ≡ b.feeds ++ feed ∷ []
+    → Joins b core.core feed (record b { replicas = cores; feeds = feeds })
+Joins-put_in b name sub core feed cores feeds made cores_are feeds_are = record {
+  kept = record { first = refl; limit = refl };
+  map_is = refl;
+  entries = refl;
+  phase_is = refl;
+  flight_is = refl;
+  cores = ap (map without_room) cores_are ∙ AreSameCores-put core b.replicas
+      ∙ ap (λ (c : Core). map without_room (put_by_name c b.replicas))
+      (made.core_is ∙ ap empty_core (sym (core_named b name sub core feed made)));
+  feeds_are = feeds_are;
+  searchers_are = refl;
+}
+
+-- a feed that was put in last and is taken away again
+remove_last : (feeds : List FeedState) (feed : FeedState) → remove (feeds ++ feed ∷ []) (length feeds) ≡ feeds
+remove_last [] feed = refl
+remove_last (first ∷ feeds) feed = ap (λ these. first ∷ these) (remove_last feeds feed)
+
+pub feeds_back : (feeds new left : List FeedState) (feed : FeedState) (count : ℕ) → new ≡ feeds ++ feed ∷ [] → count ≡ length new
+    → left ≡ remove new (count - 1) → left ≡ feeds
+feeds_back feeds new left feed count new_is count_is left_is =
+    let long : length new ≡ length feeds + 1 = ap length new_is ∙ length_push feeds feed in
+    let at : count - 1 ≡ length feeds = omega (arith, count_is) in
+    left_is ∙ ap (λ these. remove these (count - 1)) new_is ∙ ap (remove (feeds ++ feed ∷ [])) at ∙ remove_last feeds feed
+
+-- leaves the bucket as it was
+pub bucket_back : (b : Bucket) (cores : List Core) (feeds : List FeedState) → cores ≡ b.replicas → feeds ≡ b.feeds
+    → record b { replicas = cores; feeds = feeds } ≡ b
+bucket_back b cores feeds same_cores same_feeds =
+    ap (λ (these : List Core). record b { replicas = these; feeds = feeds }) same_cores
+    ∙ ap (λ (these : List FeedState). record b { feeds = these }) same_feeds

@@ -1,0 +1,166 @@
+-- The slice of each core, and the cores of the subs as a switch finds them: each is active, so none is fed.
+use Rattle.std.proofs.Common.{◌≡◌, ◌≢◌, ◌⊎◌, inl, inr, Bool, true, false, not, IsTrue, ℕ, suc, nat_eq, List, [], ◌∷◌, map, Option, Some, None, Bor, MatchOption, All, Contains, refl, sym, ap, ◌∙◌, subst, arith}
+use Rattle.std.specs.List.{range_with_len}
+use Rattle.std.proofs.lemmas.Bool.Decides.{Decides-eqb}
+use Rattle.std.proofs.lemmas.List.Elements.{All-contains, All-weaker, All-contains_itself, Contains-append_cases, All-head}
+use Rattle.std.proofs.lemmas.List.Folds.{list_any_none, list_any_at}
+use Rattle.sc_record.specs.declared.slice.SliceId.{SliceId}
+use Rattle.sc_record.specs.declared.slice.CoreId.{CoreId}
+use Rattle.sc_cluster.specs.declared.slice.State.{State}
+use Rattle.sc_cluster.specs.declared.slice.State.TheVariants as states
+use Rattle.sc_cluster.specs.declared.slice.Slice.{Slice}
+use Rattle.sc_cluster.specs.Map.{IsMap}
+use Rattle.sc_cluster.specs.Slices.{is_forming_state, is_forming, forming}
+use Rattle.sc_cluster.proofs.LeaderLemmas.{same_from_id}
+use Rattle.sc_cluster.proofs.ListLemmas.{Contains-map, Contains-filter, Contains-from_filter}
+use Rattle.sc_cluster.proofs.PairLemmas.{Contains-from_map}
+use Rattle.sc_ulog.specs.declared.mode.Mode.{Mode}
+use Rattle.sc_ulog.specs.declared.mode.Mode.TheVariants.{Active, Buffering}
+use Rattle.sc_replica.specs.Core.{Core}
+use Rattle.sc_journal.specs.Splits.{is_inactive_state}
+use Rattle.sc_bucket.specs.Kept.{FeedState}
+use Rattle.sc_bucket.specs.Cores.{core_key, core_keys, keys_of, is_attached}
+use Rattle.sc_bucket.specs.Sound.{IsFeed, IsSound}
+use Rattle.sc_bucket.specs.declared.bucket.Bucket.{Bucket}
+use Rattle.sc_bucket.proofs.SoundLemmas.{AreAlike, name_and_mode}
+use Rattle.sc_handover.specs.Conditions.{IsThereActive, CanSwitch}
+use Rattle.sc_handover.specs.Parts.{is_of_sub}
+use Rattle.sc_handover.proofs.LastWriteLemmas.{not_passed, same_from_key}
+
+-- a slice that a split is making is sent what is written
+pub attached_where_forming : (slice : Slice) → is_forming slice ≡ true → IsTrue (is_attached slice)
+attached_where_forming slice = by slice.state where
+  by : (state : State) → is_forming_state state ≡ true → IsTrue (not (is_inactive_state state))
+  by states.Active is = refl
+  by states.Inactive is = absurd (cc)
+  by states.Construction is = refl
+  by states.Recovery is = refl
+
+-- a name among those of a map's slices is one of a slice's
+slice_of_key : (slices : List Slice) (key : ℕ × ℕ) → Contains (core_keys slices) key
+    → (slice : Slice) × Contains slices slice × Contains (keys_of slice) key
+slice_of_key [] key (k, below, is) = absurd (omega arith)
+slice_of_key (first ∷ slices) key there =
+    by (slice_of_key slices key) (Contains-append_cases (keys_of first) (core_keys slices) key there)
+  where
+    IsOfOne : List Slice → Type 0
+    IsOfOne these = (slice : Slice) × Contains these slice × Contains (keys_of slice) key
+
+    by : (Contains (core_keys slices) key → IsOfOne slices) → Contains (keys_of first) key ⊎ Contains (core_keys slices) key
+        → IsOfOne (first ∷ slices)
+    by rest (inl here) = (first, (0, omega arith, refl), here)
+    by rest (inr later) =
+        let (slice, inside, here) = rest later in
+        (slice, (suc inside.0, omega (arith, inside.1), inside.2), here)
+
+-- each core is of a slice of the map, and its name is one of that slice's
+pub slice_of_core : (b : Bucket) (core : Core) → IsSound b → Contains b.replicas core
+    → (slice : Slice) × Contains b.map slice × (slice.id ≡ core.core.slice) × Contains (keys_of slice) (core_key core)
+slice_of_core b core sound there =
+    let key = All-contains (Contains (core_keys b.map)) (map core_key b.replicas) (core_key core) sound.cores.of_map
+    (Contains-map core_key b.replicas core there) in
+    let (slice, in_map, here) = slice_of_key b.map (core_key core) key in
+    let (replica, within, is) =
+    Contains-from_map (λ (n : ℕ). (slice.id.0, n)) (range_with_len 1 slice.replicas) (core_key core) here in
+    let make : ℕ × ℕ → SliceId = λ key. record { 0 = key.0 } in
+    (slice, in_map, ap make is, here)
+
+-- where a switch may come each core is active
+pub all_are_active : (b : Bucket) (parent : SliceId) (core : Core) → IsSound b → CanSwitch b parent
+    → Contains b.replicas core → core.mode ≡ Active
+all_are_active b parent core sound can there =
+    let (slice, in_map, named, key) = slice_of_core b core sound there in
+    by slice in_map named key (is_forming slice) refl
+  where
+    by : (slice : Slice) → Contains b.map slice → slice.id ≡ core.core.slice → Contains (keys_of slice) (core_key core)
+        → (t : Bool) → is_forming slice ≡ t → core.mode ≡ Active
+    by slice in_map named key false is =
+        All-contains (λ (c : Core). (s : Slice) → Contains b.map s → s.id ≡ c.core.slice → is_forming s ≡ false → c.mode ≡ Active)
+        b.replicas core sound.cores.active there slice in_map named is
+    by slice in_map named key true is =
+        let each = All-contains (λ (s : Slice). is_forming s ≡ true → All (IsThereActive b) (keys_of s)) b.map slice can.whole in_map is in
+        let (other, other_there, same, active) = All-contains (IsThereActive b) (keys_of slice) (core_key core) each key in
+        ap (λ (c : Core). c.mode) (sym (same_from_key b.replicas other core sound.cores.ascend other_there there same)) ∙ active
+
+-- so nothing is fed
+pub none_is_fed : (b : Bucket) (parent : SliceId) → IsSound b → CanSwitch b parent → b.feeds ≡ []
+none_is_fed b parent sound can = by b.feeds sound.feeds.each where
+  by : (feeds : List FeedState) → All (IsFeed b) feeds → feeds ≡ []
+  by [] each = refl
+  by (feed ∷ feeds) each =
+      let is : IsFeed b feed = All-head (IsFeed b) feed feeds each in
+      let active : is.core.mode ≡ Active = all_are_active b parent is.core sound can is.core_there in
+      let both : Buffering ≡ Active = sym is.buffering ∙ active in
+      absurd (cc)
+
+-- a switch may come still where the map, the phase, and the names and modes of the cores stay
+pub CanSwitch-alike : (old new : Bucket) (parent : SliceId) → new.phase ≡ old.phase → new.map ≡ old.map
+    → AreAlike old.replicas new.replicas → CanSwitch old parent → CanSwitch new parent
+CanSwitch-alike old new parent same_phase same_map alike can = record {
+  recovering = same_phase ∙ can.recovering;
+  whole = subst (All Whole) (sym same_map)
+      (All-weaker (λ (sub : Slice). is_forming sub ≡ true → All (IsThereActive old) (keys_of sub)) Whole
+      (λ sub each is. All-weaker (IsThereActive old) (IsThereActive new) still (keys_of sub) (each is)) old.map can.whole);
+} where
+  Whole : Slice → Type 0
+  Whole sub = is_forming sub ≡ true → All (IsThereActive new) (keys_of sub)
+
+  still : (key : ℕ × ℕ) → IsThereActive old key → IsThereActive new key
+  still key (core, there, is, active) =
+      let pair = subst (λ pairs. Contains pairs (name_and_mode core)) (sym alike) (Contains-map name_and_mode old.replicas core there) in
+      let (other, other_there, same) = Contains-from_map name_and_mode new.replicas (name_and_mode core) pair in
+      let key_of : CoreId × Mode → ℕ × ℕ = λ pair. (pair.0.slice.0, pair.0.replica) in
+      (other, other_there, ap key_of same ∙ is, ap (λ (pair : CoreId × Mode). pair.1) same ∙ active)
+
+-- a core is of a sub where the slice of its id is one
+of_sub_in : (slices : List Slice) (core : CoreId) (slice : Slice) → Contains slices slice → slice.id ≡ core.slice
+    → is_forming slice ≡ true → is_of_sub slices core ≡ true
+of_sub_in slices core slice there named is =
+    let (k, below, here) = Contains-filter is_forming slices slice there is in
+    list_any_at (λ (s : Slice). nat_eq s.id.0 core.slice.0) (forming slices) k slice below
+    ((Decides-eqb _ core.slice.0).1 (ap (λ (s : Slice). s.id.0) here ∙ ap (λ (id : SliceId). id.0) named))
+
+pub of_sub_where_forming : (slices : List Slice) (core : CoreId) (slice : Slice) → Contains slices slice
+    → slice.id ≡ core.slice → is_forming slice ≡ true → is_of_sub slices core ≡ true
+of_sub_where_forming slices core slice there named is = of_sub_in slices core slice there named is
+
+-- and of none where no sub has that id
+none_has_id : (slices : List Slice) (core : CoreId)
+    → ((slice : Slice) → Contains slices slice → is_forming slice ≡ true → slice.id ≢ core.slice)
+    → is_of_sub slices core ≡ false
+none_has_id slices core other =
+    list_any_none (λ (s : Slice). nat_eq s.id.0 core.slice.0) (forming slices)
+    (All-weaker (Contains (forming slices)) (λ (s : Slice). nat_eq s.id.0 core.slice.0 ≡ false) differ (forming slices)
+    (All-contains_itself (forming slices)))
+  where
+    differ : (slice : Slice) → Contains (forming slices) slice → nat_eq slice.id.0 core.slice.0 ≡ false
+    differ slice there =
+        let (inside, is) = Contains-from_filter is_forming slices slice there in
+        not_passed (nat_eq slice.id.0 core.slice.0)
+        (λ same. other slice inside is (ap (λ (n : ℕ). record { 0 = n }) ((Decides-eqb slice.id.0 core.slice.0).0 same)))
+
+-- what a search for the slice of a core's id says of it
+abbrev pub IsSliceFound : List Slice → CoreId → Option (Bor Slice) → Type 0
+IsSliceFound slices core found =
+    MatchOption found (All (λ (slice : Slice). slice.id ≢ core.slice) slices)
+    (λ slice. Contains slices slice.now × (slice.now.id ≡ core.slice))
+
+pub of_sub-found : (slices : List Slice) (core : CoreId) (found : Option (Bor Slice)) (slice : Bor Slice) → IsMap slices
+    → IsSliceFound slices core found → found ≡ Some slice → is_forming slice.now ≡ is_of_sub slices core
+of_sub-found slices core found slice is_map is same =
+    let here = subst (IsSliceFound slices core) same is in
+    by here.0 here.1 (is_forming slice.now) refl
+  where
+    by : Contains slices slice.now → slice.now.id ≡ core.slice → (t : Bool) → is_forming slice.now ≡ t
+        → is_forming slice.now ≡ is_of_sub slices core
+    by there named true forms = forms ∙ sym (of_sub_in slices core slice.now there named forms)
+    by there named false settled = settled ∙ sym (none_has_id slices core (λ other inside forms alike.
+        let one : other ≡ slice.now = same_from_id slices other slice.now is_map inside there (alike ∙ sym named) in
+        let both : true ≡ false = sym forms ∙ (ap is_forming one ∙ settled) in
+        absurd (cc)))
+
+pub of_sub-none : (slices : List Slice) (core : CoreId) (found : Option (Bor Slice))
+    → IsSliceFound slices core found → found ≡ None → false ≡ is_of_sub slices core
+of_sub-none slices core found is none =
+    sym (none_has_id slices core (λ slice there forms.
+    All-contains (λ (s : Slice). s.id ≢ core.slice) slices slice (subst (IsSliceFound slices core) none is) there))

@@ -1,0 +1,41 @@
+-- Only the phase changes, and the leaders of all subs are active.
+use Rattle.std.proofs.Common.{◌≡◌, refl, subst}
+use Rattle.sc_record.specs.declared.slice.SliceId.{SliceId}
+use Rattle.sc_bucket.specs.Searchers.{ArePrepared}
+use Rattle.sc_bucket.specs.Sound.{AreLedActively, IsInPhase, IsSound}
+use Rattle.sc_bucket.specs.declared.bucket.Bucket.{Bucket}
+use Rattle.sc_bucket.specs.declared.phase.Phase.{Phase}
+use Rattle.sc_bucket.specs.declared.phase.Phase.TheVariants as phases
+use Rattle.sc_bucket.proofs.RoomLemmas.{HasJournal-same}
+use Rattle.sc_bucket.proofs.SearcherLemmas.{HasSearchers-same}
+use Rattle.sc_bucket.proofs.SoundLemmas.{HasCores-alike, AreFeeds-alike, IsOpen-same, AreSent-same}
+use Rattle.sc_handover.proofs.recovering.ready.Goals as goal
+
+-- the bucket in another phase
+abbrev in_phase : Bucket → Phase → Bucket
+in_phase b phase = record b { phase = phase }
+
+IsSound-ready : (b : Bucket) (parent : SliceId) → IsSound b → b.phase ≡ phases.Building parent → AreLedActively b
+    → IsSound (in_phase b (phases.Recovering parent))
+IsSound-ready b parent sound is led =
+    let new : Bucket = in_phase b (phases.Recovering parent) in
+    record {
+      journal = HasJournal-same b new (record { first = refl; limit = refl }) refl refl refl refl sound.journal.room
+          sound.journal;
+      leaders = sound.leaders;
+      written = sound.written;
+      held = sound.held;
+      in_range = sound.in_range;
+      clocks = sound.clocks;
+      searchers = HasSearchers-same b new refl refl refl sound.searchers;
+      prepared = subst (λ phase. ArePrepared phase b.map b.searchers b.spares) is sound.prepared;
+      messages = AreSent-same b new refl refl refl sound.messages;
+      spares = sound.spares;
+      cores = HasCores-alike b new refl refl sound.cores;
+      feeds = AreFeeds-alike b new refl refl refl sound.feeds;
+      phase = (IsOpen-same b new parent refl refl (subst (IsInPhase b) is sound.phase), led);
+    }
+
+pub returns-in-Building-clause-sound : goal.returns-in-Building-clause-sound
+returns-in-Building-clause-sound c =
+    IsSound-ready c.args.bucket.now c.in-Building.parent c.requires.sound c.in-Building.is c.requires.can.1.1

@@ -1,0 +1,38 @@
+ghost use Rattle.sc_record.specs.declared.slice.SliceId.{SliceId};
+ghost use Rattle.sc_bucket.specs.Sound.{IsSound};
+ghost use Rattle.sc_handover.specs.Conditions.{CanAbort};
+ghost use Rattle.sc_handover.specs.Events.{Aborts};
+
+use sc_bucket::{Bucket, Phase};
+use sc_record::{Entry, SliceId};
+
+/// Gives the split up: its subs leave the map, with their cores, their feeds and the messages to them, and the parent is as if there
+/// had been none. What was accepted meanwhile stays. It takes no memory.
+pub fn abort(bucket: &mut Bucket)
+    requires sound { IsSound bucket.old }
+    requires can { (parent : SliceId) × CanAbort bucket.old parent }
+    ensures sound { IsSound bucket.new }
+    ensures aborted { (parent : SliceId) → CanAbort bucket.old parent → Aborts bucket.old parent bucket.new }
+{
+    match bucket.phase {
+        Phase::Idle => {}
+        Phase::Building { parent } | Phase::Recovering { parent } => give_up(bucket, parent),
+    }
+}
+
+// Takes the subs of the open split of this parent away.
+fn give_up(bucket: &mut Bucket, parent: SliceId)
+    requires sound { IsSound bucket.old }
+    requires can { CanAbort bucket.old parent }
+    ensures sound { IsSound bucket.new }
+    ensures aborted { Aborts bucket.old parent bucket.new }
+{
+    bucket.map.failed(parent);
+    bucket.replicas.keep_of(&bucket.map);
+    bucket.flight.keep_of(&bucket.map);
+    bucket.feeds.clear();
+    bucket.spares = None;
+    bucket.phase = Phase::Idle;
+    bucket.journal.append(Entry::Failed { parent });
+    bucket.owed -= 2;
+}

@@ -1,0 +1,6 @@
+-- Facts on events, one and many.
+pub mod ConditionLemmas
+pub mod RunLemmas
+pub mod LawLemmas
+pub mod CatchUpLemmas
+pub mod StepLemmas

@@ -1,0 +1,61 @@
+-- What lists of events come to, in the words of who administers a collection.
+use Rattle.std.specs.Prelude.{◌≡◌, ℕ, Bool, true, false, List, [], ◌++◌, filter, All, Contains}
+use Rattle.std.specs.Str.{bytes_eq}
+use Rattle.sc_record.specs.Writes.{is_of}
+use Rattle.sc_record.specs.declared.write.Write.{Write}
+use Rattle.sc_cluster.specs.declared.plan.SplitPlan.{SplitPlan}
+use Rattle.sc_cluster.specs.declared.slice.State.TheVariants as states
+use Rattle.sc_cluster.specs.declared.slice.Slice.{Slice}
+use Rattle.sc_replica.specs.Core.{Core, IsCore}
+use Rattle.sc_journal.specs.Journal.{writes_of, last_of, last_write}
+use Rattle.sc_bucket.specs.Cores.{IsLeaderOf}
+use Rattle.sc_bucket.specs.Pending.{pending}
+use Rattle.sc_bucket.specs.Sound.{HasLastWrites, IsSound}
+use Rattle.sc_bucket.specs.declared.bucket.Bucket.{Bucket}
+use Rattle.sc_handover.specs.Conditions.{CanBegin}
+use Rattle.sc_handover.specs.Events.{Begins, Aborts}
+use Rattle.sc_world.specs.declared.event.Event.{Event}
+use Rattle.sc_world.specs.declared.event.Event.TheVariants as events
+use Rattle.sc_world.specs.Runs.{Runs}
+
+-- Whatever comes, splits that begin, are switched and fail among it, the last write of an id is the last of those that were there and
+-- those that were accepted since.
+abbrev pub KeepsTheTable : Type 0
+KeepsTheTable = (old new : Bucket) (events : List Event) (added : List Write) (id : List ℕ) → Runs old events added new
+    → last_write new.journal.entries id ≡ last_of (writes_of old.journal.entries id ++ filter (is_of id) added)
+
+-- the event is an order for this id
+abbrev pub orders : List ℕ → Event → Bool
+orders id (events.Accept order now) = bytes_eq order.id id
+orders id _ = false
+
+-- so it stays where no order for the id comes: a split alone changes nothing
+abbrev pub StaysWithoutOrders : Type 0
+StaysWithoutOrders = (old new : Bucket) (events : List Event) (added : List Write) (id : List ℕ) → Runs old events added new
+    → All (λ (event : Event). orders id event ≡ false) events
+    → last_write new.journal.entries id ≡ last_write old.journal.entries id
+
+-- the event may end a split
+abbrev pub may_end : Event → Bool
+may_end events.Switch = true
+may_end events.Abort = true
+may_end _ = false
+
+-- A split that is given up, whatever came since it began, leaves the map from before it. The leader of each active slice has of each id
+-- what the orders alone make of it.
+abbrev pub LeavesNothing : Type 0
+LeavesNothing = (old begun last new : Bucket) (plan : SplitPlan) (between : List Event) (added : List Write)
+    → CanBegin old plan.parent plan.subs → Begins old plan.parent plan.subs begun → Runs begun between added last
+    → All (λ (event : Event). may_end event ≡ false) between
+    → IsSound old → IsSound last → Aborts last plan.parent new → IsSound new
+    → (new.map ≡ old.map)
+    × ((slice : Slice) (leader : Core) → Contains old.map slice → slice.state ≡ states.Active → Contains new.replicas leader
+    → IsLeaderOf slice.id leader → HasLastWrites new.journal.entries slice leader)
+    × ((id : List ℕ) → last_write new.journal.entries id ≡ last_of (writes_of old.journal.entries id ++ filter (is_of id) added))
+
+-- A follower of an active slice, and so of a sub once its split was switched, has the cells of its leader once nothing is pending for it.
+abbrev pub FollowersCatchUp : Type 0
+FollowersCatchUp = (b : Bucket) (slice : Slice) (leader follower : Core) → IsSound b → Contains b.map slice → slice.state ≡ states.Active
+    → Contains b.replicas leader → IsCore leader → IsLeaderOf slice.id leader
+    → Contains b.replicas follower → IsCore follower → follower.core.slice ≡ slice.id → pending b.flight.messages b.feeds follower ≡ []
+    → follower.cells ≡ leader.cells

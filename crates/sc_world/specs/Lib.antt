@@ -1,0 +1,5 @@
+-- What each event does to a bucket, and what becomes of a bucket by a list of them.
+pub mod Steps
+pub mod Runs
+pub mod Laws
+pub mod Tests

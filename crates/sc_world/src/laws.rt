@@ -1,0 +1,19 @@
+//! What lists of events come to.
+
+ghost use Rattle.sc_world.specs.Laws.{KeepsTheTable, StaysWithoutOrders, LeavesNothing, FollowersCatchUp};
+
+/// No event of a split makes, moves or takes away a write.
+pub fn splits_keep_the_table()
+    ensures kept { KeepsTheTable }
+    ensures stays { StaysWithoutOrders }
+{}
+
+/// A split that is given up leaves what was there before it, and what was written meanwhile.
+pub fn given_up_splits_leave_nothing()
+    ensures { LeavesNothing }
+{}
+
+/// Once nothing is pending, a slice's cores hold the same.
+pub fn followers_catch_up()
+    ensures { FollowersCatchUp }
+{}

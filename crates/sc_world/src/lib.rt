@@ -20,3 +20,6 @@ pub use condition::can;
 pub use event::Event;
 pub use laws::{followers_catch_up, given_up_splits_leave_nothing, splits_keep_the_table};
 pub use run::run_events;
+
+#[cfg(test)]
+mod tests;

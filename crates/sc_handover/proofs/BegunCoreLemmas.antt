@@ -1,8 +1,8 @@
 -- Each core of a bucket is sound once a split has begun: those that were there, and the leaders of the subs.
-use Rattle.std.proofs.Common.{◌≡◌, ◌≢◌, ◌≤◌, ◌<◌, ◌⊎◌, ◌∙◌, ℕ, suc, Bool, true, false, cond, None, Some, inl, inr, List, [], ◌∷◌, ◌++◌, map, find, All, Contains, refl, sym, ap, subst, arith}
+use Rattle.std.proofs.Common.{◌≡◌, ◌≢◌, ◌≤◌, ◌<◌, ◌⊎◌, ◌∙◌, ℕ, true, false, None, Some, inl, inr, List, [], ◌∷◌, ◌++◌, map, All, Contains, sym, ap, subst, arith}
+use Rattle.std.proofs.lemmas.Bool.{false_from_ne_true}
 use Rattle.std.specs.List.{range_with_len}
 use Rattle.std.proofs.lemmas.List.Elements.{All-nil, All-map, All-weaker, All-contains, All-contains_itself, All-filter, filter_passes, Contains-append_cases}
-use Rattle.std.proofs.lemmas.Option.{none-some}
 use Rattle.sc_hash.specs.Range.{IsWithin}
 use Rattle.sc_hash.proofs.BoundsLemmas.{contains-Decides}
 use Rattle.sc_router.specs.Route.{route_hash}
@@ -35,6 +35,8 @@ use Rattle.sc_bucket.proofs.DeliverLemmas.{IsSoundIn}
 use Rattle.sc_bucket.proofs.DeliveredLemmas.{IsSoundCore}
 use Rattle.sc_bucket.proofs.FeedLemmas.{to_feed-none}
 use Rattle.sc_bucket.proofs.PendingLemmas.{goes_to, in_flight-none}
+use Rattle.sc_bucket.proofs.WriteLemmas.{Contains-find}
+use Rattle.sc_handover.proofs.EachCoreLemmas.{IsSoundWith}
 use Rattle.sc_handover.specs.Made.{first_core, first_feed, range_of}
 use Rattle.sc_handover.proofs.PlanLemmas.{sub_above, was_there, is_begun, sub_within}
 use Rattle.sc_handover.proofs.SameWritesLemmas.{last_write-same, same_writes_is_sound}
@@ -42,11 +44,9 @@ use Rattle.sc_handover.proofs.MadeLemmas.{IsMade}
 
 -- cores of two slices have two names
 pub of_other_slice : (one other : CoreId) → one.slice.0 ≢ other.slice.0 → is_core one other ≡ false
-of_other_slice one other apart = by (is_core one other) refl where
-  by : (b : Bool) → is_core one other ≡ b → is_core one other ≡ false
-  by false is = is
-  by true is =
-      absurd (apart (ap (λ (name : CoreId). name.slice.0) ((is_core-Decides one other).0 is)))
+of_other_slice one other apart =
+    false_from_ne_true (is_core one other)
+    (λ is. apart (ap (λ (name : CoreId). name.slice.0) ((is_core-Decides one other).0 is)))
 
 -- the slice of a name has no id above the greatest
 key_below : (slices : List Slice) (key : ℕ × ℕ) → Contains (core_keys slices) key → key.0 ≤ greatest_id slices
@@ -71,26 +71,27 @@ core_below b core has there =
     (All-contains (Contains (core_keys b.map)) (map core_key b.replicas) (core_key core) has.of_map
     (Contains-map core_key b.replicas core there))
 
+-- the map once the subs joined it
+abbrev pub begun_map : Bucket → List SubSlice → List Slice
+begun_map old subs = old.map ++ map begun_slice subs
+
+-- the journal with one entry more
+abbrev pub longer : Bucket → Entry → List Entry
+longer old one = old.journal.entries ++ one ∷ []
+
 -- a core that was there is sound: nothing more is pending for it
 pub old_is_sound : (old : Bucket) (parent : SliceId) (subs : List SubSlice) (rows : List Write) (one : Entry)
     (core : Core)
     → IsPlan old.map parent subs → old.feeds ≡ [] → as_write one ≡ None → core.core.slice.0 ≤ greatest_id old.map
     → IsSoundIn old old.flight.messages core
-    → IsSoundCore (old.map ++ map begun_slice subs) (old.journal.entries ++ one ∷ [])
-    (in_flight old.flight.messages core.core) (pending old.flight.messages (map (first_feed rows) subs) core) core
+    → IsSoundWith (begun_map old subs) (longer old one) old.flight.messages (map (first_feed rows) subs) core
 old_is_sound old parent subs rows one core plan unfed no_write low sound =
-    subst (λ (left : List Write). IsSoundCore others longer sent (sent ++ core.buffer ++ left) core) (sym none)
-    (same_writes_is_sound old.map others old.journal.entries longer sent
+    subst (λ (left : List Write). IsSoundCore (begun_map old subs) (longer old one) sent (sent ++ core.buffer ++ left) core) (sym none)
+    (same_writes_is_sound old.map (begun_map old subs) old.journal.entries (longer old one) sent
     (pending old.flight.messages old.feeds core) core (writes-push_other old.journal.entries one no_write)
     (λ slice there named. was_there old.map parent subs slice plan
     (subst (λ (id : SliceId). id.0 ≤ greatest_id old.map) (sym named) low) there) sound)
   where
-    others : List Slice
-    others = old.map ++ map begun_slice subs
-
-    longer : List Entry
-    longer = old.journal.entries ++ one ∷ []
-
     sent : List Write
     sent = in_flight old.flight.messages core.core
 
@@ -123,33 +124,16 @@ none_to_new old name sound above =
         let named : core.core.slice.0 ≡ message.core.slice.0 = ap (λ (n : CoreId). n.slice.0) same in
         of_other_slice name message.core (omega (arith, above, low, named))
 
--- what is found is an element
-Contains-found : {X : Type 0} (p : X → Bool) (xs : List X) (x : X) → find p xs ≡ Some x → Contains xs x
-Contains-found p [] x is = absurd (none-some x is)
-Contains-found {X} p (first ∷ xs) x is = by (p first) (Contains-found p xs x) is where
-  by : (b : Bool) → (find p xs ≡ Some x → Contains xs x) → cond b (Some first) (find p xs) ≡ Some x
-      → Contains (first ∷ xs) x
-  by true rest found = (0, omega arith, cc)
-  by false rest found = let there = rest found in (suc there.0, omega (arith, there.1), there.2)
-
 -- the leader of a sub is sound as it is made: what it has to hold it is still to be fed
 pub made_is_sound : (old : Bucket) (parent : SliceId) (subs : List SubSlice) (leader : Core) (one : Entry) (core : Core)
-    → IsSound old → IsPlan old.map parent subs → IsMap (old.map ++ map begun_slice subs) → as_write one ≡ None
+    → IsSound old → IsPlan old.map parent subs → IsMap (begun_map old subs) → as_write one ≡ None
     → Contains old.replicas leader → IsLeaderOf parent leader → IsMade leader.cells subs core
-    → IsSoundCore (old.map ++ map begun_slice subs) (old.journal.entries ++ one ∷ [])
-    (in_flight old.flight.messages core.core) (pending old.flight.messages (map (first_feed leader.cells) subs) core)
-    core
+    → IsSoundWith (begun_map old subs) (longer old one) old.flight.messages (map (first_feed leader.cells) subs) core
 made_is_sound old parent subs leader one core sound plan is_map no_write leader_there leads made =
-    subst (λ (sent : List Write). IsSoundCore others longer sent (pending old.flight.messages feeds core) core)
+    subst (λ (sent : List Write). IsSoundCore (begun_map old subs) (longer old one) sent (pending old.flight.messages feeds core) core)
     (sym unsent)
-    (subst (λ (these : List Write). IsSoundCore others longer [] these core) (sym pending_is) fresh)
+    (subst (λ (these : List Write). IsSoundCore (begun_map old subs) (longer old one) [] these core) (sym pending_is) fresh)
   where
-    others : List Slice
-    others = old.map ++ map begun_slice subs
-
-    longer : List Entry
-    longer = old.journal.entries ++ one ∷ []
-
     feeds : List FeedState
     feeds = map (first_feed leader.cells) subs
 
@@ -178,10 +162,10 @@ made_is_sound old parent subs leader one core sound plan is_map no_write leader_
         ap (λ (sent : List Write). sent ++ core.buffer ++ to_feed feeds core.core) unsent
         ∙ ap (λ (buffer : List Write). buffer ++ to_feed feeds core.core) buffer_is ∙ made.feed_is
 
-    same_writes : writes longer ≡ writes old.journal.entries
+    same_writes : writes (longer old one) ≡ writes old.journal.entries
     same_writes = writes-push_other old.journal.entries one no_write
 
-    begun : (slice : Slice) → Contains others slice → slice.id ≡ core.core.slice → begun_slice made.sub ≡ slice
+    begun : (slice : Slice) → Contains (begun_map old subs) slice → slice.id ≡ core.core.slice → begun_slice made.sub ≡ slice
     begun slice there same =
         is_begun old.map subs made.sub slice is_map made.there there
         (same ∙ ap (λ (name : CoreId). name.slice) named)
@@ -210,7 +194,7 @@ made_is_sound old parent subs leader one core sound plan is_map no_write leader_
         let hash : write.hash ≡ route_hash id =
         legal_hash old.first old.journal.entries write sound.journal.legal is.1 ∙ ap route_hash is.2 in
         Contains-filter (is_within (range_of made.sub)) leader.cells write
-        (Contains-found (is_of id) leader.cells write cell)
+        (Contains-find (is_of id) leader.cells write cell)
         ((contains-Decides write.hash made.sub.min made.sub.max).1
         (subst (IsWithin made.sub.min made.sub.max) (sym hash) within))
 
@@ -219,11 +203,11 @@ made_is_sound old parent subs leader one core sound plan is_map no_write leader_
         let both : states.Construction ≡ states.Active = ap (λ (s : Slice). s.state) is ∙ active in
         cc
 
-    fresh : IsSoundCore others longer [] left core
+    fresh : IsSoundCore (begun_map old subs) (longer old one) [] left core
     fresh = record {
       serves = λ slice there same active first. absurd (no_active slice (begun slice there same) active);
       written = (
-        subst (All (Contains (writes longer))) (sym cells_are) (All-nil (Contains (writes longer))),
+        subst (All (Contains (writes (longer old one)))) (sym cells_are) (All-nil (Contains (writes (longer old one)))),
         subst (λ (all : List Write). All (Contains all) left) (sym same_writes)
             (All-filter (is_within (range_of made.sub)) (Contains (writes old.journal.entries)) leader.cells written.0),
       );
@@ -231,7 +215,7 @@ made_is_sound old parent subs leader one core sound plan is_map no_write leader_
           inr (fed id write
           (subst (λ (s : Slice). IsWithin s.range.min s.range.max (route_hash id))
           (sym (begun slice there same)) within)
-          (sym (last_write-same old.journal.entries longer id same_writes) ∙ found));
+          (sym (last_write-same old.journal.entries (longer old one) id same_writes) ∙ found));
       in_range = λ slice there same. (
         subst (All (IsInRange slice)) (sym cells_are) (All-nil (IsInRange slice)),
         subst (λ (s : Slice). All (IsInRange s) left) (begun slice there same)

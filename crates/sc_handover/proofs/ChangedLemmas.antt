@@ -1,5 +1,6 @@
 -- A bucket is sound once one of its cores, or its feeds, or both were changed, where that core is.
-use Rattle.std.proofs.Common.{◌≡◌, ◌≢◌, ℕ, Bool, true, false, List, ◌++◌, map, get_or, set, slice_get, Some, All, Contains, refl, sym, ap, ◌∙◌, subst}
+use Rattle.std.proofs.Common.{◌≡◌, ◌≢◌, ◌≤◌, ℕ, true, false, List, ◌++◌, length, map, get_or, set, slice_get, Some, All, Contains, refl, sym, ap, ◌∙◌, subst}
+use Rattle.std.proofs.lemmas.Bool.{false_from_ne_true}
 use Rattle.std.proofs.Math.Seq.{map-set_same}
 use Rattle.std.proofs.lemmas.List.Elements.{All-weaker}
 use Rattle.std.proofs.lemmas.Option.{get_or_from_slice_get}
@@ -13,16 +14,20 @@ use Rattle.sc_bucket.specs.Kept.{Sent, FeedState}
 use Rattle.sc_bucket.specs.Cores.{is_core}
 use Rattle.sc_bucket.specs.Flight.{in_flight}
 use Rattle.sc_bucket.specs.Pending.{to_feed}
-use Rattle.sc_bucket.specs.Sound.{HasJournal, OfEachCore, IsSent, AreSent, AreFeeds, AreLedActively, IsInPhase, IsSound}
+use Rattle.sc_bucket.specs.Sound.{HasCores, OfEachCore, IsSent, AreSent, IsFeed, AreFeeds, AreLedActively, IsInPhase, IsSound}
 use Rattle.sc_bucket.specs.declared.bucket.Bucket.{Bucket}
 use Rattle.sc_bucket.specs.declared.phase.Phase.{Phase}
 use Rattle.sc_bucket.specs.declared.phase.Phase.TheVariants as phases
 use Rattle.sc_bucket.proofs.CoreLemmas.{name_of, is_core-Decides, AreApart-from_ascending, core_alone}
 use Rattle.sc_bucket.proofs.PlaceLemmas.{All-set_apart}
+use Rattle.sc_bucket.proofs.RoomLemmas.{HasJournal-same}
 use Rattle.sc_bucket.proofs.SearcherLemmas.{HasSearchers-same}
 use Rattle.sc_bucket.proofs.SoundLemmas.{All-slice_get, HasCores-named, IsIdle-same, IsOpen-same}
 use Rattle.sc_bucket.proofs.DeliveredLemmas.{IsSoundCore}
 use Rattle.sc_bucket.proofs.DeliverLemmas.{IsSoundIn, core_is_sound}
+use Rattle.sc_bucket.proofs.TakenLemmas.{Contains-slice_get}
+use Rattle.sc_handover.specs.Events.{HasSameRest}
+use Rattle.sc_handover.proofs.EachCoreLemmas.{core_in, IsSound-each}
 
 -- the bucket with these feeds and these cores
 abbrev pub with_fed : Bucket → List FeedState → List Core → Bucket
@@ -43,35 +48,59 @@ IsSoundIn-parts b feeds cores core name buffer left named kept fed sound =
     (subst (λ (these : List Write). IsSoundCore b.map b.journal.entries (in_flight messages name)
     (in_flight messages name ++ buffer ++ these) core) (sym fed) sound))
 
--- nothing of its journal was changed
-same_journal : (b : Bucket) (feeds : List FeedState) (cores : List Core) → HasJournal b
-    → HasJournal (with_fed b feeds cores)
-same_journal b feeds cores journal = record {
-  first = journal.first;
-  begins = journal.begins;
-  legal = journal.legal;
-  map_is = journal.map_is;
-  unsettled_are = journal.unsettled_are;
-  owed_is = journal.owed_is;
-  room = journal.room;
-  within = journal.within;
-  limit_from = journal.limit_from;
-  limit_to = journal.limit_to;
+-- nothing else of it was changed
+pub HasSameRest-with_fed : (b : Bucket) (feeds : List FeedState) (cores : List Core)
+    → HasSameRest b (with_fed b feeds cores)
+HasSameRest-with_fed b feeds cores = record {
+  name = record { first = refl; limit = refl };
+  map_is = refl;
+  entries = refl;
+  phase_is = refl;
+  messages = refl;
+  searchers_are = refl;
 }
 
--- and the messages are to cores that are there, since the names are the same
-same_messages : (b : Bucket) (feeds : List FeedState) (cores : List Core) → map name_of cores ≡ map name_of b.replicas
-    → AreSent b → AreSent (with_fed b feeds cores)
-same_messages b feeds cores names sent = record {
-  each = All-weaker (IsSent b) (IsSent (with_fed b feeds cores)) same b.flight.messages sent.each;
+-- the messages are to cores that are there, where each name that was there still is
+AreSent-with_fed : (b : Bucket) (feeds : List FeedState) (cores : List Core)
+    → ((name : CoreId) → Contains (map name_of b.replicas) name → Contains (map name_of cores) name) → AreSent b
+    → AreSent (with_fed b feeds cores)
+AreSent-with_fed b feeds cores still sent = record {
+  each = All-weaker (IsSent b) (IsSent (with_fed b feeds cores))
+      (λ message is. record { write = is.write; unsettled = is.unsettled; core = still message.core is.core })
+      b.flight.messages sent.each;
   once = sent.once;
-} where
-  same : (message : Sent) → IsSent b message → IsSent (with_fed b feeds cores) message
-  same message is = record {
-    write = is.write;
-    unsettled = is.unsettled;
-    core = subst (λ (those : List CoreId). Contains those message.core) (sym names) is.core;
-  }
+}
+
+-- a feed that looks at its rows from another on is as it has to be, where its core stays
+pub IsFeed-with_fed : (b : Bucket) (feeds : List FeedState) (cores : List Core) (feed : FeedState) (next : ℕ)
+    → (is : IsFeed b feed) → Contains cores is.core → next ≤ length feed.rows
+    → IsFeed (with_fed b feeds cores) (record feed { next = next })
+IsFeed-with_fed b feeds cores feed next is stays within = record {
+  slice = is.slice;
+  there = is.there;
+  forming = is.forming;
+  of_slice = is.of_slice;
+  range_is = is.range_is;
+  core = is.core;
+  core_there = stays;
+  core_is = is.core_is;
+  buffering = is.buffering;
+  within = within;
+}
+
+-- It is sound where each core is, each name that was there still is, and the cores, the feeds and the phase are as they
+-- have to be.
+pub IsSound-with_fed : (b : Bucket) (feeds : List FeedState) (cores : List Core) → IsSound b
+    → All (IsSoundIn (with_fed b feeds cores) b.flight.messages) cores
+    → ((name : CoreId) → Contains (map name_of b.replicas) name → Contains (map name_of cores) name)
+    → HasCores (with_fed b feeds cores) → AreFeeds (with_fed b feeds cores)
+    → IsInPhase (with_fed b feeds cores) b.phase → IsSound (with_fed b feeds cores)
+IsSound-with_fed b feeds cores sound each still has are phase =
+    let new : Bucket = with_fed b feeds cores in
+    IsSound-each new each
+    (HasJournal-same b new (record { first = refl; limit = refl }) refl refl refl refl sound.journal.room sound.journal)
+    (HasSearchers-same b new refl refl refl sound.searchers) sound.prepared
+    (AreSent-with_fed b feeds cores still sound.messages) has are phase
 
 -- it is in the same phase
 same_phase : (b : Bucket) (feeds : List FeedState) (cores : List Core) (phase : Phase)
@@ -92,21 +121,9 @@ pub IsSound-changed : (b : Bucket) (feeds : List FeedState) (cores : List Core) 
     → IsSound (with_fed b feeds cores)
 IsSound-changed b feeds cores sound each names active led are =
     let new : Bucket = with_fed b feeds cores in
-    record {
-      journal = same_journal b feeds cores sound.journal;
-      leaders = λ k d below. (each k d below).serves;
-      written = λ k d below. (each k d below).written;
-      held = λ k d below. (each k d below).held;
-      in_range = λ k d below. (each k d below).in_range;
-      clocks = λ k d below. (each k d below).clock;
-      searchers = HasSearchers-same b new refl refl refl sound.searchers;
-      prepared = sound.prepared;
-      messages = same_messages b feeds cores names sound.messages;
-      spares = λ k d below. record { cells = (each k d below).cell_room; buffer = (each k d below).buffer_room };
-      cores = HasCores-named b new refl names active sound.cores;
-      feeds = are;
-      phase = same_phase b feeds cores b.phase led sound.phase;
-    }
+    IsSound-with_fed b feeds cores sound each
+    (λ name. subst (λ (those : List CoreId). Contains those name) (sym names))
+    (HasCores-named b new refl names active sound.cores) are (same_phase b feeds cores b.phase led sound.phase)
 
 -- a core for which the same is still to be fed is sound as before
 still_sound : (b : Bucket) (feeds : List FeedState) (cores : List Core) (core : Core)
@@ -143,13 +160,10 @@ changed_of_each P b feeds at core new there named step each =
 -- a core at another place has another name
 apart_from : (b : Bucket) (at k : ℕ) (core other : Core) → IsSound b → slice_get b.replicas at ≡ Some core
     → slice_get b.replicas k ≡ Some other → k ≢ at → is_core other.core core.core ≡ false
-apart_from b at k core other sound there is differ = by (is_core other.core core.core) refl where
-  by : (test : Bool) → is_core other.core core.core ≡ test → is_core other.core core.core ≡ false
-  by false differs = differs
-  by true same =
-      absurd (differ
-      (core_alone b.replicas k at other core (AreApart-from_ascending b.replicas sound.cores.ascend) is there
-      ((is_core-Decides other.core core.core).0 same)))
+apart_from b at k core other sound there is differ =
+    false_from_ne_true (is_core other.core core.core) (λ same.
+    differ (core_alone b.replicas k at other core (AreApart-from_ascending b.replicas sound.cores.ascend) is there
+    ((is_core-Decides other.core core.core).0 same)))
 
 -- It is sound where the core at a place was changed, and perhaps the feeds: that core has its name, is active where
 -- it was, and is sound with what is pending for it now; each other is still to be fed the same; and the feeds are as
@@ -165,8 +179,7 @@ IsSound-core_changed b feeds at core new sound there named still own others are 
     (All-set_apart (IsSoundIn (with_fed b feeds cores) b.flight.messages) b.replicas at new own
     (λ k other differ is. still_sound b feeds cores other
     (others other.core (apart_from b at k core other sound there is differ))
-    (All-slice_get (IsSoundIn b b.flight.messages) b.replicas k other
-    (λ j d below. core_is_sound b j d below sound) is)))
+    (core_in b other sound (Contains-slice_get b.replicas k other is))))
     (map-set_same name_of b.replicas at new core
     (named ∙ ap name_of (sym (get_or_from_slice_get b.replicas at core core there))))
     (changed_of_each (λ slice one. is_forming slice ≡ false → one.mode ≡ Active) b feeds at core new there named

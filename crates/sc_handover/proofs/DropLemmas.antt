@@ -1,5 +1,5 @@
 -- A bucket without an inactive slice owes one entry less, and is sound.
-use Rattle.std.proofs.Common.{◌≡◌, ◌∙◌, ◌+◌, ◌≤◌, Bool, true, false, cond, not, eqb, List, [], ◌∷◌, ◌++◌, length, filter, None, All, Contains, refl, sym, ap, subst, arith}
+use Rattle.std.proofs.Common.{◌≡◌, ◌∙◌, ◌+◌, ◌≤◌, Bool, true, false, cond, not, eqb, List, [], ◌∷◌, ◌++◌, filter, None, All, Contains, refl, sym, ap, subst, arith}
 use Rattle.std.proofs.lemmas.Bool.{eqb-true}
 use Rattle.std.proofs.lemmas.List.Elements.{All-contains_itself, All-head, All-tail, All-weaker}
 use Rattle.sc_record.specs.declared.slice.SliceId.{SliceId}
@@ -7,21 +7,21 @@ use Rattle.sc_record.specs.declared.entry.Entry.{Entry}
 use Rattle.sc_record.specs.declared.entry.Entry.TheVariants as entry
 use Rattle.sc_cluster.specs.declared.slice.Slice.{Slice}
 use Rattle.sc_cluster.specs.Map.{IsMap}
-use Rattle.sc_cluster.specs.Slices.{is_active_state, is_active, is_forming, forming}
+use Rattle.sc_cluster.specs.Slices.{is_active_state, is_active, forming}
 use Rattle.sc_cluster.specs.Changes.{Change, IsInactive}
 use Rattle.sc_cluster.proofs.LeaderLemmas.{same_from_id}
-use Rattle.sc_cluster.proofs.ListLemmas.{Contains-filter, Contains-from_filter}
+use Rattle.sc_cluster.proofs.ListLemmas.{Contains-from_filter}
 use Rattle.sc_cluster.proofs.MapLemmas.{dropped_is_idle}
 use Rattle.sc_cluster.proofs.StateLemmas.{is_other}
 use Rattle.sc_journal.specs.Splits.{open_split, owed}
 use Rattle.sc_journal.specs.Legal.{MayDrop}
 use Rattle.sc_journal.proofs.SplitLemmas.{open_split-push}
-use Rattle.sc_bucket.specs.Kept.{FeedState}
 use Rattle.sc_bucket.specs.Searchers.{ArePrepared}
-use Rattle.sc_bucket.specs.Sound.{IsFeed, IsIdle, IsInPhase, IsSound}
+use Rattle.sc_bucket.specs.Sound.{IsIdle, IsInPhase, IsSound}
 use Rattle.sc_bucket.specs.declared.bucket.Bucket.{Bucket}
 use Rattle.sc_bucket.specs.declared.phase.Phase.TheVariants as phases
 use Rattle.sc_bucket.proofs.AcceptLemmas.{bucket_has_map}
+use Rattle.sc_handover.proofs.NoFeedLemmas.{no_feeds}
 use Rattle.sc_handover.specs.Conditions.{CanDrop}
 use Rattle.sc_handover.specs.Events.{Drops}
 use Rattle.sc_handover.proofs.KeptLemmas.{same_number}
@@ -35,18 +35,6 @@ is_idle b sound idle = subst (IsInPhase b) idle sound.phase
 -- no searchers are ready for a switch
 pub no_spares : (b : Bucket) → IsSound b → b.phase ≡ phases.Idle → b.spares ≡ None
 no_spares b sound idle = subst (λ phase. ArePrepared phase b.map b.searchers b.spares) idle sound.prepared
-
--- and no core is fed
-no_feeds : (b : Bucket) → IsSound b → b.phase ≡ phases.Idle → b.feeds ≡ []
-no_feeds b sound idle = by b.feeds sound.feeds.each where
-  by : (feeds : List FeedState) → All (IsFeed b) feeds → feeds ≡ []
-  by [] each = refl
-  by (feed ∷ feeds) each =
-      let is : IsFeed b feed = All-head (IsFeed b) feed feeds each in
-      let (k, below, there) : Contains (forming b.map) is.slice =
-      Contains-filter is_forming b.map is.slice is.there is.forming in
-      let none : length (forming b.map) ≡ 0 = ap length (is_idle b sound idle).whole in
-      absurd (omega arith)
 
 -- the slice may be dropped
 may_drop : (b : Bucket) (slice : SliceId) → IsSound b → CanDrop b slice → MayDrop b.first b.journal.entries slice
@@ -135,7 +123,7 @@ IsSound-dropped old slice new sound can drops parts =
       whole = ap forming drops.map_is ∙ dropped_is_idle old.map slice idle.whole;
       messages = drops.messages;
       cores = drops.cores;
-      feeds_are = drops.feeds_are ∙ no_feeds old sound can.0;
+      feeds_are = drops.feeds_are ∙ no_feeds old idle sound.feeds.each;
       searchers_are = drops.searchers_are;
       spares_are = parts.spares_are;
     })

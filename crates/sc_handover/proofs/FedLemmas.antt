@@ -23,9 +23,10 @@ use Rattle.sc_bucket.proofs.FlightLemmas.{map-remove}
 use Rattle.sc_bucket.proofs.PlaceLemmas.{All-set_apart, slice_get-set}
 use Rattle.sc_bucket.proofs.SoundLemmas.{All-slice_get, name_and_mode, AreAlike, AreAlike-set, IsFeed-alike}
 use Rattle.sc_bucket.proofs.DeliveredLemmas.{IsSoundCore, fed_all_is_sound}
-use Rattle.sc_bucket.proofs.DeliverLemmas.{core_is_sound, IsSoundIn}
+use Rattle.sc_bucket.proofs.TakenLemmas.{Contains-slice_get}
+use Rattle.sc_handover.proofs.EachCoreLemmas.{core_in}
 use Rattle.sc_handover.specs.Feeding.{IsFedAt, next_of, after_rows}
-use Rattle.sc_handover.proofs.ChangedLemmas.{with_fed, IsSoundIn-parts, IsSound-core_changed, IsSound-other_feeds}
+use Rattle.sc_handover.proofs.ChangedLemmas.{with_fed, IsFeed-with_fed, IsSoundIn-parts, IsSound-core_changed, IsSound-other_feeds}
 
 -- writes that are applied change neither the name nor the log
 pub name-fed_all : (core : Core) (writes : List Write) → (fed_all core writes).core ≡ core.core
@@ -52,6 +53,21 @@ left-next n feed =
     ∙ filter-append (is_within feed.range) (take n (drop feed.next feed.rows)) (drop n (drop feed.next feed.rows))
     ∙ ap (λ rows. next_of n feed ++ filter (is_within feed.range) rows) (drop-drop n feed.next feed.rows)
 
+-- where the same is to be fed of the feeds after one, the same is with it
+to_feed-after : (first : FeedState) (xs ys : List FeedState) (name : CoreId) → to_feed xs name ≡ to_feed ys name
+    → to_feed (first ∷ xs) name ≡ to_feed (first ∷ ys) name
+to_feed-after first xs ys name = by (is_feed_of name first) where
+  these : List FeedState
+  these = filter (is_feed_of name) xs
+
+  those : List FeedState
+  those = filter (is_feed_of name) ys
+
+  by : (b : Bool) → flat_map left_of these ≡ flat_map left_of those
+      → flat_map left_of (cond b (first ∷ these) these) ≡ flat_map left_of (cond b (first ∷ those) those)
+  by true rest = ap (λ writes. left_of first ++ writes) rest
+  by false rest = rest
+
 -- a feed that changes leaves what another core is still to be fed
 to_feed-other : (feeds : List FeedState) (at : ℕ) (feed new : FeedState) (name : CoreId)
     → slice_get feeds at ≡ Some feed
@@ -62,18 +78,7 @@ to_feed-other (first ∷ feeds) zero feed new name there same other =
     let after : is_feed_of name new ≡ false = ap (is_core name) same ∙ other in
     rw (before, after) refl
 to_feed-other (first ∷ feeds) (suc at) feed new name there same other =
-    by (is_feed_of name first) (to_feed-other feeds at feed new name there same other)
-  where
-    these : List FeedState
-    these = filter (is_feed_of name) (set feeds at new)
-
-    those : List FeedState
-    those = filter (is_feed_of name) feeds
-
-    by : (b : Bool) → flat_map left_of these ≡ flat_map left_of those
-        → flat_map left_of (cond b (first ∷ these) these) ≡ flat_map left_of (cond b (first ∷ those) those)
-    by true rest = ap (λ writes. left_of first ++ writes) rest
-    by false rest = rest
+    to_feed-after first (set feeds at new) feeds name (to_feed-other feeds at feed new name there same other)
 
 -- and one with nothing left that is taken away leaves what each core is
 to_feed-removed : (feeds : List FeedState) (at : ℕ) (feed : FeedState) (name : CoreId) → slice_get feeds at ≡ Some feed
@@ -87,18 +92,7 @@ to_feed-removed (first ∷ feeds) zero feed name there none = by (is_feed_of nam
   by true = ap (λ writes. writes ++ flat_map left_of those) (sym (ap left_of (same_Some first feed there) ∙ none))
   by false = refl
 to_feed-removed (first ∷ feeds) (suc at) feed name there none =
-    by (is_feed_of name first) (to_feed-removed feeds at feed name there none)
-  where
-    these : List FeedState
-    these = filter (is_feed_of name) (remove feeds at)
-
-    those : List FeedState
-    those = filter (is_feed_of name) feeds
-
-    by : (b : Bool) → flat_map left_of these ≡ flat_map left_of those
-        → flat_map left_of (cond b (first ∷ these) these) ≡ flat_map left_of (cond b (first ∷ those) those)
-    by true rest = ap (λ writes. left_of first ++ writes) rest
-    by false rest = rest
+    to_feed-after first (remove feeds at) feeds name (to_feed-removed feeds at feed name there none)
 
 -- the names of the feeds stay where one looks at more rows
 names-moved : (feeds : List FeedState) (at : ℕ) (feed new : FeedState) → slice_get feeds at ≡ Some feed
@@ -117,18 +111,8 @@ AreFeeds-moved b at n feed cores are there within alike =
     let is = All-slice_get (IsFeed b) b.feeds at feed are.each there in
     record {
       each = All-set_apart (IsFeed new) b.feeds at (after_rows n feed)
-          (IsFeed-alike b new (after_rows n feed) refl alike (record {
-            slice = is.slice;
-            there = is.there;
-            forming = is.forming;
-            of_slice = is.of_slice;
-            range_is = is.range_is;
-            core = is.core;
-            core_there = is.core_there;
-            core_is = is.core_is;
-            buffering = is.buffering;
-            within = within;
-          }))
+          (IsFeed-alike b new (after_rows n feed) refl alike
+          (IsFeed-with_fed b b.feeds b.replicas feed (feed.next + n) is is.core_there within))
           (λ k other apart at_k. IsFeed-alike b new other refl alike
           (All-slice_get (IsFeed b) b.feeds k other are.each at_k));
       once = subst (IsDistinct is_core) (sym (names-moved b.feeds at feed (after_rows n feed) there refl)) are.once;
@@ -178,8 +162,7 @@ IsSound-fed b feed_at core_at n feed core sound is within =
     (left_of new) core sound.journal.legal
     (subst (λ (left : List Write). IsSoundCore b.map b.journal.entries sent (sent ++ core.buffer ++ left) core)
     (to_feed-at b feed_at core_at feed core sound is ∙ left-next n feed)
-    (All-slice_get (IsSoundIn b b.flight.messages) b.replicas core_at core
-    (λ j d below. core_is_sound b j d below sound) is.core_found))))
+    (core_in b core sound (Contains-slice_get b.replicas core_at core is.core_found)))))
     (λ name apart. to_feed-other b.feeds feed_at feed new name is.feed_found refl
     (ap (is_core name) (sym is.core_is) ∙ apart))
     (AreFeeds-moved b feed_at n feed cores sound.feeds is.feed_found within

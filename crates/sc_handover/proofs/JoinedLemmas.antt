@@ -1,5 +1,6 @@
 -- A bucket is sound once a further replica of a sub joined with its feed.
 use Rattle.std.proofs.Common.{◌≡◌, inl, inr, ℕ, ◌+◌, ◌-◌, ◌<◌, nat_lt, Bool, true, false, cond, List, [], ◌∷◌, ◌++◌, length, map, filter, Some, All, Contains, ◌≢◌, refl, sym, ap, ◌∙◌, subst, arith}
+use Rattle.std.proofs.lemmas.Bool.{false_from_ne_true}
 use Rattle.std.specs.List.{IsDistinct, flat_map, range_with_len, remove}
 use Rattle.std.proofs.lemmas.List.{append-nil, map-append, length_push}
 use Rattle.std.proofs.lemmas.List.Elements.{All-cons, All-contains, All-contains_itself, All-filter, All-map, All-nil, All-push, All-weaker, filter-append}
@@ -22,7 +23,7 @@ use Rattle.sc_bucket.specs.Kept.{Sent, FeedState}
 use Rattle.sc_bucket.specs.Cores.{core_key, core_keys, keys_of, is_core, core_number, IsCounted, put_by_name}
 use Rattle.sc_bucket.specs.Flight.{in_flight, is_to}
 use Rattle.sc_bucket.specs.Pending.{is_within, is_feed_of, left_of, to_feed, pending}
-use Rattle.sc_bucket.specs.Sound.{HasLastWrites, IsInRange, IsSent, AreSent, HasCores, IsFeed, AreFeeds, IsInPhase, IsSound}
+use Rattle.sc_bucket.specs.Sound.{HasLastWrites, IsInRange, IsSent, HasCores, IsFeed, AreFeeds, IsInPhase, IsSound}
 use Rattle.sc_bucket.specs.Events.{without_room}
 use Rattle.sc_bucket.specs.declared.bucket.Bucket.{Bucket}
 use Rattle.sc_bucket.proofs.AcceptLemmas.{bucket_has_map}
@@ -30,15 +31,14 @@ use Rattle.sc_bucket.proofs.CoreLemmas.{name_of, is_core-Decides, keys_among, el
 use Rattle.sc_bucket.proofs.DeliveredLemmas.{IsSoundCore}
 use Rattle.sc_bucket.proofs.FeedLemmas.{fed_core}
 use Rattle.sc_bucket.proofs.FollowerLemmas.{IsDistinct-append}
-use Rattle.sc_bucket.proofs.RoomLemmas.{HasJournal-same}
-use Rattle.sc_bucket.proofs.SearcherLemmas.{HasSearchers-same}
 use Rattle.sc_bucket.proofs.SoundLemmas.{IsOpen-same}
 use Rattle.sc_bucket.proofs.TakenLemmas.{Contains-slice_get}
 use Rattle.sc_bucket.proofs.WriteLemmas.{Contains-find}
+use Rattle.sc_handover.proofs.EachCoreLemmas.{core_in}
 use Rattle.sc_handover.specs.Conditions.{CanGrow}
 use Rattle.sc_handover.specs.Made.{empty_core}
 use Rattle.sc_handover.specs.Parts.{IsMade, Joins}
-use Rattle.sc_handover.proofs.LastWriteLemmas.{not_passed, core_in}
+use Rattle.sc_handover.proofs.ChangedLemmas.{IsFeed-with_fed, IsSound-with_fed}
 use Rattle.sc_handover.proofs.SettleSubsLemmas.{in_flight-no_message}
 use Rattle.sc_handover.proofs.SwitchedMapLemmas.{split_is_open}
 use Rattle.sc_handover.proofs.HandedOnLemmas.{All-from_map}
@@ -71,7 +71,7 @@ other_name b name sub other can there =
 
 -- the test is the same the other way round
 apart_turned : (one other : CoreId) → is_core one other ≡ false → is_core other one ≡ false
-apart_turned one other apart = not_passed (is_core other one) (λ is.
+apart_turned one other apart = false_from_ne_true (is_core other one) (λ is.
     let both : true ≡ false = sym ((is_core-Decides one other).1 (sym ((is_core-Decides other one).0 is))) ∙ apart in
     cc)
 
@@ -295,18 +295,9 @@ AreFeeds-joined b name sub core feed may = record {
       (All-nil (λ (n : CoreId). is_core other.core n ≡ false))) b.feeds may.sound.feeds.each)));
 } where
   still : (other : FeedState) → IsFeed b other → IsFeed (joined b core feed) other
-  still other is = record {
-    slice = is.slice;
-    there = is.there;
-    forming = is.forming;
-    of_slice = is.of_slice;
-    range_is = is.range_is;
-    core = is.core;
-    core_there = Contains-put core b.replicas is.core is.core_there;
-    core_is = is.core_is;
-    buffering = is.buffering;
-    within = is.within;
-  }
+  still other is =
+      IsFeed-with_fed b (b.feeds ++ feed ∷ []) (put_by_name core b.replicas) other other.next is
+      (Contains-put core b.replicas is.core is.core_there) is.within
 
   own : IsFeed (joined b core feed) feed
   own = record {
@@ -323,18 +314,6 @@ AreFeeds-joined b name sub core feed may = record {
   }
 
 -- ---- the rest
-AreSent-joined : (b : Bucket) (core : Core) (feed : FeedState) → AreSent b → AreSent (joined b core feed)
-AreSent-joined b core feed sent = record {
-  each = All-weaker (IsSent b) (IsSent (joined b core feed)) still b.flight.messages sent.each;
-  once = sent.once;
-} where
-  still : (message : Sent) → IsSent b message → IsSent (joined b core feed) message
-  still message is = record {
-    write = is.write;
-    unsettled = is.unsettled;
-    core = Contains-map_put name_of core b.replicas message.core is.core;
-  }
-
 phase-joined : (b : Bucket) (name : CoreId) (sub : Slice) (core : Core) (feed : FeedState) → MayJoin b name sub core feed
     → IsInPhase (joined b core feed) b.phase
 phase-joined b name sub core feed may =
@@ -357,22 +336,9 @@ IsSound-joined b name sub core feed may =
     All-put (IsSoundFed b (b.feeds ++ feed ∷ [])) core b.replicas (core_is_sound b name sub core feed may)
     (All-weaker (Contains b.replicas) (IsSoundFed b (b.feeds ++ feed ∷ []))
     (λ other there. other_is_sound b name sub core feed other may there) b.replicas (All-contains_itself b.replicas)) in
-    record {
-      journal = HasJournal-same b (joined b core feed) (record { first = refl; limit = refl }) refl refl refl refl
-          may.sound.journal.room may.sound.journal;
-      leaders = λ k d below. (cores k d below).serves;
-      written = λ k d below. (cores k d below).written;
-      held = λ k d below. (cores k d below).held;
-      in_range = λ k d below. (cores k d below).in_range;
-      clocks = λ k d below. (cores k d below).clock;
-      searchers = HasSearchers-same b (joined b core feed) refl refl refl may.sound.searchers;
-      prepared = may.sound.prepared;
-      messages = AreSent-joined b core feed may.sound.messages;
-      spares = λ k d below. record { cells = (cores k d below).cell_room; buffer = (cores k d below).buffer_room };
-      cores = HasCores-joined b name sub core feed may;
-      feeds = AreFeeds-joined b name sub core feed may;
-      phase = phase-joined b name sub core feed may;
-    }
+    IsSound-with_fed b (b.feeds ++ feed ∷ []) (put_by_name core b.replicas) may.sound cores
+    (λ other. Contains-map_put name_of core b.replicas other) (HasCores-joined b name sub core feed may)
+    (AreFeeds-joined b name sub core feed may) (phase-joined b name sub core feed may)
 
 -- the cores are those with an empty one more
 pub AreSameCores-put : (core : Core) (cores : List Core) → map without_room (put_by_name core cores) ≡ map without_room (put_by_name (without_room core) cores)

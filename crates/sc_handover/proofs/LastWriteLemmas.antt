@@ -1,5 +1,6 @@
 -- A core for which nothing is pending has the last writes.
-use Rattle.std.proofs.Common.{◌≡◌, ◌⊎◌, inl, inr, Bool, true, false, cond, IsTrue, ℕ, ◌+◌, ◌*◌, List, [], ◌∷◌, ◌++◌, length, Option, Some, None, All, Contains, refl, sym, ap, ◌∙◌, subst, arith}
+use Rattle.std.proofs.Common.{◌≡◌, ◌⊎◌, inl, inr, true, false, cond, IsTrue, ℕ, ◌+◌, ◌*◌, List, [], ◌∷◌, ◌++◌, length, Option, Some, None, All, Contains, refl, sym, ap, ◌∙◌, subst, arith}
+use Rattle.std.proofs.lemmas.Bool.{false_from_ne_true}
 use Rattle.std.proofs.lemmas.List.Elements.{All-head, All-tail, All-weaker}
 use Rattle.sc_record.specs.Writes.{is_of, write_of}
 use Rattle.sc_record.specs.declared.write.Write.{Write}
@@ -20,20 +21,15 @@ use Rattle.sc_bucket.specs.Sound.{HasLastWrites, IsFeed, IsSound}
 use Rattle.sc_bucket.specs.declared.bucket.Bucket.{Bucket}
 use Rattle.sc_bucket.proofs.CoreLemmas.{is_core-Decides}
 use Rattle.sc_bucket.proofs.DeliveredLemmas.{IsSoundCore}
-use Rattle.sc_bucket.proofs.DeliverLemmas.{IsSoundIn, core_is_sound}
 use Rattle.sc_bucket.proofs.FeedLemmas.{to_feed-none}
-
--- a test that is not passed
-pub not_passed : (b : Bool) → (b ≡ true → ⊥) → b ≡ false
-not_passed false fails = refl
-not_passed true fails = absurd (fails refl)
+use Rattle.sc_handover.proofs.EachCoreLemmas.{core_in}
 
 -- no cell is of an id that was never written
 never_written : (journal : List Entry) (cells : List Write) (id : List ℕ) → All (Contains (writes journal)) cells
     → last_write journal id ≡ None → write_of cells id ≡ None
 never_written journal [] id written none = refl
 never_written journal (cell ∷ cells) id written none =
-    ap (λ b. cond b (Some cell) (write_of cells id)) (not_passed (is_of id cell) not_own)
+    ap (λ b. cond b (Some cell) (write_of cells id)) (false_from_ne_true (is_of id cell) not_own)
     ∙ never_written journal cells id (All-tail (Contains (writes journal)) cell cells written) none
   where
     not_own : is_of id cell ≡ true → ⊥
@@ -57,10 +53,6 @@ last_from_nothing slices journal sent pending core slice sound nothing there nam
       cases (inl cell) = cell ∙ sym is
       cases (inr (k, below, here)) = absurd (omega (arith, ap length nothing))
 
--- a core of a sound bucket is sound
-pub core_in : (b : Bucket) (core : Core) → IsSound b → Contains b.replicas core → IsSoundIn b b.flight.messages core
-core_in b core sound (k, below, is) = subst (IsSoundIn b b.flight.messages) is (core_is_sound b k core below sound)
-
 -- cores of the same name are one
 pub same_from_key : (cores : List Core) (one other : Core) → AscendByName cores → Contains cores one → Contains cores other
     → core_key one ≡ core_key other → one ≡ other
@@ -76,7 +68,7 @@ unfed_where_active b core sound there active =
     (All-weaker (IsFeed b) (λ (feed : FeedState). is_feed_of core.core feed ≡ false) other b.feeds sound.feeds.each)
   where
     other : (feed : FeedState) → IsFeed b feed → is_feed_of core.core feed ≡ false
-    other feed is = not_passed (is_core core.core feed.core) (λ own.
+    other feed is = false_from_ne_true (is_core core.core feed.core) (λ own.
         let named : is.core.core ≡ core.core = is.core_is ∙ sym ((is_core-Decides core.core feed.core).0 own) in
         let same : is.core ≡ core =
         same_from_key b.replicas is.core core sound.cores.ascend is.core_there there

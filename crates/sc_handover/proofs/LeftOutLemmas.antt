@@ -2,7 +2,7 @@
 use Rattle.std.proofs.Common.{◌≡◌, ◌⊎◌, ◌∙◌, ℕ, pos, Bool, true, false, List, [], ◌∷◌, ◌++◌, map, filter, None, All, Contains, refl, sym, ap, subst}
 use Rattle.std.specs.Prelude.{IsSome}
 use Rattle.std.specs.List.{IsDistinct}
-use Rattle.std.proofs.lemmas.List.Elements.{All-contains, All-nil, All-weaker}
+use Rattle.std.proofs.lemmas.List.Elements.{All-contains, All-weaker}
 use Rattle.std.proofs.lemmas.List.Kept.{AllPairs-filter}
 use Rattle.std.proofs.lemmas.Map.Keys.{apart_from_distinct, IsDistinct-from_apart}
 use Rattle.sc_record.specs.Writes.{is_of}
@@ -23,7 +23,7 @@ use Rattle.sc_journal.proofs.CommittedLemmas.{committed-push_other}
 use Rattle.sc_journal.proofs.JournalLemmas.{writes-push_other, write_at-append, write_at_within}
 use Rattle.sc_journal.proofs.SettledLemmas.{SettlesNothing, is_settled-push_other}
 use Rattle.sc_bucket.specs.Kept.{Sent, FeedState}
-use Rattle.sc_bucket.specs.Cores.{is_core, is_of_one}
+use Rattle.sc_bucket.specs.Cores.{is_of_one}
 use Rattle.sc_bucket.specs.Flight.{in_flight, is_to, is_same_message}
 use Rattle.sc_bucket.specs.Pending.{is_feed_of, to_feed, pending}
 use Rattle.sc_bucket.specs.Searchers.{ShowsCommitted, rows_of, ArePrepared}
@@ -34,9 +34,11 @@ use Rattle.sc_bucket.specs.declared.standing.Standing.{Standing}
 use Rattle.sc_bucket.proofs.AcceptLemmas.{bucket_has_map}
 use Rattle.sc_bucket.proofs.CoreLemmas.{is_core-Decides, name_of}
 use Rattle.sc_bucket.proofs.DeliveredLemmas.{IsSoundCore}
-use Rattle.sc_bucket.proofs.DeliverLemmas.{IsSoundIn, core_is_sound}
+use Rattle.sc_bucket.proofs.DeliverLemmas.{IsSoundIn}
 use Rattle.sc_bucket.proofs.FeedLemmas.{to_feed-none}
 use Rattle.sc_bucket.proofs.SearcherLemmas.{HasSearchers-grown}
+use Rattle.sc_handover.proofs.EachCoreLemmas.{core_in, IsSound-each}
+use Rattle.sc_handover.proofs.NoFeedLemmas.{AreFeeds-none}
 use Rattle.sc_handover.proofs.KeptLemmas.{AreSome, is_kept, slice_of_one, All-kept, HasCores-kept}
 
 -- the message is to a core of one of the slices
@@ -129,9 +131,7 @@ cores_are_sound old one new sound leaves =
     each : (core : Core) → Contains old.replicas core → is_kept new.map core ≡ true
         → IsSoundIn new new.flight.messages core
     each core there kept =
-        let before : IsSoundIn old old.flight.messages core =
-        All-contains (IsSoundIn old old.flight.messages) old.replicas core
-        (λ k d below. core_is_sound old k d below sound) there in
+        let before : IsSoundIn old old.flight.messages core = core_in old core sound there in
         let sent : in_flight new.flight.messages core.core ≡ in_flight old.flight.messages core.core =
         ap (λ (these : List Sent). in_flight these core.core) leaves.messages
         ∙ in_flight-kept new.map old.flight.messages core.core kept in
@@ -199,33 +199,14 @@ HasSearchers-kept old one new leaves has =
     Show slices searcher = (slice : Slice) → Contains slices slice → slice.id ≡ searcher.slice
         → (searcher.range ≡ slice.range) × ShowsCommitted old.journal.entries slice (rows_of searcher)
 
--- nothing is fed
-none_fed : (b : Bucket) → b.feeds ≡ [] → AreFeeds b
-unfolding IsDistinct
-none_fed b none = record {
-  each = subst (All (IsFeed b)) (sym none) (All-nil (IsFeed b));
-  once = subst (λ (feeds : List FeedState). IsDistinct is_core (map (λ (feed : FeedState). feed.core) feeds))
-      (sym none) tt;
-}
-
 -- So the bucket is sound, where its journal is as it has to be.
 pub IsSound-left_out : (old : Bucket) (one : Entry) (new : Bucket) → IsSound old → HasJournal new
     → LeavesOut old one new → IsSound new
 IsSound-left_out old one new sound journal leaves =
-    let cores : All (IsSoundIn new new.flight.messages) new.replicas = cores_are_sound old one new sound leaves in
-    record {
-      journal = journal;
-      leaders = λ k d below. (cores k d below).serves;
-      written = λ k d below. (cores k d below).written;
-      held = λ k d below. (cores k d below).held;
-      in_range = λ k d below. (cores k d below).in_range;
-      clocks = λ k d below. (cores k d below).clock;
-      searchers = HasSearchers-kept old one new leaves sound.searchers;
-      prepared = subst (λ phase. ArePrepared phase new.map new.searchers new.spares) (sym leaves.phase_is)
-          leaves.spares_are;
-      messages = AreSent-kept old one new leaves sound.messages;
-      spares = λ k d below. record { cells = (cores k d below).cell_room; buffer = (cores k d below).buffer_room };
-      cores = HasCores-kept old new (bucket_has_map old sound.journal) leaves.some leaves.cores sound.cores;
-      feeds = none_fed new leaves.feeds_are;
-      phase = subst (IsInPhase new) (sym leaves.phase_is) (record { idle = leaves.idle; whole = leaves.whole });
-    }
+    IsSound-each new (cores_are_sound old one new sound leaves) journal
+    (HasSearchers-kept old one new leaves sound.searchers)
+    (subst (λ phase. ArePrepared phase new.map new.searchers new.spares) (sym leaves.phase_is) leaves.spares_are)
+    (AreSent-kept old one new leaves sound.messages)
+    (HasCores-kept old new (bucket_has_map old sound.journal) leaves.some leaves.cores sound.cores)
+    (AreFeeds-none new leaves.feeds_are)
+    (subst (IsInPhase new) (sym leaves.phase_is) (record { idle = leaves.idle; whole = leaves.whole }))

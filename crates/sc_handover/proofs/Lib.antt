@@ -1,4 +1,6 @@
 -- Facts on the events of a split.
+pub mod EachCoreLemmas
+pub mod NoFeedLemmas
 pub mod KeptLemmas
 pub mod NotedLemmas
 pub mod LeftOutLemmas

@@ -15,7 +15,7 @@ use Rattle.sc_bucket.proofs.PlaceLemmas.{slice_get-set}
 use Rattle.sc_bucket.proofs.SoundLemmas.{All-slice_get}
 use Rattle.sc_handover.specs.Events.{HasSameRest}
 use Rattle.sc_handover.specs.Feeding.{IsFedAt, next_of, after_rows, FeedsRows}
-use Rattle.sc_handover.proofs.ChangedLemmas.{with_fed}
+use Rattle.sc_handover.proofs.ChangedLemmas.{with_fed, HasSameRest-with_fed}
 use Rattle.sc_handover.proofs.FedLemmas.{name-fed_all, fed_all-append, left-next, to_feed-at, IsSound-fed}
 
 -- the next row of a feed
@@ -63,14 +63,7 @@ pub FeedsRows-none : (b : Bucket) (feed_at core_at : ℕ) (feed : FeedState) (co
 FeedsRows-none b feed_at core_at feed core is =
     let same : feed.next + 0 ≡ feed.next = omega arith in
     record {
-      rest = record {
-        name = record { first = refl; limit = refl };
-        map_is = refl;
-        entries = refl;
-        phase_is = refl;
-        messages = refl;
-        searchers_are = refl;
-      };
+      rest = HasSameRest-with_fed b b.feeds b.replicas;
       cores = sym (set_itself b.replicas core_at core is.core_found);
       feeds_are = sym (ap (λ (n : ℕ). set b.feeds feed_at (record feed { next = n })) same
           ∙ set_itself b.feeds feed_at feed is.feed_found);
@@ -82,14 +75,7 @@ pub FeedsRows-one : (b : Bucket) (feed_at core_at : ℕ) (feed : FeedState) (cor
     → feeds ≡ set b.feeds feed_at (after_rows 1 feed) → cores ≡ set b.replicas core_at (fed_all core writes)
     → FeedsRows b feed_at core_at feed core 1 (with_fed b feeds cores)
 FeedsRows-one b feed_at core_at feed core feeds cores writes one moved fed = record {
-  rest = record {
-    name = record { first = refl; limit = refl };
-    map_is = refl;
-    entries = refl;
-    phase_is = refl;
-    messages = refl;
-    searchers_are = refl;
-  };
+  rest = HasSameRest-with_fed b feeds cores;
   cores = fed ∙ ap (λ (these : List Write). set b.replicas core_at (fed_all core these)) (sym one);
   feeds_are = moved;
 }
@@ -139,7 +125,7 @@ next-more n m feed =
     ∙ ap (λ rows. next_of n feed ++ filter (is_within feed.range) (take m rows)) (drop-drop n feed.next feed.rows)
 
 -- nothing else was changed by two, where nothing else was by either
-same_rest : (old mid new : Bucket) → HasSameRest old mid → HasSameRest mid new → HasSameRest old new
+pub same_rest : (old mid new : Bucket) → HasSameRest old mid → HasSameRest mid new → HasSameRest old new
 same_rest old mid new one other = record {
   name = record { first = other.name.first ∙ one.name.first; limit = other.name.limit ∙ one.name.limit };
   map_is = other.map_is ∙ one.map_is;

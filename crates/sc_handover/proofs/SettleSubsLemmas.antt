@@ -1,7 +1,7 @@
 -- What is in flight to the cores of the subs is delivered, core after core.
 use Rattle.std.proofs.Common.{◌≡◌, ◌⊎◌, inl, inr, Bool, true, false, not, cond, ℕ, ◌+◌, ◌<◌, ◌≤◌, List, [], ◌∷◌, length, map, filter, slice_get, Option, Some, None, All, Contains, refl, sym, ap, ◌∙◌, subst, arith}
 use Rattle.std.specs.Option.{option_map}
-use Rattle.std.proofs.lemmas.Bool.{cases_lt, not-true}
+use Rattle.std.proofs.lemmas.Bool.{cases_lt, false_from_ne_true, not-true}
 use Rattle.std.proofs.lemmas.List.{length-map}
 use Rattle.std.proofs.lemmas.List.Elements.{All-map, All-weaker, All-filter, All-contains, All-contains_itself, All-head, All-tail, filter_passes}
 use Rattle.std.proofs.lemmas.Option.{slice_get-map, slice_get_within, none-some, same_Some}
@@ -24,7 +24,6 @@ use Rattle.sc_bucket.proofs.PendingLemmas.{goes_to, in_flight-none}
 use Rattle.sc_bucket.proofs.SoundLemmas.{name_and_mode, AreAlike, AreAlike-map}
 use Rattle.sc_handover.specs.Made.{settled_sub}
 use Rattle.sc_handover.specs.Parts.{is_of_sub, IsQuiet, DeliversToSubs, NoneIsToASub}
-use Rattle.sc_handover.proofs.LastWriteLemmas.{not_passed}
 
 -- what keeps each element leaves the list
 pub map-kept : {A : Type 0} (f : A → A) (xs : List A) → All (λ x. f x ≡ x) xs → map f xs ≡ xs
@@ -141,7 +140,7 @@ to_no_sub-left slices messages name of_sub =
   where
     weaker : (message : Sent) → not (is_of_sub slices message.core) ≡ true → not (is_to name message) ≡ true
     weaker message other =
-        ap not (not_passed (is_to name message) (λ to.
+        ap not (false_from_ne_true (is_to name message) (λ to.
         let sub : is_of_sub slices message.core ≡ true =
         ap (is_of_sub slices) (sym ((is_core-Decides name message.core).0 to)) ∙ of_sub in
         let both : true ≡ false = sym sub ∙ not-true (is_of_sub slices message.core) other in
@@ -287,7 +286,7 @@ none_is_to_a_sub old at new all some sound =
     new.flight.messages (All-contains_itself new.flight.messages)
   where
     other : (message : Sent) → Contains new.flight.messages message → is_of_sub new.map message.core ≡ false
-    other message there = not_passed (is_of_sub new.map message.core) (λ is.
+    other message there = false_from_ne_true (is_of_sub new.map message.core) (λ is.
         let sent = All-contains (IsSent new) new.flight.messages message sound.messages.each there in
         let (k, core, at_k, named) = element_from_map name_of new.replicas message.core sent.core in
         let within = slice_get_within new.replicas k core at_k in
@@ -307,7 +306,7 @@ settled_already b core none = by (is_of_sub b.map core.core) refl where
   by false other = refl
   by true is = ap (received_all core) (in_flight-no_message b.flight.messages core.core
       (All-weaker (λ (message : Sent). is_of_sub b.map message.core ≡ false) (λ (message : Sent). is_to core.core message ≡ false)
-      (λ message other. not_passed (is_to core.core message) (λ to.
+      (λ message other. false_from_ne_true (is_to core.core message) (λ to.
       let sub : is_of_sub b.map message.core ≡ true =
       ap (is_of_sub b.map) (sym ((is_core-Decides core.core message.core).0 to)) ∙ is in
       let both : true ≡ false = sym sub ∙ other in

@@ -1,5 +1,6 @@
 -- The slice of each core, and the cores of the subs as a switch finds them: each is active, so none is fed.
 use Rattle.std.proofs.Common.{◌≡◌, ◌≢◌, ◌⊎◌, inl, inr, Bool, true, false, not, IsTrue, ℕ, suc, nat_eq, List, [], ◌∷◌, map, Option, Some, None, Bor, MatchOption, All, Contains, refl, sym, ap, ◌∙◌, subst, arith}
+use Rattle.std.proofs.lemmas.Bool.{false_from_ne_true}
 use Rattle.std.specs.List.{range_with_len}
 use Rattle.std.proofs.lemmas.Bool.Decides.{Decides-eqb}
 use Rattle.std.proofs.lemmas.List.Elements.{All-contains, All-weaker, All-contains_itself, Contains-append_cases, All-head}
@@ -25,7 +26,7 @@ use Rattle.sc_bucket.specs.declared.bucket.Bucket.{Bucket}
 use Rattle.sc_bucket.proofs.SoundLemmas.{AreAlike, name_and_mode}
 use Rattle.sc_handover.specs.Conditions.{IsThereActive, CanSwitch}
 use Rattle.sc_handover.specs.Parts.{is_of_sub}
-use Rattle.sc_handover.proofs.LastWriteLemmas.{not_passed, same_from_key}
+use Rattle.sc_handover.proofs.LastWriteLemmas.{same_from_key}
 
 -- a slice that a split is making is sent what is written
 pub attached_where_forming : (slice : Slice) → is_forming slice ≡ true → IsTrue (is_attached slice)
@@ -136,7 +137,7 @@ none_has_id slices core other =
     differ : (slice : Slice) → Contains (forming slices) slice → nat_eq slice.id.0 core.slice.0 ≡ false
     differ slice there =
         let (inside, is) = Contains-from_filter is_forming slices slice there in
-        not_passed (nat_eq slice.id.0 core.slice.0)
+        false_from_ne_true (nat_eq slice.id.0 core.slice.0)
         (λ same. other slice inside is (ap (λ (n : ℕ). record { 0 = n }) ((Decides-eqb slice.id.0 core.slice.0).0 same)))
 
 -- what a search for the slice of a core's id says of it

@@ -1,9 +1,9 @@
 -- A bucket is sound once the subs are put in the place of their parent, and their cores have the last writes.
-use Rattle.std.proofs.Common.{◌≡◌, ◌⊎◌, ℕ, ◌<◌, ℤ, Bool, true, false, IsTrue, List, [], ◌∷◌, ◌++◌, length, map, get_or, All, Contains, refl, sym, ap, ◌∙◌, subst, arith}
+use Rattle.std.proofs.Common.{◌≡◌, ◌⊎◌, ℕ, ◌<◌, ℤ, Bool, true, false, IsTrue, List, [], ◌∷◌, ◌++◌, length, map, get_or, All, Contains, refl, sym, ap, ◌∙◌, subst}
+use Rattle.std.proofs.lemmas.Bool.{false_from_ne_true}
 use Rattle.std.specs.Prelude.{IsSome, pos}
 use Rattle.std.specs.List.{IsDistinct}
-use Rattle.std.proofs.lemmas.List.Elements.{All-contains, All-contains_itself, All-map, All-nil, All-weaker, Contains-get_or}
-use Rattle.std.proofs.lemmas.Map.Keys.{IsDistinct-from_apart}
+use Rattle.std.proofs.lemmas.List.Elements.{All-contains, All-contains_itself, All-map, All-weaker, Contains-get_or}
 use Rattle.sc_hash.specs.declared.range.Range.{Range}
 use Rattle.sc_hash.specs.Range.{IsWithin}
 use Rattle.sc_record.specs.declared.slice.SliceId.{SliceId}
@@ -24,21 +24,22 @@ use Rattle.sc_journal.specs.Splits.{open_split}
 use Rattle.sc_journal.proofs.JournalLemmas.{last_write-push_other, writes-push_other, write_at-append, write_at_within}
 use Rattle.sc_journal.proofs.SettledLemmas.{is_settled-push_other}
 use Rattle.sc_journal.proofs.SplitLemmas.{open_split-push}
-use Rattle.sc_bucket.specs.Kept.{Sent, FlightState, FeedState}
-use Rattle.sc_bucket.specs.Cores.{core_key, core_keys, keys_of, is_core, is_attached, AscendByName, IsCounted}
-use Rattle.sc_bucket.specs.Flight.{in_flight, is_to, is_same_message}
+use Rattle.sc_bucket.specs.Kept.{Sent, FlightState}
+use Rattle.sc_bucket.specs.Cores.{core_key, core_keys, keys_of, is_attached, AscendByName, IsCounted}
+use Rattle.sc_bucket.specs.Flight.{is_to, is_same_message}
 use Rattle.sc_bucket.specs.Pending.{pending}
 use Rattle.sc_bucket.specs.Searchers.{ArePrepared}
-use Rattle.sc_bucket.specs.Sound.{HasLastWrites, IsSent, AreSent, HasCores, IsFeed, IsInPhase, IsSound}
+use Rattle.sc_bucket.specs.Sound.{HasLastWrites, IsSent, AreSent, HasCores, IsInPhase, IsSound}
 use Rattle.sc_bucket.specs.Events.{without_room}
 use Rattle.sc_bucket.specs.declared.bucket.Bucket.{Bucket}
 use Rattle.sc_bucket.proofs.CoreLemmas.{is_core-Decides}
-use Rattle.sc_bucket.proofs.DeliveredLemmas.{IsSoundCore}
 use Rattle.sc_bucket.proofs.SoundLemmas.{IsSent-left}
 use Rattle.sc_handover.specs.Conditions.{IsThereActive, CanSwitch}
 use Rattle.sc_handover.specs.Events.{HaveLastWrites}
 use Rattle.sc_handover.specs.Parts.{is_of_sub, IsQuiet, NoneIsToASub, PutsSwitch}
-use Rattle.sc_handover.proofs.LastWriteLemmas.{not_passed, core_in, last_where_settled}
+use Rattle.sc_handover.proofs.EachCoreLemmas.{core_in, IsSoundWith, each_with, IsSound-each}
+use Rattle.sc_handover.proofs.NoFeedLemmas.{AreFeeds-none}
+use Rattle.sc_handover.proofs.LastWriteLemmas.{last_where_settled}
 use Rattle.sc_handover.proofs.SubLemmas.{attached_where_forming, all_are_active, none_is_fed, of_sub_where_forming}
 use Rattle.sc_handover.proofs.SettleSubsLemmas.{in_flight-no_message}
 use Rattle.sc_handover.proofs.SwitchedMapLemmas.{SwitchesParts, split_is_open, HasJournal-switched, core_keys-switched, active_before, attached_before}
@@ -58,7 +59,7 @@ last_of_sub b parent sub core ready in_map forms there named =
     let active = all_are_active b parent core ready.sound ready.can there in
     let is_sub = of_sub_where_forming b.map core.core sub in_map named forms in
     let none = All-weaker (λ (message : Sent). is_of_sub b.map message.core ≡ false) (λ (message : Sent). is_to core.core message ≡ false)
-    (λ message other. not_passed (is_to core.core message) (λ to.
+    (λ message other. false_from_ne_true (is_to core.core message) (λ to.
     let of_sub : is_of_sub b.map message.core ≡ true =
     ap (is_of_sub b.map) (sym ((is_core-Decides core.core message.core).0 to)) ∙ is_sub in
     let both : true ≡ false = sym of_sub ∙ other in
@@ -106,11 +107,6 @@ slice_before b parent slice there =
       id = sym (switched_keeps (λ (s : Slice). s.id) (λ _ _. refl) parent before) ∙ ap (λ (s : Slice). s.id) is;
       range = ap (λ (s : Slice). s.range) (sym is) ∙ switched_keeps (λ (s : Slice). s.range) (λ _ _. refl) parent before;
     }
-
--- the core is sound, where these are the map and the journal
-abbrev IsSoundWith : List Slice → List Entry → List Sent → List FeedState → Core → Type 0
-IsSoundWith slices journal messages feeds core =
-    IsSoundCore slices journal (in_flight messages core.core) (pending messages feeds core) core
 
 -- so each core is sound after the switch
 core-switched : (b : Bucket) (parent : SliceId) (core : Core) → IsReadyToSwitch b parent → Contains b.replicas core
@@ -233,42 +229,22 @@ pub IsSound-switched : (old new : Bucket) (parent : SliceId) → IsReadyToSwitch
     → SwitchesParts old new → IsSound new
 IsSound-switched old new parent ready puts parts =
     let split = (split_is_open old parent ready.sound ready.can.recovering).0 in
-    let cores : All (IsSoundWith new.map new.journal.entries new.flight.messages new.feeds) new.replicas =
-    subst (λ slices. All (IsSoundWith slices new.journal.entries new.flight.messages new.feeds) new.replicas) (sym puts.map_is)
-    (subst (λ journal. All (IsSoundWith slices_after journal new.flight.messages new.feeds) new.replicas) (sym puts.entries)
-    (subst (λ (flight : FlightState). All (IsSoundWith slices_after (longer old parent) flight.messages new.feeds) new.replicas) (sym puts.flight_is)
-    (subst (λ feeds. All (IsSoundWith slices_after (longer old parent) old.flight.messages feeds) new.replicas) (sym same_feeds)
-    (subst (All (IsSoundWith slices_after (longer old parent) old.flight.messages old.feeds)) (sym puts.cores)
-    (All-weaker (Contains old.replicas) (IsSoundWith slices_after (longer old parent) old.flight.messages old.feeds)
-    (λ core. core-switched old parent core ready) old.replicas (All-contains_itself old.replicas)))))) in
-    record {
-      journal = HasJournal-switched old new parent ready.sound.journal split puts parts;
-      leaders = λ k d below. (cores k d below).serves;
-      written = λ k d below. (cores k d below).written;
-      held = λ k d below. (cores k d below).held;
-      in_range = λ k d below. (cores k d below).in_range;
-      clocks = λ k d below. (cores k d below).clock;
-      searchers = HasSearchers-switched old new parent ready.sound split puts;
-      prepared = subst (λ phase. ArePrepared phase new.map new.searchers new.spares) (sym puts.phase_is) parts.spares_are;
-      messages = AreSent-switched old new parent ready.sound puts;
-      spares = λ k d below. record { cells = (cores k d below).cell_room; buffer = (cores k d below).buffer_room };
-      cores = HasCores-switched old new parent ready puts;
-      feeds = record {
-        each = subst (All (IsFeed new)) (sym puts.feeds_are) (All-nil (IsFeed new));
-        once = subst (λ (feeds : List FeedState). IsDistinct is_core (map (λ (feed : FeedState). feed.core) feeds)) (sym puts.feeds_are)
-            (IsDistinct-from_apart is_core [] (λ i j d before below. absurd (omega arith)));
-      };
-      phase = subst (IsInPhase new) (sym puts.phase_is) (record {
-        idle = ap open_split puts.entries ∙ open_split-push old.journal.entries (entry.Switched parent);
-        whole = ap forming puts.map_is ∙ switched_is_idle old.map parent;
-      });
-    }
-  where
-    slices_after : List Slice
-    slices_after = map (switched_slice parent) old.map
-
-    same_feeds : new.feeds ≡ old.feeds
-    same_feeds = puts.feeds_are ∙ sym (none_is_fed old parent ready.sound ready.can)
+    let slices : List Slice = map (switched_slice parent) old.map in
+    let cores =
+    each_with new slices (longer old parent) old.flight.messages old.feeds old.replicas puts.map_is puts.entries
+    (ap (λ (flight : FlightState). flight.messages) puts.flight_is)
+    (puts.feeds_are ∙ sym (none_is_fed old parent ready.sound ready.can)) puts.cores
+    (All-weaker (Contains old.replicas) (IsSoundWith slices (longer old parent) old.flight.messages old.feeds)
+    (λ core. core-switched old parent core ready) old.replicas (All-contains_itself old.replicas)) in
+    IsSound-each new cores (HasJournal-switched old new parent ready.sound.journal split puts parts)
+    (HasSearchers-switched old new parent ready.sound split puts)
+    (subst (λ phase. ArePrepared phase new.map new.searchers new.spares) (sym puts.phase_is) parts.spares_are)
+    (AreSent-switched old new parent ready.sound puts) (HasCores-switched old new parent ready puts)
+    (AreFeeds-none new puts.feeds_are)
+    (subst (IsInPhase new) (sym puts.phase_is) (record {
+      idle = ap open_split puts.entries ∙ open_split-push old.journal.entries (entry.Switched parent);
+      whole = ap forming puts.map_is ∙ switched_is_idle old.map parent;
+    }))
 
 -- and each core of a sub has the last writes still
 pub HaveLastWrites-switched : (old new : Bucket) (parent : SliceId) → IsReadyToSwitch old parent → PutsSwitch old parent new

@@ -51,6 +51,14 @@ pub record HasSameRest (old new : Bucket) : Type 0 where
   pub messages : new.flight.messages ≡ old.flight.messages
   pub searchers_are : new.searchers ≡ old.searchers
 
+-- the core of this name becomes what the change makes of it, and each other stays
+pub record ChangesCore (old : Bucket) (name : CoreId) (change : Core → Core) (new : Bucket) : Type 0 where
+  pub core_at : ℕ
+  pub core : Core
+  pub core_found : slice_get old.replicas core_at ≡ Some core
+  pub core_is : core.core ≡ name
+  pub cores : new.replicas ≡ slice_set old.replicas core_at (change core)
+
 -- The core of this name is fed a piece: the next 64 rows of its snapshot are looked at, or all that are left where they are fewer.
 -- With no row left its feed is gone.
 pub record FeedsPiece (old : Bucket) (name : CoreId) (is_done : Bool) (new : Bucket) : Type 0 where
@@ -59,11 +67,7 @@ pub record FeedsPiece (old : Bucket) (name : CoreId) (is_done : Bool) (new : Buc
   pub feed : FeedState
   pub feed_found : slice_get old.feeds feed_at ≡ Some feed
   pub feed_is : feed.core ≡ name
-  pub core_at : ℕ
-  pub core : Core
-  pub core_found : slice_get old.replicas core_at ≡ Some core
-  pub core_is : core.core ≡ name
-  pub cores : new.replicas ≡ slice_set old.replicas core_at (fed_all core (piece_of feed))
+  pub changed : ChangesCore old name (λ core. fed_all core (piece_of feed)) new
   pub done : is_done ≡ nat_le (length feed.rows) (feed.next + feed_limit)
   pub feeds_are : new.feeds ≡ (if is_done then remove old.feeds feed_at else slice_set old.feeds feed_at (moved_on feed))
 
@@ -71,23 +75,15 @@ pub record FeedsPiece (old : Bucket) (name : CoreId) (is_done : Bool) (new : Buc
 pub record StartsReplay (old : Bucket) (name : CoreId) (new : Bucket) : Type 0 where
   pub rest : HasSameRest old new
   pub feeds_are : new.feeds ≡ old.feeds
-  pub core_at : ℕ
-  pub core : Core
-  pub core_found : slice_get old.replicas core_at ≡ Some core
-  pub core_is : core.core ≡ name
-  pub cores : new.replicas ≡ slice_set old.replicas core_at (replaying core)
+  pub changed : ChangesCore old name replaying new
 
 -- The core of this name replays a piece: it applies the first 64 writes of its buffer, or all where they are fewer. With none left it is
 -- active.
 pub record ReplaysPiece (old : Bucket) (name : CoreId) (is_done : Bool) (new : Bucket) : Type 0 where
   pub rest : HasSameRest old new
   pub feeds_are : new.feeds ≡ old.feeds
-  pub core_at : ℕ
-  pub core : Core
-  pub core_found : slice_get old.replicas core_at ≡ Some core
-  pub core_is : core.core ≡ name
-  pub cores : new.replicas ≡ slice_set old.replicas core_at (replayed core)
-  pub done : (is_done ≡ true → (replayed core).buffer ≡ []) × ((replayed core).buffer ≡ [] → is_done ≡ true)
+  pub changed : ChangesCore old name replayed new
+  pub done : (is_done ≡ true → (replayed changed.core).buffer ≡ []) × ((replayed changed.core).buffer ≡ [] → is_done ≡ true)
 
 -- the leaders of the subs are made
 pub record GetsReady (old : Bucket) (parent : SliceId) (new : Bucket) : Type 0 where

@@ -9,49 +9,37 @@ use Rattle.sc_handover.specs.Events.{FeedsPiece}
 use Rattle.sc_handover.specs.Feeding.{next_of, after_rows}
 use Rattle.sc_handover.proofs.ChangedLemmas.{with_fed}
 use Rattle.sc_handover.proofs.FedLemmas.{IsSound-ended}
-use Rattle.sc_handover.proofs.RowLemmas.{FeedsRows-none, FeedsRows-more, IsFedAt-rows}
-use Rattle.sc_handover.proofs.PieceLemmas.{under_way, rows_left, none_left, FeedsPiece-ended, FeedsPiece-goes_on}
+use Rattle.sc_handover.proofs.PieceLemmas.{under_way, under_way_more, left_then, none_left, FeedsPiece-ended, FeedsPiece-goes_on}
 use Rattle.sc_handover.proofs.feed.feed_piece.Goals as goal
 
 pub loop-row-init : goal.loop-row-init
 loop-row-init c = record {
   sound = c.requires.sound;
-  fed = FeedsRows-none c.args.bucket.now c.unwrap-at.result c.unwrap-replica.result;
+  way = under_way c.args.bucket.now c.args.core c.position.result c.position-2.result c.unwrap-at.result
+      c.unwrap-replica.result c.min-count.result c.rows_left.result c.get.result.now c.position.ensures
+      c.unwrap-at.ensures c.position-2.ensures c.unwrap-replica.ensures c.get.ensures c.rows_left.ensures
+      c.min-count.ensures;
 }
 
 pub feed_row-requires-clause-left : goal.feed_row-requires-clause-left
 feed_row-requires-clause-left c =
-    let way =
-    under_way c.args.bucket.now c.args.core c.position.result c.position-2.result c.unwrap-at.result
-    c.unwrap-replica.result c.loop-row._row c.loop-row.bucket c.position.ensures c.unwrap-at.ensures
-    c.position-2.ensures c.unwrap-replica.ensures c.loop-row.invariant.fed in
-    let rows =
-    rows_left c.args.bucket.now.feeds c.unwrap-at.result c.rows_left.result way.feed c.get.result.now
-    way.is.feed_found c.get.ensures c.rows_left.ensures in (
+    let way = c.loop-row.invariant.way in (
       after_rows c.loop-row._row way.feed,
       fed_all way.core (next_of c.loop-row._row way.feed),
       way.at,
-      omega (arith, rows, c.min-count.ensures, c.loop-row-test.true),
+      omega (arith, way.count_is, c.loop-row-test.true),
     )
 
 pub loop-row-preserved : goal.loop-row-preserved
 loop-row-preserved c = record {
   sound = c.feed_row.ensures.sound;
-  fed = λ feed core is.
-      let b = c.args.bucket.now in
-      let n = c.loop-row._row in
-      let before = c.loop-row.invariant.fed feed core is in
-      FeedsRows-more b c.loop-row.bucket c.feed_row.new.bucket c.unwrap-at.result c.unwrap-replica.result n 1 feed
-      core before (c.feed_row.ensures.fed (after_rows n feed) (fed_all core (next_of n feed))
-      (IsFedAt-rows b c.unwrap-at.result c.unwrap-replica.result n feed core c.loop-row.bucket is before));
+  way = under_way_more c.args.bucket.now c.loop-row.bucket c.feed_row.new.bucket c.args.core c.unwrap-at.result
+      c.unwrap-replica.result c.min-count.result c.loop-row._row c.loop-row.invariant.way c.feed_row.ensures.fed;
 }
 
 pub get-requires-2 : goal.get-requires-2
 get-requires-2 c =
-    let way =
-    under_way c.args.bucket.now c.args.core c.position.result c.position-2.result c.unwrap-at.result
-    c.unwrap-replica.result c.loop-row._row c.loop-row.bucket c.position.ensures c.unwrap-at.ensures
-    c.position-2.ensures c.unwrap-replica.ensures c.loop-row.invariant.fed in
+    let way = c.loop-row.invariant.way in
     slice_get_within c.loop-row.bucket.feeds c.unwrap-at.result (after_rows c.loop-row._row way.feed) way.at.feed_found
 
 pub remove-requires : goal.remove-requires
@@ -60,54 +48,34 @@ remove-requires c = slice_get_within c.loop-row.bucket.feeds c.unwrap-at.result 
 pub returns-then-is_done-clause-sound : goal.returns-then-is_done-clause-sound
 returns-then-is_done-clause-sound c =
     let mid = c.loop-row.bucket in
-    let way =
-    under_way c.args.bucket.now c.args.core c.position.result c.position-2.result c.unwrap-at.result
-    c.unwrap-replica.result c.loop-row._row c.loop-row.bucket c.position.ensures c.unwrap-at.ensures
-    c.position-2.ensures c.unwrap-replica.ensures c.loop-row.invariant.fed in
-    let left =
-    rows_left c.loop-row.bucket.feeds c.unwrap-at.result c.rows_left-is_done.result
-    (after_rows c.loop-row._row way.feed) c.get-2.result.now way.at.feed_found c.get-2.ensures
-    c.rows_left-is_done.ensures in
+    let way = c.loop-row.invariant.way in
+    let left = left_then c.args.bucket.now mid c.args.core _ _ _ _ c.rows_left-is_done.result c.get-2.result.now way
+    c.get-2.ensures c.rows_left-is_done.ensures in
     subst (λ (feeds : List FeedState). IsSound (with_fed mid feeds mid.replicas)) (sym c.remove.ensures)
     (IsSound-ended mid c.unwrap-at.result (after_rows c.loop-row._row way.feed) c.loop-row.invariant.sound
     way.at.feed_found (none_left way.feed c.loop-row._row (omega (arith, left, c.if-is_done.true))))
 
 pub returns-then-is_done-clause-fed : goal.returns-then-is_done-clause-fed
 returns-then-is_done-clause-fed c =
+    let b = c.args.bucket.now in
     let mid = c.loop-row.bucket in
-    let way =
-    under_way c.args.bucket.now c.args.core c.position.result c.position-2.result c.unwrap-at.result
-    c.unwrap-replica.result c.loop-row._row c.loop-row.bucket c.position.ensures c.unwrap-at.ensures
-    c.position-2.ensures c.unwrap-replica.ensures c.loop-row.invariant.fed in
-    let rows =
-    rows_left c.args.bucket.now.feeds c.unwrap-at.result c.rows_left.result way.feed c.get.result.now
-    way.is.feed_found c.get.ensures c.rows_left.ensures in
-    let left =
-    rows_left c.loop-row.bucket.feeds c.unwrap-at.result c.rows_left-is_done.result
-    (after_rows c.loop-row._row way.feed) c.get-2.result.now way.at.feed_found c.get-2.ensures
+    let way = c.loop-row.invariant.way in
+    let left = left_then b mid c.args.core _ _ _ _ c.rows_left-is_done.result c.get-2.result.now way c.get-2.ensures
     c.rows_left-is_done.ensures in
-    subst
-    (λ (test : Bool). FeedsPiece c.args.bucket.now c.args.core test (with_fed mid c.remove.new.self mid.replicas))
+    subst (λ (test : Bool). FeedsPiece b c.args.core test (with_fed mid c.remove.new.self mid.replicas))
     (sym (eq-eqb c.rows_left-is_done.result 0 c.if-is_done.true))
-    (FeedsPiece-ended c.args.bucket.now mid c.args.core c.unwrap-at.result c.unwrap-replica.result c.loop-row._row
-    c.remove.new.self way (omega (arith, rows, c.min-count.ensures, c.loop-row-test.false))
+    (FeedsPiece-ended b mid c.args.core c.unwrap-at.result c.unwrap-replica.result c.min-count.result
+    c.loop-row._row c.remove.new.self way (omega (arith, c.loop-row-test.false))
     (omega (arith, left, c.if-is_done.true)) c.remove.ensures)
 
 pub returns-else-is_done-clause-fed : goal.returns-else-is_done-clause-fed
 returns-else-is_done-clause-fed c =
-    let way =
-    under_way c.args.bucket.now c.args.core c.position.result c.position-2.result c.unwrap-at.result
-    c.unwrap-replica.result c.loop-row._row c.loop-row.bucket c.position.ensures c.unwrap-at.ensures
-    c.position-2.ensures c.unwrap-replica.ensures c.loop-row.invariant.fed in
-    let rows =
-    rows_left c.args.bucket.now.feeds c.unwrap-at.result c.rows_left.result way.feed c.get.result.now
-    way.is.feed_found c.get.ensures c.rows_left.ensures in
-    let left =
-    rows_left c.loop-row.bucket.feeds c.unwrap-at.result c.rows_left-is_done.result
-    (after_rows c.loop-row._row way.feed) c.get-2.result.now way.at.feed_found c.get-2.ensures
+    let b = c.args.bucket.now in
+    let mid = c.loop-row.bucket in
+    let way = c.loop-row.invariant.way in
+    let left = left_then b mid c.args.core _ _ _ _ c.rows_left-is_done.result c.get-2.result.now way c.get-2.ensures
     c.rows_left-is_done.ensures in
-    subst (λ (test : Bool). FeedsPiece c.args.bucket.now c.args.core test c.loop-row.bucket)
+    subst (λ (test : Bool). FeedsPiece b c.args.core test mid)
     (sym (ne_eqb c.rows_left-is_done.result 0 c.if-is_done.false))
-    (FeedsPiece-goes_on c.args.bucket.now c.loop-row.bucket c.args.core c.unwrap-at.result c.unwrap-replica.result
-    c.loop-row._row way (omega (arith, rows, c.min-count.ensures, c.loop-row-test.false))
-    (omega (arith, left, c.if-is_done.false)))
+    (FeedsPiece-goes_on b mid c.args.core c.unwrap-at.result c.unwrap-replica.result c.min-count.result
+    c.loop-row._row way (omega (arith, c.loop-row-test.false)) (omega (arith, left, c.if-is_done.false)))

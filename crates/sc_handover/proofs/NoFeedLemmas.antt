@@ -1,0 +1,33 @@
+-- Where no split is open a bucket has no feeds, and without feeds they are as they have to be.
+use Rattle.std.proofs.Common.{◌≡◌, List, [], ◌∷◌, map, All, Contains, refl, sym, subst, arith}
+use Rattle.std.specs.List.{IsDistinct}
+use Rattle.std.proofs.lemmas.List.Elements.{All-head, All-nil}
+use Rattle.sc_cluster.specs.declared.slice.Slice.{Slice}
+use Rattle.sc_cluster.specs.Slices.{is_forming}
+use Rattle.sc_cluster.proofs.ListLemmas.{Contains-filter}
+use Rattle.sc_bucket.specs.Kept.{FeedState}
+use Rattle.sc_bucket.specs.Cores.{is_core}
+use Rattle.sc_bucket.specs.Sound.{IsFeed, AreFeeds, IsIdle}
+use Rattle.sc_bucket.specs.declared.bucket.Bucket.{Bucket}
+use Rattle.sc_bucket.proofs.FeedLemmas.{fed_core}
+
+-- with no split open no core has a feed
+pub no_feeds : (b : Bucket) → IsIdle b → All (IsFeed b) b.feeds → b.feeds ≡ []
+no_feeds b idle each = by b.feeds each where
+  no_feed : (feed : FeedState) → IsFeed b feed → ⊥
+  no_feed feed is =
+      let (k, below, at) = subst (λ (slices : List Slice). Contains slices is.slice) idle.whole
+      (Contains-filter is_forming b.map is.slice is.there is.forming) in
+      omega arith
+
+  by : (feeds : List FeedState) → All (IsFeed b) feeds → feeds ≡ []
+  by [] all = refl
+  by (feed ∷ feeds) all = absurd (no_feed feed (All-head (IsFeed b) feed feeds all))
+
+-- without feeds they are as they have to be
+pub AreFeeds-none : (b : Bucket) → b.feeds ≡ [] → AreFeeds b
+unfolding IsDistinct
+AreFeeds-none b none = record {
+  each = subst (All (IsFeed b)) (sym none) (All-nil (IsFeed b));
+  once = subst (λ (feeds : List FeedState). IsDistinct is_core (map fed_core feeds)) (sym none) tt;
+}

@@ -19,7 +19,7 @@ use Rattle.sc_bucket.specs.declared.phase.Phase.{Phase}
 use Rattle.sc_bucket.specs.declared.phase.Phase.TheVariants as phases
 use Rattle.sc_handover.specs.Conditions.{split_of, CanAbort}
 use Rattle.sc_handover.specs.Events.{Aborts}
-use Rattle.sc_handover.proofs.NotedLemmas.{EndsParts, owed-push_failed, HasJournal-noted}
+use Rattle.sc_handover.proofs.NotedLemmas.{is_settled-active, EndsParts, owed-push_failed, HasJournal-noted}
 use Rattle.sc_handover.proofs.LeftOutLemmas.{IsSound-left_out}
 
 -- the split of the parent is open
@@ -36,10 +36,6 @@ owes_failed b parent sound can =
     let less = owed-push_failed b.first b.journal.entries parent (is_open b parent sound can).begun in
     let journal = sound.journal in
     (omega (arith, less, journal.owed_is), omega (arith, less, journal.owed_is, journal.room))
-
--- an active slice is none that a split is making
-stays-active : (slice : Slice) → is_active slice ≡ true → is_settled slice ≡ true
-stays-active slice active = ap not (active_settled slice (active_from_test slice.state active))
 
 -- and the bucket is sound
 pub IsSound-aborted : (old : Bucket) (parent : SliceId) (new : Bucket) → IsSound old → CanAbort old parent
@@ -64,7 +60,7 @@ IsSound-aborted old parent new sound can aborts parts =
       some = λ slice there.
           (Contains-from_filter is_settled old.map slice
           (subst (λ (these : List Slice). Contains these slice) aborts.map_is there)).0;
-      same_active = ap (filter is_active) aborts.map_is ∙ filter-filter is_active is_settled stays-active old.map;
+      same_active = ap (filter is_active) aborts.map_is ∙ filter-filter is_active is_settled is_settled-active old.map;
       entries = aborts.entries;
       no_write = refl;
       no_commit = refl;

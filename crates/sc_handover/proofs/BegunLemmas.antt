@@ -22,6 +22,7 @@ use Rattle.sc_bucket.specs.declared.phase.Phase.TheVariants as phases
 use Rattle.sc_bucket.proofs.AcceptLemmas.{bucket_has_map}
 use Rattle.sc_bucket.proofs.CommitLemmas.{HasSearchers-taken}
 use Rattle.sc_bucket.proofs.DeliverLemmas.{IsSoundIn, core_is_sound}
+use Rattle.sc_handover.proofs.SentLemmas.{AreSent-more}
 use Rattle.sc_handover.specs.Conditions.{CanBegin}
 use Rattle.sc_handover.specs.Made.{first_feed, IsRoomyFor}
 use Rattle.sc_handover.specs.Events.{Begins}
@@ -30,7 +31,7 @@ use Rattle.sc_handover.proofs.NoFeedLemmas.{no_feeds}
 use Rattle.sc_handover.proofs.MadeLemmas.{made_core, IsMade, All-made}
 use Rattle.sc_handover.proofs.BegunJournalLemmas.{active-begun, HasJournal-begun, IsOpen-begun}
 use Rattle.sc_handover.proofs.BegunCoreLemmas.{begun_map, longer, core_below, old_is_sound, made_is_sound}
-use Rattle.sc_handover.proofs.BegunPartsLemmas.{HasCores-begun, AreFeeds-begun, AreSent-more}
+use Rattle.sc_handover.proofs.BegunPartsLemmas.{HasCores-begun, AreFeeds-begun}
 
 -- what a begin does with the parts of a bucket that its event doesn't name
 pub record BeginsParts (old : Bucket) (parent : SliceId) (subs : List SubSlice) (made : List Core)
@@ -76,8 +77,7 @@ IsSound-begun old new parent subs made sound can begins parts =
       taken = begins.searchers_are;
     }))
     (subst (λ phase. ArePrepared phase new.map new.searchers new.spares) (sym begins.phase_is) parts.prepared)
-    (AreSent-more old new one made sound.messages begins.entries
-    (λ place. is_settled-push_other old.journal.entries one place (λ _. refl)) parts.replicas_are begins.messages)
+    (AreSent-more old new one made sound.messages begins.entries (λ _. refl) parts.replicas_are begins.messages)
     (HasCores-begun old new parent subs begins.leader.cells made sound.cores can.1 is_map begins.map_is
     parts.replicas_are parts.made_are made_for)
     (AreFeeds-begun new old.map parent subs begins.leader.cells old.replicas made can.1 begins.map_is

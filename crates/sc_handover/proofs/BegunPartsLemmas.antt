@@ -196,27 +196,3 @@ AreFeeds-begun new slices parent subs rows cores made plan map_is replicas_are f
         buffering = ap (λ (c : Core). c.mode) is;
         within = omega arith;
       }
-
--- and the messages
-pub AreSent-more : (old new : Bucket) (one : Entry) (made : List Core) → AreSent old
-    → new.journal.entries ≡ old.journal.entries ++ one ∷ []
-    → ((place : ℕ) → is_settled (old.journal.entries ++ one ∷ []) place ≡ is_settled old.journal.entries place)
-    → new.replicas ≡ old.replicas ++ made → new.flight.messages ≡ old.flight.messages → AreSent new
-AreSent-more old new one made sent entries settled replicas_are messages_are = record {
-  each = subst (All (IsSent new)) (sym messages_are)
-      (All-weaker (IsSent old) (IsSent new) still old.flight.messages sent.each);
-  once = subst (IsDistinct is_same_message) (sym messages_are) sent.once;
-} where
-  still : (message : Sent) → IsSent old message → IsSent new message
-  still message is =
-      let written : IsSome (write_at old.journal.entries message.place) = subst IsSome (sym is.write) refl in
-      record {
-        write = ap (λ (these : List Entry). write_at these message.place) entries
-            ∙ write_at-append old.journal.entries (one ∷ []) message.place
-            (write_at_within old.journal.entries message.place written) ∙ is.write;
-        unsettled = ap (λ (these : List Entry). is_settled these message.place) entries ∙ settled message.place
-            ∙ is.unsettled;
-        core = subst (λ (names : List CoreId). Contains names message.core)
-            (sym (ap (map name_of) replicas_are ∙ map-append name_of old.replicas made))
-            (Contains-append_left (map name_of old.replicas) (map name_of made) message.core is.core);
-      }

@@ -35,6 +35,7 @@ use Rattle.sc_bucket.specs.declared.bucket.Bucket.{Bucket}
 use Rattle.sc_bucket.specs.declared.phase.Phase.TheVariants as phases
 use Rattle.sc_bucket.specs.declared.standing.Standing.{Standing}
 use Rattle.sc_bucket.proofs.AcceptLemmas.{bucket_has_map}
+use Rattle.sc_handover.proofs.NotedLemmas.{is_settled-active}
 use Rattle.sc_handover.specs.Parts.{PutsSwitch}
 
 -- the id of a slice, of a searcher, and of a searcher as contracts see it
@@ -107,14 +108,6 @@ ids_of_subs parent slices all =
 abbrev ComeLast : List Slice → Type 0
 ComeLast slices = slices ≡ filter (λ (slice : Slice). not (is_forming slice)) slices ++ forming slices
 
--- an active slice is none that a split is making
-settled_where_active : (slice : Slice) → is_active slice ≡ true → is_settled slice ≡ true
-settled_where_active slice = by slice.state where
-  by : (state : State) → is_active_state state ≡ true → not (is_forming_state state) ≡ true
-  by states.Active active = refl
-  by states.Inactive active = refl
-  by states.Construction active = absurd (cc)
-  by states.Recovery active = absurd (cc)
 
 -- so the ids of the active slices of the map are those before but the parent, and then the subs
 ids_of_active : (slices : List Slice) (parent : SliceId) → ComeLast slices
@@ -131,7 +124,7 @@ ids_of_active slices parent last =
     ∙ ap (λ ids. filter (not_parent parent) (map slice_id (filter is_active others)) ++ ids)
     (ids_of_subs parent subs (filter_passes is_forming slices))
     ∙ ap (λ (these : List Slice). filter (not_parent parent) (map slice_id these) ++ map slice_id subs)
-    (filter-filter is_active is_settled settled_where_active slices)
+    (filter-filter is_active is_settled is_settled-active slices)
   where
     others : List Slice
     others = filter is_settled slices

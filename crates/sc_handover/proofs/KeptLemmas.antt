@@ -64,7 +64,7 @@ key_is_of slice key there =
     ap (λ (k : ℕ × ℕ). k.0) (sym is)
 
 -- a name of the map's cores is one of a slice's
-slice_of_key : (slices : List Slice) (key : ℕ × ℕ) → Contains (core_keys slices) key
+pub slice_of_key : (slices : List Slice) (key : ℕ × ℕ) → Contains (core_keys slices) key
     → (slice : Slice) × Contains slices slice × Contains (keys_of slice) key
 slice_of_key [] key (k, below, is) = absurd (omega arith)
 slice_of_key (first ∷ slices) key there =

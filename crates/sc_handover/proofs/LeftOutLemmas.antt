@@ -37,6 +37,7 @@ use Rattle.sc_bucket.proofs.DeliveredLemmas.{IsSoundCore}
 use Rattle.sc_bucket.proofs.DeliverLemmas.{IsSoundIn}
 use Rattle.sc_bucket.proofs.FeedLemmas.{to_feed-none}
 use Rattle.sc_bucket.proofs.SearcherLemmas.{HasSearchers-grown}
+use Rattle.sc_handover.proofs.SentLemmas.{IsSent-push}
 use Rattle.sc_handover.proofs.EachCoreLemmas.{core_in, IsSound-each}
 use Rattle.sc_handover.proofs.NoFeedLemmas.{AreFeeds-none}
 use Rattle.sc_handover.proofs.KeptLemmas.{AreSome, is_kept, slice_of_one, All-kept, HasCores-kept}
@@ -150,23 +151,14 @@ cores_are_sound old one new sound leaves =
 -- a message that stays is to a core that stays, and of a write that is not settled
 IsSent-kept : (old : Bucket) (one : Entry) (new : Bucket) (message : Sent) → LeavesOut old one new
     → is_kept_message new.map message ≡ true → IsSent old message → IsSent new message
-IsSent-kept old one new message leaves kept sent = record {
-  write = ap (λ entries. write_at entries message.place) leaves.entries
-      ∙ write_at-append old.journal.entries (one ∷ []) message.place
-      (write_at_within old.journal.entries message.place (subst IsSome (sym sent.write) refl))
-      ∙ sent.write;
-  unsettled = ap (λ entries. is_settled entries message.place) leaves.entries
-      ∙ is_settled-push_other old.journal.entries one message.place leaves.settles_nothing
-      ∙ sent.unsettled;
-  core = subst (λ (these : List Core). Contains (map name_of these) message.core) (sym leaves.cores) stays;
-} where
-  stays : Contains (map name_of (filter (is_kept new.map) old.replicas)) message.core
-  stays =
-      let (core, there, is) = Contains-from_map name_of old.replicas message.core sent.core in
-      let own : is_kept new.map core ≡ true = ap (is_of_one new.map) is ∙ kept in
-      subst (Contains (map name_of (filter (is_kept new.map) old.replicas))) is
-      (Contains-map name_of (filter (is_kept new.map) old.replicas) core
-      (Contains-filter (is_kept new.map) old.replicas core there own))
+IsSent-kept old one new message leaves kept sent =
+    let (core, there, is) = Contains-from_map name_of old.replicas message.core sent.core in
+    let own : is_kept new.map core ≡ true = ap (is_of_one new.map) is ∙ kept in
+    let stays : Contains new.replicas core =
+    subst (λ (these : List Core). Contains these core) (sym leaves.cores)
+    (Contains-filter (is_kept new.map) old.replicas core there own) in
+    IsSent-push old new one message leaves.entries leaves.settles_nothing
+    (subst (Contains (map name_of new.replicas)) is (Contains-map name_of new.replicas core stays)) sent
 
 AreSent-kept : (old : Bucket) (one : Entry) (new : Bucket) → LeavesOut old one new → AreSent old → AreSent new
 AreSent-kept old one new leaves sent = record {

@@ -1,6 +1,7 @@
 -- Facts on the events of a split.
 pub mod EachCoreLemmas
 pub mod NoFeedLemmas
+pub mod SentLemmas
 pub mod KeptLemmas
 pub mod NotedLemmas
 pub mod LeftOutLemmas

@@ -10,13 +10,14 @@ use Rattle.sc_cluster.specs.declared.slice.State.{State}
 use Rattle.sc_cluster.specs.declared.slice.State.TheVariants as states
 use Rattle.sc_cluster.specs.declared.slice.Slice.{Slice}
 use Rattle.sc_cluster.specs.Map.{IsMap}
-use Rattle.sc_cluster.specs.Slices.{is_forming_state}
+use Rattle.sc_cluster.specs.Slices.{is_active, is_forming_state}
 use Rattle.sc_cluster.specs.Changes.{Change, after, IsInactive}
 use Rattle.sc_cluster.proofs.CountLemmas.{count_by-filter, count_by-none, count_by-balance}
 use Rattle.sc_cluster.proofs.IdLemmas.{id_of}
+use Rattle.sc_cluster.proofs.LeaderLemmas.{active_from_test}
 use Rattle.sc_cluster.proofs.ListLemmas.{filter-filter}
 use Rattle.sc_cluster.proofs.OrderLemmas.{at_key, count_by-at_key}
-use Rattle.sc_cluster.proofs.StateLemmas.{is_settled, is_other}
+use Rattle.sc_cluster.proofs.StateLemmas.{is_settled, is_other, active_settled}
 use Rattle.sc_journal.specs.Journal.{as_write, unsettled}
 use Rattle.sc_journal.specs.Legal.{MayFollow, IsLegal}
 use Rattle.sc_journal.specs.Splits.{change_of, map_after, open_split, is_inactive_state, is_inactive, owed_by_split, owed}
@@ -27,7 +28,11 @@ use Rattle.sc_bucket.specs.Sound.{AreActive, HasJournal}
 use Rattle.sc_bucket.specs.Events.{HasSameName}
 use Rattle.sc_bucket.specs.declared.bucket.Bucket.{Bucket}
 
--- an inactive slice is none that a split is making
+-- an active slice is none that a split is making
+pub is_settled-active : (slice : Slice) → is_active slice ≡ true → is_settled slice ≡ true
+is_settled-active slice active = ap not (active_settled slice (active_from_test slice.state active))
+
+-- nor is an inactive one
 is_settled-inactive : (slice : Slice) → is_inactive slice ≡ true → is_settled slice ≡ true
 is_settled-inactive slice = by slice.state where
   by : (state : State) → is_inactive_state state ≡ true → not (is_forming_state state) ≡ true

@@ -1,8 +1,8 @@
 -- A piece of a feed: the next 64 rows, or all that are left.
-use Rattle.std.proofs.Common.{◌≡◌, ℕ, suc, ◌+◌, ◌-◌, ◌<◌, ◌≤◌, Bool, true, false, nat_le, if◌then◌else◌, min, List, [], ◌++◌, length, filter, set, take, drop, slice_get, Option, Some, All, MatchOption, sym, ap, ◌∙◌, subst, arith, length-drop}
+use Rattle.std.proofs.Common.{◌≡◌, ◌≢◌, eqb, ℕ, suc, ◌+◌, ◌-◌, ◌<◌, ◌≤◌, Bool, true, false, nat_le, if◌then◌else◌, min, List, [], ◌++◌, length, filter, set, take, drop, slice_get, Option, Some, All, MatchOption, sym, ap, ◌∙◌, subst, arith, length-drop}
 use Rattle.std.specs.List.{remove}
 use Rattle.std.proofs.Math.ListN.{drop_of_length-le}
-use Rattle.std.proofs.lemmas.Bool.{le-leb, lt-leb}
+use Rattle.std.proofs.lemmas.Bool.{eq-eqb, le-leb, lt-leb, ne_eqb}
 use Rattle.std.proofs.lemmas.List.{drop-set-lt, take-set, take_min}
 use Rattle.std.proofs.lemmas.Option.{same_Some}
 use Rattle.sc_record.specs.declared.slice.CoreId.{CoreId}
@@ -138,26 +138,30 @@ FeedsPiece-whole old mid name feed_at core_at count n feeds is_done way all done
 }
 
 -- no row is left after it, and its feed is taken away
-pub FeedsPiece-ended : (old mid : Bucket) (name : CoreId) (feed_at core_at count n : ℕ) (feeds : List FeedState)
-    → (way : IsUnderWay old name feed_at core_at count n mid) → n ≡ count
-    → length way.feed.rows ≤ way.feed.next + n → feeds ≡ remove mid.feeds feed_at
-    → FeedsPiece old name true (with_fed mid feeds mid.replicas)
-FeedsPiece-ended old mid name feed_at core_at count n feeds way all none removed =
+pub FeedsPiece-ended : (old mid : Bucket) (name : CoreId) (feed_at core_at count n left : ℕ) (other : FeedState)
+    (feeds : List FeedState) → IsUnderWay old name feed_at core_at count n mid → n ≡ count
+    → slice_get mid.feeds feed_at ≡ Some other → left ≡ length other.rows - other.next → left ≡ 0
+    → feeds ≡ remove mid.feeds feed_at → FeedsPiece old name (eqb left 0) (with_fed mid feeds mid.replicas)
+FeedsPiece-ended old mid name feed_at core_at count n left other feeds way all there left_is none removed =
     let looked : FeedState = after_rows n way.feed in
-    FeedsPiece-whole old mid name feed_at core_at count n feeds true way all
-    (sym (le-leb (length way.feed.rows) (way.feed.next + 64) (omega (arith, way.count_is, all, none))))
+    let still = left_then old mid name feed_at core_at count n left other way there left_is in
+    subst (λ (test : Bool). FeedsPiece old name test (with_fed mid feeds mid.replicas)) (sym (eq-eqb left 0 none))
+    (FeedsPiece-whole old mid name feed_at core_at count n feeds true way all
+    (sym (le-leb (length way.feed.rows) (way.feed.next + 64) (omega (arith, way.count_is, all, still, none))))
     (removed ∙ ap (λ (these : List FeedState). remove these feed_at) way.fed.feeds_are
     ∙ ap (λ start. start ++ drop (suc feed_at) (set old.feeds feed_at looked)) (take-set old.feeds feed_at looked)
     ∙ ap (λ end. take feed_at old.feeds ++ end)
-    (drop-set-lt (suc feed_at) old.feeds feed_at looked (omega arith)))
+    (drop-set-lt (suc feed_at) old.feeds feed_at looked (omega arith))))
 
 -- rows are left after it
-pub FeedsPiece-goes_on : (old mid : Bucket) (name : CoreId) (feed_at core_at count n : ℕ)
-    → (way : IsUnderWay old name feed_at core_at count n mid) → n ≡ count
-    → way.feed.next + n < length way.feed.rows → FeedsPiece old name false mid
+pub FeedsPiece-goes_on : (old mid : Bucket) (name : CoreId) (feed_at core_at count n left : ℕ) (other : FeedState)
+    → IsUnderWay old name feed_at core_at count n mid → n ≡ count → slice_get mid.feeds feed_at ≡ Some other
+    → left ≡ length other.rows - other.next → left ≢ 0 → FeedsPiece old name (eqb left 0) mid
 unfolding feed_limit
-FeedsPiece-goes_on old mid name feed_at core_at count n way all more =
-    let whole : n ≡ 64 = omega (arith, way.count_is, all, more) in
-    FeedsPiece-whole old mid name feed_at core_at count n mid.feeds false way all
-    (sym (lt-leb (length way.feed.rows) (way.feed.next + 64) (omega (arith, whole, more))))
-    (way.fed.feeds_are ∙ ap (λ (k : ℕ). set old.feeds feed_at (after_rows k way.feed)) whole)
+FeedsPiece-goes_on old mid name feed_at core_at count n left other way all there left_is some =
+    let still = left_then old mid name feed_at core_at count n left other way there left_is in
+    let whole : n ≡ 64 = omega (arith, way.count_is, all, still, some) in
+    subst (λ (test : Bool). FeedsPiece old name test mid) (sym (ne_eqb left 0 some))
+    (FeedsPiece-whole old mid name feed_at core_at count n mid.feeds false way all
+    (sym (lt-leb (length way.feed.rows) (way.feed.next + 64) (omega (arith, whole, still, some))))
+    (way.fed.feeds_are ∙ ap (λ (k : ℕ). set old.feeds feed_at (after_rows k way.feed)) whole))

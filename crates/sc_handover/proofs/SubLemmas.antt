@@ -24,6 +24,7 @@ use Rattle.sc_bucket.specs.Cores.{core_key, core_keys, keys_of, is_attached}
 use Rattle.sc_bucket.specs.Sound.{IsFeed, IsSound}
 use Rattle.sc_bucket.specs.declared.bucket.Bucket.{Bucket}
 use Rattle.sc_bucket.proofs.SoundLemmas.{AreAlike, name_and_mode}
+use Rattle.sc_handover.proofs.KeptLemmas.{slice_of_key}
 use Rattle.sc_handover.specs.Conditions.{IsThereActive, CanSwitch}
 use Rattle.sc_handover.specs.Parts.{is_of_sub}
 use Rattle.sc_handover.proofs.LastWriteLemmas.{same_from_key}
@@ -36,23 +37,6 @@ attached_where_forming slice = by slice.state where
   by states.Inactive is = absurd (cc)
   by states.Construction is = refl
   by states.Recovery is = refl
-
--- a name among those of a map's slices is one of a slice's
-slice_of_key : (slices : List Slice) (key : ℕ × ℕ) → Contains (core_keys slices) key
-    → (slice : Slice) × Contains slices slice × Contains (keys_of slice) key
-slice_of_key [] key (k, below, is) = absurd (omega arith)
-slice_of_key (first ∷ slices) key there =
-    by (slice_of_key slices key) (Contains-append_cases (keys_of first) (core_keys slices) key there)
-  where
-    IsOfOne : List Slice → Type 0
-    IsOfOne these = (slice : Slice) × Contains these slice × Contains (keys_of slice) key
-
-    by : (Contains (core_keys slices) key → IsOfOne slices) → Contains (keys_of first) key ⊎ Contains (core_keys slices) key
-        → IsOfOne (first ∷ slices)
-    by rest (inl here) = (first, (0, omega arith, refl), here)
-    by rest (inr later) =
-        let (slice, inside, here) = rest later in
-        (slice, (suc inside.0, omega (arith, inside.1), inside.2), here)
 
 -- each core is of a slice of the map, and its name is one of that slice's
 pub slice_of_core : (b : Bucket) (core : Core) → IsSound b → Contains b.replicas core
@@ -114,16 +98,12 @@ CanSwitch-alike old new parent same_phase same_map alike can = record {
       (other, other_there, ap key_of same ∙ is, ap (λ (pair : CoreId × Mode). pair.1) same ∙ active)
 
 -- a core is of a sub where the slice of its id is one
-of_sub_in : (slices : List Slice) (core : CoreId) (slice : Slice) → Contains slices slice → slice.id ≡ core.slice
-    → is_forming slice ≡ true → is_of_sub slices core ≡ true
-of_sub_in slices core slice there named is =
+pub of_sub_where_forming : (slices : List Slice) (core : CoreId) (slice : Slice) → Contains slices slice
+    → slice.id ≡ core.slice → is_forming slice ≡ true → is_of_sub slices core ≡ true
+of_sub_where_forming slices core slice there named is =
     let (k, below, here) = Contains-filter is_forming slices slice there is in
     list_any_at (λ (s : Slice). nat_eq s.id.0 core.slice.0) (forming slices) k slice below
     ((Decides-eqb _ core.slice.0).1 (ap (λ (s : Slice). s.id.0) here ∙ ap (λ (id : SliceId). id.0) named))
-
-pub of_sub_where_forming : (slices : List Slice) (core : CoreId) (slice : Slice) → Contains slices slice
-    → slice.id ≡ core.slice → is_forming slice ≡ true → is_of_sub slices core ≡ true
-of_sub_where_forming slices core slice there named is = of_sub_in slices core slice there named is
 
 -- and of none where no sub has that id
 none_has_id : (slices : List Slice) (core : CoreId)
@@ -154,7 +134,7 @@ of_sub-found slices core found slice is_map is same =
   where
     by : Contains slices slice.now → slice.now.id ≡ core.slice → (t : Bool) → is_forming slice.now ≡ t
         → is_forming slice.now ≡ is_of_sub slices core
-    by there named true forms = forms ∙ sym (of_sub_in slices core slice.now there named forms)
+    by there named true forms = forms ∙ sym (of_sub_where_forming slices core slice.now there named forms)
     by there named false settled = settled ∙ sym (none_has_id slices core (λ other inside forms alike.
         let one : other ≡ slice.now = same_from_id slices other slice.now is_map inside there (alike ∙ sym named) in
         let both : true ≡ false = sym forms ∙ (ap is_forming one ∙ settled) in

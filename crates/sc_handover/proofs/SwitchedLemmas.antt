@@ -34,6 +34,8 @@ use Rattle.sc_bucket.specs.Events.{without_room}
 use Rattle.sc_bucket.specs.declared.bucket.Bucket.{Bucket}
 use Rattle.sc_bucket.proofs.CoreLemmas.{is_core-Decides}
 use Rattle.sc_bucket.proofs.SoundLemmas.{IsSent-left}
+use Rattle.std.proofs.lemmas.List.{append-nil}
+use Rattle.sc_handover.proofs.SentLemmas.{AreSent-more}
 use Rattle.sc_handover.specs.Conditions.{IsThereActive, CanSwitch}
 use Rattle.sc_handover.specs.Events.{HaveLastWrites}
 use Rattle.sc_handover.specs.Parts.{is_of_sub, IsQuiet, NoneIsToASub, PutsSwitch}
@@ -204,26 +206,6 @@ HasCores-switched old new parent ready puts = record {
       (sym (switched_keeps keys_of (λ _ _. refl) parent slice))
       (subst (λ (keys : List (ℕ × ℕ)). All (Contains keys) (keys_of slice)) (sym same_keys) (by slice in_map (is_forming slice) refl))
 
--- the messages are as they have to be
-AreSent-switched : (old new : Bucket) (parent : SliceId) → IsSound old → PutsSwitch old parent new → AreSent new
-AreSent-switched old new parent sound puts =
-    let same : new.flight.messages ≡ old.flight.messages = ap (λ (f : FlightState). f.messages) puts.flight_is in
-    record {
-      each = subst (All (IsSent new)) (sym same) (All-weaker (IsSent old) (IsSent new) still old.flight.messages sound.messages.each);
-      once = subst (IsDistinct is_same_message) (sym same) sound.messages.once;
-    }
-  where
-    still : (message : Sent) → IsSent old message → IsSent new message
-    still message sent =
-        let one : Entry = entry.Switched parent in
-        let written : IsSome (write_at old.journal.entries message.place) = subst IsSome (sym sent.write) refl in
-        IsSent-left old new message (ap (map without_room) puts.cores)
-        (ap (λ entries. write_at entries message.place) puts.entries
-        ∙ write_at-append old.journal.entries (one ∷ []) message.place (write_at_within old.journal.entries message.place written))
-        (ap (λ entries. is_settled entries message.place) puts.entries
-        ∙ is_settled-push_other old.journal.entries one message.place (λ place. refl))
-        sent
-
 -- so a bucket is sound once its split was switched
 pub IsSound-switched : (old new : Bucket) (parent : SliceId) → IsReadyToSwitch old parent → PutsSwitch old parent new
     → SwitchesParts old new → IsSound new
@@ -239,7 +221,9 @@ IsSound-switched old new parent ready puts parts =
     IsSound-each new cores (HasJournal-switched old new parent ready.sound.journal split puts parts)
     (HasSearchers-switched old new parent ready.sound split puts)
     (subst (λ phase. ArePrepared phase new.map new.searchers new.spares) (sym puts.phase_is) parts.spares_are)
-    (AreSent-switched old new parent ready.sound puts) (HasCores-switched old new parent ready puts)
+    (AreSent-more old new (entry.Switched parent) [] ready.sound.messages puts.entries (λ _. refl)
+    (puts.cores ∙ sym (append-nil old.replicas)) (ap (λ (flight : FlightState). flight.messages) puts.flight_is))
+    (HasCores-switched old new parent ready puts)
     (AreFeeds-none new puts.feeds_are)
     (subst (IsInPhase new) (sym puts.phase_is) (record {
       idle = ap open_split puts.entries ∙ open_split-push old.journal.entries (entry.Switched parent);

@@ -57,25 +57,13 @@ returns-then-is_done-clause-sound c =
 
 pub returns-then-is_done-clause-fed : goal.returns-then-is_done-clause-fed
 returns-then-is_done-clause-fed c =
-    let b = c.args.bucket.now in
-    let mid = c.loop-row.bucket in
-    let way = c.loop-row.invariant.way in
-    let left = left_then b mid c.args.core _ _ _ _ c.rows_left-is_done.result c.get-2.result.now way c.get-2.ensures
-    c.rows_left-is_done.ensures in
-    subst (λ (test : Bool). FeedsPiece b c.args.core test (with_fed mid c.remove.new.self mid.replicas))
-    (sym (eq-eqb c.rows_left-is_done.result 0 c.if-is_done.true))
-    (FeedsPiece-ended b mid c.args.core c.unwrap-at.result c.unwrap-replica.result c.min-count.result
-    c.loop-row._row c.remove.new.self way (omega (arith, c.loop-row-test.false))
-    (omega (arith, left, c.if-is_done.true)) c.remove.ensures)
+    FeedsPiece-ended c.args.bucket.now c.loop-row.bucket c.args.core c.unwrap-at.result c.unwrap-replica.result
+    c.min-count.result c.loop-row._row c.rows_left-is_done.result c.get-2.result.now c.remove.new.self
+    c.loop-row.invariant.way (omega (arith, c.loop-row-test.false)) c.get-2.ensures c.rows_left-is_done.ensures
+    c.if-is_done.true c.remove.ensures
 
 pub returns-else-is_done-clause-fed : goal.returns-else-is_done-clause-fed
 returns-else-is_done-clause-fed c =
-    let b = c.args.bucket.now in
-    let mid = c.loop-row.bucket in
-    let way = c.loop-row.invariant.way in
-    let left = left_then b mid c.args.core _ _ _ _ c.rows_left-is_done.result c.get-2.result.now way c.get-2.ensures
-    c.rows_left-is_done.ensures in
-    subst (λ (test : Bool). FeedsPiece b c.args.core test mid)
-    (sym (ne_eqb c.rows_left-is_done.result 0 c.if-is_done.false))
-    (FeedsPiece-goes_on b mid c.args.core c.unwrap-at.result c.unwrap-replica.result c.min-count.result
-    c.loop-row._row way (omega (arith, c.loop-row-test.false)) (omega (arith, left, c.if-is_done.false)))
+    FeedsPiece-goes_on c.args.bucket.now c.loop-row.bucket c.args.core c.unwrap-at.result c.unwrap-replica.result
+    c.min-count.result c.loop-row._row c.rows_left-is_done.result c.get-2.result.now c.loop-row.invariant.way
+    (omega (arith, c.loop-row-test.false)) c.get-2.ensures c.rows_left-is_done.ensures c.if-is_done.false

@@ -1,26 +1,21 @@
 -- A bucket whose split is given up owes two entries less, and is sound.
-use Rattle.std.proofs.Common.{◌≡◌, ◌∙◌, ◌≤◌, true, not, List, filter, Some, Contains, refl, ap, subst, arith}
+use Rattle.std.proofs.Common.{◌≡◌, [], ◌≤◌, Some, refl, subst, arith}
 use Rattle.std.proofs.lemmas.Option.{none-some, same_Some}
 use Rattle.sc_record.specs.declared.slice.SliceId.{SliceId}
-use Rattle.sc_record.specs.declared.entry.Entry.{Entry}
 use Rattle.sc_record.specs.declared.entry.Entry.TheVariants as entry
-use Rattle.sc_cluster.specs.declared.slice.Slice.{Slice}
-use Rattle.sc_cluster.specs.Slices.{is_active, forming}
+use Rattle.sc_cluster.specs.Slices.{is_active}
 use Rattle.sc_cluster.specs.Changes.{Change}
-use Rattle.sc_cluster.proofs.LeaderLemmas.{active_from_test}
 use Rattle.sc_cluster.proofs.ListLemmas.{filter-filter, Contains-from_filter}
 use Rattle.sc_cluster.proofs.MapLemmas.{failed_is_idle}
-use Rattle.sc_cluster.proofs.StateLemmas.{is_settled, active_settled}
-use Rattle.sc_journal.specs.Splits.{open_split}
+use Rattle.sc_cluster.proofs.StateLemmas.{is_settled}
 use Rattle.sc_journal.proofs.SplitLemmas.{open_split-push}
 use Rattle.sc_bucket.specs.Sound.{IsOpen, IsInPhase, IsSound}
 use Rattle.sc_bucket.specs.declared.bucket.Bucket.{Bucket}
 use Rattle.sc_bucket.specs.declared.phase.Phase.{Phase}
 use Rattle.sc_bucket.specs.declared.phase.Phase.TheVariants as phases
 use Rattle.sc_handover.specs.Conditions.{split_of, CanAbort}
-use Rattle.sc_handover.specs.Events.{Aborts}
-use Rattle.sc_handover.proofs.NotedLemmas.{is_settled-active, EndsParts, owed-push_failed, HasJournal-noted}
-use Rattle.sc_handover.proofs.LeftOutLemmas.{IsSound-left_out}
+use Rattle.sc_handover.proofs.NotedLemmas.{is_settled-active, owed-push_failed, TakesOut}
+use Rattle.sc_handover.proofs.LeftOutLemmas.{IsSound-taken_out}
 
 -- the split of the parent is open
 pub is_open : (b : Bucket) (parent : SliceId) → IsSound b → CanAbort b parent → IsOpen b parent
@@ -39,38 +34,21 @@ owes_failed b parent sound can =
 
 -- and the bucket is sound
 pub IsSound-aborted : (old : Bucket) (parent : SliceId) (new : Bucket) → IsSound old → CanAbort old parent
-    → Aborts old parent new → EndsParts old 2 new → IsSound new
-IsSound-aborted old parent new sound can aborts parts =
-    let one : Entry = entry.Failed parent in
+    → TakesOut old (entry.Failed parent) (Change.Failed parent) 2 new → new.phase ≡ phases.Idle → new.feeds ≡ []
+    → IsSound new
+IsSound-aborted old parent new sound can takes =
     let opened = is_open old parent sound can in
-    IsSound-left_out old one new sound
-    (HasJournal-noted old new one (Change.Failed parent) 2 sound.journal (record {
-      name = aborts.name;
-      entries = aborts.entries;
+    IsSound-taken_out old (entry.Failed parent) (Change.Failed parent) 2 new sound
+    (record {
       may = opened.begun;
       change_is = refl;
       no_write = refl;
-      settles_nothing = λ place. refl;
-      map_is = aborts.map_is;
-      some = omega arith;
-      owed_less = owed-push_failed old.first old.journal.entries parent opened.begun;
-      parts = parts;
-    }))
-    (record {
-      some = λ slice there.
-          (Contains-from_filter is_settled old.map slice
-          (subst (λ (these : List Slice). Contains these slice) aborts.map_is there)).0;
-      same_active = ap (filter is_active) aborts.map_is ∙ filter-filter is_active is_settled is_settled-active old.map;
-      entries = aborts.entries;
-      no_write = refl;
       no_commit = refl;
       settles_nothing = λ place. refl;
-      phase_is = aborts.phase_is;
-      idle = ap open_split aborts.entries ∙ open_split-push old.journal.entries one;
-      whole = ap forming aborts.map_is ∙ failed_is_idle old.map parent;
-      messages = aborts.messages;
-      cores = aborts.cores;
-      feeds_are = aborts.feeds_are;
-      searchers_are = aborts.searchers_are;
-      spares_are = parts.spares_are;
-    })
+      some = omega arith;
+      owed_less = owed-push_failed old.first old.journal.entries parent opened.begun;
+      among = λ slice there. (Contains-from_filter is_settled old.map slice there).0;
+      same_active = filter-filter is_active is_settled is_settled-active old.map;
+      idle = open_split-push old.journal.entries (entry.Failed parent);
+      whole = failed_is_idle old.map parent;
+    }) takes

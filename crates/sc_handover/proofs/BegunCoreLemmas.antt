@@ -1,8 +1,8 @@
 -- Each core of a bucket is sound once a split has begun: those that were there, and the leaders of the subs.
-use Rattle.std.proofs.Common.{◌≡◌, ◌≢◌, ◌≤◌, ◌<◌, ◌⊎◌, ◌∙◌, ℕ, true, false, None, Some, inl, inr, List, [], ◌∷◌, ◌++◌, map, All, Contains, sym, ap, subst, arith}
+use Rattle.std.proofs.Common.{◌≡◌, ◌≢◌, ◌≤◌, ◌<◌, ◌∙◌, ℕ, true, false, None, Some, inl, inr, List, [], ◌∷◌, ◌++◌, map, All, Contains, sym, ap, subst, arith}
 use Rattle.std.proofs.lemmas.Bool.{false_from_ne_true}
 use Rattle.std.specs.List.{range_with_len}
-use Rattle.std.proofs.lemmas.List.Elements.{All-nil, All-map, All-weaker, All-contains, All-contains_itself, All-filter, filter_passes, Contains-append_cases}
+use Rattle.std.proofs.lemmas.List.Elements.{All-nil, All-map, All-weaker, All-contains, All-contains_itself, All-filter, filter_passes}
 use Rattle.sc_hash.specs.Range.{IsWithin}
 use Rattle.sc_hash.proofs.BoundsLemmas.{contains-Decides}
 use Rattle.sc_router.specs.Route.{route_hash}
@@ -25,7 +25,7 @@ use Rattle.sc_journal.specs.Journal.{as_write, writes, last_write}
 use Rattle.sc_journal.proofs.JournalLemmas.{writes-push_other, last_write_is}
 use Rattle.sc_journal.proofs.LegalLemmas.{legal_hash}
 use Rattle.sc_bucket.specs.Kept.{Sent, FeedState}
-use Rattle.sc_bucket.specs.Cores.{core_key, core_keys, keys_of, is_core, IsLeaderOf}
+use Rattle.sc_bucket.specs.Cores.{core_key, core_keys, is_core, IsLeaderOf}
 use Rattle.sc_bucket.specs.Flight.{in_flight}
 use Rattle.sc_bucket.specs.Pending.{is_within, is_feed_of, left_of, to_feed, pending}
 use Rattle.sc_bucket.specs.Sound.{AreWritten, IsInRange, IsSent, HasCores, Serves, IsSound}
@@ -36,6 +36,8 @@ use Rattle.sc_bucket.proofs.DeliveredLemmas.{IsSoundCore}
 use Rattle.sc_bucket.proofs.FeedLemmas.{to_feed-none}
 use Rattle.sc_bucket.proofs.PendingLemmas.{goes_to, in_flight-none}
 use Rattle.sc_bucket.proofs.WriteLemmas.{Contains-find}
+use Rattle.sc_cluster.proofs.IdLemmas.{id_of, greatest_id-bounds}
+use Rattle.sc_handover.proofs.KeptLemmas.{slice_of_key}
 use Rattle.sc_handover.proofs.EachCoreLemmas.{IsSoundWith}
 use Rattle.sc_handover.specs.Made.{first_core, first_feed, range_of}
 use Rattle.sc_handover.proofs.PlanLemmas.{sub_above, was_there, is_begun, sub_within}
@@ -50,18 +52,12 @@ of_other_slice one other apart =
 
 -- the slice of a name has no id above the greatest
 key_below : (slices : List Slice) (key : ℕ × ℕ) → Contains (core_keys slices) key → key.0 ≤ greatest_id slices
-key_below [] key (k, below, is) = absurd (omega arith)
-key_below (slice ∷ slices) key there =
-    by (key_below slices key) (Contains-append_cases (keys_of slice) (core_keys slices) key there)
-  where
-    by : (Contains (core_keys slices) key → key.0 ≤ greatest_id slices)
-        → Contains (keys_of slice) key ⊎ Contains (core_keys slices) key → key.0 ≤ greatest_id (slice ∷ slices)
-    by rest (inl here) =
-        let (replica, inside, is) =
-        Contains-from_map (λ (replica : ℕ). (slice.id.0, replica)) (range_with_len 1 slice.replicas) key here in
-        let same : slice.id.0 ≡ key.0 = ap (λ (k : ℕ × ℕ). k.0) is in
-        omega arith
-    by rest (inr later) = let low = rest later in omega arith
+key_below slices key there =
+    let (slice, inside, own) = slice_of_key slices key there in
+    let named = Contains-from_map (λ (replica : ℕ). (slice.id.0, replica)) (range_with_len 1 slice.replicas) key own in
+    let same : slice.id.0 ≡ key.0 = ap (λ (k : ℕ × ℕ). k.0) named.2 in
+    let low = All-contains (λ (one : Slice). id_of one ≤ greatest_id slices) slices slice (greatest_id-bounds slices) inside in
+    omega (arith, same, low)
 
 -- nor has that of a core
 pub core_below : (b : Bucket) (core : Core) → HasCores b → Contains b.replicas core

@@ -1,6 +1,6 @@
 -- The journal, the map and the searchers of a bucket once a split has begun.
 use Rattle.std.proofs.Common.{◌≡◌, ◌≤◌, ◌+◌, ◌∙◌, not, true, false, cond, None, List, [], ◌∷◌, ◌++◌, length, map, filter, count_by, All, refl, sym, ap, subst, arith}
-use Rattle.std.proofs.lemmas.List.{append-nil, length_push}
+use Rattle.std.proofs.lemmas.List.{append-nil}
 use Rattle.std.proofs.lemmas.List.Elements.{All-map, All-weaker, filter-append}
 use Rattle.std.proofs.lemmas.List.Sums.{sum_by-append}
 use Rattle.sc_record.specs.declared.slice.SliceId.{SliceId}
@@ -10,23 +10,20 @@ use Rattle.sc_record.specs.declared.entry.Entry.TheVariants as entry
 use Rattle.sc_cluster.specs.declared.slice.Slice.{Slice}
 use Rattle.sc_cluster.specs.declared.slice.State.TheVariants as states
 use Rattle.sc_cluster.specs.Slices.{is_active, is_forming, forming}
-use Rattle.sc_cluster.specs.Map.{IsMap}
 use Rattle.sc_cluster.specs.Plans.{IsPlan}
-use Rattle.sc_cluster.specs.Changes.{Change, after, begun_slice, IsSplit}
+use Rattle.sc_cluster.specs.Changes.{Change, begun_slice, IsSplit}
 use Rattle.sc_cluster.proofs.BegunLemmas.{All-forming_begun}
 use Rattle.sc_cluster.proofs.CountLemmas.{count_by-none}
 use Rattle.sc_cluster.proofs.ListLemmas.{filter-none, filter-all, none_from_filter}
 use Rattle.sc_cluster.proofs.MapLemmas.{begun_is_split}
 use Rattle.sc_cluster.proofs.StateLemmas.{is_settled, forming-begun}
-use Rattle.sc_journal.specs.Journal.{unsettled}
 use Rattle.sc_journal.specs.Splits.{map_after, open_split, owed, owed_by_split, is_inactive}
-use Rattle.sc_journal.specs.Legal.{IsLegal}
 use Rattle.sc_journal.proofs.SettledLemmas.{unsettled-push_other}
 use Rattle.sc_journal.proofs.SplitLemmas.{map_after-push, open_split-push}
-use Rattle.sc_journal.proofs.LegalLemmas.{IsLegal-push}
-use Rattle.sc_bucket.specs.Sound.{AreActive, HasJournal, IsIdle, IsOpen}
+use Rattle.sc_bucket.specs.Sound.{HasJournal, IsIdle, IsOpen}
 use Rattle.sc_bucket.specs.declared.bucket.Bucket.{Bucket}
 use Rattle.sc_bucket.proofs.AcceptLemmas.{bucket_has_map}
+use Rattle.sc_handover.proofs.PushedLemmas.{HasJournal-pushed}
 use Rattle.sc_handover.specs.Events.{Begins}
 
 -- the subs make no slice inactive, and no slice active
@@ -66,33 +63,19 @@ pub HasJournal-begun : (old new : Bucket) (parent : SliceId) (subs : List SubSli
     → IsPlan old.map parent subs → Begins old parent subs new → new.unsettled.places ≡ old.unsettled.places
     → new.owed ≡ old.owed + 2 → new.owed ≤ new.journal.room → HasJournal new
 HasJournal-begun old new parent subs journal idle plan begins places owed_is room =
-    let one : Entry = entry.Begun parent subs in
-    let entries : List Entry = old.journal.entries in
-    let legal : IsLegal old.first (entries ++ one ∷ []) = IsLegal-push old.first entries one journal.legal (record {
-      idle = idle.idle;
-      plan = subst (λ slices. IsPlan slices parent subs) journal.map_is plan;
-    }) in
-    let count : length new.journal.entries ≡ length entries + 1 = ap length begins.entries ∙ length_push entries one in
-    let owes : owed new.first new.journal.entries ≡ owed old.first entries + 2 =
-    ap (λ first. owed first new.journal.entries) begins.name.first ∙ ap (owed old.first) begins.entries
-    ∙ owed-push_begun old.first entries parent subs idle.idle in
-    record {
-      first = subst IsMap (sym begins.name.first) journal.first;
-      begins = subst AreActive (sym begins.name.first) journal.begins;
-      legal = subst (λ first. IsLegal first new.journal.entries) (sym begins.name.first)
-          (subst (IsLegal old.first) (sym begins.entries) legal);
-      map_is = begins.map_is ∙ ap (λ slices. after slices (Change.Begun parent subs)) journal.map_is
-          ∙ sym (map_after-push old.first entries one (Change.Begun parent subs) refl)
-          ∙ ap (map_after old.first) (sym begins.entries)
-          ∙ ap (λ first. map_after first new.journal.entries) (sym begins.name.first);
-      unsettled_are = places ∙ journal.unsettled_are
-          ∙ sym (unsettled-push_other entries one refl (λ place. refl)) ∙ ap unsettled (sym begins.entries);
-      owed_is = omega (arith, owed_is, journal.owed_is, owes);
+    let plan_then = subst (λ slices. IsPlan slices parent subs) journal.map_is plan in
+    HasJournal-pushed old new (entry.Begun parent subs) (Change.Begun parent subs) journal
+    (record { idle = idle.idle; plan = plan_then }) refl refl (λ place. refl)
+    (record {
+      name = begins.name;
+      entries = begins.entries;
+      map_is = begins.map_is;
+      unsettled_are = places;
+      owed_is = owed_is ∙ ap (λ n. n + 2) journal.owed_is
+          ∙ sym (owed-push_begun old.first old.journal.entries parent subs idle.idle);
       room = room;
-      within = omega (arith, count, owed_is, journal.owed_is, begins.name.limit, begins.room);
-      limit_from = omega (arith, begins.name.limit, journal.limit_from);
-      limit_to = omega (arith, begins.name.limit, journal.limit_to);
-    }
+      within = omega (arith, owed_is, journal.owed_is, begins.room);
+    })
 
 -- a split is open, and the slices that it makes come last
 pub IsOpen-begun : (old new : Bucket) (parent : SliceId) (subs : List SubSlice) → HasJournal old → IsIdle old

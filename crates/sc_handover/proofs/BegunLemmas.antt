@@ -11,7 +11,6 @@ use Rattle.sc_cluster.specs.Map.{IsMap}
 use Rattle.sc_cluster.specs.Changes.{Change}
 use Rattle.sc_cluster.proofs.MapLemmas.{change_is_map}
 use Rattle.sc_replica.specs.Core.{Core}
-use Rattle.sc_journal.proofs.SettledLemmas.{is_settled-push_other}
 use Rattle.sc_bucket.specs.Kept.{FeedState}
 use Rattle.sc_bucket.specs.Cores.{IsLeaderOf}
 use Rattle.sc_bucket.specs.Searchers.{ArePrepared}

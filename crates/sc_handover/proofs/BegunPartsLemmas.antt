@@ -1,6 +1,5 @@
 -- The cores, the feeds and the messages of a bucket once a split has begun.
-use Rattle.std.proofs.Common.{◌≡◌, ◌≤◌, ◌<◌, ◌+◌, ◌*◌, ◌^◌, ◌∙◌, ℕ, true, false, List, [], ◌∷◌, ◌++◌, map, All, Contains, refl, sym, ap, subst, arith}
-use Rattle.std.specs.Prelude.{IsSome}
+use Rattle.std.proofs.Common.{◌≡◌, ◌≤◌, ◌<◌, ◌+◌, ◌*◌, ◌^◌, ◌∙◌, ℕ, true, false, List, ◌++◌, map, All, Contains, refl, sym, ap, subst, arith}
 use Rattle.std.specs.List.{IsDistinct}
 use Rattle.std.specs.List.Sorted.{IsStrictlyIncreasing}
 use Rattle.std.proofs.lemmas.List.{map-append}
@@ -10,7 +9,6 @@ use Rattle.sc_record.specs.declared.slice.SliceId.{SliceId}
 use Rattle.sc_record.specs.declared.slice.SubSlice.{SubSlice}
 use Rattle.sc_record.specs.declared.slice.CoreId.{CoreId}
 use Rattle.sc_record.specs.declared.write.Write.{Write}
-use Rattle.sc_record.specs.declared.entry.Entry.{Entry}
 use Rattle.sc_cluster.specs.declared.slice.Slice.{Slice}
 use Rattle.sc_cluster.specs.Slices.{is_forming, greatest_id}
 use Rattle.sc_cluster.specs.Map.{IsMap}
@@ -21,15 +19,12 @@ use Rattle.sc_cluster.proofs.OrderLemmas.{IsStrictlyIncreasing-append, AreBelow-
 use Rattle.sc_cluster.proofs.PairLemmas.{Contains-from_map}
 use Rattle.sc_ulog.specs.declared.mode.Mode.TheVariants.{Active}
 use Rattle.sc_replica.specs.Core.{Core}
-use Rattle.sc_journal.specs.Journal.{write_at, is_settled}
-use Rattle.sc_journal.proofs.JournalLemmas.{write_at-append, write_at_within}
-use Rattle.sc_bucket.specs.Kept.{Sent, FeedState}
+use Rattle.sc_bucket.specs.Kept.{FeedState}
 use Rattle.sc_bucket.specs.Cores.{core_key, core_keys, keys_of, core_number, is_core, IsCounted}
-use Rattle.sc_bucket.specs.Flight.{is_same_message}
-use Rattle.sc_bucket.specs.Sound.{IsSent, AreSent, HasCores, IsFeed, AreFeeds}
+use Rattle.sc_bucket.specs.Sound.{HasCores, IsFeed, AreFeeds}
 use Rattle.sc_bucket.specs.Events.{without_room}
 use Rattle.sc_bucket.specs.declared.bucket.Bucket.{Bucket}
-use Rattle.sc_bucket.proofs.CoreLemmas.{name_of, keys_among}
+use Rattle.sc_bucket.proofs.CoreLemmas.{keys_among}
 use Rattle.sc_bucket.proofs.FeedLemmas.{fed_core}
 use Rattle.sc_handover.specs.Made.{first_feed}
 use Rattle.sc_handover.proofs.PlanLemmas.{leader_number, leaders_rise, sub_above, was_there, is_begun}

@@ -3,17 +3,16 @@ use Rattle.std.proofs.Common.{◌≡◌, ◌∙◌, ◌+◌, ◌≤◌, Bool, tr
 use Rattle.std.proofs.lemmas.Bool.{eqb-true}
 use Rattle.std.proofs.lemmas.List.Elements.{All-contains_itself, All-head, All-tail, All-weaker}
 use Rattle.sc_record.specs.declared.slice.SliceId.{SliceId}
-use Rattle.sc_record.specs.declared.entry.Entry.{Entry}
 use Rattle.sc_record.specs.declared.entry.Entry.TheVariants as entry
 use Rattle.sc_cluster.specs.declared.slice.Slice.{Slice}
 use Rattle.sc_cluster.specs.Map.{IsMap}
-use Rattle.sc_cluster.specs.Slices.{is_active_state, is_active, forming}
+use Rattle.sc_cluster.specs.Slices.{is_active_state, is_active}
 use Rattle.sc_cluster.specs.Changes.{Change, IsInactive}
 use Rattle.sc_cluster.proofs.LeaderLemmas.{same_from_id}
 use Rattle.sc_cluster.proofs.ListLemmas.{Contains-from_filter}
 use Rattle.sc_cluster.proofs.MapLemmas.{dropped_is_idle}
 use Rattle.sc_cluster.proofs.StateLemmas.{is_other}
-use Rattle.sc_journal.specs.Splits.{open_split, owed}
+use Rattle.sc_journal.specs.Splits.{owed}
 use Rattle.sc_journal.specs.Legal.{MayDrop}
 use Rattle.sc_journal.proofs.SplitLemmas.{open_split-push}
 use Rattle.sc_bucket.specs.Searchers.{ArePrepared}
@@ -23,10 +22,9 @@ use Rattle.sc_bucket.specs.declared.phase.Phase.TheVariants as phases
 use Rattle.sc_bucket.proofs.AcceptLemmas.{bucket_has_map}
 use Rattle.sc_handover.proofs.NoFeedLemmas.{no_feeds}
 use Rattle.sc_handover.specs.Conditions.{CanDrop}
-use Rattle.sc_handover.specs.Events.{Drops}
 use Rattle.sc_handover.proofs.KeptLemmas.{same_number}
-use Rattle.sc_handover.proofs.NotedLemmas.{EndsParts, owed-push_dropped, HasJournal-noted}
-use Rattle.sc_handover.proofs.LeftOutLemmas.{IsSound-left_out}
+use Rattle.sc_handover.proofs.NotedLemmas.{owed-push_dropped, TakesOut}
+use Rattle.sc_handover.proofs.LeftOutLemmas.{IsSound-taken_out}
 
 -- where no split is open
 pub is_idle : (b : Bucket) → IsSound b → b.phase ≡ phases.Idle → IsIdle b
@@ -91,39 +89,21 @@ active-other slices dropped is_map (slice, there, named, inactive) =
 
 -- and the bucket is sound
 pub IsSound-dropped : (old : Bucket) (slice : SliceId) (new : Bucket) → IsSound old → CanDrop old slice
-    → Drops old slice new → EndsParts old 1 new → IsSound new
-IsSound-dropped old slice new sound can drops parts =
-    let one : Entry = entry.Dropped slice in
+    → TakesOut old (entry.Dropped slice) (Change.Dropped slice) 1 new → new.phase ≡ old.phase → new.feeds ≡ old.feeds
+    → IsSound new
+IsSound-dropped old slice new sound can takes phase feeds =
     let idle = is_idle old sound can.0 in
-    IsSound-left_out old one new sound
-    (HasJournal-noted old new one (Change.Dropped slice) 1 sound.journal (record {
-      name = drops.name;
-      entries = drops.entries;
+    IsSound-taken_out old (entry.Dropped slice) (Change.Dropped slice) 1 new sound
+    (record {
       may = may_drop old slice sound can;
       change_is = refl;
       no_write = refl;
-      settles_nothing = λ place. refl;
-      map_is = drops.map_is;
-      some = omega arith;
-      owed_less = owed_dropped old slice sound can;
-      parts = parts;
-    }))
-    (record {
-      some = λ one there.
-          (Contains-from_filter (is_other slice) old.map one
-          (subst (λ (these : List Slice). Contains these one) drops.map_is there)).0;
-      same_active = ap (filter is_active) drops.map_is
-          ∙ active-other old.map slice (bucket_has_map old sound.journal) can.1;
-      entries = drops.entries;
-      no_write = refl;
       no_commit = refl;
       settles_nothing = λ place. refl;
-      phase_is = drops.phase_is ∙ can.0;
-      idle = ap open_split drops.entries ∙ open_split-push old.journal.entries one ∙ idle.idle;
-      whole = ap forming drops.map_is ∙ dropped_is_idle old.map slice idle.whole;
-      messages = drops.messages;
-      cores = drops.cores;
-      feeds_are = drops.feeds_are ∙ no_feeds old idle sound.feeds.each;
-      searchers_are = drops.searchers_are;
-      spares_are = parts.spares_are;
-    })
+      some = omega arith;
+      owed_less = owed_dropped old slice sound can;
+      among = λ one there. (Contains-from_filter (is_other slice) old.map one there).0;
+      same_active = active-other old.map slice (bucket_has_map old sound.journal) can.1;
+      idle = open_split-push old.journal.entries (entry.Dropped slice) ∙ idle.idle;
+      whole = dropped_is_idle old.map slice idle.whole;
+    }) takes (phase ∙ can.0) (feeds ∙ no_feeds old idle sound.feeds.each)

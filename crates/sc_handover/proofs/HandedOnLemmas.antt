@@ -14,11 +14,9 @@ use Rattle.sc_record.specs.declared.slice.SliceId.{SliceId}
 use Rattle.sc_record.specs.declared.write.Write.{Write}
 use Rattle.sc_record.specs.declared.entry.Entry.{Entry}
 use Rattle.sc_record.specs.declared.entry.Entry.TheVariants as entry
-use Rattle.sc_cluster.specs.declared.slice.State.{State}
-use Rattle.sc_cluster.specs.declared.slice.State.TheVariants as states
 use Rattle.sc_cluster.specs.declared.slice.Slice.{Slice}
 use Rattle.sc_cluster.specs.Tiles.{Tiles}
-use Rattle.sc_cluster.specs.Slices.{is_active_state, is_forming_state, is_active, is_forming, forming, slice_bounds}
+use Rattle.sc_cluster.specs.Slices.{is_active, is_forming, forming, slice_bounds}
 use Rattle.sc_cluster.specs.Changes.{switched_slice}
 use Rattle.sc_cluster.proofs.ItemLemmas.{count_by-positive}
 use Rattle.sc_cluster.proofs.LeaderLemmas.{same_from_id}
@@ -107,7 +105,6 @@ ids_of_subs parent slices all =
 -- the subs come last in the map
 abbrev ComeLast : List Slice → Type 0
 ComeLast slices = slices ≡ filter (λ (slice : Slice). not (is_forming slice)) slices ++ forming slices
-
 
 -- so the ids of the active slices of the map are those before but the parent, and then the subs
 ids_of_active : (slices : List Slice) (parent : SliceId) → ComeLast slices

@@ -1,6 +1,5 @@
 -- A bucket is sound once slices left its map, with their cores, their feeds and the messages to them.
 use Rattle.std.proofs.Common.{◌≡◌, ◌⊎◌, ◌∙◌, ℕ, pos, Bool, true, false, List, [], ◌∷◌, ◌++◌, map, filter, None, All, Contains, refl, sym, ap, subst}
-use Rattle.std.specs.Prelude.{IsSome}
 use Rattle.std.specs.List.{IsDistinct}
 use Rattle.std.proofs.lemmas.List.Elements.{All-contains, All-weaker}
 use Rattle.std.proofs.lemmas.List.Kept.{AllPairs-filter}
@@ -16,12 +15,12 @@ use Rattle.sc_cluster.proofs.LeaderLemmas.{same_from_id}
 use Rattle.sc_cluster.proofs.ListLemmas.{filter-filter, none_from_filter, Contains-map, Contains-filter}
 use Rattle.sc_cluster.proofs.PairLemmas.{Contains-from_map}
 use Rattle.sc_replica.specs.Core.{Core}
-use Rattle.sc_journal.specs.Journal.{as_write, writes, write_at, is_settled, last_of, last_write}
+use Rattle.sc_journal.specs.Journal.{as_write, writes, last_of, last_write}
 use Rattle.sc_journal.specs.Committed.{commits, committed}
 use Rattle.sc_journal.specs.Splits.{open_split}
 use Rattle.sc_journal.proofs.CommittedLemmas.{committed-push_other}
-use Rattle.sc_journal.proofs.JournalLemmas.{writes-push_other, write_at-append, write_at_within}
-use Rattle.sc_journal.proofs.SettledLemmas.{SettlesNothing, is_settled-push_other}
+use Rattle.sc_journal.proofs.JournalLemmas.{writes-push_other}
+use Rattle.sc_journal.proofs.SettledLemmas.{SettlesNothing}
 use Rattle.sc_bucket.specs.Kept.{Sent, FeedState}
 use Rattle.sc_bucket.specs.Cores.{is_of_one}
 use Rattle.sc_bucket.specs.Flight.{in_flight, is_to, is_same_message}
@@ -37,6 +36,8 @@ use Rattle.sc_bucket.proofs.DeliveredLemmas.{IsSoundCore}
 use Rattle.sc_bucket.proofs.DeliverLemmas.{IsSoundIn}
 use Rattle.sc_bucket.proofs.FeedLemmas.{to_feed-none}
 use Rattle.sc_bucket.proofs.SearcherLemmas.{HasSearchers-grown}
+use Rattle.sc_cluster.specs.Changes.{Change}
+use Rattle.sc_handover.proofs.NotedLemmas.{MayTakeOut, TakesOut, HasJournal-noted}
 use Rattle.sc_handover.proofs.SentLemmas.{IsSent-push}
 use Rattle.sc_handover.proofs.EachCoreLemmas.{core_in, IsSound-each}
 use Rattle.sc_handover.proofs.NoFeedLemmas.{AreFeeds-none}
@@ -49,7 +50,7 @@ is_kept_message slices message = is_of_one slices message.core
 -- Slices left a bucket, and no split is open then: its map has some of its slices, every active one among them. Its
 -- cores and its messages are those of these slices, nothing is fed, and its journal got an entry that is no write,
 -- commits nothing and settles none.
-pub record LeavesOut (old : Bucket) (one : Entry) (new : Bucket) : Type 0 where
+record LeavesOut (old : Bucket) (one : Entry) (new : Bucket) : Type 0 where
   pub some : AreSome new.map old.map
   pub same_active : filter is_active new.map ≡ filter is_active old.map
   pub entries : new.journal.entries ≡ old.journal.entries ++ one ∷ []
@@ -192,7 +193,7 @@ HasSearchers-kept old one new leaves has =
         → (searcher.range ≡ slice.range) × ShowsCommitted old.journal.entries slice (rows_of searcher)
 
 -- So the bucket is sound, where its journal is as it has to be.
-pub IsSound-left_out : (old : Bucket) (one : Entry) (new : Bucket) → IsSound old → HasJournal new
+IsSound-left_out : (old : Bucket) (one : Entry) (new : Bucket) → IsSound old → HasJournal new
     → LeavesOut old one new → IsSound new
 IsSound-left_out old one new sound journal leaves =
     IsSound-each new (cores_are_sound old one new sound leaves) journal
@@ -202,3 +203,25 @@ IsSound-left_out old one new sound journal leaves =
     (HasCores-kept old new (bucket_has_map old sound.journal) leaves.some leaves.cores sound.cores)
     (AreFeeds-none new leaves.feeds_are)
     (subst (IsInPhase new) (sym leaves.phase_is) (record { idle = leaves.idle; whole = leaves.whole }))
+
+-- It is sound where slices left its map by an entry that may take them out, and nothing is fed then.
+pub IsSound-taken_out : (old : Bucket) (one : Entry) (change : Change) (less : ℕ) (new : Bucket) → IsSound old
+    → MayTakeOut old one change less → TakesOut old one change less new → new.phase ≡ phases.Idle → new.feeds ≡ []
+    → IsSound new
+IsSound-taken_out old one change less new sound may takes idle unfed =
+    IsSound-left_out old one new sound (HasJournal-noted old new one change less sound.journal may takes) (record {
+      some = subst (λ slices. AreSome slices old.map) (sym takes.map_is) may.among;
+      same_active = ap (filter is_active) takes.map_is ∙ may.same_active;
+      entries = takes.entries;
+      no_write = may.no_write;
+      no_commit = may.no_commit;
+      settles_nothing = may.settles_nothing;
+      phase_is = idle;
+      idle = ap open_split takes.entries ∙ may.idle;
+      whole = ap forming takes.map_is ∙ may.whole;
+      messages = takes.messages;
+      cores = takes.cores;
+      feeds_are = unfed;
+      searchers_are = takes.searchers_are;
+      spares_are = takes.spares_are;
+    })

@@ -2,6 +2,7 @@
 pub mod EachCoreLemmas
 pub mod NoFeedLemmas
 pub mod SentLemmas
+pub mod PushedLemmas
 pub mod KeptLemmas
 pub mod NotedLemmas
 pub mod LeftOutLemmas

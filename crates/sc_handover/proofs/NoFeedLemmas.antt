@@ -11,18 +11,18 @@ use Rattle.sc_bucket.specs.Sound.{IsFeed, AreFeeds, IsIdle}
 use Rattle.sc_bucket.specs.declared.bucket.Bucket.{Bucket}
 use Rattle.sc_bucket.proofs.FeedLemmas.{fed_core}
 
+-- there is no element where something holds of each that holds of none
+pub none_where : {A : Type 0} (P : A → Type 0) → ((x : A) → P x → ⊥) → (xs : List A) → All P xs → xs ≡ []
+none_where P fails [] each = refl
+none_where P fails (x ∷ xs) each = absurd (fails x (All-head P x xs each))
+
 -- with no split open no core has a feed
 pub no_feeds : (b : Bucket) → IsIdle b → All (IsFeed b) b.feeds → b.feeds ≡ []
-no_feeds b idle each = by b.feeds each where
-  no_feed : (feed : FeedState) → IsFeed b feed → ⊥
-  no_feed feed is =
-      let (k, below, at) = subst (λ (slices : List Slice). Contains slices is.slice) idle.whole
-      (Contains-filter is_forming b.map is.slice is.there is.forming) in
-      omega arith
-
-  by : (feeds : List FeedState) → All (IsFeed b) feeds → feeds ≡ []
-  by [] all = refl
-  by (feed ∷ feeds) all = absurd (no_feed feed (All-head (IsFeed b) feed feeds all))
+no_feeds b idle each =
+    none_where (IsFeed b) (λ feed is.
+    let (k, below, at) = subst (λ (slices : List Slice). Contains slices is.slice) idle.whole
+    (Contains-filter is_forming b.map is.slice is.there is.forming) in
+    omega arith) b.feeds each
 
 -- without feeds they are as they have to be
 pub AreFeeds-none : (b : Bucket) → b.feeds ≡ [] → AreFeeds b

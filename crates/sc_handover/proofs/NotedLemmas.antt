@@ -1,7 +1,6 @@
 -- What a bucket owes once the journal has the entry that gives a split up, or the one that drops a slice.
-use Rattle.std.proofs.Common.{◌≡◌, ◌∙◌, ℕ, ◌+◌, ◌≤◌, ◌^◌, Bool, true, false, cond, not, ◌&&◌, eqb, List, [], ◌∷◌, ◌++◌, length, filter, Some, None, Contains, refl, sym, ap, subst, arith}
+use Rattle.std.proofs.Common.{◌≡◌, ◌∙◌, ℕ, ◌+◌, ◌-◌, ◌≤◌, Bool, true, false, cond, not, ◌&&◌, eqb, List, [], ◌∷◌, ◌++◌, length, filter, Some, None, Contains, refl, sym, ap, arith}
 use Rattle.std.specs.List.{count_by}
-use Rattle.std.proofs.lemmas.List.{length_push}
 use Rattle.std.proofs.lemmas.List.Sums.{length-filter}
 use Rattle.sc_record.specs.declared.slice.SliceId.{SliceId}
 use Rattle.sc_record.specs.declared.entry.Entry.{Entry}
@@ -10,7 +9,7 @@ use Rattle.sc_cluster.specs.declared.slice.State.{State}
 use Rattle.sc_cluster.specs.declared.slice.State.TheVariants as states
 use Rattle.sc_cluster.specs.declared.slice.Slice.{Slice}
 use Rattle.sc_cluster.specs.Map.{IsMap}
-use Rattle.sc_cluster.specs.Slices.{is_active, is_forming_state}
+use Rattle.sc_cluster.specs.Slices.{is_active, is_forming_state, forming}
 use Rattle.sc_cluster.specs.Changes.{Change, after, IsInactive}
 use Rattle.sc_cluster.proofs.CountLemmas.{count_by-filter, count_by-none, count_by-balance}
 use Rattle.sc_cluster.proofs.IdLemmas.{id_of}
@@ -18,15 +17,19 @@ use Rattle.sc_cluster.proofs.LeaderLemmas.{active_from_test}
 use Rattle.sc_cluster.proofs.ListLemmas.{filter-filter}
 use Rattle.sc_cluster.proofs.OrderLemmas.{at_key, count_by-at_key}
 use Rattle.sc_cluster.proofs.StateLemmas.{is_settled, is_other, active_settled}
-use Rattle.sc_journal.specs.Journal.{as_write, unsettled}
-use Rattle.sc_journal.specs.Legal.{MayFollow, IsLegal}
+use Rattle.sc_journal.specs.Journal.{as_write}
+use Rattle.sc_journal.specs.Committed.{commits}
+use Rattle.sc_journal.specs.Legal.{MayFollow}
 use Rattle.sc_journal.specs.Splits.{change_of, map_after, open_split, is_inactive_state, is_inactive, owed_by_split, owed}
-use Rattle.sc_journal.proofs.LegalLemmas.{IsLegal-push}
 use Rattle.sc_journal.proofs.SettledLemmas.{SettlesNothing, unsettled-push_other}
 use Rattle.sc_journal.proofs.SplitLemmas.{map_after-push, open_split-push}
-use Rattle.sc_bucket.specs.Sound.{AreActive, HasJournal}
+use Rattle.sc_bucket.specs.Kept.{Sent, JournalState, PlacesState}
+use Rattle.sc_bucket.specs.Cores.{is_of_one}
+use Rattle.sc_bucket.specs.Sound.{HasJournal}
 use Rattle.sc_bucket.specs.Events.{HasSameName}
 use Rattle.sc_bucket.specs.declared.bucket.Bucket.{Bucket}
+use Rattle.sc_handover.proofs.PushedLemmas.{HasJournal-pushed}
+use Rattle.sc_handover.proofs.KeptLemmas.{AreSome, is_kept}
 
 -- an active slice is none that a split is making
 pub is_settled-active : (slice : Slice) → is_active slice ≡ true → is_settled slice ≡ true
@@ -93,53 +96,67 @@ owed-push_dropped first journal dropped is_map (slice, there, named, inactive) =
     let less = count-other (map_after first journal) slice is_map there (ap is_inactive_state inactive) in
     omega (arith, places, still, left, less)
 
--- what becomes of the parts of a bucket that the event doesn't name, where so many entries less are owed
-pub record EndsParts (old : Bucket) (less : ℕ) (new : Bucket) : Type 0 where
+-- The entry may come next. It says this change of the map, is no write, commits nothing and settles none, and with it so
+-- many entries less are owed. By the change slices leave the map, every active one stays, and no split is open then.
+pub record MayTakeOut (old : Bucket) (one : Entry) (change : Change) (less : ℕ) : Type 0 where
+  pub may : MayFollow old.first old.journal.entries one
+  pub change_is : change_of one ≡ Some change
+  pub no_write : as_write one ≡ None
+  pub no_commit : commits one ≡ false
+  pub settles_nothing : SettlesNothing one
+  pub some : 1 ≤ less
+  pub owed_less : owed old.first (old.journal.entries ++ one ∷ []) + less ≡ owed old.first old.journal.entries
+  pub among : AreSome (after old.map change) old.map
+  pub same_active : filter is_active (after old.map change) ≡ filter is_active old.map
+  pub idle : open_split (old.journal.entries ++ one ∷ []) ≡ None
+  pub whole : forming (after old.map change) ≡ []
+
+-- Slices left the map of a bucket by this change: of its cores and its messages those of the slices that stay are left,
+-- its journal got the entry, so many entries less are owed, and no searchers are ready for a switch.
+pub record TakesOut (old : Bucket) (one : Entry) (change : Change) (less : ℕ) (new : Bucket) : Type 0 where
+  pub name : HasSameName old new
+  pub map_is : new.map ≡ after old.map change
+  pub entries : new.journal.entries ≡ old.journal.entries ++ one ∷ []
+  pub messages : new.flight.messages ≡ filter (λ (message : Sent). is_of_one new.map message.core) old.flight.messages
+  pub cores : new.replicas ≡ filter (is_kept new.map) old.replicas
+  pub searchers_are : new.searchers ≡ old.searchers
   pub unsettled_are : new.unsettled.places ≡ old.unsettled.places
   pub owed_is : new.owed + less ≡ old.owed
   pub room : new.journal.room + 1 ≡ old.journal.room
   pub spares_are : new.spares ≡ None
 
--- A bucket's journal got an entry that changes the map, is no write and settles none, and with which so many entries
--- less are owed.
-pub record IsNoted (old : Bucket) (one : Entry) (change : Change) (less : ℕ) (new : Bucket) : Type 0 where
-  pub name : HasSameName old new
-  pub entries : new.journal.entries ≡ old.journal.entries ++ one ∷ []
-  pub may : MayFollow old.first old.journal.entries one
-  pub change_is : change_of one ≡ Some change
-  pub no_write : as_write one ≡ None
-  pub settles_nothing : SettlesNothing one
-  pub map_is : new.map ≡ after old.map change
-  pub some : 1 ≤ less
-  pub owed_less : owed old.first (old.journal.entries ++ one ∷ []) + less ≡ owed old.first old.journal.entries
-  pub parts : EndsParts old less new
+-- as the calls leave it, where the entries are owed and one has its room
+pub TakesOut-called : (old new : Bucket) (one : Entry) (change : Change) (less : ℕ)
+    → (less ≤ old.owed) × (1 ≤ old.journal.room) → HasSameName old new → new.map ≡ after old.map change
+    → new.replicas ≡ filter (is_kept new.map) old.replicas
+    → new.flight.messages ≡ filter (λ (message : Sent). is_of_one new.map message.core) old.flight.messages
+    → new.journal ≡ record { entries = old.journal.entries ++ one ∷ []; room = old.journal.room - 1 }
+    → new.searchers ≡ old.searchers → new.unsettled ≡ old.unsettled → new.owed ≡ old.owed - less → new.spares ≡ None
+    → TakesOut old one change less new
+TakesOut-called old new one change less owes name map_is cores messages journal searchers unsettled_are owed_is
+    spares = record {
+      name = name;
+      map_is = map_is;
+      entries = ap (λ (j : JournalState). j.entries) journal;
+      messages = messages;
+      cores = cores;
+      searchers_are = searchers;
+      unsettled_are = ap (λ (places : PlacesState). places.places) unsettled_are;
+      owed_is = omega (arith, owes.0, owed_is);
+      room = omega (arith, owes.1, ap (λ (j : JournalState). j.room) journal);
+      spares_are = spares;
+    }
 
 -- so its journal is as it has to be
 pub HasJournal-noted : (old new : Bucket) (one : Entry) (change : Change) (less : ℕ) → HasJournal old
-    → IsNoted old one change less new → HasJournal new
-HasJournal-noted old new one change less journal noted =
-    let longer : List Entry = old.journal.entries ++ one ∷ [] in
-    let legal : IsLegal old.first longer =
-    IsLegal-push old.first old.journal.entries one journal.legal noted.may in
-    let owes : owed new.first new.journal.entries ≡ owed old.first longer =
-    ap (λ first. owed first new.journal.entries) noted.name.first ∙ ap (owed old.first) noted.entries in
-    let count : length new.journal.entries ≡ length old.journal.entries + 1 =
-    ap length noted.entries ∙ length_push old.journal.entries one in
-    record {
-      first = subst IsMap (sym noted.name.first) journal.first;
-      begins = subst AreActive (sym noted.name.first) journal.begins;
-      legal = subst (λ first. IsLegal first new.journal.entries) (sym noted.name.first)
-          (subst (IsLegal old.first) (sym noted.entries) legal);
-      map_is = noted.map_is ∙ ap (λ slices. after slices change) journal.map_is
-          ∙ sym (map_after-push old.first old.journal.entries one change noted.change_is)
-          ∙ ap (map_after old.first) (sym noted.entries)
-          ∙ ap (λ first. map_after first new.journal.entries) (sym noted.name.first);
-      unsettled_are = noted.parts.unsettled_are ∙ journal.unsettled_are
-          ∙ sym (unsettled-push_other old.journal.entries one noted.no_write noted.settles_nothing)
-          ∙ ap unsettled (sym noted.entries);
-      owed_is = omega (arith, owes, noted.owed_less, noted.parts.owed_is, journal.owed_is);
-      room = omega (arith, noted.some, noted.parts.room, noted.parts.owed_is, journal.room);
-      within = omega (arith, count, noted.some, noted.parts.owed_is, noted.name.limit, journal.within);
-      limit_from = omega (arith, noted.name.limit, journal.limit_from);
-      limit_to = subst (λ limit. limit ≤ 2 ^ 24) (sym noted.name.limit) journal.limit_to;
-    }
+    → MayTakeOut old one change less → TakesOut old one change less new → HasJournal new
+HasJournal-noted old new one change less journal may takes =
+    HasJournal-pushed old new one change journal may.may may.change_is may.no_write may.settles_nothing (record {
+      name = takes.name;
+      entries = takes.entries;
+      map_is = takes.map_is;
+      unsettled_are = takes.unsettled_are;
+      owed_is = omega (arith, may.owed_less, takes.owed_is, journal.owed_is);
+      room = omega (arith, may.some, takes.room, takes.owed_is, journal.room);
+      within = omega (arith, may.some, takes.owed_is, journal.within);
+    })

@@ -1,5 +1,5 @@
 -- A piece of a feed: the next 64 rows, or all that are left.
-use Rattle.std.proofs.Common.{◌≡◌, ◌≢◌, eqb, ℕ, suc, ◌+◌, ◌-◌, ◌<◌, ◌≤◌, Bool, true, false, nat_le, if◌then◌else◌, min, List, [], ◌++◌, length, filter, set, take, drop, slice_get, Option, Some, All, MatchOption, sym, ap, ◌∙◌, subst, arith, length-drop}
+use Rattle.std.proofs.Common.{◌≡◌, ◌≢◌, eqb, ℕ, suc, ◌+◌, ◌-◌, ◌≤◌, Bool, true, false, nat_le, if◌then◌else◌, min, List, [], ◌++◌, length, filter, set, take, drop, slice_get, Option, Some, All, MatchOption, sym, ap, ◌∙◌, subst, arith, length-drop}
 use Rattle.std.specs.List.{remove}
 use Rattle.std.proofs.Math.ListN.{drop_of_length-le}
 use Rattle.std.proofs.lemmas.Bool.{eq-eqb, le-leb, lt-leb, ne_eqb}

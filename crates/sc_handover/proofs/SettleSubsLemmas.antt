@@ -132,6 +132,25 @@ settled_sub-arrived slices messages name core of_sub = by (is_core name core.cor
       ap (λ sent. cond (is_of_sub slices core.core) (received_all core sent) core)
       (in_flight-left name core.core messages differ)
 
+-- a core of a sub is none that is of no sub
+other_than_sub : (slices : List Slice) (name other : CoreId) → is_of_sub slices name ≡ true
+    → is_of_sub slices other ≡ false → is_core name other ≡ false
+other_than_sub slices name other of_sub of_none =
+    false_from_ne_true (is_core name other) (λ same.
+    let sub : is_of_sub slices other ≡ true =
+    ap (is_of_sub slices) (sym ((is_core-Decides name other).0 same)) ∙ of_sub in
+    let both : true ≡ false = sym sub ∙ of_none in
+    cc)
+
+-- so nothing is in flight to it where no message is to a core of a sub
+pub in_flight-to_sub : (b : Bucket) (name : CoreId) → NoneIsToASub b → is_of_sub b.map name ≡ true
+    → in_flight b.flight.messages name ≡ []
+in_flight-to_sub b name none of_sub =
+    in_flight-no_message b.flight.messages name
+    (All-weaker (λ (message : Sent). is_of_sub b.map message.core ≡ false)
+    (λ (message : Sent). is_to name message ≡ false)
+    (λ message. other_than_sub b.map name message.core of_sub) b.flight.messages none)
+
 -- what is to no core of a sub stays
 to_no_sub-left : (slices : List Slice) (messages : List Sent) (name : CoreId) → is_of_sub slices name ≡ true
     → to_no_sub slices (left_by name messages) ≡ to_no_sub slices messages
@@ -140,11 +159,7 @@ to_no_sub-left slices messages name of_sub =
   where
     weaker : (message : Sent) → not (is_of_sub slices message.core) ≡ true → not (is_to name message) ≡ true
     weaker message other =
-        ap not (false_from_ne_true (is_to name message) (λ to.
-        let sub : is_of_sub slices message.core ≡ true =
-        ap (is_of_sub slices) (sym ((is_core-Decides name message.core).0 to)) ∙ of_sub in
-        let both : true ≡ false = sym sub ∙ not-true (is_of_sub slices message.core) other in
-        cc))
+        ap not (other_than_sub slices name message.core of_sub (not-true (is_of_sub slices message.core) other))
 
 -- What was in flight to those of the subs' cores that stand before a place is delivered; what is still to be done leads to the same
 -- as before.
@@ -304,13 +319,7 @@ settled_already b core none = by (is_of_sub b.map core.core) refl where
   by : (t : Bool) → is_of_sub b.map core.core ≡ t
       → cond t (received_all core (in_flight b.flight.messages core.core)) core ≡ core
   by false other = refl
-  by true is = ap (received_all core) (in_flight-no_message b.flight.messages core.core
-      (All-weaker (λ (message : Sent). is_of_sub b.map message.core ≡ false) (λ (message : Sent). is_to core.core message ≡ false)
-      (λ message other. false_from_ne_true (is_to core.core message) (λ to.
-      let sub : is_of_sub b.map message.core ≡ true =
-      ap (is_of_sub b.map) (sym ((is_core-Decides core.core message.core).0 to)) ∙ is in
-      let both : true ≡ false = sym sub ∙ other in
-      cc)) b.flight.messages none))
+  by true is = ap (received_all core) (in_flight-to_sub b core.core none is)
 
 -- and all that was in flight to the cores of the subs is delivered
 pub DeliversToSubs-all : (old : Bucket) (at : ℕ) (new : Bucket) → length old.replicas ≤ at → DeliversSome old at new

@@ -1,10 +1,10 @@
 -- The slice of each core, and the cores of the subs as a switch finds them: each is active, so none is fed.
-use Rattle.std.proofs.Common.{◌≡◌, ◌≢◌, ◌⊎◌, inl, inr, Bool, true, false, not, IsTrue, ℕ, suc, nat_eq, List, [], ◌∷◌, map, Option, Some, None, Bor, MatchOption, All, Contains, refl, sym, ap, ◌∙◌, subst, arith}
+use Rattle.std.proofs.Common.{◌≡◌, ◌≢◌, Bool, true, false, not, IsTrue, ℕ, nat_eq, List, [], map, Option, Some, None, Bor, MatchOption, All, Contains, refl, sym, ap, ◌∙◌, subst}
 use Rattle.std.proofs.lemmas.Bool.{false_from_ne_true}
 use Rattle.std.specs.List.{range_with_len}
 use Rattle.std.proofs.lemmas.Bool.Decides.{Decides-eqb}
-use Rattle.std.proofs.lemmas.List.Elements.{All-contains, All-weaker, All-contains_itself, Contains-append_cases, All-head}
-use Rattle.std.proofs.lemmas.List.Folds.{list_any_none, list_any_at}
+use Rattle.std.proofs.lemmas.List.Elements.{All-contains, All-weaker, All-contains_itself}
+use Rattle.std.proofs.lemmas.List.Folds.{list_any_none}
 use Rattle.sc_record.specs.declared.slice.SliceId.{SliceId}
 use Rattle.sc_record.specs.declared.slice.CoreId.{CoreId}
 use Rattle.sc_cluster.specs.declared.slice.State.{State}
@@ -19,12 +19,12 @@ use Rattle.sc_ulog.specs.declared.mode.Mode.{Mode}
 use Rattle.sc_ulog.specs.declared.mode.Mode.TheVariants.{Active, Buffering}
 use Rattle.sc_replica.specs.Core.{Core}
 use Rattle.sc_journal.specs.Splits.{is_inactive_state}
-use Rattle.sc_bucket.specs.Kept.{FeedState}
 use Rattle.sc_bucket.specs.Cores.{core_key, core_keys, keys_of, is_attached}
 use Rattle.sc_bucket.specs.Sound.{IsFeed, IsSound}
 use Rattle.sc_bucket.specs.declared.bucket.Bucket.{Bucket}
 use Rattle.sc_bucket.proofs.SoundLemmas.{AreAlike, name_and_mode}
-use Rattle.sc_handover.proofs.KeptLemmas.{slice_of_key}
+use Rattle.sc_handover.proofs.NoFeedLemmas.{none_where}
+use Rattle.sc_handover.proofs.KeptLemmas.{is_of_one-there, slice_of_key}
 use Rattle.sc_handover.specs.Conditions.{IsThereActive, CanSwitch}
 use Rattle.sc_handover.specs.Parts.{is_of_sub}
 use Rattle.sc_handover.proofs.LastWriteLemmas.{same_from_key}
@@ -69,14 +69,11 @@ all_are_active b parent core sound can there =
 
 -- so nothing is fed
 pub none_is_fed : (b : Bucket) (parent : SliceId) → IsSound b → CanSwitch b parent → b.feeds ≡ []
-none_is_fed b parent sound can = by b.feeds sound.feeds.each where
-  by : (feeds : List FeedState) → All (IsFeed b) feeds → feeds ≡ []
-  by [] each = refl
-  by (feed ∷ feeds) each =
-      let is : IsFeed b feed = All-head (IsFeed b) feed feeds each in
-      let active : is.core.mode ≡ Active = all_are_active b parent is.core sound can is.core_there in
-      let both : Buffering ≡ Active = sym is.buffering ∙ active in
-      absurd (cc)
+none_is_fed b parent sound can =
+    none_where (IsFeed b) (λ feed is.
+    let active : is.core.mode ≡ Active = all_are_active b parent is.core sound can is.core_there in
+    let both : Buffering ≡ Active = sym is.buffering ∙ active in
+    cc) b.feeds sound.feeds.each
 
 -- a switch may come still where the map, the phase, and the names and modes of the cores stay
 pub CanSwitch-alike : (old new : Bucket) (parent : SliceId) → new.phase ≡ old.phase → new.map ≡ old.map
@@ -101,9 +98,7 @@ CanSwitch-alike old new parent same_phase same_map alike can = record {
 pub of_sub_where_forming : (slices : List Slice) (core : CoreId) (slice : Slice) → Contains slices slice
     → slice.id ≡ core.slice → is_forming slice ≡ true → is_of_sub slices core ≡ true
 of_sub_where_forming slices core slice there named is =
-    let (k, below, here) = Contains-filter is_forming slices slice there is in
-    list_any_at (λ (s : Slice). nat_eq s.id.0 core.slice.0) (forming slices) k slice below
-    ((Decides-eqb _ core.slice.0).1 (ap (λ (s : Slice). s.id.0) here ∙ ap (λ (id : SliceId). id.0) named))
+    is_of_one-there (forming slices) slice core (Contains-filter is_forming slices slice there is) named
 
 -- and of none where no sub has that id
 none_has_id : (slices : List Slice) (core : CoreId)

@@ -1,8 +1,6 @@
 -- A bucket is sound once the subs are put in the place of their parent, and their cores have the last writes.
 use Rattle.std.proofs.Common.{◌≡◌, ◌⊎◌, ℕ, ◌<◌, ℤ, Bool, true, false, IsTrue, List, [], ◌∷◌, ◌++◌, length, map, get_or, All, Contains, refl, sym, ap, ◌∙◌, subst}
-use Rattle.std.proofs.lemmas.Bool.{false_from_ne_true}
-use Rattle.std.specs.Prelude.{IsSome, pos}
-use Rattle.std.specs.List.{IsDistinct}
+use Rattle.std.specs.Prelude.{pos}
 use Rattle.std.proofs.lemmas.List.Elements.{All-contains, All-contains_itself, All-map, All-weaker, Contains-get_or}
 use Rattle.sc_hash.specs.declared.range.Range.{Range}
 use Rattle.sc_hash.specs.Range.{IsWithin}
@@ -19,31 +17,26 @@ use Rattle.sc_cluster.proofs.MapLemmas.{switched_is_idle}
 use Rattle.sc_cluster.proofs.PairLemmas.{Contains-from_map}
 use Rattle.sc_cluster.proofs.StateLemmas.{switched_keeps}
 use Rattle.sc_replica.specs.Core.{Core}
-use Rattle.sc_journal.specs.Journal.{writes, write_at, last_write, is_settled}
+use Rattle.sc_journal.specs.Journal.{writes, last_write}
 use Rattle.sc_journal.specs.Splits.{open_split}
-use Rattle.sc_journal.proofs.JournalLemmas.{last_write-push_other, writes-push_other, write_at-append, write_at_within}
-use Rattle.sc_journal.proofs.SettledLemmas.{is_settled-push_other}
+use Rattle.sc_journal.proofs.JournalLemmas.{last_write-push_other, writes-push_other}
 use Rattle.sc_journal.proofs.SplitLemmas.{open_split-push}
-use Rattle.sc_bucket.specs.Kept.{Sent, FlightState}
+use Rattle.sc_bucket.specs.Kept.{FlightState}
 use Rattle.sc_bucket.specs.Cores.{core_key, core_keys, keys_of, is_attached, AscendByName, IsCounted}
-use Rattle.sc_bucket.specs.Flight.{is_to, is_same_message}
 use Rattle.sc_bucket.specs.Pending.{pending}
 use Rattle.sc_bucket.specs.Searchers.{ArePrepared}
-use Rattle.sc_bucket.specs.Sound.{HasLastWrites, IsSent, AreSent, HasCores, IsInPhase, IsSound}
-use Rattle.sc_bucket.specs.Events.{without_room}
+use Rattle.sc_bucket.specs.Sound.{HasLastWrites, HasCores, IsInPhase, IsSound}
 use Rattle.sc_bucket.specs.declared.bucket.Bucket.{Bucket}
-use Rattle.sc_bucket.proofs.CoreLemmas.{is_core-Decides}
-use Rattle.sc_bucket.proofs.SoundLemmas.{IsSent-left}
 use Rattle.std.proofs.lemmas.List.{append-nil}
 use Rattle.sc_handover.proofs.SentLemmas.{AreSent-more}
 use Rattle.sc_handover.specs.Conditions.{IsThereActive, CanSwitch}
 use Rattle.sc_handover.specs.Events.{HaveLastWrites}
-use Rattle.sc_handover.specs.Parts.{is_of_sub, IsQuiet, NoneIsToASub, PutsSwitch}
+use Rattle.sc_handover.specs.Parts.{IsQuiet, NoneIsToASub, PutsSwitch}
 use Rattle.sc_handover.proofs.EachCoreLemmas.{core_in, IsSoundWith, each_with, IsSound-each}
 use Rattle.sc_handover.proofs.NoFeedLemmas.{AreFeeds-none}
 use Rattle.sc_handover.proofs.LastWriteLemmas.{last_where_settled}
 use Rattle.sc_handover.proofs.SubLemmas.{attached_where_forming, all_are_active, none_is_fed, of_sub_where_forming}
-use Rattle.sc_handover.proofs.SettleSubsLemmas.{in_flight-no_message}
+use Rattle.sc_handover.proofs.SettleSubsLemmas.{in_flight-to_sub}
 use Rattle.sc_handover.proofs.SwitchedMapLemmas.{SwitchesParts, split_is_open, HasJournal-switched, core_keys-switched, active_before, attached_before}
 use Rattle.sc_handover.proofs.HandedOnLemmas.{HasSearchers-switched}
 
@@ -60,14 +53,8 @@ pub last_of_sub : (b : Bucket) (parent : SliceId) (sub : Slice) (core : Core) �
 last_of_sub b parent sub core ready in_map forms there named =
     let active = all_are_active b parent core ready.sound ready.can there in
     let is_sub = of_sub_where_forming b.map core.core sub in_map named forms in
-    let none = All-weaker (λ (message : Sent). is_of_sub b.map message.core ≡ false) (λ (message : Sent). is_to core.core message ≡ false)
-    (λ message other. false_from_ne_true (is_to core.core message) (λ to.
-    let of_sub : is_of_sub b.map message.core ≡ true =
-    ap (is_of_sub b.map) (sym ((is_core-Decides core.core message.core).0 to)) ∙ is_sub in
-    let both : true ≡ false = sym of_sub ∙ other in
-    cc)) b.flight.messages ready.settled in
     last_where_settled b sub core ready.sound in_map named (attached_where_forming sub forms) there active
-    (All-contains IsQuiet b.replicas core ready.quiet there active) (in_flight-no_message b.flight.messages core.core none)
+    (All-contains IsQuiet b.replicas core ready.quiet there active) (in_flight-to_sub b core.core ready.settled is_sub)
 
 -- what is within one range is within the same
 within_same : (one other : Range) (h : ℤ) → other ≡ one → IsWithin other.min other.max h → IsWithin one.min one.max h

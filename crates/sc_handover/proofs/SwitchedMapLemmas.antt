@@ -1,8 +1,7 @@
 -- The map and the journal once the subs are put in the place of their parent.
-use Rattle.std.proofs.Common.{◌≡◌, ℕ, ◌+◌, ◌≤◌, ◌&&◌, Bool, true, false, cond, eqb, IsTrue, List, [], ◌∷◌, ◌++◌, length, map, Some, None, refl, sym, ap, ◌∙◌, subst, arith}
+use Rattle.std.proofs.Common.{◌≡◌, ℕ, ◌+◌, ◌≤◌, ◌&&◌, Bool, true, false, cond, eqb, IsTrue, List, [], ◌∷◌, ◌++◌, length, map, Some, None, refl, ap, ◌∙◌, subst, arith}
 use Rattle.std.specs.List.{count_by}
 use Rattle.std.proofs.Math.Path.{fun_ext}
-use Rattle.std.proofs.lemmas.List.{length_push}
 use Rattle.std.proofs.lemmas.List.Folds.{flat_map-map}
 use Rattle.std.specs.List.{flat_map}
 use Rattle.sc_record.specs.declared.slice.SliceId.{SliceId}
@@ -18,17 +17,15 @@ use Rattle.sc_cluster.proofs.CountLemmas.{count_by-map, count_by-none, count_by-
 use Rattle.sc_cluster.proofs.IdLemmas.{id_of}
 use Rattle.sc_cluster.proofs.OrderLemmas.{at_key, count_by-at_key}
 use Rattle.sc_cluster.proofs.StateLemmas.{switched_keeps}
-use Rattle.sc_journal.specs.Journal.{unsettled}
 use Rattle.sc_journal.specs.Splits.{is_inactive_state, is_inactive, map_after, open_split, owed_by_split, owed}
-use Rattle.sc_journal.specs.Legal.{IsLegal}
-use Rattle.sc_journal.proofs.LegalLemmas.{IsLegal-push}
 use Rattle.sc_journal.proofs.SettledLemmas.{unsettled-push_other}
 use Rattle.sc_journal.proofs.SplitLemmas.{map_after-push, open_split-push}
 use Rattle.sc_bucket.specs.Cores.{core_keys, keys_of, is_attached}
-use Rattle.sc_bucket.specs.Sound.{AreActive, HasJournal, IsOpen, AreLedActively, IsInPhase, IsSound}
+use Rattle.sc_bucket.specs.Sound.{HasJournal, IsOpen, AreLedActively, IsInPhase, IsSound}
 use Rattle.sc_bucket.specs.declared.bucket.Bucket.{Bucket}
 use Rattle.sc_bucket.specs.declared.phase.Phase.TheVariants as phases
 use Rattle.sc_bucket.proofs.AcceptLemmas.{bucket_has_map}
+use Rattle.sc_handover.proofs.PushedLemmas.{HasJournal-pushed}
 use Rattle.sc_handover.specs.Parts.{PutsSwitch}
 use Rattle.sc_handover.proofs.SubLemmas.{attached_where_forming}
 
@@ -120,32 +117,19 @@ pub record SwitchesParts (old new : Bucket) : Type 0 where
 pub HasJournal-switched : (old new : Bucket) (parent : SliceId) → HasJournal old → IsOpen old parent → PutsSwitch old parent new
     → SwitchesParts old new → HasJournal new
 HasJournal-switched old new parent journal split puts parts =
-    let one : Entry = entry.Switched parent in
-    let longer : List Entry = old.journal.entries ++ one ∷ [] in
     let slices : old.map ≡ map_after old.first old.journal.entries = journal.map_is in
-    let legal : IsLegal old.first longer = IsLegal-push old.first old.journal.entries one journal.legal split.begun in
-    let count : length new.journal.entries ≡ length old.journal.entries + 1 = ap length puts.entries ∙ length_push old.journal.entries one in
     let fewer = owed-push_switched old.first old.journal.entries parent
     (subst IsMap slices (bucket_has_map old journal)) (subst (λ these. IsSplit these parent) slices split.split) split.begun in
-    let same : owed new.first new.journal.entries ≡ owed old.first longer =
-    ap (λ first. owed first new.journal.entries) puts.name.first ∙ ap (owed old.first) puts.entries in
-    record {
-      first = subst IsMap (sym puts.name.first) journal.first;
-      begins = subst AreActive (sym puts.name.first) journal.begins;
-      legal = subst (λ first. IsLegal first new.journal.entries) (sym puts.name.first)
-          (subst (IsLegal old.first) (sym puts.entries) legal);
-      map_is = puts.map_is ∙ ap (map (switched_slice parent)) slices
-          ∙ sym (map_after-push old.first old.journal.entries one (Change.Switched parent) refl)
-          ∙ ap (map_after old.first) (sym puts.entries)
-          ∙ ap (λ first. map_after first new.journal.entries) (sym puts.name.first);
-      unsettled_are = parts.unsettled_are ∙ journal.unsettled_are
-          ∙ sym (unsettled-push_other old.journal.entries one refl (λ place. refl)) ∙ ap unsettled (sym puts.entries);
-      owed_is = omega (arith, fewer, same, parts.owed_is, journal.owed_is);
+    HasJournal-pushed old new (entry.Switched parent) (Change.Switched parent) journal split.begun refl refl (λ place. refl)
+    (record {
+      name = puts.name;
+      entries = puts.entries;
+      map_is = puts.map_is;
+      unsettled_are = parts.unsettled_are;
+      owed_is = omega (arith, fewer, parts.owed_is, journal.owed_is);
       room = parts.room;
-      within = omega (arith, count, parts.owed_is, puts.name.limit, journal.within);
-      limit_from = omega (arith, puts.name.limit, journal.limit_from);
-      limit_to = omega (arith, puts.name.limit, journal.limit_to);
-    }
+      within = omega (arith, parts.owed_is, journal.within);
+    })
 
 -- the names of the cores of the slices stay
 pub core_keys-switched : (parent : SliceId) (slices : List Slice)

@@ -1,6 +1,9 @@
 -- Without the subs of its split the bucket is sound.
-use Rattle.std.proofs.Common.{refl, ap, arith}
-use Rattle.sc_bucket.specs.Kept.{JournalState, FlightState}
+use Rattle.std.proofs.Common.{refl, ap}
+use Rattle.sc_record.specs.declared.entry.Entry.TheVariants as entry
+use Rattle.sc_cluster.specs.Changes.{Change}
+use Rattle.sc_bucket.specs.Kept.{FlightState}
+use Rattle.sc_handover.proofs.NotedLemmas.{TakesOut-called}
 use Rattle.sc_handover.proofs.AbortLemmas.{is_open, owes_failed, IsSound-aborted}
 use Rattle.sc_handover.proofs.aborting.give_up.Goals as goal
 
@@ -9,22 +12,10 @@ failed-requires c = (is_open c.args.bucket.now c.args.parent c.requires.sound c.
 
 pub returns-clause-sound : goal.returns-clause-sound
 returns-clause-sound c =
-    let owes = owes_failed c.args.bucket.now c.args.parent c.requires.sound c.requires.can in
-    let left = ap (λ (journal : JournalState). journal.room) c.append.ensures in
-    IsSound-aborted c.args.bucket.now c.args.parent _ c.requires.sound c.requires.can
-    (record {
-      name = record { first = refl; limit = refl };
-      map_is = c.failed.ensures.change;
-      entries = ap (λ (journal : JournalState). journal.entries) c.append.ensures;
-      phase_is = refl;
-      messages = ap (λ (flight : FlightState). flight.messages) c.keep_of-2.ensures;
-      cores = c.keep_of.ensures;
-      feeds_are = c.clear.ensures;
-      searchers_are = refl;
-    })
-    (record {
-      unsettled_are = refl;
-      owed_is = omega (arith, owes.0);
-      room = omega (arith, owes.1, left);
-      spares_are = refl;
-    })
+    let b = c.args.bucket.now in
+    let parent = c.args.parent in
+    IsSound-aborted b parent _ c.requires.sound c.requires.can
+    (TakesOut-called b _ (entry.Failed parent) (Change.Failed parent) 2
+    (owes_failed b parent c.requires.sound c.requires.can) (record { first = refl; limit = refl })
+    c.failed.ensures.change c.keep_of.ensures (ap (λ (flight : FlightState). flight.messages) c.keep_of-2.ensures)
+    c.append.ensures refl refl refl refl) refl c.clear.ensures

@@ -1,11 +1,9 @@
 -- Each turn feeds one row; where none is left then, the feed is taken away.
-use Rattle.std.proofs.Common.{Bool, List, sym, subst, arith}
-use Rattle.std.proofs.lemmas.Bool.{eq-eqb, ne_eqb}
+use Rattle.std.proofs.Common.{List, sym, subst, arith}
 use Rattle.std.proofs.lemmas.Option.{slice_get_within}
 use Rattle.sc_replica.specs.Core.{fed_all}
 use Rattle.sc_bucket.specs.Kept.{FeedState}
 use Rattle.sc_bucket.specs.Sound.{IsSound}
-use Rattle.sc_handover.specs.Events.{FeedsPiece}
 use Rattle.sc_handover.specs.Feeding.{next_of, after_rows}
 use Rattle.sc_handover.proofs.ChangedLemmas.{with_fed}
 use Rattle.sc_handover.proofs.FedLemmas.{IsSound-ended}

@@ -1,0 +1,52 @@
+-- The journal of a bucket is as it has to be with one entry more that changes the map, is no write and settles none.
+use Rattle.std.proofs.Common.{◌≡◌, ◌∙◌, ◌+◌, ◌≤◌, ◌^◌, [], ◌∷◌, ◌++◌, length, Some, None, sym, ap, subst, arith}
+use Rattle.std.proofs.lemmas.List.{length_push}
+use Rattle.sc_record.specs.declared.entry.Entry.{Entry}
+use Rattle.sc_cluster.specs.Map.{IsMap}
+use Rattle.sc_cluster.specs.Changes.{Change, after}
+use Rattle.sc_journal.specs.Journal.{as_write, unsettled}
+use Rattle.sc_journal.specs.Legal.{MayFollow, IsLegal}
+use Rattle.sc_journal.specs.Splits.{change_of, map_after, owed}
+use Rattle.sc_journal.proofs.LegalLemmas.{IsLegal-push}
+use Rattle.sc_journal.proofs.SettledLemmas.{SettlesNothing, unsettled-push_other}
+use Rattle.sc_journal.proofs.SplitLemmas.{map_after-push}
+use Rattle.sc_bucket.specs.Sound.{AreActive, HasJournal}
+use Rattle.sc_bucket.specs.Events.{HasSameName}
+use Rattle.sc_bucket.specs.declared.bucket.Bucket.{Bucket}
+
+-- The journal got the entry, the map changed so, what is owed is counted, and that and the entry have their room.
+pub record IsPushed (old : Bucket) (one : Entry) (change : Change) (new : Bucket) : Type 0 where
+  pub name : HasSameName old new
+  pub entries : new.journal.entries ≡ old.journal.entries ++ one ∷ []
+  pub map_is : new.map ≡ after old.map change
+  pub unsettled_are : new.unsettled.places ≡ old.unsettled.places
+  pub owed_is : new.owed ≡ owed old.first (old.journal.entries ++ one ∷ [])
+  pub room : new.owed ≤ new.journal.room
+  pub within : length old.journal.entries + 1 + new.owed ≤ old.limit
+
+pub HasJournal-pushed : (old new : Bucket) (one : Entry) (change : Change) → HasJournal old
+    → MayFollow old.first old.journal.entries one → change_of one ≡ Some change → as_write one ≡ None
+    → SettlesNothing one → IsPushed old one change new → HasJournal new
+HasJournal-pushed old new one change journal may change_is no_write none pushed =
+    let legal : IsLegal old.first (old.journal.entries ++ one ∷ []) =
+    IsLegal-push old.first old.journal.entries one journal.legal may in
+    let count : length new.journal.entries ≡ length old.journal.entries + 1 =
+    ap length pushed.entries ∙ length_push old.journal.entries one in
+    record {
+      first = subst IsMap (sym pushed.name.first) journal.first;
+      begins = subst AreActive (sym pushed.name.first) journal.begins;
+      legal = subst (λ first. IsLegal first new.journal.entries) (sym pushed.name.first)
+          (subst (IsLegal old.first) (sym pushed.entries) legal);
+      map_is = pushed.map_is ∙ ap (λ slices. after slices change) journal.map_is
+          ∙ sym (map_after-push old.first old.journal.entries one change change_is)
+          ∙ ap (map_after old.first) (sym pushed.entries)
+          ∙ ap (λ first. map_after first new.journal.entries) (sym pushed.name.first);
+      unsettled_are = pushed.unsettled_are ∙ journal.unsettled_are
+          ∙ sym (unsettled-push_other old.journal.entries one no_write none) ∙ ap unsettled (sym pushed.entries);
+      owed_is = pushed.owed_is ∙ ap (owed old.first) (sym pushed.entries)
+          ∙ ap (λ first. owed first new.journal.entries) (sym pushed.name.first);
+      room = pushed.room;
+      within = omega (arith, count, pushed.within, pushed.name.limit);
+      limit_from = omega (arith, pushed.name.limit, journal.limit_from);
+      limit_to = subst (λ limit. limit ≤ 2 ^ 24) (sym pushed.name.limit) journal.limit_to;
+    }

@@ -210,18 +210,18 @@ pub IsSound-taken_out : (old : Bucket) (one : Entry) (change : Change) (less : �
     → IsSound new
 IsSound-taken_out old one change less new sound may takes idle unfed =
     IsSound-left_out old one new sound (HasJournal-noted old new one change less sound.journal may takes) (record {
-      some = subst (λ slices. AreSome slices old.map) (sym takes.map_is) may.among;
-      same_active = ap (filter is_active) takes.map_is ∙ may.same_active;
-      entries = takes.entries;
+      some = subst (λ slices. AreSome slices old.map) (sym takes.loses.map_is) may.among;
+      same_active = ap (filter is_active) takes.loses.map_is ∙ may.same_active;
+      entries = takes.loses.entries;
       no_write = may.no_write;
       no_commit = may.no_commit;
       settles_nothing = may.settles_nothing;
       phase_is = idle;
-      idle = ap open_split takes.entries ∙ may.idle;
-      whole = ap forming takes.map_is ∙ may.whole;
-      messages = takes.messages;
-      cores = takes.cores;
+      idle = ap open_split takes.loses.entries ∙ may.idle;
+      whole = ap forming takes.loses.map_is ∙ may.whole;
+      messages = takes.loses.messages;
+      cores = takes.loses.cores;
       feeds_are = unfed;
-      searchers_are = takes.searchers_are;
+      searchers_are = takes.loses.searchers_are;
       spares_are = takes.spares_are;
     })

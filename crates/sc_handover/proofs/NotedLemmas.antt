@@ -28,6 +28,7 @@ use Rattle.sc_bucket.specs.Cores.{is_of_one}
 use Rattle.sc_bucket.specs.Sound.{HasJournal}
 use Rattle.sc_bucket.specs.Events.{HasSameName}
 use Rattle.sc_bucket.specs.declared.bucket.Bucket.{Bucket}
+use Rattle.sc_handover.specs.Events.{LosesSlices}
 use Rattle.sc_handover.proofs.PushedLemmas.{HasJournal-pushed}
 use Rattle.sc_handover.proofs.KeptLemmas.{AreSome, is_kept}
 
@@ -111,15 +112,9 @@ pub record MayTakeOut (old : Bucket) (one : Entry) (change : Change) (less : ℕ
   pub idle : open_split (old.journal.entries ++ one ∷ []) ≡ None
   pub whole : forming (after old.map change) ≡ []
 
--- Slices left the map of a bucket by this change: of its cores and its messages those of the slices that stay are left,
--- its journal got the entry, so many entries less are owed, and no searchers are ready for a switch.
+-- Slices left the map of a bucket by this change, so many entries less are owed, and no searchers are ready for a switch.
 pub record TakesOut (old : Bucket) (one : Entry) (change : Change) (less : ℕ) (new : Bucket) : Type 0 where
-  pub name : HasSameName old new
-  pub map_is : new.map ≡ after old.map change
-  pub entries : new.journal.entries ≡ old.journal.entries ++ one ∷ []
-  pub messages : new.flight.messages ≡ filter (λ (message : Sent). is_of_one new.map message.core) old.flight.messages
-  pub cores : new.replicas ≡ filter (is_kept new.map) old.replicas
-  pub searchers_are : new.searchers ≡ old.searchers
+  pub loses : LosesSlices old change one new.phase new.feeds new
   pub unsettled_are : new.unsettled.places ≡ old.unsettled.places
   pub owed_is : new.owed + less ≡ old.owed
   pub room : new.journal.room + 1 ≡ old.journal.room
@@ -135,12 +130,16 @@ pub TakesOut-called : (old new : Bucket) (one : Entry) (change : Change) (less :
     → TakesOut old one change less new
 TakesOut-called old new one change less owes name map_is cores messages journal searchers unsettled_are owed_is
     spares = record {
-      name = name;
-      map_is = map_is;
-      entries = ap (λ (j : JournalState). j.entries) journal;
-      messages = messages;
-      cores = cores;
-      searchers_are = searchers;
+      loses = record {
+        name = name;
+        map_is = map_is;
+        entries = ap (λ (j : JournalState). j.entries) journal;
+        phase_is = refl;
+        messages = messages;
+        cores = cores;
+        feeds_are = refl;
+        searchers_are = searchers;
+      };
       unsettled_are = ap (λ (places : PlacesState). places.places) unsettled_are;
       owed_is = omega (arith, owes.0, owed_is);
       room = omega (arith, owes.1, ap (λ (j : JournalState). j.room) journal);
@@ -152,9 +151,9 @@ pub HasJournal-noted : (old new : Bucket) (one : Entry) (change : Change) (less 
     → MayTakeOut old one change less → TakesOut old one change less new → HasJournal new
 HasJournal-noted old new one change less journal may takes =
     HasJournal-pushed old new one change journal may.may may.change_is may.no_write may.settles_nothing (record {
-      name = takes.name;
-      entries = takes.entries;
-      map_is = takes.map_is;
+      name = takes.loses.name;
+      entries = takes.loses.entries;
+      map_is = takes.loses.map_is;
       unsettled_are = takes.unsettled_are;
       owed_is = omega (arith, may.owed_less, takes.owed_is, journal.owed_is);
       room = omega (arith, may.some, takes.room, takes.owed_is, journal.room);

@@ -19,6 +19,7 @@ use Rattle.sc_bucket.specs.Searchers.{AreTaken, AreHandedOn}
 use Rattle.sc_bucket.specs.Sound.{HasLastWrites}
 use Rattle.sc_bucket.specs.Events.{AreSameCores, HasSameName}
 use Rattle.sc_bucket.specs.declared.bucket.Bucket.{Bucket}
+use Rattle.sc_bucket.specs.declared.phase.Phase.{Phase}
 use Rattle.sc_bucket.specs.declared.phase.Phase.TheVariants as phases
 use Rattle.sc_handover.specs.Made.{first_core, empty_core, first_feed, feed_limit, piece_of, moved_on, settled_sub}
 
@@ -128,24 +129,22 @@ abbrev pub HaveLastWrites : Bucket → List Slice → Type 0
 HaveLastWrites b subs = (sub : Slice) (core : Core) → Contains subs sub → Contains b.replicas core → core.core.slice ≡ sub.id
     → HasLastWrites b.journal.entries sub core
 
--- The split is given up: the subs leave the map, with their cores, their feeds and the messages to them. All else is as it was.
-pub record Aborts (old : Bucket) (parent : SliceId) (new : Bucket) : Type 0 where
+-- Slices leave the map by this change, with their cores and the messages to them, and the journal gets this entry. The phase and the
+-- feeds are these then, and all else is as it was.
+pub record LosesSlices (old : Bucket) (change : Change) (one : Entry) (phase : Phase) (feeds : List FeedState) (new : Bucket) : Type 0 where
   pub name : HasSameName old new
-  pub map_is : new.map ≡ after old.map (Change.Failed parent)
-  pub entries : new.journal.entries ≡ old.journal.entries ++ entry.Failed parent ∷ []
-  pub phase_is : new.phase ≡ phases.Idle
+  pub map_is : new.map ≡ after old.map change
+  pub entries : new.journal.entries ≡ old.journal.entries ++ one ∷ []
+  pub phase_is : new.phase ≡ phase
   pub messages : new.flight.messages ≡ filter (λ (message : Sent). is_of_one new.map message.core) old.flight.messages
   pub cores : new.replicas ≡ filter (λ (core : Core). is_of_one new.map core.core) old.replicas
-  pub feeds_are : new.feeds ≡ []
+  pub feeds_are : new.feeds ≡ feeds
   pub searchers_are : new.searchers ≡ old.searchers
 
--- An inactive slice leaves the map, with its cores and the messages to them. All else is as it was.
-pub record Drops (old : Bucket) (slice : SliceId) (new : Bucket) : Type 0 where
-  pub name : HasSameName old new
-  pub map_is : new.map ≡ after old.map (Change.Dropped slice)
-  pub entries : new.journal.entries ≡ old.journal.entries ++ entry.Dropped slice ∷ []
-  pub phase_is : new.phase ≡ old.phase
-  pub messages : new.flight.messages ≡ filter (λ (message : Sent). is_of_one new.map message.core) old.flight.messages
-  pub cores : new.replicas ≡ filter (λ (core : Core). is_of_one new.map core.core) old.replicas
-  pub feeds_are : new.feeds ≡ old.feeds
-  pub searchers_are : new.searchers ≡ old.searchers
+-- the split is given up: the subs leave the map, no split is open, and nothing is fed
+abbrev pub Aborts : Bucket → SliceId → Bucket → Type 0
+Aborts old parent new = LosesSlices old (Change.Failed parent) (entry.Failed parent) phases.Idle [] new
+
+-- an inactive slice leaves the map
+abbrev pub Drops : Bucket → SliceId → Bucket → Type 0
+Drops old slice new = LosesSlices old (Change.Dropped slice) (entry.Dropped slice) old.phase old.feeds new

@@ -45,7 +45,7 @@ use Rattle.sc_handover.proofs.SameWritesLemmas.{last_write-same, same_writes_is_
 use Rattle.sc_handover.proofs.MadeLemmas.{IsMade}
 
 -- cores of two slices have two names
-pub of_other_slice : (one other : CoreId) → one.slice.0 ≢ other.slice.0 → is_core one other ≡ false
+of_other_slice : (one other : CoreId) → one.slice.0 ≢ other.slice.0 → is_core one other ≡ false
 of_other_slice one other apart =
     false_from_ne_true (is_core one other)
     (λ is. apart (ap (λ (name : CoreId). name.slice.0) ((is_core-Decides one other).0 is)))
@@ -105,7 +105,7 @@ old_is_sound old parent subs rows one core plan unfed no_write low sound =
         ∙ sym (ap (λ (feeds : List FeedState). to_feed feeds core.core) unfed)
 
 -- nothing is in flight to a core of a slice that wasn't there
-pub none_to_new : (old : Bucket) (name : CoreId) → IsSound old → greatest_id old.map < name.slice.0
+none_to_new : (old : Bucket) (name : CoreId) → IsSound old → greatest_id old.map < name.slice.0
     → in_flight old.flight.messages name ≡ []
 none_to_new old name sound above =
     in_flight-none old.flight.messages name

@@ -113,7 +113,7 @@ same_phase b feeds cores (phases.Recovering parent) led is =
 
 -- It is sound where each core is, the cores have the same names and are active where they have to be, and the feeds
 -- are as they have to be.
-pub IsSound-changed : (b : Bucket) (feeds : List FeedState) (cores : List Core) → IsSound b
+IsSound-changed : (b : Bucket) (feeds : List FeedState) (cores : List Core) → IsSound b
     → All (IsSoundIn (with_fed b feeds cores) b.flight.messages) cores → map name_of cores ≡ map name_of b.replicas
     → OfEachCore (with_fed b feeds cores)
     (λ (slice : Slice) (core : Core). is_forming slice ≡ false → core.mode ≡ Active)

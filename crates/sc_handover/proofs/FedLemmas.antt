@@ -33,7 +33,7 @@ pub name-fed_all : (core : Core) (writes : List Write) → (fed_all core writes)
 name-fed_all core [] = refl
 name-fed_all core (write ∷ writes) = name-fed_all (fed core write) writes
 
-pub buffer-fed_all : (core : Core) (writes : List Write) → (fed_all core writes).buffer ≡ core.buffer
+buffer-fed_all : (core : Core) (writes : List Write) → (fed_all core writes).buffer ≡ core.buffer
 buffer-fed_all core [] = refl
 buffer-fed_all core (write ∷ writes) = buffer-fed_all (fed core write) writes
 

@@ -329,7 +329,7 @@ phase-joined b name sub core feed may =
     )
 
 -- so a bucket is sound once both joined
-pub IsSound-joined : (b : Bucket) (name : CoreId) (sub : Slice) (core : Core) (feed : FeedState) → MayJoin b name sub core feed
+IsSound-joined : (b : Bucket) (name : CoreId) (sub : Slice) (core : Core) (feed : FeedState) → MayJoin b name sub core feed
     → IsSound (joined b core feed)
 IsSound-joined b name sub core feed may =
     let cores : All (IsSoundFed b (b.feeds ++ feed ∷ [])) (put_by_name core b.replicas) =
@@ -341,7 +341,7 @@ IsSound-joined b name sub core feed may =
     (AreFeeds-joined b name sub core feed may) (phase-joined b name sub core feed may)
 
 -- the cores are those with an empty one more
-pub AreSameCores-put : (core : Core) (cores : List Core) → map without_room (put_by_name core cores) ≡ map without_room (put_by_name (without_room core) cores)
+AreSameCores-put : (core : Core) (cores : List Core) → map without_room (put_by_name core cores) ≡ map without_room (put_by_name (without_room core) cores)
 AreSameCores-put core [] = refl
 AreSameCores-put core (other ∷ cores) =
     by (nat_lt (core_number core.core) (core_number other.core)) (AreSameCores-put core cores)

@@ -40,7 +40,7 @@ never_written journal (cell ∷ cells) id written none =
         absurd (omega arith)
 
 -- a core for which nothing is pending has the last write of each id in the range of its slice, where that is attached
-pub last_from_nothing : (slices : List Slice) (journal : List Entry) (sent pending : List Write) (core : Core) (slice : Slice)
+last_from_nothing : (slices : List Slice) (journal : List Entry) (sent pending : List Write) (core : Core) (slice : Slice)
     → IsSoundCore slices journal sent pending core → pending ≡ [] → Contains slices slice → slice.id ≡ core.core.slice
     → IsTrue (is_attached slice) → HasLastWrites journal slice core
 last_from_nothing slices journal sent pending core slice sound nothing there named attached id within =
@@ -61,7 +61,7 @@ same_from_key cores one other ascend there other_there same =
     (ap (λ (key : ℕ × ℕ). key.0 * 256 + key.1) same)
 
 -- an active core is not fed
-pub unfed_where_active : (b : Bucket) (core : Core) → IsSound b → Contains b.replicas core → core.mode ≡ Active
+unfed_where_active : (b : Bucket) (core : Core) → IsSound b → Contains b.replicas core → core.mode ≡ Active
     → to_feed b.feeds core.core ≡ []
 unfed_where_active b core sound there active =
     to_feed-none b.feeds core.core

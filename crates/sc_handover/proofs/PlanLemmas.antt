@@ -15,16 +15,10 @@ use Rattle.sc_cluster.specs.Tiles.{holders, Tiles}
 use Rattle.sc_cluster.specs.Map.{IsMap}
 use Rattle.sc_cluster.specs.Plans.{sub_bounds, IsPlan}
 use Rattle.sc_cluster.specs.Changes.{begun_slice}
-use Rattle.sc_cluster.proofs.IdLemmas.{id_of, greatest_id-bounds}
 use Rattle.sc_cluster.proofs.ItemLemmas.{count_by-positive}
 use Rattle.sc_cluster.proofs.LeaderLemmas.{same_from_id}
 use Rattle.sc_cluster.proofs.ListLemmas.{All-from_slice_get, Contains-map, get_or-map_counted}
 use Rattle.sc_cluster.proofs.PairLemmas.{Contains-from_map}
-
--- no slice that is there has an id above the greatest
-pub slice_below : (slices : List Slice) (slice : Slice) → Contains slices slice → slice.id.0 ≤ greatest_id slices
-slice_below slices slice there =
-    All-contains (λ (s : Slice). id_of s ≤ greatest_id slices) slices slice (greatest_id-bounds slices) there
 
 -- each sub has one
 pub sub_above : (slices : List Slice) (parent : SliceId) (subs : List SubSlice) (sub : SubSlice)

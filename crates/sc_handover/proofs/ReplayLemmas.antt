@@ -67,7 +67,7 @@ ChangesCore-found b name found at change new is found_at changed =
     }
 
 -- a core that doesn't buffer has no feed
-pub unfed_replaying : (b : Bucket) (core : Core) → IsSound b → Contains b.replicas core → core.mode ≡ Replaying
+unfed_replaying : (b : Bucket) (core : Core) → IsSound b → Contains b.replicas core → core.mode ≡ Replaying
     → IsUnfed b core.core
 unfed_replaying b core sound there replays k d below =
     let is : IsFeed b (get_or b.feeds k d) = sound.feeds.each k d below in

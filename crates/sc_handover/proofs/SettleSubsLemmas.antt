@@ -26,7 +26,7 @@ use Rattle.sc_handover.specs.Made.{settled_sub}
 use Rattle.sc_handover.specs.Parts.{is_of_sub, IsQuiet, DeliversToSubs, NoneIsToASub}
 
 -- what keeps each element leaves the list
-pub map-kept : {A : Type 0} (f : A → A) (xs : List A) → All (λ x. f x ≡ x) xs → map f xs ≡ xs
+map-kept : {A : Type 0} (f : A → A) (xs : List A) → All (λ x. f x ≡ x) xs → map f xs ≡ xs
 map-kept f [] each = refl
 map-kept f (x ∷ xs) each =
     ap (λ y. y ∷ map f xs) (All-head (λ y. f y ≡ y) x xs each)
@@ -61,7 +61,7 @@ IsQuiet-all core (write ∷ writes) quiet = IsQuiet-all (received core write) wr
   by Replaying is = quiet
 
 -- so it is once all that was in flight to a core arrived
-pub name_and_mode-arrived : (messages : List Sent) (name : CoreId) (core : Core)
+name_and_mode-arrived : (messages : List Sent) (name : CoreId) (core : Core)
     → name_and_mode (arrived messages name core) ≡ name_and_mode core
 name_and_mode-arrived messages name core = by (is_core name core.core) where
   by : (b : Bool) → name_and_mode (cond b (received_all core (in_flight messages name)) core) ≡ name_and_mode core

@@ -9,7 +9,7 @@ use Rattle.sc_handover.proofs.SubLemmas.{CanSwitch-alike}
 use Rattle.sc_handover.proofs.SettleSubsLemmas.{AreAlike-to_subs}
 
 -- a switch may come of the split that is open, and of no other
-pub same_parent : (b : Bucket) (one other : SliceId) → CanSwitch b one → b.phase ≡ phases.Recovering other → one ≡ other
+same_parent : (b : Bucket) (one other : SliceId) → CanSwitch b one → b.phase ≡ phases.Recovering other → one ≡ other
 same_parent b one other can is =
     let both : Some one ≡ Some other = ap split_of (sym can.recovering ∙ is) in
     cc

@@ -48,7 +48,7 @@ pub record IsReadyToSwitch (b : Bucket) (parent : SliceId) : Type 0 where
   pub quiet : All IsQuiet b.replicas
 
 -- each core of a sub has the last writes then
-pub last_of_sub : (b : Bucket) (parent : SliceId) (sub : Slice) (core : Core) → IsReadyToSwitch b parent → Contains b.map sub
+last_of_sub : (b : Bucket) (parent : SliceId) (sub : Slice) (core : Core) → IsReadyToSwitch b parent → Contains b.map sub
     → is_forming sub ≡ true → Contains b.replicas core → sub.id ≡ core.core.slice → HasLastWrites b.journal.entries sub core
 last_of_sub b parent sub core ready in_map forms there named =
     let active = all_are_active b parent core ready.sound ready.can there in

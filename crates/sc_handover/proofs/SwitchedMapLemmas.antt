@@ -85,7 +85,7 @@ inactive_more slices parent is_map (slice, named, splitting) =
     active = ap {B = ℕ} (λ state. cond (is_active_state state) 1 0) splitting.active
 
 -- which owes an entry, and the split that is over owed two
-pub owed-push_switched : (first : List Slice) (journal : List Entry) (parent : SliceId) → IsMap (map_after first journal)
+owed-push_switched : (first : List Slice) (journal : List Entry) (parent : SliceId) → IsMap (map_after first journal)
     → IsSplit (map_after first journal) parent → open_split journal ≡ Some parent
     → owed first (journal ++ entry.Switched parent ∷ []) + 1 ≡ owed first journal
 owed-push_switched first journal parent is_map split begun =

@@ -33,7 +33,7 @@ use Rattle.sc_bucket.proofs.CoreLemmas.{is_core-Decides, is_core-itself, IsCoreF
 use Rattle.sc_bucket.proofs.FindLemmas.{take-next}
 use Rattle.sc_bucket.proofs.TakenLemmas.{Contains-slice_get}
 use Rattle.sc_handover.specs.Conditions.{IsInMode, IsUnfed, IsThereActive, CanFeed, CanGrow, CanSwitch}
-use Rattle.sc_world.specs.Tests.{IsRecovering, IsLedActively, IsWhole, MayJoin, IsMissing}
+use Rattle.sc_world.specs.Checks.{IsRecovering, IsLedActively, IsWhole, MayJoin, IsMissing}
 
 -- ---- lists
 -- it is true of the first elements and the next

@@ -22,7 +22,7 @@ use Rattle.sc_world.specs.declared.event.Event.{Event}
 use Rattle.sc_world.specs.declared.event.Event.TheVariants as events
 use Rattle.sc_world.specs.Steps.{Can, IsOutOfMemory}
 use Rattle.sc_world.specs.Runs.{IsPassed, IsStepped, Runs, RunsOut}
-use Rattle.sc_world.specs.Tests.{is_out_of_memory}
+use Rattle.sc_world.specs.Checks.{is_out_of_memory}
 use Rattle.sc_world.proofs.RunLemmas.{Runs-push, Adds-run, Adds-run_out}
 
 -- an order that is answered, but that memory ran out

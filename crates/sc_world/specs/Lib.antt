@@ -2,4 +2,4 @@
 pub mod Steps
 pub mod Runs
 pub mod Laws
-pub mod Tests
+pub mod Checks

@@ -6,7 +6,7 @@ ghost use Rattle.sc_bucket.specs.Cores.{AscendByName, keys_of};
 ghost use Rattle.sc_bucket.specs.Sound.{HasCores, AreLedActively, IsSound};
 ghost use Rattle.sc_handover.specs.Conditions.{IsInMode, IsUnfed, IsThereActive, CanFeed};
 ghost use Rattle.sc_world.specs.Steps.{Can};
-ghost use Rattle.sc_world.specs.Tests.{IsBuilding, IsRecovering, IsLedActively, IsWhole, MayJoin, IsMissing};
+ghost use Rattle.sc_world.specs.Checks.{IsBuilding, IsRecovering, IsLedActively, IsWhole, MayJoin, IsMissing};
 
 use crate::event::Event;
 use sc_bucket::{Bucket, Phase};

@@ -4,7 +4,7 @@ ghost use Rattle.sc_handover.specs.Conditions.{CanBegin};
 ghost use Rattle.sc_world.specs.declared.event.Event.TheVariants as events;
 ghost use Rattle.sc_world.specs.Steps.{Can, IsOutOfMemory};
 ghost use Rattle.sc_world.specs.Runs.{IsStepped};
-ghost use Rattle.sc_world.specs.Tests.{is_out_of_memory};
+ghost use Rattle.sc_world.specs.Checks.{is_out_of_memory};
 
 use crate::event::Event;
 use sc_bucket::{AcceptFault, Accepted, Bucket, CommitFault};

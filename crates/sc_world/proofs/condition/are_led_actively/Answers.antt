@@ -1,7 +1,7 @@
 -- So far it is true of each slice, and of the next, or not of all.
 use Rattle.std.proofs.Common.{◌≡◌, ◌∙◌, Some, true, false, slice_get, refl, sym, ap, arith}
 use Rattle.std.specs.Option.{option_copied}
-use Rattle.sc_world.specs.Tests.{IsLedActively}
+use Rattle.sc_world.specs.Checks.{IsLedActively}
 use Rattle.sc_world.proofs.ConditionLemmas.{led_actively, All-next, All-through, not_of_all}
 use Rattle.sc_world.proofs.condition.are_led_actively.Goals as goal
 

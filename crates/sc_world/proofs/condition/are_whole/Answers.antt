@@ -1,7 +1,7 @@
 -- So far it is true of each slice, and of the next, or not of all.
 use Rattle.std.proofs.Common.{◌≡◌, ◌∙◌, Some, slice_get, refl, sym, ap, arith}
 use Rattle.std.specs.Option.{option_copied}
-use Rattle.sc_world.specs.Tests.{IsWhole}
+use Rattle.sc_world.specs.Checks.{IsWhole}
 use Rattle.sc_world.proofs.ConditionLemmas.{All-next, All-through, not_of_all}
 use Rattle.sc_world.proofs.condition.are_whole.Goals as goal
 

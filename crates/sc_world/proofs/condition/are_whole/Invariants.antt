@@ -1,6 +1,6 @@
 -- So far each slice's replicas are there and active, where a split is making the slice.
 use Rattle.std.proofs.Common.{All, take}
-use Rattle.sc_world.specs.Tests.{IsWhole}
+use Rattle.sc_world.specs.Checks.{IsWhole}
 use Rattle.sc_world.proofs.condition.are_whole.Given as goal
 
 abbrev pub invariant-loop-at : goal.invariant-loop-at

@@ -2,7 +2,7 @@
 use Rattle.std.proofs.Common.{◌≡◌, ◌↔◌, ◌∙◌, Bool, not, is_some, IsTrue, ap, subst}
 use Rattle.std.proofs.Math.Bool.{not-not}
 use Rattle.sc_cluster.specs.declared.slice.Slice.{Slice}
-use Rattle.sc_world.specs.Tests.{IsMissing}
+use Rattle.sc_world.specs.Checks.{IsMissing}
 use Rattle.sc_world.proofs.ConditionLemmas.{missing_where_joins, not_missing}
 use Rattle.sc_world.proofs.condition.is_missing.Goals as goal
 

@@ -3,10 +3,10 @@
 ghost use Rattle.std.specs.Prelude.{◌≤◌, IfOk};
 ghost use Rattle.sc_bucket.specs.Sound.{IsSound};
 
-use super::{core, order, run, step};
+use super::{core, one_shard, order, run, step};
 use crate::Event;
 use sc_bucket::{Bucket, Phase};
-use sc_cluster::{ClusterMap, SplitPlan, State};
+use sc_cluster::{SplitPlan, State};
 use sc_record::{CoreId, Entry, Id, List, SliceId, SubSlice, Text};
 use sc_ulog::Mode;
 use std::alloc::Global;
@@ -16,15 +16,6 @@ use std::test::Fail;
 const FIRST: i64 = 1_048_576_000;
 
 const SECOND: i64 = FIRST + 1;
-
-/// A new bucket of one shard on so many replicas, on one node.
-fn one_shard(alloc: Global, replicas: u8) -> Result<Bucket, Fail>
-    requires { 1 ≤ replicas }
-    ensures { IfOk result IsSound }
-{
-    let map = ClusterMap::new(alloc, 1, replicas, 1)?;
-    Ok(Bucket::new(alloc, &map, 64)?)
-}
 
 /// An order to add or delete this document comes.
 fn accept(alloc: Global, id: &str, is_live: bool) -> Result<Event, Fail> {
@@ -129,7 +120,7 @@ fn kind(entry: &Entry) -> &'static str {
 fn halfway(alloc: Global, is_live: bool) -> Result<Bucket, Fail>
     ensures { IfOk result IsSound }
 {
-    let mut bucket = one_shard(alloc, 1)?;
+    let mut bucket = one_shard(alloc, 1, 64)?;
     let events = vec![in alloc;
         accept(alloc, "abc", is_live)?,
         begin(alloc, 1)?,
@@ -221,7 +212,7 @@ fn a_split_is_switched_and_its_parent_dropped(rt: HostRuntime) -> Result<(), Fai
 fn recovering(alloc: Global) -> Result<Bucket, Fail>
     ensures { IfOk result IsSound }
 {
-    let mut bucket = one_shard(alloc, 2)?;
+    let mut bucket = one_shard(alloc, 2, 64)?;
     let events = vec![in alloc;
         accept(alloc, "abc", true)?,
         accept(alloc, "hello", true)?,

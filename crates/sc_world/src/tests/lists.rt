@@ -223,7 +223,7 @@ fn lists_of_events_keep_a_bucket_sound(rt: HostRuntime) -> Result<(), Fail> {
         seed: 21,
         ids: 75,
         before: 70,
-        during: 70,
+        during: 65,
         events: 40,
         limit: 1_000,
     };

@@ -3,7 +3,7 @@ use Rattle.std.proofs.Common.{◌≡◌, ℕ, zero, suc, ◌+◌, ◌<◌, ◌�
 use Rattle.serde_json.specs.Data.{Data}
 use Rattle.serde_json.specs.View.{view, items_view}
 use Rattle.serde_json.specs.declared.value.Value.{Value}
-use Rattle.sc_commands.specs.Commands.{Command, one, each}
+use Rattle.sc_commands.specs.Commands.{Command, each}
 
 -- the first i values pass the test
 abbrev pub PassBefore : (Data → Bool) → ℕ → List Value → Type 0

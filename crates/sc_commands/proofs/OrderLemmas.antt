@@ -1,5 +1,5 @@
 -- The orders of commands, one after another and one list after another.
-use Rattle.std.proofs.Common.{◌≡◌, ℕ, suc, ◌+◌, ◌<◌, ◌≤◌, List, [], ◌∷◌, ◌++◌, length, get_or, drop, map, Result, Ok, Err, refl, sym, ap, ◌∙◌, inl, inr, append_assoc, subst, arith, drop-cons, length-append}
+use Rattle.std.proofs.Common.{◌≡◌, ℕ, suc, ◌+◌, ◌≤◌, List, [], ◌∷◌, ◌++◌, length, map, Result, Ok, Err, refl, sym, ap, ◌∙◌, inl, inr, subst, arith, length-append}
 use Rattle.std.proofs.lemmas.List.{length-map}
 use Rattle.serde_json.specs.View.{view}
 use Rattle.serde_json.specs.declared.value.Value.{Value}
@@ -40,41 +40,6 @@ orders-append (x ∷ xs) ys =
 -- the orders that were read, and those of the values that are left
 abbrev pub with_rest : Action → List Asked → List Value → Result (List Asked) DocFault
 with_rest action read values = found_map (λ more. read ++ more) (orders_of (listed action values))
-
-put_one : (read : List Asked) (order : Asked) (rest : Result (List Asked) DocFault)
-    → found_map (λ more. read ++ more) (found_map (λ orders. order ∷ orders) rest) ≡ found_map (λ more. (read ++ order ∷ []) ++ more) rest
-put_one read order (Err fault) = refl
-put_one read order (Ok more) = ap (λ all. Ok all) (sym (append_assoc read (order ∷ []) more))
-
-asked-append : (orders : List Order) (order : Order) → map asked (orders ++ order ∷ []) ≡ map asked orders ++ asked order ∷ []
-asked-append [] order = refl
-asked-append (first ∷ orders) order = ap (λ rest. asked first ∷ rest) (asked-append orders order)
-
--- the order of the next value goes after those that were read
-pub next_order : (action : Action) (values : List Value) (i : ℕ) (d : Value) (old new : List Order) (order : Order) → i < length values
-    → order_of (command_of action (view (get_or values i d))) ≡ Ok (asked order) → new ≡ old ++ order ∷ []
-    → with_rest action (map asked old) (drop i values) ≡ with_rest action (map asked new) (drop (i + 1) values)
-next_order action values i d old new order within here pushed =
-    let place : suc i ≡ i + 1 = omega arith in
-    ap (λ left. with_rest action (map asked old) left) (drop-cons values i d within)
-    ∙ ap (λ found. found_map (λ more. map asked old ++ more) (and_then (λ o. found_map (λ orders. o ∷ orders) (orders_of (listed action (drop (suc i) values)))) found)) here
-    ∙ put_one (map asked old) (asked order) (orders_of (listed action (drop (suc i) values)))
-    ∙ ap (λ read. with_rest action read (drop (suc i) values)) (sym (ap (λ orders. map asked orders) pushed ∙ asked-append old order))
-    ∙ ap (λ n. with_rest action (map asked new) (drop n values)) place
-
-fault_first : (read : List Asked) (whole : Result (List Asked) DocFault) (fault : DocFault) → found_map (λ more. read ++ more) whole ≡ Err fault → whole ≡ Err fault
-fault_first read (Ok orders) fault e = cc
-fault_first read (Err other) fault e = e
-
--- the fault of the next value is the first of all
-pub next_fault : (action : Action) (values : List Value) (i : ℕ) (d : Value) (first read : List Asked) (fault : DocFault) → i < length values
-    → with_rest action first values ≡ with_rest action read (drop i values)
-    → IsFaultOf (order_of (command_of action (view (get_or values i d)))) fault → IsFaultOf (orders_of (listed action values)) fault
-next_fault action values i d first read fault within same (inl memory) = inl memory
-next_fault action values i d first read fault within same (inr found) =
-    inr (fault_first first (orders_of (listed action values)) fault
-    (same ∙ ap (λ left. with_rest action read left) (drop-cons values i d within)
-    ∙ ap (λ order. found_map (λ more. read ++ more) (and_then (λ o. found_map (λ orders. o ∷ orders) (orders_of (listed action (drop (suc i) values)))) order)) found))
 
 -- the fields of one name ascend
 pub alone_ascends : (field : RawField) → AscendByName (field ∷ [])

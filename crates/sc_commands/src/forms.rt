@@ -1,16 +1,17 @@
 //! The forms of a body.
 
-ghost use Rattle.std.specs.Prelude.{◌≡◌, ◌<◌, ◌^◌, ◌++◌, [], false, codes, Some, None, Ok, Err, IfOk, IfErr, MatchOption};
+ghost use Rattle.std.specs.Prelude.{◌≡◌, ◌∷◌, ◌<◌, ◌^◌, ◌++◌, [], false, codes, Some, None, Ok, Err, IfOk, IfErr, OnOk, MatchOption, option_map};
 ghost use Rattle.std.specs.Option.{option_map_or};
 ghost use Rattle.serde_json.specs.Find.{get};
 ghost use Rattle.serde_json.specs.View.{view, items_view};
 ghost use Rattle.sc_commands.specs.Commands as commands;
-ghost use Rattle.sc_commands.specs.Listed.{command_of, listed};
+ghost use Rattle.sc_commands.specs.Listed.{command_of, listed, IsFormFault, ComesWithin};
 ghost use Rattle.sc_commands.specs.declared.forms.Action.TheVariants as actions;
+ghost use Rattle.sc_commands.specs.declared.forms.FormFault.TheVariants as faults;
 
-use crate::keys::{has_keys, is_id};
+use crate::keys::{has_keys, is_id, take_member};
 use serde_json::Value;
-use std::slice;
+use std::alloc::Global;
 
 /// What a command does with the document of a value.
 #[derive(Clone, Copy, Debug, PartialEq, Eq)]
@@ -21,51 +22,64 @@ pub(crate) enum Action {
 
 /// The commands of a body, each of which has one of the forms.
 #[derive(Drop)]
-pub(crate) struct Commands<'a> {
+pub(crate) struct Commands {
     /// The objects of the documents to add.
-    pub adds: &'a [Value],
+    pub adds: Vec<Value>,
     /// The ids to delete, or one object that has an id and may have a version.
-    pub deletes: &'a [Value],
+    pub deletes: Vec<Value>,
     pub commit: bool,
 }
 
-/// What a body's value asks for, or how many orders come before what has none of the forms.
-pub(crate) fn commands_of(value: &Value) -> Result<Commands<'_>, usize>
-    ensures ok { IfOk result (λ found. commands.reading (view value.now)
-        ≡ Ok (listed actions.Add found.adds.now ++ listed actions.Delete found.deletes.now)) }
+/// Why a body has no commands.
+#[derive(Drop)]
+pub(crate) enum FormFault {
+    /// What comes after so many orders has none of the forms.
+    Shape { at: usize },
+    Memory,
+}
+
+/// What a body's value asks for.
+pub(crate) fn commands_of(alloc: Global, value: Value) -> Result<Commands, FormFault>
+    ensures ok { IfOk result (λ found. commands.reading (view value)
+        ≡ Ok (listed actions.Add found.adds.items ++ listed actions.Delete found.deletes.items)) }
     ensures commit { IfOk result
-        (λ found. found.commit ≡ commands.asks_commit (view value.now)) }
-    ensures err { IfErr result (λ at. commands.reading (view value.now) ≡ Err at) }
+        (λ found. found.commit ≡ commands.asks_commit (view value)) }
+    ensures err { IfErr result (IsFormFault (commands.reading (view value))) }
 {
     match value {
         Value::Array(items) => Ok(Commands {
-            adds: objects(items.as_slice())?,
-            deletes: &[],
+            adds: all_objects(items)?,
+            deletes: Vec::new(alloc),
             commit: false,
         }),
-        _ => object_commands(value),
+        other => object_commands(alloc, other),
     }
 }
 
 /// What an object of commands asks for.
-fn object_commands(value: &Value) -> Result<Commands<'_>, usize>
-    ensures ok { IfOk result (λ found. commands.commands_of (view value.now)
-        ≡ Ok (listed actions.Add found.adds.now ++ listed actions.Delete found.deletes.now)) }
+fn object_commands(alloc: Global, mut value: Value) -> Result<Commands, FormFault>
+    ensures ok { IfOk result (λ found. commands.commands_of (view value)
+        ≡ Ok (listed actions.Add found.adds.items ++ listed actions.Delete found.deletes.items)) }
     ensures commit { IfOk result
-        (λ found. found.commit ≡ commands.asks_commit (view value.now)) }
-    ensures err { IfErr result (λ at. commands.commands_of (view value.now) ≡ Err at) }
+        (λ found. found.commit ≡ commands.asks_commit (view value)) }
+    ensures err { IfErr result (IsFormFault (commands.commands_of (view value))) }
 {
-    if !has_keys(value, &["add", "delete", "commit"]) {
-        return Err(0);
+    if !has_keys(&value, &["add", "delete", "commit"]) {
+        return Err(FormFault::Shape { at: 0 });
     }
-    let adds = adds_at(value)?;
-    let deletes = match deletes_at(value) {
+    let adds = adds_at(alloc, take_member(&mut value, "add"))?;
+    let deletes = match deletes_at(alloc, take_member(&mut value, "delete")) {
         Ok(deletes) => deletes,
-        Err(at) => return Err(adds.len() + at),
+        Err(FormFault::Shape { at }) => return Err(FormFault::Shape {
+            at: adds.len() + at,
+        }),
+        Err(fault) => return Err(fault),
     };
-    let commit = match commit_at(value) {
+    let commit = match commit_at(&value) {
         Ok(commit) => commit,
-        Err(at) => return Err(adds.len() + (deletes.len() + at)),
+        Err(at) => return Err(FormFault::Shape {
+            at: adds.len() + (deletes.len() + at),
+        }),
     };
     Ok(Commands {
         adds,
@@ -74,33 +88,32 @@ fn object_commands(value: &Value) -> Result<Commands<'_>, usize>
     })
 }
 
-/// What the key `add` asks for, where it is there.
-fn adds_at(value: &Value) -> Result<&[Value], usize>
+/// What the value of the key `add` asks for, where it is there.
+fn adds_at(alloc: Global, asked: Option<Value>) -> Result<Vec<Value>, FormFault>
     ensures ok { IfOk result
-        (λ found. commands.where_there commands.adds_of (get (codes "add") (view value.now))
-        ≡ Ok (listed actions.Add found.now)) }
+        (λ found. commands.where_there commands.adds_of (option_map view asked)
+        ≡ Ok (listed actions.Add found.items)) }
     ensures err { IfErr result
-        (λ at. commands.where_there commands.adds_of (get (codes "add") (view value.now)) ≡ Err at) }
+        (IsFormFault (commands.where_there commands.adds_of (option_map view asked))) }
 {
-    match value.get("add") {
-        Some(asked) => adds_of(asked),
-        None => Ok(&[]),
+    match asked {
+        Some(value) => adds_of(alloc, value),
+        None => Ok(Vec::new(alloc)),
     }
 }
 
-/// What the key `delete` asks for, where it is there.
-fn deletes_at(value: &Value) -> Result<&[Value], usize>
+/// What the value of the key `delete` asks for, where it is there.
+fn deletes_at(alloc: Global, asked: Option<Value>) -> Result<Vec<Value>, FormFault>
     ensures ok { IfOk result
-        (λ found. commands.where_there commands.deletes_of (get (codes "delete") (view value.now))
-        ≡ Ok (listed actions.Delete found.now)) }
+        (λ found. commands.where_there commands.deletes_of (option_map view asked)
+        ≡ Ok (listed actions.Delete found.items)) }
     ensures err { IfErr result
-        (λ at. commands.where_there commands.deletes_of (get (codes "delete") (view value.now))
-        ≡ Err at) }
-    ensures small { IfErr result (λ at. at < 2 ^ 62) }
+        (IsFormFault (commands.where_there commands.deletes_of (option_map view asked))) }
+    ensures small { IfErr result (ComesWithin (2 ^ 62)) }
 {
-    match value.get("delete") {
-        Some(asked) => deletes_of(asked),
-        None => Ok(&[]),
+    match asked {
+        Some(value) => deletes_of(alloc, value),
+        None => Ok(Vec::new(alloc)),
     }
 }
 
@@ -122,29 +135,38 @@ fn commit_at(value: &Value) -> Result<bool, usize>
 }
 
 /// What a value asks to add.
-fn adds_of(value: &Value) -> Result<&[Value], usize>
+fn adds_of(alloc: Global, value: Value) -> Result<Vec<Value>, FormFault>
     ensures ok { IfOk result
-        (λ found. commands.adds_of (view value.now) ≡ Ok (listed actions.Add found.now)) }
-    ensures err { IfErr result (λ at. commands.adds_of (view value.now) ≡ Err at) }
+        (λ found. commands.adds_of (view value) ≡ Ok (listed actions.Add found.items)) }
+    ensures err { IfErr result (IsFormFault (commands.adds_of (view value))) }
 {
-    if let Value::Array(items) = value {
-        return objects(items.as_slice());
+    match value {
+        Value::Array(items) => all_objects(items),
+        other => one_added(alloc, other),
     }
+}
+
+/// The document of an object that adds one, alone.
+fn one_added(alloc: Global, value: Value) -> Result<Vec<Value>, FormFault>
+    ensures ok { IfOk result (λ found. commands.one (commands.added_doc (view value))
+        ≡ Ok (listed actions.Add found.items)) }
+    ensures err { IfErr result (IsFormFault (commands.one (commands.added_doc (view value)))) }
+{
     match added_doc(value) {
-        Some(doc) => Ok(slice::from_ref(doc)),
-        None => Err(0),
+        Some(doc) => alone(alloc, doc),
+        None => Err(FormFault::Shape { at: 0 }),
     }
 }
 
 /// The document of an object that adds one.
-fn added_doc(value: &Value) -> Option<&Value>
-    ensures { MatchOption result (commands.added_doc (view value.now) ≡ None)
-        (λ doc. commands.added_doc (view value.now) ≡ Some (command_of actions.Add (view doc.now))) }
+fn added_doc(mut value: Value) -> Option<Value>
+    ensures { MatchOption result (commands.added_doc (view value) ≡ None)
+        (λ doc. commands.added_doc (view value) ≡ Some (command_of actions.Add (view doc))) }
 {
-    if !has_keys(value, &["doc", "commitWithin", "overwrite"]) || !overwrites(value) {
+    if !has_keys(&value, &["doc", "commitWithin", "overwrite"]) || !overwrites(&value) {
         return None;
     }
-    match value.get("doc") {
+    match take_member(&mut value, "doc") {
         Some(doc) if doc.is_object() => Some(doc),
         _ => None,
     }
@@ -161,19 +183,20 @@ fn overwrites(value: &Value) -> bool
 }
 
 /// What a value asks to delete.
-fn deletes_of(value: &Value) -> Result<&[Value], usize>
+fn deletes_of(alloc: Global, value: Value) -> Result<Vec<Value>, FormFault>
     ensures ok { IfOk result
-        (λ found. commands.deletes_of (view value.now) ≡ Ok (listed actions.Delete found.now)) }
-    ensures err { IfErr result (λ at. commands.deletes_of (view value.now) ≡ Err at) }
-    ensures small { IfErr result (λ at. at < 2 ^ 62) }
+        (λ found. commands.deletes_of (view value) ≡ Ok (listed actions.Delete found.items)) }
+    ensures err { IfErr result (IsFormFault (commands.deletes_of (view value))) }
+    ensures small { IfErr result (ComesWithin (2 ^ 62)) }
 {
-    if let Value::Array(items) = value {
-        return ids(items.as_slice());
-    }
-    if names_one(value) {
-        Ok(slice::from_ref(value))
-    } else {
-        Err(0)
+    match value {
+        Value::Array(items) => all_ids(items),
+        one => {
+            if !names_one(&one) {
+                return Err(FormFault::Shape { at: 0 });
+            }
+            alone(alloc, one)
+        }
     }
 }
 
@@ -197,10 +220,33 @@ fn has_id(value: &Value) -> bool
     }
 }
 
-/// The items, where each is an object; else how many come before the first that is none.
-fn objects(items: &[Value]) -> Result<&[Value], usize>
-    ensures ok { IfOk result (λ found. commands.each commands.added (items_view items.now)
-        ≡ Ok (listed actions.Add found.now)) }
+/// A list of this value alone.
+fn alone(alloc: Global, value: Value) -> Result<Vec<Value>, FormFault>
+    ensures ok { IfOk result (λ items. items.items ≡ value ∷ []) }
+    ensures err { IfErr result (λ fault. fault ≡ faults.Memory) }
+{
+    match vec![in alloc; value] {
+        Ok(items) => Ok(items),
+        Err(_) => Err(FormFault::Memory),
+    }
+}
+
+/// The items, where each is an object.
+fn all_objects(items: Vec<Value>) -> Result<Vec<Value>, FormFault>
+    ensures ok { IfOk result (λ found. commands.each commands.added (items_view items.items)
+        ≡ Ok (listed actions.Add found.items)) }
+    ensures err { IfErr result (IsFormFault (commands.each commands.added (items_view items.items))) }
+{
+    match objects(items.as_slice()) {
+        Ok(()) => Ok(items),
+        Err(at) => Err(FormFault::Shape { at }),
+    }
+}
+
+/// Whether each item is an object; else how many come before the first that is none.
+fn objects(items: &[Value]) -> Result<(), usize>
+    ensures ok { OnOk result (commands.each commands.added (items_view items.now)
+        ≡ Ok (listed actions.Add items.now)) }
     ensures err { IfErr result
         (λ at. commands.each commands.added (items_view items.now) ≡ Err at) }
 {
@@ -209,13 +255,26 @@ fn objects(items: &[Value]) -> Result<&[Value], usize>
             return Err(at);
         }
     }
-    Ok(items)
+    Ok(())
 }
 
-/// The items, where each is an id; else how many come before the first that is none.
-fn ids(items: &[Value]) -> Result<&[Value], usize>
-    ensures ok { IfOk result (λ found. commands.each commands.deleted (items_view items.now)
-        ≡ Ok (listed actions.Delete found.now)) }
+/// The items, where each is an id.
+fn all_ids(items: Vec<Value>) -> Result<Vec<Value>, FormFault>
+    ensures ok { IfOk result (λ found. commands.each commands.deleted (items_view items.items)
+        ≡ Ok (listed actions.Delete found.items)) }
+    ensures err { IfErr result (IsFormFault (commands.each commands.deleted (items_view items.items))) }
+    ensures small { IfErr result (ComesWithin (2 ^ 62)) }
+{
+    match ids(items.as_slice()) {
+        Ok(()) => Ok(items),
+        Err(at) => Err(FormFault::Shape { at }),
+    }
+}
+
+/// Whether each item is an id; else how many come before the first that is none.
+fn ids(items: &[Value]) -> Result<(), usize>
+    ensures ok { OnOk result (commands.each commands.deleted (items_view items.now)
+        ≡ Ok (listed actions.Delete items.now)) }
     ensures err { IfErr result
         (λ at. commands.each commands.deleted (items_view items.now) ≡ Err at) }
     ensures small { IfErr result (λ at. at < 2 ^ 62) }
@@ -225,5 +284,5 @@ fn ids(items: &[Value]) -> Result<&[Value], usize>
             return Err(at);
         }
     }
-    Ok(items)
+    Ok(())
 }

@@ -1,8 +1,9 @@
 //! The keys of an object, and the values that commands have at them.
 
-ghost use Rattle.std.specs.Prelude.{◌≡◌, false, map};
+ghost use Rattle.std.specs.Prelude.{◌≡◌, ℕ, List, false, map, option_map};
 ghost use Rattle.std.specs.List.{list_any};
 ghost use Rattle.std.specs.Str.{bytes_eq};
+ghost use Rattle.serde_json.specs.Find.{get, get_member};
 ghost use Rattle.serde_json.specs.View.{view, members_view};
 ghost use Rattle.sc_commands.specs.Commands as commands;
 
@@ -41,6 +42,28 @@ fn is_one_of(name: &str, keys: &[&str]) -> bool
         }
     }
     false
+}
+
+/// Takes the value at the key out of an object, where it is there.
+pub(crate) fn take_member(value: &mut Value, key: &str) -> Option<Value>
+    ensures taken { option_map view result ≡ get key.now (view value.old) }
+    ensures others { (other : List ℕ) → bytes_eq key.now other ≡ false
+        → get other (view value.new) ≡ get other (view value.old) }
+{
+    match value {
+        Value::Object(members) => take_from(members, key),
+        _ => None,
+    }
+}
+
+/// Takes the value at the key out of the members, where it is there.
+fn take_from(members: &mut Map<String, Value>, key: &str) -> Option<Value>
+    ensures taken { option_map view result ≡ get_member key.now (members_view members.old.entries) }
+    ensures others { (other : List ℕ) → bytes_eq key.now other ≡ false
+        → get_member other (members_view members.new.entries)
+        ≡ get_member other (members_view members.old.entries) }
+{
+    members.remove(key)
 }
 
 /// Whether the value is a text or a whole number of 64 signed bits.

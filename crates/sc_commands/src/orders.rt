@@ -18,32 +18,34 @@ use sc_schema::{DocFault, RawDoc, RawField, RawFlat, RawValue, check_doc};
 use serde_json::Value;
 use std::alloc::{AllocError, Global};
 
-/// The orders of all commands, or the first fault of the first that has one.
-pub(crate) fn orders_of(alloc: Global, commands: &Commands<'_>) -> Result<List<Order>, DocFault>
+/// The orders of all commands, or the first fault of the first that has one. Each value is let go once its order is made.
+pub(crate) fn orders_of(alloc: Global, commands: Commands) -> Result<List<Order>, DocFault>
     ensures ok { IfOk result (λ orders. updates.orders_of
-        (listed actions.Add commands.now.adds.now ++ listed actions.Delete commands.now.deletes.now)
+        (listed actions.Add commands.adds.items ++ listed actions.Delete commands.deletes.items)
         ≡ Ok (map asked orders)) }
     ensures fault { IfErr result (IsFaultOf (updates.orders_of
-        (listed actions.Add commands.now.adds.now ++ listed actions.Delete commands.now.deletes.now))) }
+        (listed actions.Add commands.adds.items ++ listed actions.Delete commands.deletes.items))) }
 {
-    let orders = with_orders(alloc, List::new(alloc), commands.adds, Action::Add)?;
-    with_orders(alloc, orders, commands.deletes, Action::Delete)
+    let Commands { adds, deletes, .. } = commands;
+    let none = List::from_vec(Vec::with_capacity(alloc, adds.len() + deletes.len())?);
+    let orders = with_orders(alloc, none, adds, Action::Add)?;
+    with_orders(alloc, orders, deletes, Action::Delete)
 }
 
 /// The orders with those of the values after them.
 fn with_orders(
     alloc: Global,
     mut orders: List<Order>,
-    values: &[Value],
+    values: Vec<Value>,
     action: Action,
 ) -> Result<List<Order>, DocFault>
     ensures ok { IfOk result
-        (λ all. found_map (λ more. map asked orders ++ more) (updates.orders_of (listed action values.now))
+        (λ all. found_map (λ more. map asked orders ++ more) (updates.orders_of (listed action values.items))
         ≡ Ok (map asked all)) }
-    ensures fault { IfErr result (IsFaultOf (updates.orders_of (listed action values.now))) }
+    ensures fault { IfErr result (IsFaultOf (updates.orders_of (listed action values.items))) }
 {
     for value in values {
-        let order = order_of(alloc, value, action)?;
+        let order = order_of(alloc, &value, action)?;
         orders.push(order)?;
     }
     Ok(orders)

@@ -5,7 +5,7 @@ ghost use Rattle.sc_commands.specs.declared.fault.CommandFault.TheVariants as fa
 
 use crate::batch::{Batch, Flags};
 use crate::fault::CommandFault;
-use crate::forms::commands_of;
+use crate::forms::{FormFault, commands_of};
 use crate::orders::orders_of;
 use sc_json::{JsonFault, read};
 use sc_record::List;
@@ -32,32 +32,34 @@ pub fn read_update(alloc: Global, body: &[u8], flags: &Flags) -> Result<Batch, C
         });
     }
     match read(alloc, body) {
-        Ok(value) => read_value(alloc, &value, flags),
+        Ok(value) => read_value(alloc, value, flags),
         Err(JsonFault::Bad) => Err(CommandFault::BadJson),
         Err(JsonFault::Memory) => Err(CommandFault::Memory),
     }
 }
 
 /// The orders that a body's value asks for.
-fn read_value(alloc: Global, value: &Value, flags: &Flags) -> Result<Batch, CommandFault>
+fn read_value(alloc: Global, value: Value, flags: &Flags) -> Result<Batch, CommandFault>
     ensures ok { IfOk result
-        (λ batch. updates.read_value flags.now (Some (view value.now)) ≡ Ok (updates.update_of batch)) }
+        (λ batch. updates.read_value flags.now (Some (view value)) ≡ Ok (updates.update_of batch)) }
     ensures fault { IfErr result
-        (updates.IsFaultOf (updates.read_value flags.now (Some (view value.now)))) }
+        (updates.IsFaultOf (updates.read_value flags.now (Some (view value)))) }
     ensures few { IfOk result (λ batch. length batch.orders ≤ updates.order_limit) }
 {
-    let commands = match commands_of(value) {
+    let commands = match commands_of(alloc, value) {
         Ok(commands) => commands,
-        Err(at) => return Err(bad_shape(at)),
+        Err(FormFault::Shape { at }) => return Err(bad_shape(at)),
+        Err(FormFault::Memory) => return Err(CommandFault::Memory),
     };
     if commands.adds.len() + commands.deletes.len() > MAX_ORDERS {
         return Err(CommandFault::TooMany);
     }
-    match orders_of(alloc, &commands) {
+    let commit = commands.commit;
+    match orders_of(alloc, commands) {
         Ok(orders) => Ok(Batch {
             orders,
             flags: Flags {
-                commit: flags.commit || commands.commit,
+                commit: flags.commit || commit,
                 versions: flags.versions,
                 fail_on_conflict: flags.fail_on_conflict,
             },

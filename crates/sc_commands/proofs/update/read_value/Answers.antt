@@ -5,5 +5,5 @@ use Rattle.sc_commands.proofs.update.read_value.Goals as goal
 
 pub returns-after-flags-clause-few : goal.returns-after-flags-clause-few
 returns-after-flags-clause-few c =
-    let small : length c.in-Ok.commands.adds.now + length c.in-Ok.commands.deletes.now ≤ 4096 = omega arith in
-    few_orders c.in-Ok.commands.adds.now c.in-Ok.commands.deletes.now c.in-Ok-orders_of.orders 4096 c.in-Ok-orders_of.ensures.ok small
+    let small : length c.in-Ok.commands.adds.items + length c.in-Ok.commands.deletes.items ≤ 4096 = omega arith in
+    few_orders c.in-Ok.commands.adds.items c.in-Ok.commands.deletes.items c.in-Ok-orders_of.orders 4096 c.in-Ok-orders_of.ensures.ok small

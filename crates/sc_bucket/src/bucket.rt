@@ -79,7 +79,8 @@ impl Bucket {
 
     /// How many entries the journal has.
     pub fn entries(&self) -> u64
-        ensures { result ≡ length self.now.journal.entries }
+        ensures count { result ≡ length self.now.journal.entries }
+        ensures few { IsSound self.now → result ≤ 2 ^ 24 }
     {
         self.journal.len()
     }

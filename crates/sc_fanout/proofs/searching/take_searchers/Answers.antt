@@ -22,7 +22,7 @@ returns-clause-looks g c =
     subst (λ (s : Seen). SeesGiven held bucket s new) c.hold-bucket.ensures.seen (c.give.ensures.seen held c.hold-bucket.ensures.out) in
     let stops : c.keep.new.self.stops ≡ c.args.trail.now.stops ++ record { lock = c.args.b; place = length journal; made = false } ∷ [] =
     ap (λ (k : Kept). k.stops) c.keep.ensures
-    ∙ ap (λ n. c.args.trail.now.stops ++ record { lock = c.args.b; place = n; made = false } ∷ []) c.entries.ensures in
+    ∙ ap (λ n. c.args.trail.now.stops ++ record { lock = c.args.b; place = n; made = false } ∷ []) c.entries.ensures.count in
     record {
       journal = journal;
       begins = subst (IsPrefix journal) (sym sees.journal) (IsPrefix-self journal);

@@ -18,7 +18,7 @@ returns-clause-got g c =
     let number = c.bucket_of-b.result in
     let stops : c.keep.new.self.stops ≡ c.args.trail.now.stops ++ stop_at number bucket.journal.entries false ∷ [] =
     ap (λ (k : Kept). k.stops) c.keep.ensures
-    ∙ ap (λ n. c.args.trail.now.stops ++ record { lock = number; place = n; made = false } ∷ []) c.entries.ensures in
+    ∙ ap (λ n. c.args.trail.now.stops ++ record { lock = number; place = n; made = false } ∷ []) c.entries.ensures.count in
     let here : number ≡ bucket_of c.args.id.now layout.buckets =
     c.bucket_of-b.ensures.bucket ∙ ap (λ (id : List ℕ). bucket_of id c.buckets.result) c.as_str.ensures.value
     ∙ ap (bucket_of c.args.id.now) c.buckets.ensures.count in

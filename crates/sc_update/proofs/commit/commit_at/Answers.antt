@@ -29,4 +29,4 @@ returns-clause-committed g c =
     commits-one (g.D.Desk.layout c.args.desk.now) (g.D.Desk.seen c.args.desk.now) (g.D.Desk.seen c.give.new.self) c.args.trail.now.stops c.keep.new.self.stops
     held c.commit-answer.new.self c.commit-answer.result c.entries-place.result c.is_ok.result c.err.result
     c.requires.within c.hold-bucket.ensures.is_of c.hold-bucket.ensures.extends c.commit-answer.ensures.committed c.commit-answer.ensures.refused
-    c.commit-answer.ensures.full.0 sees c.entries-place.ensures c.is_ok.ensures.value c.err.ensures.value (ap (λ (k : Kept). k.stops) c.keep.ensures)
+    c.commit-answer.ensures.full.0 sees c.entries-place.ensures.count c.is_ok.ensures.value c.err.ensures.value (ap (λ (k : Kept). k.stops) c.keep.ensures)

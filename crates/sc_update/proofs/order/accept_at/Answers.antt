@@ -32,7 +32,7 @@ returns-clause-is_stop g c =
     let added = accepted-entries c.hold-bucket.result c.accept-answer.new.self c.args.order.now c.args.now c.accept-answer.result c.accept-answer.ensures.accepted c.accept-answer.ensures.refused in
     record {
       goes = subst (λ (stop : Stop). GoesOn (g.D.Desk.layout c.args.desk.now) (g.D.Desk.seen c.args.desk.now) (g.D.Desk.seen c.give.new.self) (stop ∷ []))
-          (stop_is c.args.b c.entries-place.result c.hold-bucket.result.journal.entries c.is_ok.result _ c.entries-place.ensures c.is_ok.ensures.value)
+          (stop_is c.args.b c.entries-place.result c.hold-bucket.result.journal.entries c.is_ok.result _ c.entries-place.ensures.count c.is_ok.ensures.value)
           (GoesOn-held (g.D.Desk.layout c.args.desk.now) (g.D.Desk.seen c.args.desk.now) (g.D.Desk.seen c.give.new.self) held c.accept-answer.new.self _ added.0
           c.requires.within c.hold-bucket.ensures.extends added.1 added.2 sees);
       kept = ap (λ (k : Kept). k.stops) c.keep.ensures;
@@ -44,6 +44,6 @@ returns-clause-tried g c =
     let sees : SeesGiven held c.accept-answer.new.self (g.D.Desk.seen c.args.desk.now) (g.D.Desk.seen c.give.new.self) =
     subst (λ (seen : Seen). SeesGiven held c.accept-answer.new.self seen (g.D.Desk.seen c.give.new.self)) c.hold-bucket.ensures.seen (c.give.ensures.seen held c.hold-bucket.ensures.out) in
     subst (λ (stop : Stop). Tries (g.D.Desk.layout c.args.desk.now) (g.D.Desk.seen c.args.desk.now) (g.D.Desk.seen c.give.new.self) c.args.order.now c.args.now stop c.accept-answer.result)
-    (stop_is c.args.b c.entries-place.result c.hold-bucket.result.journal.entries c.is_ok.result _ c.entries-place.ensures c.is_ok.ensures.value)
+    (stop_is c.args.b c.entries-place.result c.hold-bucket.result.journal.entries c.is_ok.result _ c.entries-place.ensures.count c.is_ok.ensures.value)
     (tries (g.D.Desk.layout c.args.desk.now) (g.D.Desk.seen c.args.desk.now) (g.D.Desk.seen c.give.new.self) held c.accept-answer.new.self c.args.order.now c.args.now c.accept-answer.result
     c.hold-bucket.ensures.is_of c.requires.bucket c.accept-answer.ensures.accepted c.accept-answer.ensures.refused c.accept-answer.ensures.outcome sees)

@@ -46,7 +46,7 @@ returns-clause-settles g c =
     let sees : SeesGiven held given between new = c.give.ensures.seen held c.hold_delivered-bucket.ensures.held.out_is in
     let added = settled-entries c.args.first.place c.settle_write-made.result held.bucket given c.settle_write-made.ensures.settles in
     let at : stop_at c.args.first.lock held.bucket.journal.entries c.settle_write-made.result ≡ record { lock = c.args.first.lock; place = c.entries-place.result; made = c.settle_write-made.result } =
-    stop_is c.args.first.lock c.entries-place.result held.bucket.journal.entries c.settle_write-made.result c.settle_write-made.result c.entries-place.ensures refl in
+    stop_is c.args.first.lock c.entries-place.result held.bucket.journal.entries c.settle_write-made.result c.settle_write-made.result c.entries-place.ensures.count refl in
     record {
       second = record { lock = c.args.first.lock; place = c.entries-place.result; made = c.settle_write-made.result };
       is_stop = record {

@@ -19,7 +19,7 @@ loop-at-preserved c =
           c.if-follows.messages.items
           (record { place = w.entries.result; core = c.core-core.result; write = w.in_ok-try_clone.field-0 }) c.get.ensures test c.loop-at.invariant
           (ap (λ (v : Vec Message Global). v.items) w.messages-is ∙ w.in_ok-push.ensures.items)
-          (sent_of-is (record { place = w.entries.result; core = c.core-core.result; write = w.in_ok-try_clone.field-0 }) _ _ _ w.entries.ensures c.core-core.ensures.value w.in_ok-try_clone.ensures)
+          (sent_of-is (record { place = w.entries.result; core = c.core-core.result; write = w.in_ok-try_clone.field-0 }) _ _ _ w.entries.ensures.count c.core-core.ensures.value w.in_ok-try_clone.ensures)
       | else-follows w ↦
           let test : follows c.args.leader c.args.slice.now c.get.result.now.core ≡ false =
           ap (follows c.args.leader c.args.slice.now) (sym c.core-core.ensures.value) ∙ sym c.follows.ensures ∙ w.if-follows.false in

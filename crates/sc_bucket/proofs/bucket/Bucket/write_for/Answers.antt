@@ -45,7 +45,7 @@ returns-then-self-entries-clause-refused c =
     c.requires.hash c.requires.leader c.get-replica.ensures c.cell-last.ensures.value condition (back ∙ c.found-found.ensures)
     (sym c.if-not-meets.false ∙ c.meets.ensures) in (
       record { met = known.1; taken = ap (λ (w : Option Write). refused w c.args.order.now.change) (sym known.0) ∙ c.in_ok-doc.ensures.taken },
-      omega (arith, c.if-self-entries.true, c.entries.ensures, c.requires.sound.journal.owed_is),
+      omega (arith, c.if-self-entries.true, c.entries.ensures.count, c.requires.sound.journal.owed_is),
     )
 
 pub returns-in_err-clone_in-clause-refused : goal.returns-in_err-clone_in-clause-refused

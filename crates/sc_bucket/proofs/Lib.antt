@@ -1,4 +1,5 @@
 -- Facts on buckets.
+pub mod EntriesLemmas
 pub mod CoreLemmas
 pub mod SearcherLemmas
 pub mod SoundLemmas

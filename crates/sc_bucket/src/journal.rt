@@ -1,13 +1,22 @@
 ghost use Rattle.std.specs.Prelude.{◌≡◌, ◌<◌, ◌-◌, [], ◌∷◌, ◌++◌, length, max, OnOk, OnErr};
 
-use sc_record::Entry;
+use crate::entries::{Entries, Mark};
+use sc_record::{Cell, Entry};
 use std::alloc::{AllocError, Global};
 use std::marker::Model;
 
-/// The entries of a journal, the oldest first, and room for more, which contracts see as a number.
+/// The entries of a journal, the oldest first, and room for more, which contracts see as a number. An entry takes a byte, and 8 more where
+/// it is a write or settles one.
 #[derive(Debug, Drop)]
 pub struct Journal {
-    entries: Vec<Entry>,
+    // one for each entry
+    marks: Vec<Mark>,
+    // what each write has besides
+    writes: Vec<Cell>,
+    // the places that are settled, in the order of the entries that settle them
+    settled: Vec<u64>,
+    // the entries of splits, whole
+    splits: Vec<Entry>,
     // how many more entries fit, as far as callers have asked for room
     room: usize,
 }
@@ -15,12 +24,15 @@ pub struct Journal {
 impl Model for Journal {
     ghost use Rattle.std.specs.Prelude.{◌+◌, ◌≤◌, vec_len, vec_capacity};
     ghost use Rattle.sc_bucket.specs.Kept.{JournalState};
+    ghost use Rattle.sc_bucket.specs.Entries.{entries_of, AreParts};
 
     ghost Value = { JournalState };
 
-    ghost view = { λ a. record { entries = a.entries.items; room = a.room } };
+    ghost view = { λ a. record { entries = entries_of a.marks.items a.writes.items a.settled.items a.splits.items; room = a.room } };
 
-    ghost invariant = { λ a. vec_len a.entries + a.room ≤ vec_capacity a.entries };
+    ghost invariant = { λ a. AreParts a.marks.items a.writes.items a.settled.items a.splits.items
+        × (vec_len a.marks + a.room ≤ vec_capacity a.marks) × (vec_len a.writes + a.room ≤ vec_capacity a.writes)
+        × (vec_len a.settled + a.room ≤ vec_capacity a.settled) × (vec_len a.splits + a.room ≤ vec_capacity a.splits) };
 }
 
 impl Journal {
@@ -29,7 +41,10 @@ impl Journal {
         ensures { result ≡ record { entries = []; room = 0 } }
     {
         Journal {
-            entries: Vec::new(alloc),
+            marks: Vec::new(alloc),
+            writes: Vec::new(alloc),
+            settled: Vec::new(alloc),
+            splits: Vec::new(alloc),
             room: 0,
         }
     }
@@ -37,13 +52,19 @@ impl Journal {
     pub fn len(&self) -> u64
         ensures { result ≡ length self.now.entries }
     {
-        self.entries.len() as u64
+        self.marks.len() as u64
     }
 
-    pub fn as_slice(&self) -> &[Entry]
-        ensures { result.now ≡ self.now.entries }
+    /// The entries, the oldest first, one after another.
+    pub fn iter(&self) -> Entries<'_>
+        ensures { result ≡ self.now.entries }
     {
-        self.entries.as_slice()
+        Entries {
+            marks: self.marks.iter(),
+            writes: self.writes.iter(),
+            settled: self.settled.iter(),
+            splits: self.splits.iter(),
+        }
     }
 
     /// Makes room for at least `n` more entries. An error means out of memory.
@@ -52,7 +73,10 @@ impl Journal {
         ensures err { OnErr result (self.new ≡ self.old) }
     {
         if n > self.room {
-            self.entries.reserve(n)?;
+            self.marks.reserve(n)?;
+            self.writes.reserve(n)?;
+            self.settled.reserve(n)?;
+            self.splits.reserve(n)?;
             self.room = n;
         }
         Ok(())
@@ -63,7 +87,21 @@ impl Journal {
         requires { 0 < self.old.room }
         ensures { self.new ≡ record { entries = self.old.entries ++ entry ∷ []; room = self.old.room - 1 } }
     {
-        self.entries.push_reserved(entry);
         self.room -= 1;
+        match entry {
+            Entry::Write(cell) => {
+                self.marks.push_reserved(Mark::Write);
+                self.writes.push_reserved(cell);
+            }
+            Entry::Settled { place } => {
+                self.marks.push_reserved(Mark::Settled);
+                self.settled.push_reserved(place);
+            }
+            Entry::Committed => self.marks.push_reserved(Mark::Committed),
+            split => {
+                self.marks.push_reserved(Mark::Split);
+                self.splits.push_reserved(split);
+            }
+        }
     }
 }

@@ -3,6 +3,7 @@
 #![tactic(auto)]
 
 // What a bucket keeps.
+mod entries;
 mod feed;
 mod feeds;
 mod flight;
@@ -25,6 +26,7 @@ mod settle;
 pub use accept::{AcceptFault, Accepted};
 pub use bucket::Bucket;
 pub use commit::{CommitFault, searchers_at};
+pub use entries::{Entries, EntryRef};
 pub use feed::Feed;
 pub use feeds::Feeds;
 pub use flight::Flight;

@@ -1,9 +1,10 @@
 ghost use Rattle.std.specs.Prelude.{◌≡◌, ◌≤◌, ◌^◌, [], IfOk};
 ghost use Rattle.sc_bucket.specs.Sound.{IsSound};
 
+use crate::entries::Mark;
 use crate::{Bucket, Flight, Journal, Replicas, Unsettled};
 use sc_cluster::ClusterMap;
-use sc_record::{CoreId, Id, SliceId};
+use sc_record::{Cell, CoreId, Id, SliceId};
 use sc_ulog::Mode;
 use std::alloc::Global;
 use std::marker::{Send, Sync};
@@ -38,7 +39,7 @@ fn new_bucket_is_empty(rt: HostRuntime) -> Result<(), Fail> {
     let alloc = rt.alloc();
     let bucket = four_shards(alloc, 16)?;
     assert_eq!(rt; bucket.entries(), 0);
-    assert_eq!(rt; bucket.journal.as_slice().len(), 0);
+    assert_eq!(rt; bucket.journal.len(), 0);
     assert_eq!(rt; bucket.replicas.len(), 4);
     assert_eq!(rt; bucket.replicas.position(leader(3)), Some(3));
     assert_eq!(rt; bucket.replicas.position(leader(4)), None);
@@ -48,6 +49,13 @@ fn new_bucket_is_empty(rt: HostRuntime) -> Result<(), Fail> {
         assert!(rt; bucket.read(&id).is_none());
     }
     Ok(())
+}
+
+// What an entry takes in a journal, besides what it shares or what a split notes.
+#[test]
+fn mark_takes_one_byte(rt: HostRuntime) {
+    assert_eq!(rt; size_of::<Mark>(), 1);
+    assert_eq!(rt; size_of::<Cell>(), 8);
 }
 
 // A bucket goes from thread to thread.

@@ -1,9 +1,10 @@
-//! What is true of a sound bucket, computed from nothing. Each part has the name that it has in `IsSound`; the one left out is `spares`, the
-//! room in memory, which nothing shows.
+//! What is true of a sound bucket, computed from nothing. Each part has the name that it has in `IsSound`. Left out are `spares`, the room in
+//! memory, which nothing shows, and of the others the bound on versions, which terms a write has, and the rows of the searchers that a switch is
+//! to leave.
 
 use super::plain::{Holder, Noted, Part, Plain, Put, cell_of, leader};
 use super::pool::{Pool, check};
-use sc_bucket::{Bucket, Phase, Standing};
+use sc_bucket::{Bucket, EntryRef, Phase, Standing};
 use sc_cluster::State;
 use sc_hash::Range;
 use sc_record::{Entry, List, SliceId, SubSlice};
@@ -104,8 +105,10 @@ fn judge_map(alloc: Global, plain: &Plain, bucket: &Bucket) -> Result<(), Fail> 
             replicas: slice.replicas,
         })?;
     }
-    for entry in bucket.journal.as_slice() {
-        fold(&mut parts, entry)?;
+    for entry in bucket.journal.iter() {
+        if let EntryRef::Split(split) = entry {
+            fold(&mut parts, split)?;
+        }
     }
     check(
         parts == plain.parts,
@@ -113,8 +116,8 @@ fn judge_map(alloc: Global, plain: &Plain, bucket: &Bucket) -> Result<(), Fail> 
     )
 }
 
-fn fold(parts: &mut Vec<Part>, entry: &Entry) -> Result<(), Fail> {
-    match entry {
+fn fold(parts: &mut Vec<Part>, split: &Entry) -> Result<(), Fail> {
+    match split {
         Entry::Begun { subs, .. } => begin(parts, subs),
         Entry::Switched { parent } => {
             take_over(parts, *parent);

@@ -5,7 +5,7 @@ ghost use Rattle.sc_bucket.specs.Sound.{IsSound};
 
 use super::{core, one_shard, order, run, step};
 use crate::Event;
-use sc_bucket::{Bucket, Phase};
+use sc_bucket::{Bucket, EntryRef, Phase};
 use sc_cluster::{SplitPlan, State};
 use sc_record::{CoreId, Entry, Id, List, SliceId, SubSlice, Text};
 use sc_ulog::Mode;
@@ -98,21 +98,28 @@ fn state(bucket: &Bucket, slice: u32) -> Option<State> {
 /// The kinds of the journal's entries.
 fn kinds(alloc: Global, bucket: &Bucket) -> Result<String, Fail> {
     let mut kinds = String::new(alloc);
-    for entry in bucket.journal.as_slice() {
+    for entry in bucket.journal.iter() {
         kinds.push_str(kind(entry))?;
     }
     Ok(kinds)
 }
 
-fn kind(entry: &Entry) -> &'static str {
+fn kind(entry: EntryRef<'_>) -> &'static str {
     match entry {
-        Entry::Write(_) => "Write ",
-        Entry::Settled { .. } => "Settled ",
-        Entry::Committed => "Committed ",
+        EntryRef::Write(_) => "Write ",
+        EntryRef::Settled { .. } => "Settled ",
+        EntryRef::Committed => "Committed ",
+        EntryRef::Split(split) => kind_of_split(split),
+    }
+}
+
+fn kind_of_split(split: &Entry) -> &'static str {
+    match split {
         Entry::Begun { .. } => "Begun ",
         Entry::Switched { .. } => "Switched ",
         Entry::Failed { .. } => "Failed ",
         Entry::Dropped { .. } => "Dropped ",
+        _ => "not of a split ",
     }
 }
 

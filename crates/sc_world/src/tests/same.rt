@@ -4,7 +4,7 @@ ghost use Rattle.sc_bucket.specs.Sound.{IsSound};
 
 use super::plain::{Holder, Noted, Part, Plain, Put, Seen, Sent, cell_of};
 use super::pool::{Pool, check};
-use sc_bucket::{Bucket, Message, Phase, Standing};
+use sc_bucket::{Bucket, EntryRef, Journal, Message, Phase, Standing};
 use sc_cluster::Slice;
 use sc_record::{Cell, Entry};
 use sc_replica::Replica;
@@ -17,7 +17,7 @@ pub fn agree(pool: &Pool, plain: &Plain, bucket: &Bucket) -> Result<(), Fail>
     check(bucket.phase == plain.phase, "the phase")?;
     check(bucket.owed == plain.owed(), "what is owed")?;
     check(bucket.limit == plain.limit, "the limit")?;
-    agree_on_entries(pool, plain, bucket.journal.as_slice())?;
+    agree_on_entries(pool, plain, &bucket.journal)?;
     agree_on_map(plain, bucket)?;
     agree_on_cores(pool, plain, bucket)?;
     agree_on_flight(pool, plain, bucket.flight.as_slice())?;
@@ -39,22 +39,29 @@ fn is_same(pool: &Pool, write: &Cell, put: Put) -> bool {
         && write.terms.is_empty() != put.is_live
 }
 
-fn agree_on_entries(pool: &Pool, plain: &Plain, entries: &[Entry]) -> Result<(), Fail> {
+fn agree_on_entries(pool: &Pool, plain: &Plain, journal: &Journal) -> Result<(), Fail> {
     check(
-        entries.len() == plain.entries.len(),
+        journal.len() == plain.entries.len() as u64,
         "how many entries there are",
     )?;
-    for (entry, noted) in entries.iter().zip(plain.entries.iter()) {
+    for (entry, noted) in journal.iter().zip(plain.entries.iter()) {
         check(is_noted(pool, entry, *noted), "an entry")?;
     }
     Ok(())
 }
 
-fn is_noted(pool: &Pool, entry: &Entry, noted: Noted) -> bool {
+fn is_noted(pool: &Pool, entry: EntryRef<'_>, noted: Noted) -> bool {
     match (entry, noted) {
-        (Entry::Write(write), Noted::Write(put)) => is_same(pool, write, put),
-        (Entry::Settled { place }, Noted::Settled(settled)) => *place == settled,
-        (Entry::Committed, Noted::Committed) => true,
+        (EntryRef::Write(write), Noted::Write(put)) => is_same(pool, write, put),
+        (EntryRef::Settled { place }, Noted::Settled(settled)) => place == settled,
+        (EntryRef::Committed, Noted::Committed) => true,
+        (EntryRef::Split(split), noted) => is_noted_split(split, noted),
+        _ => false,
+    }
+}
+
+fn is_noted_split(split: &Entry, noted: Noted) -> bool {
+    match (split, noted) {
         (Entry::Begun { parent, .. }, Noted::Begun(slice)) => *parent == slice,
         (Entry::Switched { parent }, Noted::Switched(slice)) => *parent == slice,
         (Entry::Failed { parent }, Noted::Failed(slice)) => *parent == slice,

@@ -6,6 +6,7 @@
 #![tactic(auto)]
 
 // What is kept of a connection.
+mod packed;
 mod trail;
 
 // How buckets are handed out.

@@ -73,10 +73,13 @@ fn a_trail_keeps_stops(rt: HostRuntime) -> Result<(), Fail> {
     trail.keep(first);
     trail.keep(second);
     trail.count_request();
-    assert_eq!(rt; trail.stops(), [first, second].as_slice());
-    assert_eq!(rt; trail.requests(), 1);
+    assert_eq!(rt;
+        (trail.get(0), trail.get(1), trail.get(2)),
+        (Some(first), Some(second), None)
+    );
+    assert_eq!(rt; (trail.len(), trail.requests()), (2, 1));
     trail.clear();
-    assert!(rt; trail.stops().is_empty());
+    assert_eq!(rt; trail.len(), 0);
     assert_eq!(rt; trail.requests(), 0);
     Ok(())
 }

@@ -1,6 +1,7 @@
-ghost use Rattle.std.specs.Prelude.{◌≡◌, ◌+◌, ◌<◌, [], ◌∷◌, ◌++◌, length, IfOk};
+ghost use Rattle.std.specs.Prelude.{◌≡◌, ◌+◌, ◌<◌, ◌^◌, [], ◌∷◌, ◌++◌, length, slice_get, IfOk};
 ghost use Rattle.sc_collection.specs.Kept.{Kept};
 
+use crate::packed::PackedStop;
 use sc_journal::Stop;
 use std::alloc::{AllocError, Global};
 use std::marker::Model;
@@ -18,18 +19,19 @@ pub const ROOM: usize = MAX_STOPS + 2 * 4_096 + 256;
 /// The stops of a connection, in order, and how many requests it has answered. All its memory is taken when it is made.
 #[derive(Debug, Drop)]
 pub struct Trail {
-    stops: Vec<Stop>,
+    stops: Vec<PackedStop>,
     requests: u32,
 }
 
 impl Model for Trail {
-    ghost use Rattle.std.specs.Prelude.{◌≤◌, vec_len, vec_capacity};
+    ghost use Rattle.std.specs.Prelude.{◌≤◌, map, vec_capacity};
     ghost use Rattle.sc_collection.specs.Kept.{Kept};
+    ghost use Rattle.sc_collection.specs.Packed.{unpacked};
     ghost use Rattle.sc_collection.specs.declared.trail.TheConstants.{ROOM};
 
     ghost Value = { Kept };
 
-    ghost view = { λ a. record { stops = a.stops.items; requests = a.requests } };
+    ghost view = { λ a. record { stops = map unpacked a.stops.items; requests = a.requests } };
 
     ghost invariant = { λ a. ROOM ≤ vec_capacity a.stops };
 }
@@ -53,11 +55,18 @@ impl Trail {
         self.requests = 0;
     }
 
-    /// The stops that were kept, in order.
-    pub fn stops(&self) -> &[Stop]
-        ensures { result.now ≡ self.now.stops }
+    /// How many stops were kept.
+    pub fn len(&self) -> usize
+        ensures { result ≡ length self.now.stops }
     {
-        self.stops.as_slice()
+        self.stops.len()
+    }
+
+    /// The stop at a place of the trail, from 0 on, in the order in which they were kept; None after the last.
+    pub fn get(&self, at: usize) -> Option<Stop>
+        ensures { result ≡ slice_get self.now.stops at }
+    {
+        self.stops.get(at).map(|packed| packed.unpack())
     }
 
     /// How many requests were answered.
@@ -69,10 +78,11 @@ impl Trail {
 
     /// Keeps one more stop.
     pub fn keep(&mut self, stop: Stop)
-        requires { length self.old.stops < ROOM }
+        requires room { length self.old.stops < ROOM }
+        requires place { stop.place < 2 ^ 31 }
         ensures { self.new ≡ record { stops = self.old.stops ++ stop ∷ []; requests = self.old.requests } }
     {
-        self.stops.push_reserved(stop);
+        self.stops.push_reserved(PackedStop::pack(stop));
     }
 
     /// Counts one more request.

@@ -114,7 +114,7 @@ fn nothing_is_found_at_first(rt: HostRuntime) -> Result<(), Fail> {
         rows: 10,
     };
     let Page { found, docs } = search(alloc, &mut desk, &mut trail, &ask)?;
-    assert_eq!(rt; (found, docs.len(), trail.stops().len()), (0, 0, 2));
+    assert_eq!(rt; (found, docs.len(), trail.len()), (0, 0, 2));
     Ok(())
 }
 

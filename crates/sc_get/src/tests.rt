@@ -68,7 +68,10 @@ fn ids_are_got_in_turn(rt: HostRuntime) -> Result<(), Fail> {
         place: 1,
         made: false,
     };
-    assert_eq!(rt; trail.stops(), [hello, abc].as_slice());
+    assert_eq!(rt;
+        (trail.get(0), trail.get(1), trail.len()),
+        (Some(hello), Some(abc), 2)
+    );
     Ok(())
 }
 

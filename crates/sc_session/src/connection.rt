@@ -90,7 +90,7 @@ fn exchange<D: Desk, C: Clock, W: Sink>(
 fn is_full(trail: &Trail) -> bool
     ensures { result ≡ is_at_end trail.now }
 {
-    trail.requests() >= MAX_REQUESTS || trail.stops().len() >= MAX_STOPS
+    trail.requests() >= MAX_REQUESTS || trail.len() >= MAX_STOPS
 }
 
 /// Whether a connection is closed after a reply.

@@ -90,7 +90,6 @@ fn updates_and_gets_are_answered(rt: HostRuntime) -> Result<(), Fail> {
         let written = reply(alloc, &mut desk, &mut trail, request)?;
         assert!(rt; written.as_slice().ends_with(body.as_bytes()), "{line}");
     }
-    assert_eq!(rt; trail.stops().len(), 2);
-    assert_eq!(rt; trail.requests(), 1);
+    assert_eq!(rt; (trail.len(), trail.requests()), (2, 1));
     Ok(())
 }

@@ -94,9 +94,11 @@ fn told(
         text.push_str(format!(in alloc; "-{} {} ", ack.id.as_str(), ack.version)?.as_str())?;
     }
     text.push_str(format!(in alloc; "{:?}", end.stop)?.as_str())?;
-    for stop in trail.stops() {
-        let sign = if stop.made { "+" } else { "" };
-        text.push_str(format!(in alloc; " {}{sign}", stop.place)?.as_str())?;
+    for at in 0..trail.len() {
+        if let Some(stop) = trail.get(at) {
+            let sign = if stop.made { "+" } else { "" };
+            text.push_str(format!(in alloc; " {}{sign}", stop.place)?.as_str())?;
+        }
     }
     Ok(text)
 }

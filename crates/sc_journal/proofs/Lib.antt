@@ -5,6 +5,7 @@ pub mod CommittedLemmas
 pub mod SettledLemmas
 pub mod SplitLemmas
 pub mod LegalLemmas
+pub mod RestLemmas
 pub mod VersionLemmas
 pub mod MapLemmas
 pub mod ExtendsLemmas

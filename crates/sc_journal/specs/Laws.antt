@@ -1,5 +1,5 @@
 -- Laws of journals, above their definitions.
-use Rattle.std.specs.Prelude.{◌≡◌, ◌<ℤ◌, ℕ, ◌+◌, List, [], ◌∷◌, ◌++◌, Some, None}
+use Rattle.std.specs.Prelude.{◌≡◌, ◌<ℤ◌, ◌≤◌, ◌↔◌, ℕ, ◌+◌, Bool, true, false, List, [], ◌∷◌, ◌++◌, length, Some, None, IsSome, All}
 use Rattle.sc_record.specs.declared.write.Write.{Write}
 use Rattle.sc_record.specs.declared.slice.SliceId.{SliceId}
 use Rattle.sc_record.specs.declared.entry.Entry.{Entry}
@@ -8,8 +8,8 @@ use Rattle.sc_cluster.specs.declared.slice.Slice.{Slice}
 use Rattle.sc_cluster.specs.Slices.{forming}
 use Rattle.sc_cluster.specs.Map.{IsMap}
 use Rattle.sc_cluster.specs.Changes.{IsSplit}
-use Rattle.sc_journal.specs.Journal.{writes_of}
-use Rattle.sc_journal.specs.Splits.{map_after, open_split, owed}
+use Rattle.sc_journal.specs.Journal.{write_at, writes_of, is_settled}
+use Rattle.sc_journal.specs.Splits.{map_after, is_inactive, open_split, owed}
 use Rattle.sc_journal.specs.Legal.{MayFollow, IsLegal}
 
 -- a journal with no entries is legal, and so is a legal one with an entry more that may follow it
@@ -35,6 +35,29 @@ OwesOneForAWrite = (first : List Slice) (journal : List Entry) (cell : _) → Is
 abbrev pub OwesOneLessSettled : Type 0
 OwesOneLessSettled = (first : List Slice) (journal : List Entry) (place : ℕ) → IsLegal first (journal ++ entry.Settled place ∷ [])
     → owed first (journal ++ entry.Settled place ∷ []) + 1 ≡ owed first journal
+
+-- A journal is at rest: each of its writes is settled, no split is open, and no slice is inactive.
+pub record IsAtRest (first : List Slice) (journal : List Entry) : Type 0 where
+  pub settled : (place : ℕ) → IsSome (write_at journal place) → is_settled journal place ≡ true
+  pub ended : open_split journal ≡ None
+  pub dropped : All (λ (slice : Slice). is_inactive slice ≡ false) (map_after first journal)
+
+-- nothing is owed at rest, and only then
+abbrev pub OwesNothingAtRest : Type 0
+OwesNothingAtRest = (first : List Slice) (journal : List Entry) → (owed first journal ≡ 0) ↔ IsAtRest first journal
+
+-- the entry settles a write, gives up a split or drops a slice
+abbrev pub closes : Entry → Bool
+closes (entry.Settled place) = true
+closes (entry.Failed parent) = true
+closes (entry.Dropped slice) = true
+closes _ = false
+
+-- a legal journal has a legal continuation that brings it to rest, by such entries alone and no more of them than it owes
+abbrev pub ComesToRest : Type 0
+ComesToRest = (first : List Slice) (journal : List Entry) → IsLegal first journal
+    → (more : List Entry) × IsLegal first (journal ++ more) × All (λ (one : Entry). closes one ≡ true) more
+    × (length more ≤ owed first journal) × IsAtRest first (journal ++ more)
 
 -- the slices after a legal journal are those of a cluster, and those that are being made are the subs of the slice whose
 -- split is open

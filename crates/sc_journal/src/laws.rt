@@ -1,6 +1,6 @@
 //! Laws of journals, above their definitions.
 
-ghost use Rattle.sc_journal.specs.Laws.{GrowsByWhatMayFollow, HasLegalPrefixes, AscendsInVersions, OwesOneForAWrite, OwesOneLessSettled, KeepsAMap};
+ghost use Rattle.sc_journal.specs.Laws.{GrowsByWhatMayFollow, HasLegalPrefixes, AscendsInVersions, OwesOneForAWrite, OwesOneLessSettled, OwesNothingAtRest, ComesToRest, KeepsAMap};
 
 /// Whatever a bucket's journal gets, each entry where it may follow.
 pub fn journals_stay_legal()
@@ -13,6 +13,12 @@ pub fn journals_stay_legal()
 pub fn journals_owe_entries()
     ensures write { OwesOneForAWrite }
     ensures settled { OwesOneLessSettled }
+{}
+
+/// What the entries are for that a legal journal has still to get.
+pub fn journals_come_to_rest()
+    ensures nothing_owed { OwesNothingAtRest }
+    ensures comes { ComesToRest }
 {}
 
 /// What a legal journal makes of the slices.

@@ -7,5 +7,7 @@ mod laws;
 mod stop;
 
 pub use board::BoardEntry;
-pub use laws::{journals_keep_a_map, journals_owe_entries, journals_stay_legal};
+pub use laws::{
+    journals_come_to_rest, journals_keep_a_map, journals_owe_entries, journals_stay_legal,
+};
 pub use stop::Stop;

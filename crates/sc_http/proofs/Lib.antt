@@ -7,7 +7,6 @@ pub mod EndingLemmas
 pub mod StreamLemmas
 pub mod MessageLemmas
 pub mod HeaderLemmas
-pub mod DecimalLemmas
 pub mod ParsedLemmas
 pub mod ReaderLemmas
 pub mod ReplyLemmas

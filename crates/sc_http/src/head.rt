@@ -1,4 +1,4 @@
-ghost use Rattle.std.specs.Prelude.{◌≡◌, ◌≢◌, ◌≤◌, length, IfOk, IfErr, IfSome, Err};
+ghost use Rattle.std.specs.Prelude.{◌≡◌, ◌≢◌, ◌<◌, ◌≤◌, length, IfOk, IfErr, IfSome, Err};
 ghost use Rattle.httparse.specs.Spans.{IsRequestWithin, IsRequestOf};
 ghost use Rattle.sc_model.specs.Heads.{head_limit, line_limit, body_limit};
 ghost use Rattle.sc_model.specs.Messages.{EndsSo, EndsInHead};
@@ -22,6 +22,9 @@ pub(crate) const MAX_HEAD: usize = 65_536;
 /// The most header lines of a head.
 const MAX_LINES: usize = 128;
 
+/// How many header lines a head may have to be parsed in little room.
+const FEW_LINES: usize = 16;
+
 /// What a head says, as far as it is kept.
 #[derive(Debug, Drop)]
 pub(crate) struct Head {
@@ -38,7 +41,7 @@ pub(crate) struct Head {
 }
 
 /// The head that comes first of these bytes, or why they have none. Nothing is looked at after the first header line
-/// above the most.
+/// above the most. A whole head of few lines is parsed without a look at what comes after it.
 pub(crate) fn parse_head(alloc: Global, bytes: &[u8]) -> Result<Head, MessageEnd>
     ensures head { IfOk result (IsHeadOf bytes.now) }
     ensures body { IfOk result (λ head. head.body_length ≤ body_limit) }
@@ -49,6 +52,23 @@ pub(crate) fn parse_head(alloc: Global, bytes: &[u8]) -> Result<Head, MessageEnd
     if bytes.is_empty() {
         return Err(MessageEnd::Done);
     }
+    let window = &bytes[..bytes.len().min(MAX_HEAD)];
+    let mut lines = [EMPTY_HEADER_SPAN; FEW_LINES];
+    match parse_request(window, &mut lines) {
+        Ok(Status::Complete(spans)) => describe(alloc, window, &spans, &lines),
+        _ => parse_any_head(alloc, bytes),
+    }
+}
+
+/// The head that comes first of these bytes, whatever they are.
+fn parse_any_head(alloc: Global, bytes: &[u8]) -> Result<Head, MessageEnd>
+    requires some { 0 < length bytes.now }
+    ensures head { IfOk result (IsHeadOf bytes.now) }
+    ensures body { IfOk result (λ head. head.body_length ≤ body_limit) }
+    ensures ends { IfErr result (λ end. IfSome (ending_of end) (EndsSo bytes.now)) }
+    ensures cut { result ≡ Err MessageEnd.Cut → EndsInHead bytes.now }
+    ensures no_fault { result ≢ Err MessageEnd.ReadFault }
+{
     let window = &bytes[..bytes.len().min(MAX_HEAD)];
     let excess = end_of_line(window, MAX_LINES + 2);
     let judged = &window[..excess.unwrap_or(window.len())];

@@ -4,7 +4,7 @@ use Rattle.std.specs.Prelude.{IsSome}
 use Rattle.std.specs.List.{flat_map}
 use Rattle.std.specs.declared.sync.Arc.{Arc}
 use Rattle.std.specs.declared.alloc.Global.{Global}
-use Rattle.sc_record.specs.Versions.{found_version, shown_version, meets}
+use Rattle.sc_record.specs.Versions.{found_version, version_after, shown_version, meets}
 use Rattle.sc_record.specs.Writes.{write_of}
 use Rattle.sc_record.specs.declared.slice.CoreId.{CoreId}
 use Rattle.sc_record.specs.declared.write.Write.{Write}
@@ -74,9 +74,9 @@ followers-same_cores old roomy hash leader same =
 pub Accepts-put : (old roomy new : Bucket) (order : Order) (now : ℕ) (version : ℤ) (cell : Arc Write Global) (at : ℕ) (messages : List Sent)
     → IsSameBut old roomy → IsPut roomy cell at messages new → IsFitting old.journal.entries order
     → HasRoom old.limit old.first old.journal.entries → IsWriteOf old.journal.entries order now cell.value → version ≡ shown_version cell.value
-    → (leader : IsLeaderAt old.map old.replicas cell.value.hash at) → messages ≡ sent_by old cell.value leader.core.core
-    → Accepts old order now version new
-Accepts-put old roomy new order now version cell at messages same put fitting room write shown leader sent =
+    → (leader : IsLeaderAt old.map old.replicas cell.value.hash at) → cell.value.version ≡ version_after now leader.core.clock
+    → messages ≡ sent_by old cell.value leader.core.core → Accepts old order now version new
+Accepts-put old roomy new order now version cell at messages same put fitting room write shown leader clocked sent =
     let roomy_leader = IsLeaderAt-same_cores old.map old.replicas roomy.replicas cell.value.hash at same.cores leader in
     let led_once = AreSameCores-led old.replicas roomy.replicas at leader.core roomy_leader.core cell.value same.cores leader.found roomy_leader.found in
     record {
@@ -89,12 +89,9 @@ Accepts-put old roomy new order now version cell at messages same put fitting ro
       write = write;
       shown = shown;
       entries = put.entries ∙ ap (λ journal. journal ++ entry.Write cell ∷ []) same.entries;
-      leader = leader.core;
-      slice = leader.slice;
-      leads = leader.leads;
-      leader_is = leader.leader;
       at = at;
-      found = leader.found;
+      leader = leader;
+      clocked = clocked;
       cores = subst (AreSameCores (set old.replicas at (led leader.core cell.value))) (sym (put.cores roomy_leader.core roomy_leader.found)) led_once;
       messages = put.flight_is ∙ ap (λ (ms : List Sent). ms ++ messages) same.messages ∙ ap (λ (ms : List Sent). old.flight.messages ++ ms) sent;
       searchers_are = put.searchers_are ∙ same.searchers_are;

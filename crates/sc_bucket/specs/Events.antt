@@ -4,18 +4,16 @@ use Rattle.std.specs.List.{remove}
 use Rattle.std.specs.declared.sync.Arc.{Arc}
 use Rattle.std.specs.declared.alloc.Global.{Global}
 use Rattle.sc_record.specs.declared.slice.CoreId.{CoreId}
-use Rattle.sc_record.specs.Versions.{shown_version}
+use Rattle.sc_record.specs.Versions.{version_after, shown_version}
 use Rattle.sc_record.specs.declared.write.Write.{Write}
 use Rattle.sc_record.specs.declared.order.Order.{Order}
 use Rattle.sc_record.specs.declared.entry.Entry.TheVariants as entry
-use Rattle.sc_cluster.specs.declared.slice.Slice.{Slice}
-use Rattle.sc_cluster.specs.Map.{Leads}
 use Rattle.sc_replica.specs.Core.{Core, led}
 use Rattle.sc_journal.specs.Journal.{write_at, is_settled}
 use Rattle.sc_journal.specs.Committed.{HasRoomToCommit}
 use Rattle.sc_journal.specs.Outcomes.{Outcome, accepted, conflict, partial, log_full, out_of_memory, IsFitting, HasRoom, IsWriteOf}
 use Rattle.sc_bucket.specs.Kept.{Sent}
-use Rattle.sc_bucket.specs.Cores.{followers, IsLeaderOf}
+use Rattle.sc_bucket.specs.Cores.{followers, IsLeaderAt}
 use Rattle.sc_bucket.specs.Searchers.{AreTaken}
 use Rattle.sc_bucket.specs.Flight.{is_of_write, is_to, sent_to, delivered, delivered_all, arrived, IsFirstOf}
 use Rattle.sc_bucket.specs.declared.bucket.Bucket.{Bucket}
@@ -51,8 +49,8 @@ pub record IsSameBut (old new : Bucket) : Type 0 where
   pub cores : AreSameCores old.replicas new.replicas
   pub searchers_are : new.searchers ≡ old.searchers
 
--- An order is accepted at a timestamp: its write comes to the end of the journal, the leader of its hash leads it, and it is sent
--- to each other core that takes it.
+-- An order is accepted at a timestamp: its write comes to the end of the journal, and the leader of its hash leads it, with the
+-- version that comes after the timestamp's and after that leader's clock; and it is sent to each other core that takes it.
 pub record Accepts (old : Bucket) (order : Order) (now : ℕ) (version : ℤ) (new : Bucket) : Type 0 where
   pub name : HasSameName old new
   pub split : HasSameSplit old new
@@ -61,17 +59,14 @@ pub record Accepts (old : Bucket) (order : Order) (now : ℕ) (version : ℤ) (n
   pub room : HasRoom old.limit old.first old.journal.entries
   pub cell : Arc Write Global
   pub write : IsWriteOf old.journal.entries order now cell.value
+  pub at : ℕ
+  pub leader : IsLeaderAt old.map old.replicas cell.value.hash at
+  pub clocked : cell.value.version ≡ version_after now leader.core.clock
   pub shown : version ≡ shown_version cell.value
   pub entries : new.journal.entries ≡ old.journal.entries ++ entry.Write cell ∷ []
-  pub leader : Core
-  pub slice : Slice
-  pub leads : Leads old.map cell.value.hash slice
-  pub leader_is : IsLeaderOf slice.id leader
-  pub at : ℕ
-  pub found : slice_get old.replicas at ≡ Some leader
-  pub cores : AreSameCores (slice_set old.replicas at (led leader cell.value)) new.replicas
+  pub cores : AreSameCores (slice_set old.replicas at (led leader.core cell.value)) new.replicas
   pub messages : new.flight.messages ≡ old.flight.messages
-      ++ sent_to (length old.journal.entries) cell.value (followers old.map old.replicas cell.value.hash leader.core)
+      ++ sent_to (length old.journal.entries) cell.value (followers old.map old.replicas cell.value.hash leader.core.core)
   pub searchers_are : new.searchers ≡ old.searchers
 
 -- the message at this place of the flight is delivered: it leaves the flight, and its core receives the write

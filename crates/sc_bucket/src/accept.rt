@@ -3,6 +3,7 @@ ghost use Rattle.std.specs.List.{AllZip, IsDistinct};
 ghost use Rattle.std.specs.Option.{option_map};
 ghost use Rattle.std.specs.Arc.{arc_value};
 ghost use Rattle.sc_record.specs.Orders.{IsChange};
+ghost use Rattle.sc_record.specs.Versions.{version_after};
 ghost use Rattle.sc_router.specs.Route.{route_hash};
 ghost use Rattle.sc_replica.specs.Core.{Core};
 ghost use Rattle.sc_partial.specs.Resolved.{IsRefusalOf, fields_of};
@@ -127,7 +128,7 @@ impl Bucket {
         ensures made { IfOk result (IsWriteOf self.now.journal.entries order.now now) }
         ensures next { IfOk result (MayWrite self.now.journal.entries) }
         ensures hash { IfOk result (λ write. write.hash ≡ hash) }
-        ensures above { IfOk result (λ write. (core : Core) → slice_get self.now.replicas leader ≡ Some core → core.clock <ℤ write.version) }
+        ensures version { IfOk result (λ write. (core : Core) → slice_get self.now.replicas leader ≡ Some core → write.version ≡ version_after now core.clock) }
         ensures refused { IfErr result (λ fault. IsOutcome self.now.limit self.now.first self.now.journal.entries order.now now (outcome_of (Err fault)) self.now.journal.entries) }
     {
         let replica = self.replicas.get(leader);

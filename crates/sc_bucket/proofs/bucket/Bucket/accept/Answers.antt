@@ -4,8 +4,9 @@ use Rattle.std.specs.Arc.{arc_value}
 use Rattle.std.specs.List.{IsDistinct}
 use Rattle.std.proofs.lemmas.List.Elements.{All-weaker}
 use Rattle.std.proofs.lemmas.Int.{ints}
-use Rattle.sc_record.specs.Versions.{shown_version}
+use Rattle.sc_record.specs.Versions.{version_after, shown_version}
 use Rattle.sc_record.specs.declared.write.Write.{Write}
+use Rattle.sc_record.proofs.VersionLemmas.{version_after-above_clock}
 use Rattle.sc_replica.specs.Core.{Core}
 use Rattle.sc_journal.specs.Outcomes.{IsWriteOf}
 use Rattle.sc_bucket.specs.declared.message.Message.{Message}
@@ -38,8 +39,9 @@ put_in-requires-clause-above c core there =
     let alike = same_core_at c.args.self.now.replicas c.make_room.new.self.replicas c.leader-leader.result leader.core core c.make_room.ensures.same.cores leader.found there in
     let clock : core.clock ≡ leader.core.clock = ap (λ (one : Core). one.clock) alike in
     let version : (arc_value c.in_ok-entry.entry).version ≡ c.in_ok-write.write.version = ap (λ (w : Write). w.version) c.in_ok-entry.ensures.0 in
-    let above = c.in_ok-write.ensures.above leader.core leader.found in
-    omega (arith, ints, clock, version, above)
+    let clocked = c.in_ok-write.ensures.version leader.core leader.found in
+    let above = version_after-above_clock c.args.now leader.core.clock in
+    omega (arith, ints, clock, version, clocked, above)
 
 pub make_room-requires-clause-there : goal.make_room-requires-clause-there
 make_room-requires-clause-there c =
@@ -102,9 +104,11 @@ returns-clause-accepted c =
     let same : arc_value c.in_ok-entry.cell ≡ arc_value c.in_ok-entry.entry = c.in_ok-entry.ensures.1 ∙ sym c.in_ok-entry.ensures.0 in
     let sent = sent_by-share c.args.self.now (arc_value c.in_ok-entry.entry) (arc_value c.in_ok-entry.cell) c.leader-leader.result
     (map sent_of c.in_ok-messages.messages.items) same c.in_ok-messages.ensures leader.core leader.found in
+    let clocked : (arc_value c.in_ok-entry.entry).version ≡ version_after c.args.now leader.core.clock =
+    ap (λ (w : Write). w.version) c.in_ok-entry.ensures.0 ∙ c.in_ok-write.ensures.version leader.core leader.found in
     let accepts = Accepts-put c.args.self.now c.make_room.new.self c.put_in.new.self c.args.order.now c.args.now _ c.in_ok-entry.entry
     c.leader-leader.result (map sent_of c.in_ok-messages.messages.items) c.make_room.ensures.same c.put_in.ensures.put c.in_ok-write.ensures.fitting
-    c.in_ok-write.ensures.room write version leader sent in
+    c.in_ok-write.ensures.room write version leader clocked sent in
     accepts
 
 pub returns-clause-outcome : goal.returns-clause-outcome
@@ -121,7 +125,9 @@ returns-clause-outcome c =
     let same : arc_value c.in_ok-entry.cell ≡ arc_value c.in_ok-entry.entry = c.in_ok-entry.ensures.1 ∙ sym c.in_ok-entry.ensures.0 in
     let sent = sent_by-share c.args.self.now (arc_value c.in_ok-entry.entry) (arc_value c.in_ok-entry.cell) c.leader-leader.result
     (map sent_of c.in_ok-messages.messages.items) same c.in_ok-messages.ensures leader.core leader.found in
+    let clocked : (arc_value c.in_ok-entry.entry).version ≡ version_after c.args.now leader.core.clock =
+    ap (λ (w : Write). w.version) c.in_ok-entry.ensures.0 ∙ c.in_ok-write.ensures.version leader.core leader.found in
     let accepts = Accepts-put c.args.self.now c.make_room.new.self c.put_in.new.self c.args.order.now c.args.now _ c.in_ok-entry.entry
     c.leader-leader.result (map sent_of c.in_ok-messages.messages.items) c.make_room.ensures.same c.put_in.ensures.put c.in_ok-write.ensures.fitting
-    c.in_ok-write.ensures.room write version leader sent in
+    c.in_ok-write.ensures.room write version leader clocked sent in
     accepted_outcome c.args.self.now c.put_in.new.self c.args.order.now c.args.now (to_z w64 (of_z w64 c.shown.result)) accepts

@@ -6,7 +6,7 @@ use Rattle.std.proofs.lemmas.Result.{err_from_is_err_and}
 use Rattle.sc_record.specs.Versions.{found_version, version_after}
 use Rattle.sc_record.specs.Writes.{write_of}
 use Rattle.sc_record.specs.declared.write.Write.{Write}
-use Rattle.sc_record.proofs.VersionLemmas.{version_after-above_clock, version_after-above_zero}
+use Rattle.sc_record.proofs.VersionLemmas.{version_after-above_zero}
 use Rattle.sc_router.specs.Route.{route_hash}
 use Rattle.sc_replica.specs.Core.{Core}
 use Rattle.sc_journal.specs.Journal.{last_write}
@@ -130,13 +130,10 @@ returns-clause-next c =
     (hash ∙ c.requires.hash ∙ ap route_hash (sym id))
     (subst (λ i. HasTerms i c.in_ok-doc.doc c.in_ok-terms_for.field-0) (sym id) c.in_ok-terms_for.ensures) version
 
-pub returns-clause-above : goal.returns-clause-above
-returns-clause-above c core there =
+pub returns-clause-version : goal.returns-clause-version
+returns-clause-version c core there =
     let clock : to_z w64 (of_z w64 c.clock.result) ≡ c.clock.result = omega (arith, ints) in
     let kept : to_z w64 (of_z w64 c.next_version.result) ≡ c.next_version.result = omega (arith, ints) in
-    let version : to_z w64 (of_z w64 c.next_version.result) ≡ version_after c.args.now c.get-replica.result.now.clock =
-    kept ∙ c.next_version.ensures ∙ ap (version_after c.args.now) (clock ∙ c.clock.ensures.value) in
     let same : core ≡ c.get-replica.result.now = same_Some core c.get-replica.result.now (sym there ∙ c.get-replica.ensures) in
-    let clock_is : core.clock ≡ c.get-replica.result.now.clock = ap (λ (one : Core). one.clock) same in
-    let above = version_after-above_clock c.args.now c.get-replica.result.now.clock in
-    omega (arith, ints, clock_is, version, above)
+    let clock_is : c.get-replica.result.now.clock ≡ core.clock = ap (λ (one : Core). one.clock) (sym same) in
+    kept ∙ c.next_version.ensures ∙ ap (version_after c.args.now) (clock ∙ c.clock.ensures.value ∙ clock_is)

@@ -1,4 +1,4 @@
-ghost use Rattle.std.specs.Prelude.{◌<◌, ◌≤ℤ◌};
+ghost use Rattle.std.specs.Prelude.{◌≡◌, ◌<◌, ◌≤ℤ◌};
 
 use crate::copy::CloneIn;
 use crate::text::Text;
@@ -14,6 +14,16 @@ pub struct CoreId {
     pub slice: SliceId,
     pub replica: u8,
     pub ghost counted: { 0 < replica },
+}
+
+impl CoreId {
+    /// The core that leads the slice.
+    pub fn leader(slice: SliceId) -> CoreId
+        ensures slice { result.slice ≡ slice }
+        ensures first { result.replica ≡ 1 }
+    {
+        CoreId { slice, replica: 1 }
+    }
 }
 
 /// A slice that a split makes out of a part of its parent: the hashes from `min` to `max`, both included, on as many

@@ -62,7 +62,7 @@ fn fits_amount(kind: Kind, many: bool, amount: i64) -> bool
     ensures { result ≡ fits_amount kind many amount }
 {
     match (kind, many) {
-        (Kind::Int, false) => i64::from(i32::MIN) <= amount && amount <= i64::from(i32::MAX),
+        (Kind::Int, false) => i32::try_from(amount).is_ok(),
         (Kind::Long, false) => true,
         _ => false,
     }

@@ -8,7 +8,7 @@ ghost use Rattle.sc_schema.specs.Documents.{asked, change_of, changed_by, condit
 use crate::change::how_of;
 use crate::fault::DocFault;
 use crate::raw::{RawDoc, RawField, RawFlat, RawOne, RawValue};
-use crate::value::number_text;
+use crate::value::{decimal, number_text};
 use sc_record::{Change, Doc, Field, FieldChange, How, Id, IdFault, List, Order, Text, kind_of};
 use std::alloc::{AllocError, Global};
 
@@ -51,7 +51,7 @@ fn id_of(alloc: Global, value: Option<&RawValue>) -> Result<Id, DocFault>
         None | Some(RawValue::Plain(RawFlat::One(RawOne::Null))) => Err(DocFault::NoId),
         Some(RawValue::Plain(RawFlat::One(RawOne::Text(text)))) => id_text(alloc, text.as_str()),
         Some(RawValue::Plain(RawFlat::One(RawOne::Number(number)))) => {
-            let text = number.to_string(alloc)?;
+            let text = decimal(alloc, *number)?;
             id_text(alloc, text.as_str())
         }
         Some(_) => Err(DocFault::WrongValue(Text::new(alloc, "id")?)),
@@ -91,7 +91,7 @@ fn parts_of(alloc: Global, fields: &[RawField]) -> Result<List<FieldChange>, Doc
     ensures ok { IfOk result (λ parts. parts_of fields.now ≡ Ok parts) }
     ensures fault { IfErr result (IsFaultOf (parts_of fields.now)) }
 {
-    let mut parts = List::new(alloc);
+    let mut parts = List::from_vec(Vec::with_capacity(alloc, fields.len())?);
     for field in fields {
         if is_field_name(field.name.as_str()) {
             parts.push(part_of(alloc, field)?)?;
@@ -130,7 +130,7 @@ fn condition_text(alloc: Global, text: &str) -> Result<i64, DocFault>
     let Some(number) = number_text(text) else {
         return Err(DocFault::WrongValue(Text::new(alloc, "_version_")?));
     };
-    let canonical = number.to_string(alloc)?;
+    let canonical = decimal(alloc, number)?;
     if canonical.as_str() == text {
         return Ok(number);
     }
@@ -162,7 +162,7 @@ fn is_update(fields: &[RawField]) -> bool
 fn set_fields(alloc: Global, parts: List<FieldChange>) -> Result<List<Field>, AllocError>
     ensures { IfOk result (λ fields. fields ≡ filter_map field_of parts) }
 {
-    let mut fields = List::new(alloc);
+    let mut fields = List::from_vec(Vec::with_capacity(alloc, parts.len())?);
     for part in parts.into_vec() {
         if let Some(field) = set_field(part) {
             fields.push(field)?;

@@ -3,7 +3,7 @@ ghost use Rattle.std.specs.Fmt.{signed_decimal};
 ghost use Rattle.sc_schema.specs.Values.{flag_named, flag_text};
 ghost use Rattle.sc_schema.specs.Terms.{key_of, int_of};
 
-use crate::value::{flag_named, number_text};
+use crate::value::{decimal, flag_named, number_text};
 use crate::word::fold_word;
 use sc_record::{Kind, Text};
 use std::alloc::{AllocError, Global};
@@ -26,11 +26,8 @@ pub fn key_of(alloc: Global, kind: Kind, text: &str) -> Result<Option<Text>, All
 fn int_of(text: &str) -> Option<i64>
     ensures { result ≡ int_of text.now }
 {
-    let number = number_text(text)?;
-    if number < i64::from(i32::MIN) || number > i64::from(i32::MAX) {
-        return None;
-    }
-    Some(number)
+    let number = i32::try_from(number_text(text)?).ok()?;
+    Some(i64::from(number))
 }
 
 /// The decimal text of a number, where there is one.
@@ -38,7 +35,7 @@ fn number_key(alloc: Global, number: Option<i64>) -> Result<Option<Text>, AllocE
     ensures { IfOk result (λ key. key ≡ option_map signed_decimal number) }
 {
     match number {
-        Some(number) => Ok(Some(Text::from_string(alloc, number.to_string(alloc)?)?)),
+        Some(number) => Ok(Some(decimal(alloc, number)?)),
         None => Ok(None),
     }
 }

@@ -2,9 +2,13 @@ ghost use Rattle.std.specs.Prelude.{◌≡◌, ◌++◌, codes, flat_map, map, I
 ghost use Rattle.sc_record.specs.Fields.{kind_of};
 ghost use Rattle.sc_schema.specs.Terms.{by_words, field_terms, found_by, keys_of, term, AreTerms};
 
+use crate::value::decimal;
 use crate::word::{push_term, push_words};
 use sc_record::{Doc, Field, Id, Kind, List, Term, Text, Value, kind_of};
 use std::alloc::{AllocError, Global};
+
+/// For how many terms there is room at first: most documents have no more.
+const FEW_TERMS: usize = 16;
 
 /// The terms by which a document of this id is found. A field of words is found by each of its words, whatever their case,
 /// and any other one by its whole values.
@@ -21,7 +25,7 @@ pub fn terms_of(alloc: Global, id: &Id, doc: &Doc) -> Result<List<Term>, AllocEr
 fn found_by(alloc: Global, id: &Id, fields: &[Field]) -> Result<List<Term>, AllocError>
     ensures { IfOk result (λ terms. terms ≡ found_by id.now fields.now) }
 {
-    let mut terms = List::new(alloc);
+    let mut terms = List::from_vec(Vec::with_capacity(alloc, FEW_TERMS)?);
     push_term(&mut terms, &Text::new(alloc, "id")?, id.as_text().clone()?)?;
     for field in fields {
         push_field(alloc, &mut terms, field)?;
@@ -60,16 +64,8 @@ fn push_value(
     match value {
         Value::Text(text) if split => push_words(alloc, terms, field, text.as_str()),
         Value::Text(text) => push_term(terms, field, text.clone()?),
-        Value::Int(number) => push_term(
-            terms,
-            field,
-            Text::from_string(alloc, number.to_string(alloc)?)?,
-        ),
-        Value::Long(number) => push_term(
-            terms,
-            field,
-            Text::from_string(alloc, number.to_string(alloc)?)?,
-        ),
+        Value::Int(number) => push_term(terms, field, decimal(alloc, i64::from(*number))?),
+        Value::Long(number) => push_term(terms, field, decimal(alloc, *number)?),
         Value::Flag(flag) => {
             let name = if *flag { "true" } else { "false" };
             push_term(terms, field, Text::new(alloc, name)?)

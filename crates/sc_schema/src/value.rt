@@ -1,7 +1,9 @@
+ghost use Rattle.std.specs.Fmt.{signed_decimal};
 ghost use Rattle.std.specs.Prelude.{◌≡◌, IfOk};
 ghost use Rattle.sc_schema.specs.Values.{text_of, number_text, number_of, flag_named, flag_of, int_value, value_of};
 
 use crate::raw::RawOne;
+use itoa::Buffer;
 use sc_record::{Kind, Text, Value};
 use std::alloc::{AllocError, Global};
 
@@ -21,10 +23,7 @@ pub fn value_of(alloc: Global, kind: Kind, one: &RawOne) -> Result<Option<Value>
 fn int_value(number: i64) -> Option<Value>
     ensures { result ≡ int_value number }
 {
-    if number < i64::from(i32::MIN) || number > i64::from(i32::MAX) {
-        return None;
-    }
-    Some(Value::Int(number as i32))
+    i32::try_from(number).ok().map(Value::Int)
 }
 
 /// The text that the value is.
@@ -37,9 +36,17 @@ fn text_of(alloc: Global, one: &RawOne) -> Result<Option<Text>, AllocError>
             let name = if *flag { "true" } else { "false" };
             Ok(Some(Text::new(alloc, name)?))
         }
-        RawOne::Number(number) => Ok(Some(Text::from_string(alloc, number.to_string(alloc)?)?)),
+        RawOne::Number(number) => Ok(Some(decimal(alloc, *number)?)),
         RawOne::Text(text) => Ok(Some(text.clone()?)),
     }
+}
+
+/// The decimal text of a number.
+pub fn decimal(alloc: Global, number: i64) -> Result<Text, AllocError>
+    ensures { IfOk result (λ text. text ≡ signed_decimal number) }
+{
+    let mut buffer = Buffer::new();
+    Text::new(alloc, buffer.format(number))
 }
 
 /// The whole number that the value is.

@@ -59,7 +59,7 @@ fn given(flat: &RawFlat) -> &[RawOne]
 fn values_in(alloc: Global, kind: Kind, list: &[RawOne]) -> Result<Option<List<Value>>, AllocError>
     ensures { IfOk result (λ values. values ≡ values_in kind list.now) }
 {
-    let mut values = List::new(alloc);
+    let mut values = List::from_vec(Vec::with_capacity(alloc, list.len())?);
     for one in list {
         let Some(value) = value_of(alloc, kind, one)? else {
             return Ok(None);

@@ -18,6 +18,7 @@ pub fn terms_of(alloc: Global, id: &Id, doc: &Doc) -> Result<List<Term>, AllocEr
     let mut terms = found_by(alloc, id, doc.fields())?.into_vec();
     terms.sort_unstable();
     terms.dedup();
+    terms.shrink_to_fit();
     Ok(List::from_vec(terms))
 }
 

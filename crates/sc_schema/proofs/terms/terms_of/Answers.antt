@@ -31,7 +31,7 @@ returns c =
     let id = c.args.id.now in
     let fields = c.args.doc.now in
     let is : c.from_vec.result ≡ dedup same_term sorted =
-    c.from_vec.ensures ∙ dedup_is _ _ _ c.dedup.ensures.filtered in
+    c.from_vec.ensures ∙ c.shrink_to_fit.ensures.items ∙ dedup_is _ _ _ c.dedup.ensures.filtered in
     let found : c.into_vec-terms.result.items ≡ found_by id fields =
     c.into_vec-terms.ensures ∙ c.in_ok-found_by.ensures ∙ ap (found_by id) c.fields.ensures.value in
     let moved = subst (λ (xs : List Term). IsPermutation xs sorted) found c.sort_unstable.ensures.permutation in

@@ -1,17 +1,18 @@
 -- What the orders of one request are answered, by the journals that were seen.
-use Rattle.std.specs.Prelude.{◌≡◌, ◌<◌, ◌⊎◌, ℕ, Bool, true, false, not, List, [], ◌∷◌, map, if◌then◌else◌, Option, Some, None, ⊤, filter_map}
+use Rattle.std.specs.Prelude.{◌≡◌, ◌<◌, ◌⊎◌, ℕ, Bool, true, false, not, List, [], ◌∷◌, map, if◌then◌else◌, Option, Some, None, ⊤, filter_map, slice_get}
 use Rattle.std.specs.List.{flat_map}
 use Rattle.std.specs.Option.{option_map}
 use Rattle.sc_record.specs.Versions.{shown_version}
 use Rattle.sc_record.specs.declared.write.Write.{Write}
 use Rattle.sc_record.specs.declared.ack.Ack.{Ack}
+use Rattle.sc_record.specs.declared.entry.Entry.TheVariants as entry
 use Rattle.sc_record.specs.declared.order.Order.{Order}
 use Rattle.sc_record.specs.declared.order.Change.{Change}
 use Rattle.sc_record.specs.declared.order.Change.TheVariants as changes
 use Rattle.sc_router.specs.Route.{bucket_of}
 use Rattle.sc_journal.specs.Journal.{write_at, is_settled}
 use Rattle.sc_journal.specs.Outcomes.{Outcome, accepted, conflict, partial, log_full, out_of_memory, IsOutcome}
-use Rattle.sc_journal.specs.Seen.{Layout, Seen, journal_at, journal_after}
+use Rattle.sc_journal.specs.Seen.{Layout, Seen, journal_at}
 use Rattle.sc_journal.specs.declared.stop.Stop.{Stop}
 
 -- an order with the timestamp that was read for it, its stops and its outcome
@@ -21,13 +22,13 @@ pub record OrderAnswer : Type 0 where
   pub stops : List Stop
   pub outcome : Outcome
 
--- an accepted order's second stop: it comes after the first, an entry that it made is no write, and there the write of
--- the first is settled
+-- An accepted order's second stop: it comes after the first. It made an entry exactly where the write of the first was not
+-- settled before it, and that entry settles the write.
 pub record IsSettling (seen : Seen) (first second : Stop) : Type 0 where
   pub lock : second.lock ≡ first.lock
   pub later : first.place < second.place
-  pub no_write : second.made ≡ true → write_at (seen.journals second.lock) second.place ≡ None
-  pub settled : is_settled (journal_after seen second) first.place ≡ true
+  pub made : second.made ≡ not (is_settled (journal_at seen second) first.place)
+  pub made_is : second.made ≡ true → slice_get (seen.journals second.lock) second.place ≡ Some (entry.Settled first.place)
 
 -- an accepted order has a stop at which its write was made, and one at which that was settled; another has one stop
 abbrev pub HasStops : Seen → Outcome → List Stop → Stop → Type 0

@@ -31,10 +31,6 @@ place_after stop = if stop.made then stop.place + 1 else stop.place
 abbrev pub journal_at : Seen → Stop → List Entry
 journal_at seen stop = take stop.place (seen.journals stop.lock)
 
--- the journal at a stop, with the stop's own entry
-abbrev pub journal_after : Seen → Stop → List Entry
-journal_after seen stop = take (place_after stop) (seen.journals stop.lock)
-
 -- the places ascend from there on, and each stop comes after the entry that the one before it made
 abbrev pub ComeInOrder : ℕ → List Stop → Type 0
 ComeInOrder from [] = ⊤

@@ -6,7 +6,6 @@ use Rattle.std.specs.Result.{result_err}
 use Rattle.std.proofs.lemmas.List.{append-nil, map-append}
 use Rattle.std.proofs.lemmas.List.Elements.{All-nil, All-cons, All-append}
 use Rattle.std.proofs.lemmas.List.Sums.{fold-append}
-use Rattle.std.proofs.lemmas.Option.{slice_get_within}
 use mathlib.Core.List.{IsPrefix}
 use Rattle.sc_record.specs.declared.entry.Entry.{Entry}
 use Rattle.sc_record.specs.declared.entry.Entry.TheVariants as entry
@@ -14,7 +13,7 @@ use Rattle.sc_journal.specs.Splits.{owed}
 use Rattle.sc_journal.specs.Seen.{Layout, Seen, SeesMore, GoesOn}
 use Rattle.sc_journal.specs.Committed.{CommitOutcome, committed_now, CommitAnswer, IsCommitOutcome, IsCommitAnswer, AnswersCommits, commit_stops, worse}
 use Rattle.sc_journal.specs.declared.stop.Stop.{Stop}
-use Rattle.sc_journal.proofs.ListLemmas.{slice_get-append_left, slice_get-append_end}
+use Rattle.sc_journal.proofs.ListLemmas.{slice_get-append_end}
 use Rattle.sc_journal.proofs.GoesOnLemmas.{take-prefix, SeesMore-then, GoesOn-none, GoesOn-then}
 use Rattle.sc_bucket.specs.declared.bucket.Bucket.{Bucket}
 use Rattle.sc_bucket.specs.declared.commit.CommitFault.{CommitFault}
@@ -23,13 +22,7 @@ use Rattle.sc_bucket.specs.Events.{Commits, IsSameBut}
 use Rattle.sc_collection.specs.Desks.{Held, IsBucketOf, SeesGiven}
 use Rattle.sc_collection.proofs.StopLemmas.{stop_at, stop_is, GoesOn-held}
 use Rattle.sc_update.specs.Steps.{CommitsAll, CommitsOne, commit_outcome}
-
--- an entry stays where it is
-entry-later : (journal later : List Entry) (place : ℕ) (one : Entry) → IsPrefix journal later → slice_get journal place ≡ Some one
-    → slice_get later place ≡ Some one
-entry-later journal later place one begins is =
-    ap (λ (all : List Entry). slice_get all place) (sym begins.1)
-    ∙ slice_get-append_left journal begins.0 place (slice_get_within journal place one is) ∙ is
+use Rattle.sc_update.proofs.OrderLemmas.{entry-later}
 
 -- the entries that a commit adds: one where it is done
 committed-entries : {T : Type 0} (old new : Bucket) (answer : Result T CommitFault) → OnOk answer (Commits old new) → OnErr answer (IsSameBut old new)

@@ -1,13 +1,13 @@
 -- Of the entries that stops made, the writes are those of the orders that were accepted.
 use Rattle.std.proofs.Common.{◌≡◌, ℕ, Bool, true, false, List, [], ◌∷◌, ◌++◌, length, take, Option, Some, None, cond, refl, sym, ap, ◌∙◌, subst, zero, suc, inl, inr}
-use Rattle.std.specs.Option.{option_map}
+use Rattle.std.specs.Option.{option_and_then, option_map}
 use Rattle.std.specs.List.{filter_map, cons_option}
 use Rattle.std.proofs.lemmas.List.Elements.{filter_map-append}
 use Rattle.sc_record.specs.declared.ack.Ack.{Ack}
 use Rattle.sc_record.specs.declared.entry.Entry.{Entry}
 use Rattle.sc_record.specs.declared.order.Order.{Order}
 use Rattle.sc_record.specs.declared.write.Write.{Write}
-use Rattle.sc_journal.specs.Journal.{write_at}
+use Rattle.sc_journal.specs.Journal.{as_write, write_at}
 use Rattle.sc_journal.specs.Outcomes.{Outcome, accepted, conflict, partial, log_full, out_of_memory, IsOutcome}
 use Rattle.sc_journal.specs.Seen.{Layout, Seen, journal_at}
 use Rattle.sc_journal.specs.Batches.{OrderAnswer, AnswersOrders, HasStops, WritesOnce, ack_made, ack_of, ack_written, acknowledged, stops_of}
@@ -51,7 +51,7 @@ one_by layout seen order timestamp (accepted version) stops first is has =
     let here : ack_made seen first ≡ Some (record { id = order.id; version = version }) =
     ap (λ b. cond b (option_map ack_written (write_at (seen.journals first.lock) first.place)) None) has.0
     ∙ ap (option_map ack_written) (at_end (seen.journals first.lock) first.place write is.2.1) ∙ ap Some same in
-    let none : ack_made seen second ≡ None = no_write_made seen second second.made refl has.1.2.no_write in
+    let none : ack_made seen second ≡ None = no_write_made seen second second.made refl (λ made. ap (option_and_then as_write) (has.1.2.made_is made)) in
     ap (filter_map (ack_made seen)) has.1.1
     ∙ ap (λ (o : Option Ack). cons_option o (cons_option (ack_made seen second) [])) here
     ∙ ap (λ (o : Option Ack). record { id = order.id; version = version } ∷ cons_option o []) none

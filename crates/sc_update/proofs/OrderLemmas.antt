@@ -1,23 +1,23 @@
 -- What an order is answered at its stops, by what is seen later.
 use Rattle.std.proofs.Common.{◌≡◌, ℕ, ◌+◌, ◌<◌, Bool, true, false, cond, List, [], ◌∷◌, ◌++◌, length, take, Some, None, Option, Result, Ok, Err, refl, sym, ap, ◌∙◌, subst, arith, length-append}
-use Rattle.std.specs.Prelude.{◌||◌, IsSome, IfOk, OnErr, is_ok}
+use Rattle.std.specs.Prelude.{IsSome, IfOk, OnErr, is_ok, not, slice_get}
 use Rattle.std.specs.List.{AllByRecursion}
 use Rattle.std.specs.Arc.{arc_value}
-use Rattle.std.proofs.lemmas.Bool.{eq-eqb}
 use Rattle.std.proofs.lemmas.List.{append-nil}
+use Rattle.std.proofs.lemmas.Option.{slice_get_within}
 use mathlib.Core.List.{IsPrefix}
 use Rattle.sc_record.specs.declared.entry.Entry.{Entry}
 use Rattle.sc_record.specs.declared.entry.Entry.TheVariants as entry
 use Rattle.sc_record.specs.declared.write.Write.{Write}
 use Rattle.sc_record.specs.declared.order.Order.{Order}
 use Rattle.sc_router.specs.Route.{bucket_of}
-use Rattle.sc_journal.specs.Journal.{write_at, writes, settles, is_settled}
+use Rattle.sc_journal.specs.Journal.{write_at, writes, is_settled}
 use Rattle.sc_journal.specs.Outcomes.{Outcome, accepted, conflict, partial, log_full, out_of_memory, IsOutcome}
 use Rattle.sc_journal.specs.Seen.{Layout, Seen}
 use Rattle.sc_journal.specs.Batches.{IsSettling}
 use Rattle.sc_journal.specs.declared.stop.Stop.{Stop}
 use Rattle.sc_journal.proofs.JournalLemmas.{writes-push_write, writes-push_other, write_at-push_end, write_at-append, write_at_within}
-use Rattle.sc_journal.proofs.SettledLemmas.{is_settled-push}
+use Rattle.sc_journal.proofs.ListLemmas.{slice_get-append_left, slice_get-append_end}
 use Rattle.sc_bucket.specs.declared.bucket.Bucket.{Bucket}
 use Rattle.sc_bucket.specs.declared.accept.Accepted.{Accepted}
 use Rattle.sc_bucket.specs.declared.accept.AcceptFault.{AcceptFault}
@@ -30,6 +30,13 @@ use Rattle.sc_journal.proofs.ExtendsLemmas.{IsPrefix-then}
 use Rattle.sc_journal.proofs.GoesOnLemmas.{take-prefix}
 use Rattle.std.proofs.ByRecursion.{All-append}
 use Rattle.sc_collection.proofs.StopLemmas.{stop_at}
+
+-- an entry stays where it is
+pub entry-later : (journal later : List Entry) (place : ℕ) (one : Entry) → IsPrefix journal later → slice_get journal place ≡ Some one
+    → slice_get later place ≡ Some one
+entry-later journal later place one begins is =
+    ap (λ (all : List Entry). slice_get all place) (sym begins.1)
+    ∙ slice_get-append_left journal begins.0 place (slice_get_within journal place one is) ∙ is
 
 -- a write stays where it is
 pub write_at-later : (journal later : List Entry) (place : ℕ) → IsPrefix journal later → place < length journal
@@ -148,27 +155,16 @@ settled-entries place true old new settles = (entry.Settled place ∷ [], settle
 settled-entries place false old new settles =
     ([], ap (λ (bucket : Bucket). bucket.journal.entries) settles.0 ∙ sym (append-nil old.journal.entries), refl)
 
-or-true : (b : Bool) → (b || true) ≡ true
-or-true true = refl
-or-true false = refl
-
--- a journal that ends in the entry that settles a write has it settled
-settled-push : (journal : List Entry) (place : ℕ) → is_settled (journal ++ entry.Settled place ∷ []) place ≡ true
-settled-push journal place = is_settled-push journal (entry.Settled place) place ∙ ap (λ b. is_settled journal place || b) (eq-eqb place place refl) ∙ or-true (is_settled journal place)
-
 -- and the write of the first stop is settled there
 pub settling : (old new : Seen) (held : Held) (given : Bucket) (first : Stop) (made : Bool) → first.lock ≡ held.number
     → IsSome (write_at held.bucket.journal.entries first.place) → SettlesWhere made held.bucket first.place given → SeesGiven held given old new
     → (later : Seen) → SeesMore new later → IsSettling later first (stop_at held.number held.bucket.journal.entries made)
-settling old new held given first made same written settles sees later more =
-    let begins : IsPrefix given.journal.entries (later.journals held.number) =
-    subst (λ (entries : List Entry). IsPrefix entries (later.journals held.number)) sees.journal (more held.number) in
-    record {
-      lock = sym same;
-      later = write_at_within held.bucket.journal.entries place written;
-      no_write = no_write made settles begins;
-      settled = settled made settles begins;
-    }
+settling old new held given first made same written settles sees later more = record {
+  lock = sym same;
+  later = write_at_within journal place written;
+  made = settled made settles ∙ ap (λ (entries : List Entry). not (is_settled entries place)) (sym before);
+  made_is = made_is made settles;
+}
   where
     place : ℕ
     place = first.place
@@ -176,24 +172,23 @@ settling old new held given first made same written settles sees later more =
     journal : List Entry
     journal = held.bucket.journal.entries
 
-    no_write : (b : Bool) → SettlesWhere b held.bucket place given → IsPrefix given.journal.entries (later.journals held.number)
-        → b ≡ true → write_at (later.journals held.number) (length journal) ≡ None
-    no_write true did begins is =
-        let below : length journal < length given.journal.entries = omega (arith, ap length did.0.entries, length-append journal (entry.Settled place ∷ [])) in
-        write_at-later given.journal.entries (later.journals held.number) (length journal) begins below
-        ∙ ap (λ (entries : List Entry). write_at entries (length journal)) did.0.entries
-        ∙ write_at-push_end journal (entry.Settled place)
-    no_write false did begins is = absurd (cc)
+    begins : IsPrefix given.journal.entries (later.journals held.number)
+    begins = subst (λ (entries : List Entry). IsPrefix entries (later.journals held.number)) sees.journal (more held.number)
 
-    settled : (b : Bool) → SettlesWhere b held.bucket place given → IsPrefix given.journal.entries (later.journals held.number)
-        → is_settled (take (cond b (length journal + 1) (length journal)) (later.journals held.number)) place ≡ true
-    settled true did begins =
-        let long : length journal + 1 ≡ length given.journal.entries = omega (arith, ap length did.0.entries, length-append journal (entry.Settled place ∷ [])) in
-        ap (λ n. is_settled (take n (later.journals held.number)) place) long
-        ∙ ap (λ (entries : List Entry). is_settled entries place) (take-prefix given.journal.entries (later.journals held.number) begins ∙ did.0.entries)
-        ∙ settled-push journal place
-    settled false did begins =
-        let same : given.journal.entries ≡ journal = ap (λ (bucket : Bucket). bucket.journal.entries) did.0 in
-        ap (λ (entries : List Entry). is_settled (take (length entries) (later.journals held.number)) place) (sym same)
-        ∙ ap (λ (entries : List Entry). is_settled entries place) (take-prefix given.journal.entries (later.journals held.number) begins ∙ same)
-        ∙ did.1
+    added : (entries : List Entry) × (given.journal.entries ≡ journal ++ entries) × (length entries ≡ cond made 1 0)
+    added = settled-entries place made held.bucket given settles
+
+    before : take (length journal) (later.journals held.number) ≡ journal
+    before = take-prefix journal (later.journals held.number)
+        (IsPrefix-then journal given.journal.entries (later.journals held.number) (added.0, sym added.1) begins)
+
+    settled : (b : Bool) → SettlesWhere b held.bucket place given → b ≡ not (is_settled journal place)
+    settled true did = ap not (sym did.1)
+    settled false did = ap not (sym did.1)
+
+    made_is : (b : Bool) → SettlesWhere b held.bucket place given → b ≡ true
+        → slice_get (later.journals held.number) (length journal) ≡ Some (entry.Settled place)
+    made_is true did is =
+        entry-later given.journal.entries (later.journals held.number) (length journal) (entry.Settled place) begins
+        (ap (λ (entries : List Entry). slice_get entries (length journal)) did.0.entries ∙ slice_get-append_end journal (entry.Settled place) [])
+    made_is false did is = absurd (cc)

@@ -19,11 +19,11 @@ use std::alloc::Global;
 /// orders.
 ///
 /// For each order the clock is read, the id's bucket is held and the order is carried out. Where it is accepted, up to
-/// `MAX_DELIVERIES` further holds of the bucket each deliver a message that sends the write to another core. The first hold that
-/// finds none, or the one after these, settles the write, which delivers what is left. The hold that carries out the order and
-/// the one that settles its write are the order's stops of the trail. The orders end at the first that is not accepted, but a
-/// conflict is passed over where the batch says so. The lists of what is shown take their room first: where there is none, memory
-/// ran out and nothing was accepted.
+/// `MAX_DELIVERIES` further holds of the bucket come next, to deliver messages; the contract says of them only that they make no
+/// entry, since a desk does not show what is in flight. The first of them that finds no message of the write, or the hold after
+/// them, settles the write. The hold that carries out the order and the one that settles its write are the order's stops of the
+/// trail. The orders end at the first that is not accepted, but a conflict is passed over where the batch says so. The lists of
+/// what is shown take their room first: where there is none, memory ran out and nothing was accepted.
 ///
 /// A commit holds each bucket in turn, one stop each (Solr Reference Guide, "Commits and Transaction Logs"). One that is refused
 /// leaves its bucket as it was and does not end the round. Then memory ran out where it did in some bucket; else the log is full

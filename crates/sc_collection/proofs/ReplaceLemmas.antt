@@ -49,6 +49,18 @@ module _ (layout : Layout) (held : Held) (given : Bucket)
     step = IsStep.stays same;
   }
 
+  -- it is the same bucket
+  pub same_may_replace : given ≡ held.bucket → MayReplace layout held given
+  same_may_replace same = unchanged_may_replace (subst (IsSameBut held.bucket) (sym same) (record {
+    name = record { first = refl; limit = refl };
+    map_is = refl;
+    entries = refl;
+    messages = refl;
+    cores = refl;
+    split = record { phase = refl; feeds = refl };
+    searchers_are = refl;
+  }))
+
   -- a message was delivered
   pub delivered_may_replace : (at : ℕ) (message : Sent) → Delivers held.bucket at message given → MayReplace layout held given
   delivered_may_replace at message delivered = record {

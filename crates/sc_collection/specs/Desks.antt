@@ -1,11 +1,11 @@
 -- What a desk says of the buckets that it hands out, and asks of those that it takes back.
-use Rattle.std.specs.Prelude.{◌≡◌, ◌≢◌, ℕ, List, [], ◌∷◌, ◌++◌, length, nat_lt, if◌then◌else◌}
+use Rattle.std.specs.Prelude.{◌≡◌, ◌≢◌, ℕ, List, [], ◌∷◌, ◌++◌, length, nat_lt, if◌then◌else◌, Option, None}
 use Rattle.std.specs.List.{AllByRecursion}
 use Rattle.sc_record.specs.declared.write.Write.{Write}
 use Rattle.sc_record.specs.declared.entry.Entry.{Entry}
 use Rattle.sc_router.specs.Route.{bucket_of}
 use Rattle.sc_journal.specs.Journal.{writes}
-use Rattle.sc_journal.specs.Seen.{Layout, Seen}
+use Rattle.sc_journal.specs.Seen.{Layout, Seen, AreLegal}
 use Rattle.sc_bucket.specs.declared.bucket.Bucket.{Bucket}
 use Rattle.sc_bucket.specs.Sound.{IsSound}
 use Rattle.sc_bucket.specs.Events.{IsStep}
@@ -42,3 +42,8 @@ pub record SeesGiven (held : Held) (given : Bucket) (old new : Seen) : Type 0 wh
   pub board : new.board ≡ old.board
   pub own : new.own held.number ≡ old.own held.number ++ place_added held.bucket.journal.entries given.journal.entries
   pub others_own : (lock : ℕ) → lock ≢ held.number → new.own lock ≡ old.own lock
+
+-- a desk is at rest: none of its buckets is out, and what was seen is legal
+pub record IsAtRest (layout : Layout) (out : Option Held) (seen : Seen) : Type 0 where
+  pub nothing_out : out ≡ None
+  pub legal : AreLegal layout seen

@@ -7,7 +7,7 @@ use Rattle.std.proofs.lemmas.List.{map-append, append-nil}
 use Rattle.std.proofs.lemmas.List.Elements.{filter-append}
 use Rattle.std.proofs.ByRecursion.{All-append}
 use mathlib.Core.List.{IsPrefix}
-use Rattle.sc_journal.specs.Seen.{Layout, Seen, Extends, IsWithin, ComeInOrder, place_after, stops_at, made_at, entries_at}
+use Rattle.sc_journal.specs.Seen.{Layout, Seen, Extends, IsStopWithin, ComeInOrder, place_after, stops_at, made_at, entries_at}
 use Rattle.sc_journal.specs.declared.stop.Stop.{Stop}
 
 pub IsPrefix-self : {A : Type 0} (xs : List A) → IsPrefix xs xs
@@ -45,7 +45,7 @@ made_at-append lock xs ys =
     ∙ map-append (λ (stop : Stop). stop.place) (filter (λ (stop : Stop). stop.made) (stops_at lock xs)) (filter (λ (stop : Stop). stop.made) (stops_at lock ys))
 
 -- the stops of one lock are within what was seen there
-within_at : (layout : Layout) (seen : Seen) (lock : ℕ) (stops : List Stop) → AllByRecursion (IsWithin layout seen) stops
+within_at : (layout : Layout) (seen : Seen) (lock : ℕ) (stops : List Stop) → AllByRecursion (IsStopWithin layout seen) stops
     → AllByRecursion (λ (stop : Stop). place_after stop ≤ entries_at layout seen lock) (stops_at lock stops)
 within_at layout seen lock [] h = tt
 within_at layout seen lock (stop ∷ stops) h = by (stop.lock == lock) refl (within_at layout seen lock stops h.1) where
@@ -69,7 +69,7 @@ ascend-append from to (x ∷ xs) ys a h w b = (a.0, ascend-append (place_after x
 
 -- stops that are within what was seen are within what is seen later
 within-later : (layout : Layout) (old new : Seen) → ((lock : ℕ) → entries_at layout old lock ≤ entries_at layout new lock)
-    → (stops : List Stop) → AllByRecursion (IsWithin layout old) stops → AllByRecursion (IsWithin layout new) stops
+    → (stops : List Stop) → AllByRecursion (IsStopWithin layout old) stops → AllByRecursion (IsStopWithin layout new) stops
 within-later layout old new grow [] h = tt
 within-later layout old new grow (stop ∷ stops) h = (
   record {
@@ -104,5 +104,5 @@ Extends-then layout old between new xs ys one two =
       ascend = λ lock. subst (ComeInOrder (entries_at layout old lock)) (sym (stops_at-append lock xs ys))
           (ascend-append (entries_at layout old lock) (entries_at layout between lock) (stops_at lock xs) (stops_at lock ys)
           (one.ascend lock) (first lock) (within_at layout between lock xs one.within) (two.ascend lock));
-      within = All-append (IsWithin layout new) xs ys (within-later layout between new then xs one.within) two.within;
+      within = All-append (IsStopWithin layout new) xs ys (within-later layout between new then xs one.within) two.within;
     }

@@ -1,9 +1,11 @@
 -- What was seen goes on from stop to stop.
-use Rattle.std.proofs.Common.{◌≡◌, ℕ, List, [], ◌∷◌, ◌++◌, length, take, refl, sym, ap, ◌∙◌, subst}
+use Rattle.std.proofs.Common.{◌≡◌, ℕ, List, [], ◌∷◌, ◌++◌, length, take, refl, sym, ap, ◌∙◌, subst, append_assoc}
 use Rattle.std.specs.Prelude.{⊤}
+use Rattle.std.proofs.lemmas.List.{append-nil}
 use Rattle.std.proofs.Math.Seq.{take-append_seam}
 use mathlib.Core.List.{IsPrefix}
-use Rattle.sc_journal.specs.Seen.{Layout, Seen, SeesMore, EndAtLast, GoesOn, place_after, stops_at, entries_at}
+use Rattle.sc_journal.specs.Seen.{Layout, Seen, Extends, SeesMore, EndAtLast, GoesOn, place_after, stops_at, entries_at}
+use Rattle.sc_journal.specs.Moments.{View, Keeps}
 use Rattle.sc_journal.specs.declared.stop.Stop.{Stop}
 use Rattle.sc_journal.proofs.ExtendsLemmas.{IsPrefix-self, IsPrefix-then, stops_at-append, Extends-none, Extends-then}
 
@@ -12,11 +14,17 @@ pub take-prefix : {A : Type 0} (xs ys : List A) → IsPrefix xs ys → take (len
 take-prefix xs ys begins = ap (take (length xs)) (sym begins.1) ∙ take-append_seam xs begins.0
 
 pub SeesMore-self : (seen : Seen) → SeesMore seen seen
-SeesMore-self seen = λ lock. IsPrefix-self (seen.journals lock)
+SeesMore-self seen = record { journals = λ lock. IsPrefix-self (seen.journals lock); board = IsPrefix-self seen.board }
 
 pub SeesMore-then : (old between later : Seen) → SeesMore old between → SeesMore between later → SeesMore old later
-SeesMore-then old between later begins more lock =
-    IsPrefix-then (old.journals lock) (between.journals lock) (later.journals lock) (begins lock) (more lock)
+SeesMore-then old between later one two = record {
+  journals = λ lock. IsPrefix-then (old.journals lock) (between.journals lock) (later.journals lock) (one.journals lock) (two.journals lock);
+  board = IsPrefix-then old.board between.board later.board one.board two.board;
+}
+
+-- what went on by stops is seen later
+pub SeesMore-by : (layout : Layout) (old new : Seen) (stops : List Stop) → Extends layout old new stops → SeesMore old new
+SeesMore-by layout old new stops extends = record { journals = extends.seen; board = extends.board }
 
 -- where two parts have no stop, neither has one
 append-none : {A : Type 0} (xs ys : List A) → xs ++ ys ≡ [] → (xs ≡ []) × (ys ≡ [])
@@ -65,3 +73,21 @@ GoesOn-then layout old between new xs ys one two = record {
   last = Ends-to layout new (xs ++ ys) (Ends-append layout between new xs ys (Ends-from layout between xs one.last) (Ends-from layout new ys two.last) two.stays);
   stays = λ lock none. let parts = stops_at-none lock xs ys none in two.stays lock parts.1 ∙ one.stays lock parts.0;
 }
+
+-- no stop more was kept
+pub Keeps-none : (layout : Layout) (view : View) → Keeps layout view view []
+Keeps-none layout view = record { goes = GoesOn-none layout view.seen; kept = sym (append-nil view.stops) }
+
+-- some stops were kept, and then others
+pub Keeps-then : (layout : Layout) (old between new : View) (xs ys : List Stop)
+    → Keeps layout old between xs → Keeps layout between new ys → Keeps layout old new (xs ++ ys)
+Keeps-then layout old between new xs ys one two = record {
+  goes = GoesOn-then layout old.seen between.seen new.seen xs ys one.goes two.goes;
+  kept = two.kept ∙ ap (λ (stops : List Stop). stops ++ ys) one.kept ∙ append_assoc old.stops xs ys;
+}
+
+-- what is seen after those stops is seen later
+pub Keeps-sees : (layout : Layout) (old new : View) (stops : List Stop) → Keeps layout old new stops
+    → (later : Seen) → SeesMore new.seen later → SeesMore old.seen later
+Keeps-sees layout old new stops keeps later more =
+    SeesMore-then old.seen new.seen later (SeesMore-by layout old.seen new.seen stops keeps.goes.extends) more

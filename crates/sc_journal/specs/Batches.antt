@@ -1,6 +1,7 @@
 -- What the orders of one request are answered, by the journals that were seen.
-use Rattle.std.specs.Prelude.{◌≡◌, ◌<◌, ◌⊎◌, ℕ, Bool, true, false, not, List, [], ◌∷◌, map, if◌then◌else◌, Option, Some, None, ⊤, filter_map, slice_get}
-use Rattle.std.specs.List.{flat_map}
+use Rattle.std.specs.Prelude.{◌≡◌, ◌<◌, ℕ, ◌-◌, Bool, true, false, not, List, [], ◌∷◌, length, map, take, if◌then◌else◌, Option, Some, None, filter_map, slice_get}
+use Rattle.std.specs.List.{flat_map, AllByRecursion}
+use mathlib.Core.List.{IsPrefix}
 use Rattle.std.specs.Option.{option_map}
 use Rattle.sc_record.specs.Versions.{shown_version}
 use Rattle.sc_record.specs.declared.write.Write.{Write}
@@ -53,14 +54,16 @@ goes_on fail_on_conflict (partial name) = false
 goes_on fail_on_conflict log_full = false
 goes_on fail_on_conflict out_of_memory = false
 
--- the orders were answered in turn, up to one of them; none comes after one after which they don't go on
-abbrev pub AnswersOrders : Layout → Seen → Bool → List Order → List OrderAnswer → Type 0
-AnswersOrders layout seen fail orders [] = ⊤
-AnswersOrders layout seen fail [] (answer ∷ answers) = ⊥
-AnswersOrders layout seen fail (order ∷ orders) (answer ∷ answers) =
-    (answer.order ≡ order) × IsOrderAnswer layout seen answer
-    × (((goes_on fail answer.outcome ≡ true) × AnswersOrders layout seen fail orders answers)
-    ⊎ ((goes_on fail answer.outcome ≡ false) × (answers ≡ [])))
+-- orders go on after each of these answers
+abbrev pub GoOn : Bool → List OrderAnswer → Type 0
+GoOn fail answers = AllByRecursion (λ (answer : OrderAnswer). goes_on fail answer.outcome ≡ true) answers
+
+-- The orders were answered in turn, up to one of them: the answers are to the first orders, each is that of its bucket's journal,
+-- and orders went on after each but the last.
+pub record AnswersOrders (layout : Layout) (seen : Seen) (fail : Bool) (orders : List Order) (answers : List OrderAnswer) : Type 0 where
+  pub in_turn : IsPrefix (map (λ (answer : OrderAnswer). answer.order) answers) orders
+  pub each : AllByRecursion (IsOrderAnswer layout seen) answers
+  pub go_on : GoOn fail (take (length answers - 1) answers)
 
 -- the change deletes the document
 abbrev pub deletes : Change → Bool
@@ -86,18 +89,18 @@ add_of answer = if deletes answer.order.change then None else ack_of answer
 abbrev pub delete_of : OrderAnswer → Option Ack
 delete_of answer = if deletes answer.order.change then ack_of answer else None
 
-abbrev pub adds_of : List OrderAnswer → List Ack
-adds_of answers = filter_map add_of answers
+abbrev pub accepted_adds : List OrderAnswer → List Ack
+accepted_adds answers = filter_map add_of answers
 
-abbrev pub deletes_of : List OrderAnswer → List Ack
-deletes_of answers = filter_map delete_of answers
+abbrev pub accepted_deletes : List OrderAnswer → List Ack
+accepted_deletes answers = filter_map delete_of answers
 
 -- the stops and the timestamps of answers, in order
-abbrev pub stops_of : List OrderAnswer → List Stop
-stops_of answers = flat_map (λ (answer : OrderAnswer). answer.stops) answers
+abbrev pub order_stops : List OrderAnswer → List Stop
+order_stops answers = flat_map (λ (answer : OrderAnswer). answer.stops) answers
 
-abbrev pub timestamps_of : List OrderAnswer → List ℕ
-timestamps_of answers = map (λ (answer : OrderAnswer). answer.timestamp) answers
+abbrev pub order_timestamps : List OrderAnswer → List ℕ
+order_timestamps answers = map (λ (answer : OrderAnswer). answer.timestamp) answers
 
 -- the id and the version, as it is shown, of a write
 abbrev pub ack_written : Write → Ack

@@ -1,12 +1,12 @@
 -- What of a journal a search can find, and what a commit of it is answered.
-use Rattle.std.specs.Prelude.{◌≡◌, ◌<◌, ◌≤◌, ℕ, ◌+◌, Bool, true, false, List, length, map, fold, take, slice_get, if◌then◌else◌, Some, IsSome, All}
+use Rattle.std.specs.Prelude.{◌≡◌, ℕ, Bool, true, false, List, map, fold, take, slice_get, if◌then◌else◌, Some, IsSome, All}
 use Rattle.std.specs.List.{enumerate_from, range_with_len}
 use Rattle.sc_record.specs.declared.write.Write.{Write}
 use Rattle.sc_record.specs.declared.entry.Entry.{Entry}
 use Rattle.sc_record.specs.declared.entry.Entry.TheVariants as entry
 use Rattle.sc_cluster.specs.declared.slice.Slice.{Slice}
 use Rattle.sc_journal.specs.Journal.{last_write}
-use Rattle.sc_journal.specs.Splits.{owed}
+use Rattle.sc_journal.specs.Splits.{HasRoomFor, IsFullFor}
 use Rattle.sc_journal.specs.Seen.{Layout, Seen, journal_at}
 use Rattle.sc_journal.specs.declared.stop.Stop.{Stop}
 
@@ -35,7 +35,7 @@ pub record IsShown (journal : List Entry) (write : Write) : Type 0 where
 
 -- the journal has room for an entry that commits, beside those that it owes
 abbrev pub HasRoomToCommit : ℕ → List Slice → List Entry → Type 0
-HasRoomToCommit limit first journal = length journal + owed first journal + 1 ≤ limit
+HasRoomToCommit limit first journal = HasRoomFor 1 limit first journal
 
 -- what the commit of a bucket came to
 pub data CommitOutcome : Type 0 where
@@ -53,7 +53,7 @@ abbrev pub IsCommitOutcome : Layout → Seen → Stop → CommitOutcome → Type
 IsCommitOutcome layout seen stop committed_now =
     (stop.made ≡ true) × (slice_get (seen.journals stop.lock) stop.place ≡ Some entry.Committed)
 IsCommitOutcome layout seen stop commit_full =
-    (stop.made ≡ false) × (layout.limit < length (journal_at seen stop) + owed layout.first (journal_at seen stop) + 1)
+    (stop.made ≡ false) × IsFullFor 1 layout.limit layout.first (journal_at seen stop)
 IsCommitOutcome layout seen stop commit_out_of_memory = stop.made ≡ false
 
 -- the commit came to this

@@ -4,6 +4,7 @@ pub mod Splits
 pub mod Legal
 pub mod Outcomes
 pub mod Seen
+pub mod Moments
 pub mod Batches
 pub mod Committed
 pub mod Laws

@@ -1,5 +1,5 @@
 -- What an order is answered, by the journal of its bucket.
-use Rattle.std.specs.Prelude.{◌≡◌, ◌<◌, ◌≤◌, ◌⊎◌, ℕ, ◌+◌, ℤ, pos, true, false, List, length, Option, Some, None, Contains, map}
+use Rattle.std.specs.Prelude.{◌≡◌, ◌⊎◌, ℕ, ℤ, pos, true, false, List, length, Option, Some, None, Contains, map}
 use Rattle.std.specs.Option.{option_and_then}
 use Rattle.sc_record.specs.Versions.{version_after, shown_version, meets}
 use Rattle.sc_record.specs.declared.write.Write.{Write}
@@ -11,7 +11,7 @@ use Rattle.sc_record.specs.declared.entry.Entry.{Entry}
 use Rattle.sc_cluster.specs.declared.slice.Slice.{Slice}
 use Rattle.sc_partial.specs.Resolved.{IsChanged, first_refused, fields_of}
 use Rattle.sc_journal.specs.Journal.{write_at, writes, last_write, found}
-use Rattle.sc_journal.specs.Splits.{owed}
+use Rattle.sc_journal.specs.Splits.{HasRoomFor, IsFullFor}
 
 -- what one order was answered
 pub data Outcome : Type 0 where
@@ -46,7 +46,7 @@ IsClock journal clock = (clock ≡ pos 0) ⊎ Contains (map (λ (write : Write).
 
 -- the journal has room for a write and the entry that settles it, beside those that it owes
 abbrev pub HasRoom : ℕ → List Slice → List Entry → Type 0
-HasRoom limit first journal = length journal + owed first journal + 2 ≤ limit
+HasRoom limit first journal = HasRoomFor 2 limit first journal
 
 -- The write is that of the order, at the end of the journal and at the timestamp `now` that was read for it: its document is
 -- what the change makes, and its version comes after that of the timestamp or of a clock.
@@ -76,5 +76,5 @@ IsOutcome limit first before order now (conflict version) after =
 IsOutcome limit first before order now (partial name) after =
     IsMet before order × (refused (last_write before order.id) order.change ≡ Some name)
 IsOutcome limit first before order now log_full after =
-    IsFitting before order × (limit < length before + owed first before + 2)
+    IsFitting before order × IsFullFor 2 limit first before
 IsOutcome limit first before order now out_of_memory after = IsMet before order

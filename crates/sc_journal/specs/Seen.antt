@@ -49,7 +49,7 @@ abbrev pub entries_at : Layout → Seen → ℕ → ℕ
 entries_at layout seen lock = if lock == layout.buckets then length seen.board else length (seen.journals lock)
 
 -- the lock is that of a bucket or of the board, and the entries up to the stop, with its own if it made one, were seen there
-pub record IsWithin (layout : Layout) (seen : Seen) (stop : Stop) : Type 0 where
+pub record IsStopWithin (layout : Layout) (seen : Seen) (stop : Stop) : Type 0 where
   pub lock : stop.lock ≤ layout.buckets
   pub place : place_after stop ≤ entries_at layout seen stop.lock
 
@@ -60,15 +60,20 @@ pub record Extends (layout : Layout) (old new : Seen) (stops : List Stop) : Type
   pub board : IsPrefix old.board new.board
   pub own : (lock : ℕ) → new.own lock ≡ old.own lock ++ made_at lock stops
   pub ascend : (lock : ℕ) → ComeInOrder (entries_at layout old lock) (stops_at lock stops)
-  pub within : AllByRecursion (IsWithin layout new) stops
+  pub within : AllByRecursion (IsStopWithin layout new) stops
 
 -- each journal that was seen is legal
 abbrev pub AreLegal : Layout → Seen → Type 0
 AreLegal layout seen = (lock : ℕ) → lock < layout.buckets → IsLegal layout.first (seen.journals lock)
 
--- what is seen later extends what was seen
-abbrev pub SeesMore : Seen → Seen → Type 0
-SeesMore seen later = (lock : ℕ) → IsPrefix (seen.journals lock) (later.journals lock)
+-- what is seen later extends what was seen, of each journal and of the board
+pub record SeesMore (seen later : Seen) : Type 0 where
+  pub journals : (lock : ℕ) → IsPrefix (seen.journals lock) (later.journals lock)
+  pub board : IsPrefix seen.board later.board
+
+-- it is so of all that is seen from now on
+abbrev pub FromNowOn : Seen → (Seen → Type 0) → Type 0
+FromNowOn now IsSo = (later : Seen) → SeesMore now later → IsSo later
 
 -- of each lock the last of the stops is at the end of what was seen of its journal
 abbrev pub EndAtLast : Layout → Seen → List Stop → Type 0
@@ -81,8 +86,3 @@ pub record GoesOn (layout : Layout) (old new : Seen) (stops : List Stop) : Type 
   pub extends : Extends layout old new stops
   pub last : EndAtLast layout new stops
   pub stays : (lock : ℕ) → stops_at lock stops ≡ [] → entries_at layout new lock ≡ entries_at layout old lock
-
--- One hold of a bucket was this stop: it is kept, and what was seen went on by it.
-pub record IsStop (layout : Layout) (old new : Seen) (old_stops new_stops : List Stop) (stop : Stop) : Type 0 where
-  pub goes : GoesOn layout old new (stop ∷ [])
-  pub kept : new_stops ≡ old_stops ++ stop ∷ []

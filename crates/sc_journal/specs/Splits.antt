@@ -1,5 +1,5 @@
--- What a journal says of its bucket's slices, and the entries that it has still to get.
-use Rattle.std.specs.Prelude.{ℕ, ◌+◌, Bool, true, false, List, length, fold, filter_map, count_by, Option, Some, None}
+-- What a journal says of its bucket's slices, the entries that it has still to get, and its room for others.
+use Rattle.std.specs.Prelude.{ℕ, ◌+◌, ◌≤◌, ◌<◌, Bool, true, false, List, length, fold, filter_map, count_by, Option, Some, None}
 use Rattle.sc_record.specs.declared.slice.SliceId.{SliceId}
 use Rattle.sc_record.specs.declared.entry.Entry.{Entry}
 use Rattle.sc_record.specs.declared.entry.Entry.TheVariants as entry
@@ -51,3 +51,11 @@ owed_by_split (Some parent) = 2
 abbrev pub owed : List Slice → List Entry → ℕ
 owed first journal =
     length (unsettled journal) + owed_by_split (open_split journal) + count_by is_inactive (map_after first journal)
+
+-- the journal has room for so many entries more, beside those that it owes
+abbrev pub HasRoomFor : ℕ → ℕ → List Slice → List Entry → Type 0
+HasRoomFor wanted limit first journal = length journal + owed first journal + wanted ≤ limit
+
+-- it has none for so many
+abbrev pub IsFullFor : ℕ → ℕ → List Slice → List Entry → Type 0
+IsFullFor wanted limit first journal = limit < length journal + owed first journal + wanted

@@ -1,5 +1,5 @@
 -- What the commit of a bucket came to at its stop, and what all commits came to.
-use Rattle.std.proofs.Common.{◌≡◌, ℕ, ◌+◌, ◌<◌, Bool, cond, List, [], ◌∷◌, ◌++◌, length, take, zero, suc, Option, Some, None, Result, Ok, Err, refl, sym, ap, ◌∙◌, subst, arith, append_assoc}
+use Rattle.std.proofs.Common.{◌≡◌, ℕ, ◌+◌, ◌<◌, Bool, cond, List, [], ◌∷◌, ◌++◌, length, take, zero, suc, Option, None, Result, Ok, Err, refl, sym, ap, ◌∙◌, subst, arith}
 use Rattle.std.specs.Prelude.{OnOk, OnErr, is_ok, slice_get}
 use Rattle.std.specs.List.{range_with_len}
 use Rattle.std.specs.Result.{result_err}
@@ -9,12 +9,13 @@ use Rattle.std.proofs.lemmas.List.Sums.{fold-append}
 use mathlib.Core.List.{IsPrefix}
 use Rattle.sc_record.specs.declared.entry.Entry.{Entry}
 use Rattle.sc_record.specs.declared.entry.Entry.TheVariants as entry
-use Rattle.sc_journal.specs.Splits.{owed}
+use Rattle.sc_journal.specs.Splits.{IsFullFor}
 use Rattle.sc_journal.specs.Seen.{Layout, Seen, SeesMore, GoesOn}
+use Rattle.sc_journal.specs.Moments.{View, Keeps}
 use Rattle.sc_journal.specs.Committed.{CommitOutcome, committed_now, CommitAnswer, IsCommitOutcome, IsCommitAnswer, AnswersCommits, commit_stops, worse}
 use Rattle.sc_journal.specs.declared.stop.Stop.{Stop}
 use Rattle.sc_journal.proofs.ListLemmas.{slice_get-append_end}
-use Rattle.sc_journal.proofs.GoesOnLemmas.{take-prefix, SeesMore-then, GoesOn-none, GoesOn-then}
+use Rattle.sc_journal.proofs.GoesOnLemmas.{take-prefix, Keeps-none, Keeps-then, Keeps-sees}
 use Rattle.sc_bucket.specs.declared.bucket.Bucket.{Bucket}
 use Rattle.sc_bucket.specs.declared.commit.CommitFault.{CommitFault}
 use Rattle.sc_bucket.specs.declared.commit.CommitFault.TheVariants as faults
@@ -33,7 +34,7 @@ committed-entries old new (Err fault) commits same = ([], same.entries ∙ sym (
 -- what a commit came to at its stop, by what is seen later
 commit-outcome : {T : Type 0} (layout : Layout) (old new : Seen) (held : Held) (given : Bucket) (answer : Result T CommitFault)
     → IsBucketOf layout held.number held.bucket → OnOk answer (Commits held.bucket given) → OnErr answer (IsSameBut held.bucket given)
-    → (answer ≡ Err faults.LogFull → held.bucket.limit < length held.bucket.journal.entries + owed held.bucket.first held.bucket.journal.entries + 1)
+    → (answer ≡ Err faults.LogFull → IsFullFor 1 held.bucket.limit held.bucket.first held.bucket.journal.entries)
     → SeesGiven held given old new → (later : Seen) → SeesMore new later
     → IsCommitOutcome layout later (stop_at held.number held.bucket.journal.entries (is_ok answer)) (commit_outcome (result_err answer))
 commit-outcome {T} layout old new held given answer of commits same full sees later more = by answer commits same full where
@@ -44,10 +45,10 @@ commit-outcome {T} layout old new held given answer of commits same full sees la
   after = later.journals held.number
 
   begins : IsPrefix given.journal.entries after
-  begins = subst (λ (entries : List Entry). IsPrefix entries after) sees.journal (more held.number)
+  begins = subst (λ (entries : List Entry). IsPrefix entries after) sees.journal (more.journals held.number)
 
   by : (one : Result T CommitFault) → OnOk one (Commits held.bucket given) → OnErr one (IsSameBut held.bucket given)
-      → (one ≡ Err faults.LogFull → held.bucket.limit < length journal + owed held.bucket.first journal + 1)
+      → (one ≡ Err faults.LogFull → IsFullFor 1 held.bucket.limit held.bucket.first journal)
       → IsCommitOutcome layout later (stop_at held.number journal (is_ok one)) (commit_outcome (result_err one))
   by (Ok done) committed stays none = (
     refl,
@@ -58,32 +59,32 @@ commit-outcome {T} layout old new held given answer of commits same full sees la
       let before : take (length journal) after ≡ journal =
       take-prefix journal after (subst (λ (entries : List Entry). IsPrefix entries after) stays.entries begins) in (
         refl,
-        subst (λ (entries : List Entry). layout.limit < length entries + owed layout.first entries + 1) (sym before)
-            (subst (λ n. n < length journal + owed layout.first journal + 1) of.limit
-            (subst (λ (slices : _). held.bucket.limit < length journal + owed slices journal + 1) of.first (none refl))),
+        subst (IsFullFor 1 layout.limit layout.first) (sym before)
+            (subst (λ n. IsFullFor 1 n layout.first journal) of.limit
+            (subst (λ (slices : _). IsFullFor 1 held.bucket.limit slices journal) of.first (none refl))),
       )
   by (Err faults.Memory) committed stays none = refl
 
 -- one hold in which a bucket is committed
-pub commits-one : {T : Type 0} (layout : Layout) (old new : Seen) (stops more : List Stop) (held : Held) (given : Bucket) (answer : Result T CommitFault) (place : ℕ) (made : Bool) (fault : Option CommitFault)
-    → held.number < layout.buckets → IsBucketOf layout held.number held.bucket → IsPrefix (old.journals held.number) held.bucket.journal.entries
+pub commits-one : {T : Type 0} (layout : Layout) (old new : View) (held : Held) (given : Bucket) (answer : Result T CommitFault) (place : ℕ) (made : Bool) (fault : Option CommitFault)
+    → held.number < layout.buckets → IsBucketOf layout held.number held.bucket → IsPrefix (old.seen.journals held.number) held.bucket.journal.entries
     → OnOk answer (Commits held.bucket given) → OnErr answer (IsSameBut held.bucket given)
-    → (answer ≡ Err faults.LogFull → held.bucket.limit < length held.bucket.journal.entries + owed held.bucket.first held.bucket.journal.entries + 1)
-    → SeesGiven held given old new → place ≡ length held.bucket.journal.entries → made ≡ is_ok answer → fault ≡ result_err answer
-    → more ≡ stops ++ record { lock = held.number; place = place; made = made } ∷ []
-    → CommitsOne layout old new stops more held.number fault
-commits-one layout old new stops more held given answer place made fault below of begins commits same full sees place_is made_is fault_is kept = record {
+    → (answer ≡ Err faults.LogFull → IsFullFor 1 held.bucket.limit held.bucket.first held.bucket.journal.entries)
+    → SeesGiven held given old.seen new.seen → place ≡ length held.bucket.journal.entries → made ≡ is_ok answer → fault ≡ result_err answer
+    → new.stops ≡ old.stops ++ record { lock = held.number; place = place; made = made } ∷ []
+    → CommitsOne layout old new held.number fault
+commits-one layout old new held given answer place made fault below of begins commits same full sees place_is made_is fault_is kept = record {
   stop = stop;
   lock_is = refl;
-  is_stop = record {
-    goes = subst (λ (one : Stop). GoesOn layout old new (one ∷ [])) at
-        (GoesOn-held layout old new held given (is_ok answer) added.0 below begins added.1 added.2 sees);
+  keeps = record {
+    goes = subst (λ (one : Stop). GoesOn layout old.seen new.seen (one ∷ [])) at
+        (GoesOn-held layout old.seen new.seen held given (is_ok answer) added.0 below begins added.1 added.2 sees);
     kept = kept;
   };
   answered = λ later sees_more.
       subst (λ (one : Option CommitFault). IsCommitOutcome layout later stop (commit_outcome one)) (sym fault_is)
       (subst (λ (one : Stop). IsCommitOutcome layout later one (commit_outcome (result_err answer))) at
-      (commit-outcome layout old new held given answer of commits same full sees later sees_more));
+      (commit-outcome layout old.seen new.seen held given answer of commits same full sees later sees_more));
 }
   where
     stop : Stop
@@ -103,29 +104,26 @@ range-more from (suc count) =
     ap (λ ns. from ∷ ns) (range-more (from + 1) count) ∙ ap (λ n. from ∷ range_with_len (from + 1) count ++ n ∷ []) same
 
 -- no bucket was committed
-pub CommitsAll-none : (layout : Layout) (seen : Seen) (stops : List Stop) → CommitsAll layout 0 seen seen stops stops None
-CommitsAll-none layout seen stops = record {
+pub CommitsAll-none : (layout : Layout) (view : View) → CommitsAll layout 0 view view None
+CommitsAll-none layout view = record {
   answers = [];
-  goes = GoesOn-none layout seen;
-  kept = sym (append-nil stops);
+  keeps = Keeps-none layout view;
   answered = λ later more. record { locks = refl; each = All-nil (IsCommitAnswer layout later) };
   worst_is = refl;
 }
 
 -- one bucket more was
-pub CommitsAll-more : (layout : Layout) (count : ℕ) (old between new : Seen) (stops more most : List Stop) (before one fault : Option CommitFault)
-    → CommitsAll layout count old between stops more before → CommitsOne layout between new more most count one
+pub CommitsAll-more : (layout : Layout) (count : ℕ) (old between new : View) (before one fault : Option CommitFault)
+    → CommitsAll layout count old between before → CommitsOne layout between new count one
     → commit_outcome fault ≡ worse (commit_outcome before) (commit_outcome one)
-    → CommitsAll layout (count + 1) old new stops most fault
-CommitsAll-more layout count old between new stops more most before one fault far next is = record {
+    → CommitsAll layout (count + 1) old new fault
+CommitsAll-more layout count old between new before one fault far next is = record {
   answers = far.answers ++ answer ∷ [];
-  goes = subst (GoesOn layout old new) (sym split)
-      (GoesOn-then layout old between new (commit_stops far.answers) (next.stop ∷ []) far.goes next.is_stop.goes);
-  kept = next.is_stop.kept ∙ ap (λ (all : List Stop). all ++ next.stop ∷ []) far.kept
-      ∙ append_assoc stops (commit_stops far.answers) (next.stop ∷ []) ∙ ap (λ (those : List Stop). stops ++ those) (sym split);
+  keeps = subst (Keeps layout old new) (sym split)
+      (Keeps-then layout old between new (commit_stops far.answers) (next.stop ∷ []) far.keeps next.keeps);
   answered = λ later sees.
       let so_far : AnswersCommits layout later count far.answers =
-      far.answered later (SeesMore-then between new later next.is_stop.goes.extends.seen sees) in
+      far.answered later (Keeps-sees layout between new (next.stop ∷ []) next.keeps later sees) in
       record {
         locks = map-append (λ (each : CommitAnswer). each.stop.lock) far.answers (answer ∷ [])
             ∙ ap (λ (locks : List ℕ). locks ++ next.stop.lock ∷ []) so_far.locks

@@ -1,6 +1,6 @@
 -- Facts on updates.
 pub mod OrderLemmas
-pub mod LookLemmas
+pub mod HoldLemmas
 pub mod AnswerLemmas
 pub mod OnceLemmas
 pub mod BatchLemmas

@@ -1,7 +1,7 @@
 -- Of the entries that stops made, the writes are those of the orders that were accepted.
-use Rattle.std.proofs.Common.{◌≡◌, ℕ, Bool, true, false, List, [], ◌∷◌, ◌++◌, length, take, Option, Some, None, cond, refl, sym, ap, ◌∙◌, subst, zero, suc, inl, inr}
+use Rattle.std.proofs.Common.{◌≡◌, ℕ, Bool, true, false, List, [], ◌∷◌, ◌++◌, length, take, Option, Some, None, cond, refl, sym, ap, ◌∙◌, zero, suc}
 use Rattle.std.specs.Option.{option_and_then, option_map}
-use Rattle.std.specs.List.{filter_map, cons_option}
+use Rattle.std.specs.List.{AllByRecursion, filter_map, cons_option}
 use Rattle.std.proofs.lemmas.List.Elements.{filter_map-append}
 use Rattle.sc_record.specs.declared.ack.Ack.{Ack}
 use Rattle.sc_record.specs.declared.entry.Entry.{Entry}
@@ -10,7 +10,7 @@ use Rattle.sc_record.specs.declared.write.Write.{Write}
 use Rattle.sc_journal.specs.Journal.{as_write, write_at}
 use Rattle.sc_journal.specs.Outcomes.{Outcome, accepted, conflict, partial, log_full, out_of_memory, IsOutcome}
 use Rattle.sc_journal.specs.Seen.{Layout, Seen, journal_at}
-use Rattle.sc_journal.specs.Batches.{OrderAnswer, AnswersOrders, HasStops, WritesOnce, ack_made, ack_of, ack_written, acknowledged, stops_of}
+use Rattle.sc_journal.specs.Batches.{OrderAnswer, IsOrderAnswer, HasStops, WritesOnce, ack_made, ack_of, ack_written, acknowledged, order_stops}
 use Rattle.sc_journal.specs.declared.stop.Stop.{Stop}
 
 -- what stands at the end of a prefix stands at its length
@@ -68,14 +68,10 @@ once-append seen xs ys these those one two =
     ∙ ap (λ (acks : List Ack). filter_map ack_of these ++ acks) two ∙ sym (filter_map-append ack_of these those)
 
 -- so the orders of one request
-pub orders_once : (layout : Layout) (seen : Seen) (fail : Bool) (orders : List Order) (answers : List OrderAnswer)
-    → AnswersOrders layout seen fail orders answers → WritesOnce seen (stops_of answers) answers
-orders_once layout seen fail orders [] h = refl
-orders_once layout seen fail [] (answer ∷ answers) h = absurd h
-orders_once layout seen fail (order ∷ orders) (answer ∷ answers) h =
-    once-append seen answer.stops (stops_of answers) (answer ∷ []) answers
-    (one_by layout seen answer.order answer.timestamp answer.outcome answer.stops h.1.first h.1.outcome h.1.stops)
-    (elim h.2 [
-      | inl more ↦ orders_once layout seen fail orders answers more.1
-      | inr end ↦ subst (λ (those : List OrderAnswer). WritesOnce seen (stops_of those) those) (sym end.1) refl
-    ])
+pub orders_once : (layout : Layout) (seen : Seen) (answers : List OrderAnswer) → AllByRecursion (IsOrderAnswer layout seen) answers
+    → WritesOnce seen (order_stops answers) answers
+orders_once layout seen [] each = refl
+orders_once layout seen (answer ∷ answers) each =
+    once-append seen answer.stops (order_stops answers) (answer ∷ []) answers
+    (one_by layout seen answer.order answer.timestamp answer.outcome answer.stops each.0.first each.0.outcome each.0.stops)
+    (orders_once layout seen answers each.1)

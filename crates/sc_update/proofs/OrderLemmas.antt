@@ -1,7 +1,6 @@
 -- What an order is answered at its stops, by what is seen later.
-use Rattle.std.proofs.Common.{◌≡◌, ℕ, ◌+◌, ◌<◌, Bool, true, false, cond, List, [], ◌∷◌, ◌++◌, length, take, Some, None, Option, Result, Ok, Err, refl, sym, ap, ◌∙◌, subst, arith, length-append}
+use Rattle.std.proofs.Common.{◌≡◌, ℕ, ◌+◌, ◌<◌, Bool, true, false, cond, List, [], ◌∷◌, ◌++◌, length, take, Some, Option, Result, Ok, Err, refl, sym, ap, ◌∙◌, subst}
 use Rattle.std.specs.Prelude.{IsSome, IfOk, OnErr, is_ok, not, slice_get}
-use Rattle.std.specs.List.{AllByRecursion}
 use Rattle.std.specs.Arc.{arc_value}
 use Rattle.std.proofs.lemmas.List.{append-nil}
 use Rattle.std.proofs.lemmas.Option.{slice_get_within}
@@ -11,24 +10,24 @@ use Rattle.sc_record.specs.declared.entry.Entry.TheVariants as entry
 use Rattle.sc_record.specs.declared.write.Write.{Write}
 use Rattle.sc_record.specs.declared.order.Order.{Order}
 use Rattle.sc_router.specs.Route.{bucket_of}
-use Rattle.sc_journal.specs.Journal.{write_at, writes, is_settled}
+use Rattle.sc_journal.specs.Journal.{write_at, is_settled}
 use Rattle.sc_journal.specs.Outcomes.{Outcome, accepted, conflict, partial, log_full, out_of_memory, IsOutcome}
 use Rattle.sc_journal.specs.Seen.{Layout, Seen}
 use Rattle.sc_journal.specs.Batches.{IsSettling}
 use Rattle.sc_journal.specs.declared.stop.Stop.{Stop}
-use Rattle.sc_journal.proofs.JournalLemmas.{writes-push_write, writes-push_other, write_at-push_end, write_at-append, write_at_within}
+use Rattle.sc_journal.proofs.JournalLemmas.{write_at-push_end, write_at-append, write_at_within}
 use Rattle.sc_journal.proofs.ListLemmas.{slice_get-append_left, slice_get-append_end}
 use Rattle.sc_bucket.specs.declared.bucket.Bucket.{Bucket}
 use Rattle.sc_bucket.specs.declared.accept.Accepted.{Accepted}
 use Rattle.sc_bucket.specs.declared.accept.AcceptFault.{AcceptFault}
 use Rattle.sc_bucket.specs.Sound.{IsSound}
-use Rattle.sc_bucket.specs.Events.{Accepts, IsSameBut, IsStep, outcome_of}
+use Rattle.sc_bucket.specs.Events.{Accepts, IsSameBut, outcome_of}
 use Rattle.sc_collection.specs.Desks.{Held, IsBucketOf, MayReplace, SeesGiven}
 use Rattle.sc_journal.specs.Seen.{SeesMore}
 use Rattle.sc_update.specs.Steps.{Tries, SettlesWhere}
 use Rattle.sc_journal.proofs.ExtendsLemmas.{IsPrefix-then}
 use Rattle.sc_journal.proofs.GoesOnLemmas.{take-prefix}
-use Rattle.std.proofs.ByRecursion.{All-append}
+use Rattle.sc_collection.proofs.ReplaceLemmas.{same_may_replace, settled_may_replace}
 use Rattle.sc_collection.proofs.StopLemmas.{stop_at}
 
 -- an entry stays where it is
@@ -62,32 +61,6 @@ outcome-later limit first before order now (partial name) after later begins is 
 outcome-later limit first before order now log_full after later begins is = is
 outcome-later limit first before order now out_of_memory after later begins is = is
 
--- a bucket in which an order was carried out may be given back
-pub MayReplace-accepted : (layout : Layout) (number : ℕ) (old new : Bucket) (order : Order) (now : ℕ) (answer : Result Accepted AcceptFault)
-    → IsBucketOf layout number old → IsSound new → number ≡ bucket_of order.id layout.buckets
-    → IfOk answer (λ accepted. Accepts old order now accepted.version new) → OnErr answer (IsSameBut old new)
-    → MayReplace layout (record { number = number; bucket = old }) new
-MayReplace-accepted layout number old new order now (Ok got) of sound of_id accepts same = record {
-  sound = sound;
-  is_of = record {
-    first = accepts.name.first ∙ of.first;
-    limit = accepts.name.limit ∙ of.limit;
-    ids = subst (AllByRecursion (λ (write : Write). bucket_of write.id layout.buckets ≡ number)) (sym (ap writes accepts.entries ∙ writes-push_write old.journal.entries accepts.cell))
-        (All-append (λ (write : Write). bucket_of write.id layout.buckets ≡ number) (writes old.journal.entries) (arc_value accepts.cell ∷ []) of.ids
-        (ap (λ id. bucket_of id layout.buckets) accepts.write.id ∙ sym of_id, tt));
-  };
-  step = IsStep.accepts accepts;
-}
-MayReplace-accepted layout number old new order now (Err fault) of sound of_id accepts same = record {
-  sound = sound;
-  is_of = record {
-    first = same.name.first ∙ of.first;
-    limit = same.name.limit ∙ of.limit;
-    ids = subst (λ (entries : List Entry). AllByRecursion (λ (write : Write). bucket_of write.id layout.buckets ≡ number) (writes entries)) (sym same.entries) of.ids;
-  };
-  step = IsStep.stays same;
-}
-
 -- the entries that an order adds: its write where it is accepted
 pub accepted-entries : (old new : Bucket) (order : Order) (now : ℕ) (answer : Result Accepted AcceptFault)
     → IfOk answer (λ accepted. Accepts old order now accepted.version new) → OnErr answer (IsSameBut old new)
@@ -101,7 +74,7 @@ pub tries : (layout : Layout) (old new : Seen) (held : Held) (given : Bucket) (o
     → IfOk answer (λ accepted. Accepts held.bucket order now accepted.version given) → OnErr answer (IsSameBut held.bucket given)
     → IsOutcome held.bucket.limit held.bucket.first held.bucket.journal.entries order now (outcome_of answer) given.journal.entries
     → SeesGiven held given old new
-    → Tries layout old new order now (stop_at held.number held.bucket.journal.entries (is_ok answer)) answer
+    → Tries layout new order now (stop_at held.number held.bucket.journal.entries (is_ok answer)) answer
 tries layout old new held given order now answer of of_id accepts same outcome sees =
     let added = accepted-entries held.bucket given order now answer accepts same in
     record {
@@ -109,7 +82,7 @@ tries layout old new held given order now answer of of_id accepts same outcome s
       made = refl;
       written = written answer accepts;
       outcome = λ later more.
-          let begins : IsPrefix given.journal.entries (later.journals held.number) = subst (λ (entries : List Entry). IsPrefix entries (later.journals held.number)) sees.journal (more held.number) in
+          let begins : IsPrefix given.journal.entries (later.journals held.number) = subst (λ (entries : List Entry). IsPrefix entries (later.journals held.number)) sees.journal (more.journals held.number) in
           let before : take (length journal) (later.journals held.number) ≡ journal = take-prefix journal (later.journals held.number) (IsPrefix-then journal given.journal.entries (later.journals held.number) (added.0, sym added.1) begins) in
           subst (λ (entries : List Entry). IsOutcome layout.limit layout.first entries order now (outcome_of answer) (later.journals held.number)) (sym before)
           (subst (λ n. IsOutcome n layout.first journal order now (outcome_of answer) (later.journals held.number)) of.limit
@@ -129,24 +102,13 @@ tries layout old new held given order now answer of of_id accepts same outcome s
     written (Err fault) ok = tt
 
 -- a bucket in which a write was settled may be given back
-pub MayReplace-settled : (layout : Layout) (number place : ℕ) (made : Bool) (old new : Bucket)
-    → IsBucketOf layout number old → IsSound new → IsSome (write_at old.journal.entries place) → SettlesWhere made old place new
-    → MayReplace layout (record { number = number; bucket = old }) new
-MayReplace-settled layout number place true old new of sound written settles = record {
-  sound = sound;
-  is_of = record {
-    first = settles.0.name.first ∙ of.first;
-    limit = settles.0.name.limit ∙ of.limit;
-    ids = subst (AllByRecursion (λ (write : Write). bucket_of write.id layout.buckets ≡ number)) (sym (ap writes settles.0.entries ∙ writes-push_other old.journal.entries (entry.Settled place) refl)) of.ids;
-  };
-  step = IsStep.settles written settles.1 settles.0;
-}
-MayReplace-settled layout number place false old new of sound written settles =
-    subst (λ (bucket : Bucket). MayReplace layout (record { number = number; bucket = old }) bucket) (sym settles.0) (record {
-      sound = subst IsSound settles.0 sound;
-      is_of = of;
-      step = IsStep.stays (record { name = record { first = refl; limit = refl }; split = record { phase = refl; feeds = refl }; map_is = refl; entries = refl; messages = refl; cores = refl; searchers_are = refl });
-    })
+pub MayReplace-settled : (layout : Layout) (held : Held) (place : ℕ) (made : Bool) (given : Bucket)
+    → IsBucketOf layout held.number held.bucket → IsSound given → IsSome (write_at held.bucket.journal.entries place)
+    → SettlesWhere made held.bucket place given → MayReplace layout held given
+MayReplace-settled layout held place true given of sound written settles =
+    settled_may_replace layout held given of sound place written settles.1 settles.0
+MayReplace-settled layout held place false given of sound written settles =
+    same_may_replace layout held given of sound settles.0
 
 -- the entries that this adds
 pub settled-entries : (place : ℕ) (made : Bool) (old new : Bucket) → SettlesWhere made old place new
@@ -173,7 +135,7 @@ settling old new held given first made same written settles sees later more = re
     journal = held.bucket.journal.entries
 
     begins : IsPrefix given.journal.entries (later.journals held.number)
-    begins = subst (λ (entries : List Entry). IsPrefix entries (later.journals held.number)) sees.journal (more held.number)
+    begins = subst (λ (entries : List Entry). IsPrefix entries (later.journals held.number)) sees.journal (more.journals held.number)
 
     added : (entries : List Entry) × (given.journal.entries ≡ journal ++ entries) × (length entries ≡ cond made 1 0)
     added = settled-entries place made held.bucket given settles

@@ -1,5 +1,5 @@
 -- What one order came to, and what of it is shown.
-use Rattle.std.proofs.Common.{◌≡◌, ℕ, ◌+◌, ◌<◌, ℤ, Bool, true, false, cond, List, [], ◌∷◌, ◌++◌, length, get_or, drop, zero, suc, Option, Some, None, Ok, Err, refl, sym, ap, ◌∙◌, arith}
+use Rattle.std.proofs.Common.{◌≡◌, ℕ, ◌+◌, ◌<◌, ℤ, Bool, true, false, cond, List, [], ◌∷◌, ◌++◌, length, get_or, drop, zero, suc, Option, Some, None, Ok, Err, refl, sym, ap, ◌∙◌, arith, inl, inr}
 use Rattle.std.specs.Prelude.{slice_get}
 use Rattle.std.specs.List.{cons_option}
 use Rattle.std.proofs.lemmas.List.{append-nil}
@@ -7,28 +7,37 @@ use Rattle.sc_record.specs.declared.ack.Ack.{Ack}
 use Rattle.sc_record.specs.declared.order.Order.{Order}
 use Rattle.sc_journal.specs.Outcomes.{accepted}
 use Rattle.sc_journal.specs.Seen.{Layout}
+use Rattle.sc_journal.specs.Moments.{Moment}
 use Rattle.sc_journal.specs.Batches.{OrderAnswer, acknowledged, ack_of, add_of, delete_of, deletes, goes_on}
 use Rattle.sc_bucket.specs.declared.accept.Accepted.{Accepted}
 use Rattle.sc_bucket.specs.declared.accept.AcceptFault.{AcceptFault}
 use Rattle.sc_bucket.specs.declared.accept.AcceptFault.TheVariants as faults
 use Rattle.sc_bucket.specs.Events.{outcome_of}
+use Rattle.sc_commands.specs.declared.batch.Flags.{Flags}
 use Rattle.sc_update.specs.declared.shown.Shown.{Shown}
-use Rattle.sc_update.specs.Steps.{State, CarriesOut, EndsOne, ShowsMore, Takes, ending}
-use Rattle.sc_update.proofs.BatchLemmas.{Answered-none}
+use Rattle.sc_update.specs.Steps.{one_order, CarriesOut, EndsOne, ShowsMore, GrowsByOne, Takes, ending}
+use Rattle.sc_update.proofs.BatchLemmas.{Answered-none, going_on}
+
+-- nothing is shown of no answers
+shows-none : (versions : Bool) (shown : Shown) → ShowsMore versions [] shown shown
+shows-none true shown = (sym (append-nil shown.adds.items), sym (append-nil shown.deletes.items))
+shows-none false shown = (refl, refl)
+
+-- nothing more is shown
+pub GrowsByOne-none : (deletion : Bool) (shown : Shown) → GrowsByOne deletion shown shown
+GrowsByOne-none true shown = record { adds = omega arith; adds_room = refl; deleted = omega arith; deleted_room = refl }
+GrowsByOne-none false shown = record { adds = omega arith; adds_room = refl; deleted = omega arith; deleted_room = refl }
 
 -- memory ran out before the order was carried out
-pub takes-none : {C : Type 0} (gives : C → ℕ → C → Type 0) (layout : Layout) (fail versions : Bool) (order : Order) (state : State C) (shown : Shown)
-    → Takes gives layout fail versions order state state shown shown (Some faults.Memory)
-takes-none gives layout fail versions order state shown = record {
+pub takes-none : {C : Type 0} (gives : C → ℕ → C → Type 0) (layout : Layout) (flags : Flags) (order : Order) (moment : Moment C) (shown : Shown)
+    → Takes gives layout flags order (going_on moment shown) (record { moment = moment; shown = shown; ended = Some faults.Memory })
+takes-none gives layout flags order moment shown = record {
   answers = [];
-  answered = Answered-none gives layout fail (order ∷ []) state;
-  shows = shows versions;
-  ends = tt;
+  answered = Answered-none gives layout (one_order flags order) moment;
+  shows = shows-none flags.versions shown;
+  grows = GrowsByOne-none (deletes order.change) shown;
+  ends = inr (refl, refl);
 }
-  where
-    shows : (asked : Bool) → ShowsMore asked [] shown shown
-    shows true = (sym (append-nil shown.adds.items), sym (append-nil shown.deletes.items))
-    shows false = (refl, refl)
 
 no_choice : (b : Bool) → cond {A = Option Ack} b None None ≡ None
 no_choice true = refl
@@ -54,35 +63,38 @@ refused-ack id faults.Memory = refl
 refused-ends : (fail : Bool) (fault : AcceptFault) (answer : OrderAnswer) → answer.outcome ≡ outcome_of (Err fault)
     → EndsOne fail (answer ∷ []) (ending fail fault)
 refused-ends false (faults.Conflict found) answer is = (answer, refl, ap (goes_on false) is)
-refused-ends false (faults.Partial name) answer is = (answer, refl, is)
-refused-ends false faults.LogFull answer is = (answer, refl, is)
-refused-ends false faults.Memory answer is = tt
-refused-ends true (faults.Conflict found) answer is = (refl, (answer, refl, is))
-refused-ends true (faults.Partial name) answer is = (answer, refl, is)
-refused-ends true faults.LogFull answer is = (answer, refl, is)
-refused-ends true faults.Memory answer is = tt
+refused-ends false (faults.Partial name) answer is = inl (answer, refl, is, ap (goes_on false) is)
+refused-ends false faults.LogFull answer is = inl (answer, refl, is, ap (goes_on false) is)
+refused-ends false faults.Memory answer is = inl (answer, refl, is, ap (goes_on false) is)
+refused-ends true (faults.Conflict found) answer is = inl (answer, refl, is, ap (goes_on true) is)
+refused-ends true (faults.Partial name) answer is = inl (answer, refl, is, ap (goes_on true) is)
+refused-ends true faults.LogFull answer is = inl (answer, refl, is, ap (goes_on true) is)
+refused-ends true faults.Memory answer is = inl (answer, refl, is, ap (goes_on true) is)
 
 -- an order that was refused
-pub takes-refused : {C : Type 0} (gives : C → ℕ → C → Type 0) (layout : Layout) (fail versions : Bool) (order : Order) (old new : State C) (shown : Shown) (fault : AcceptFault)
+pub takes-refused : {C : Type 0} (gives : C → ℕ → C → Type 0) (layout : Layout) (flags : Flags) (order : Order) (old new : Moment C) (shown : Shown) (fault : AcceptFault)
     → CarriesOut gives layout order old new (outcome_of (Err fault))
-    → Takes gives layout fail versions order old new shown shown (ending fail fault)
-takes-refused gives layout fail versions order old new shown fault carried = record {
+    → Takes gives layout flags order (going_on old shown) (record { moment = new; shown = shown; ended = ending flags.fail_on_conflict fault })
+takes-refused gives layout flags order old new shown fault carried = record {
   answers = carried.answer ∷ [];
-  answered = carried.answered fail;
-  shows = shows-refused versions carried.answer shown (ap (acknowledged carried.answer.order.id) carried.outcome_is ∙ refused-ack carried.answer.order.id fault);
-  ends = refused-ends fail fault carried.answer carried.outcome_is;
+  answered = carried.answered flags;
+  shows = shows-refused flags.versions carried.answer shown (ap (acknowledged carried.answer.order.id) carried.outcome_is ∙ refused-ack carried.answer.order.id fault);
+  grows = GrowsByOne-none (deletes order.change) shown;
+  ends = refused-ends flags.fail_on_conflict fault carried.answer carried.outcome_is;
 }
 
 -- an order that was accepted
-pub takes-accepted : {C : Type 0} (gives : C → ℕ → C → Type 0) (layout : Layout) (fail versions : Bool) (order : Order) (old new : State C) (shown more : Shown) (got : Accepted)
+pub takes-accepted : {C : Type 0} (gives : C → ℕ → C → Type 0) (layout : Layout) (flags : Flags) (order : Order) (old new : Moment C) (shown more : Shown) (got : Accepted)
     → CarriesOut gives layout order old new (outcome_of (Ok got))
-    → ((answer : OrderAnswer) → answer.order ≡ order → answer.outcome ≡ accepted got.version → ShowsMore versions (answer ∷ []) shown more)
-    → Takes gives layout fail versions order old new shown more None
-takes-accepted gives layout fail versions order old new shown more got carried shows = record {
+    → ((answer : OrderAnswer) → answer.order ≡ order → answer.outcome ≡ accepted got.version → ShowsMore flags.versions (answer ∷ []) shown more)
+    → GrowsByOne (deletes order.change) shown more
+    → Takes gives layout flags order (going_on old shown) (going_on new more)
+takes-accepted gives layout flags order old new shown more got carried shows grows = record {
   answers = carried.answer ∷ [];
-  answered = carried.answered fail;
+  answered = carried.answered flags;
   shows = shows carried.answer carried.order_is carried.outcome_is;
-  ends = (carried.answer, refl, ap (goes_on fail) carried.outcome_is);
+  grows = grows;
+  ends = (carried.answer, refl, ap (goes_on flags.fail_on_conflict) carried.outcome_is);
 }
 
 -- where versions aren't asked for, nothing is shown of it

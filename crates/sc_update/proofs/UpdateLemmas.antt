@@ -1,5 +1,5 @@
 -- What an update came to: its orders, and the commits after them.
-use Rattle.std.proofs.Common.{◌≡◌, ℕ, Bool, true, false, List, [], ◌∷◌, ◌++◌, Option, Some, None, refl, sym, ap, ◌∙◌, subst, inl, inr}
+use Rattle.std.proofs.Common.{◌≡◌, ℕ, ◌-◌, Bool, true, false, List, [], ◌∷◌, ◌++◌, length, Option, Some, None, refl, sym, ap, ◌∙◌, subst}
 use Rattle.std.specs.Prelude.{All, filter_map, is_some}
 use Rattle.std.specs.Option.{option_and_then}
 use Rattle.std.specs.List.{cons_option}
@@ -8,16 +8,18 @@ use Rattle.std.proofs.lemmas.List.Elements.{All-head, All-tail, filter_map-appen
 use Rattle.sc_record.specs.declared.ack.Ack.{Ack}
 use Rattle.sc_commands.specs.declared.batch.Batch.{Batch}
 use Rattle.sc_journal.specs.Journal.{as_write}
-use Rattle.sc_journal.specs.Seen.{Layout, Seen, SeesMore, Extends, EndAtLast, GoesOn}
-use Rattle.sc_journal.specs.Batches.{OrderAnswer, AnswersOrders, WritesOnce, ack_made, stops_of}
-use Rattle.sc_journal.specs.Committed.{CommitOutcome, committed_now, commit_full, commit_out_of_memory, CommitAnswer, IsCommitOutcome, IsCommitAnswer, commit_stops}
+use Rattle.sc_journal.specs.Outcomes.{Outcome, accepted, conflict, partial, log_full, out_of_memory}
+use Rattle.sc_journal.specs.Seen.{Layout, Seen, SeesMore}
+use Rattle.sc_journal.specs.Moments.{View, Moment, Keeps}
+use Rattle.sc_journal.specs.Batches.{OrderAnswer, AnswersOrders, WritesOnce, ack_made, goes_on, order_stops}
+use Rattle.sc_journal.specs.Committed.{CommitOutcome, committed_now, commit_full, commit_out_of_memory, CommitAnswer, IsCommitOutcome, IsCommitAnswer, commit_stops, worst}
 use Rattle.sc_journal.specs.declared.stop.Stop.{Stop}
-use Rattle.sc_journal.proofs.GoesOnLemmas.{SeesMore-then, GoesOn-then}
+use Rattle.sc_journal.proofs.GoesOnLemmas.{Keeps-then, Keeps-sees}
 use Rattle.sc_bucket.specs.declared.commit.CommitFault.{CommitFault}
 use Rattle.sc_update.specs.declared.end.BatchEnd.{BatchEnd}
-use Rattle.sc_update.specs.declared.end.BatchStop.{BatchStop}
-use Rattle.sc_update.specs.Updated.{IsUpdated, EndsAs, Shows, commit_stop}
-use Rattle.sc_update.specs.Steps.{State, AnswersAll, CommitsAll, commit_outcome}
+use Rattle.sc_update.specs.declared.end.BatchFault.{BatchFault}
+use Rattle.sc_update.specs.Updated.{UpdateEnd, finished, refused, ran_out, OrdersEnd, CommitsAsked, CommitsEnd, order_fault, commit_fault, reported, Shows, IsUpdated}
+use Rattle.sc_update.specs.Steps.{AnswersAll, CommitsAll, commit_outcome}
 use Rattle.sc_update.proofs.OnceLemmas.{orders_once, unmade, no_write_made}
 
 -- the stop of a commit made no write
@@ -51,53 +53,83 @@ shows_same : (versions : Bool) (answers : List OrderAnswer) (old new : BatchEnd)
 shows_same true answers old new adds deleted shows = (adds ∙ shows.0, deleted ∙ shows.1)
 shows_same false answers old new adds deleted shows = (adds ∙ shows.0, deleted ∙ shows.1)
 
--- nothing stopped the orders
-pub none_stopped : (stop : Option BatchStop) → is_some stop ≡ false → stop ≡ None
-none_stopped None none = refl
-none_stopped (Some one) none = absurd (cc)
+-- there was no fault
+pub no_fault : (fault : Option BatchFault) → is_some fault ≡ false → fault ≡ None
+no_fault None none = refl
+no_fault (Some one) none = absurd (cc)
+
+-- orders don't end at an order of which no fault is reported
+goes_on_without : (fail : Bool) (place : ℕ) (outcome : Outcome) → order_fault place outcome ≡ None → goes_on fail outcome ≡ true
+goes_on_without fail place (accepted version) none = refl
+goes_on_without fail place (conflict version) none = absurd (cc)
+goes_on_without fail place (partial name) none = absurd (cc)
+goes_on_without fail place log_full none = absurd (cc)
+goes_on_without fail place out_of_memory none = absurd (cc)
+
+-- orders of which no fault is reported went on to their end
+went_on : (batch : Batch) (answers : List OrderAnswer) (how : UpdateEnd) → OrdersEnd batch answers how → reported answers how ≡ None
+    → OrdersEnd batch answers (finished committed_now)
+went_on batch answers (finished outcome) ends none = ends
+went_on batch answers (refused last) ends none =
+    absurd (let both : true ≡ false = sym (goes_on_without batch.flags.fail_on_conflict (length answers - 1) last.outcome none) ∙ ends.1 in cc)
+went_on batch answers ran_out ends none = absurd (cc)
+
+-- no commits are those of an update that committed nothing
+none_committed : (layout : Layout) (seen : Seen) (batch : Batch) (answers : List OrderAnswer) (how : UpdateEnd) (end : BatchEnd)
+    → ((outcome : CommitOutcome) → how ≡ finished outcome → outcome ≡ committed_now) → end.fault ≡ reported answers how
+    → (end.fault ≡ None → batch.flags.commit ≡ false) → CommitsEnd layout seen batch [] how
+none_committed layout seen batch answers (finished outcome) end uncommitted fault idle =
+    let none : end.fault ≡ None = fault ∙ ap commit_fault (uncommitted outcome refl) in
+    (subst (λ (asked : Bool). CommitsAsked layout seen asked []) (sym (idle none)) refl, uncommitted outcome refl)
+none_committed layout seen batch answers (refused last) end uncommitted fault idle = refl
+none_committed layout seen batch answers ran_out end uncommitted fault idle = refl
 
 -- an update without commits
-pub updated-idle : {C : Type 0} (gives : C → ℕ → C → Type 0) (layout : Layout) (batch : Batch) (old new : State C) (end : BatchEnd)
-    → AnswersAll gives layout batch old new end → (end.stop ≡ None → batch.flags.commit ≡ false)
-    → IsUpdated gives layout batch old.seen new.seen old.clock new.clock old.stops new.stops end
+pub updated-idle : {C : Type 0} (gives : C → ℕ → C → Type 0) (layout : Layout) (batch : Batch) (old new : Moment C) (end : BatchEnd)
+    → AnswersAll gives layout batch old new end → (end.fault ≡ None → batch.flags.commit ≡ false)
+    → IsUpdated gives layout batch old new end
 updated-idle gives layout batch old new end all idle = record {
   answers = answers;
   commits = [];
-  extends = subst (Extends layout old.seen new.seen) same all.answered.goes.extends;
-  kept = all.answered.kept ∙ sym (append-nil (old.stops ++ stops_of answers));
+  how = all.how;
+  keeps = subst (Keeps layout old.view new.view) same all.answered.keeps;
   timestamps = all.answered.timestamps;
   answered = all.answered.answered;
-  ends = λ later more. inr (refl, all.ends, idle);
+  ends = λ later more. (all.ends, none_committed layout later batch answers all.how end all.uncommitted all.reports.fault idle);
   once = λ later more. subst (λ (stops : List Stop). WritesOnce later stops answers) same
-      (orders_once layout later batch.flags.fail_on_conflict batch.orders answers (all.answered.answered later more));
-  last = subst (EndAtLast layout new.seen) same all.answered.goes.last;
-  shown = all.shown;
+      (orders_once layout later answers (all.answered.answered later more).each);
+  reports = all.reports;
 }
   where
     answers : List OrderAnswer
     answers = all.answers
 
-    same : stops_of answers ≡ stops_of answers ++ []
-    same = sym (append-nil (stops_of answers))
+    same : order_stops answers ≡ order_stops answers ++ []
+    same = sym (append-nil (order_stops answers))
 
 -- an update whose orders went on to the end, and whose buckets were committed then
-pub updated-committed : {C : Type 0} (gives : C → ℕ → C → Type 0) (layout : Layout) (batch : Batch) (old between : State C) (new : Seen) (stops : List Stop) (before end : BatchEnd) (fault : Option CommitFault)
-    → AnswersAll gives layout batch old between before → before.stop ≡ None → batch.flags.commit ≡ true
-    → CommitsAll layout layout.buckets between.seen new between.stops stops fault
-    → end.adds ≡ before.adds → end.deletes ≡ before.deletes → end.stop ≡ commit_stop (commit_outcome fault)
-    → IsUpdated gives layout batch old.seen new old.clock between.clock old.stops stops end
-updated-committed gives layout batch old between new stops before end fault all none asked far adds deleted stop = record {
+pub updated-committed : {C : Type 0} (gives : C → ℕ → C → Type 0) (layout : Layout) (batch : Batch) (old between : Moment C) (new : View) (before end : BatchEnd) (fault : Option CommitFault)
+    → AnswersAll gives layout batch old between before → before.fault ≡ None → batch.flags.commit ≡ true
+    → CommitsAll layout layout.buckets between.view new fault
+    → end.adds ≡ before.adds → end.deletes ≡ before.deletes → end.fault ≡ commit_fault (commit_outcome fault)
+    → IsUpdated gives layout batch old (record { view = new; clock = between.clock }) end
+updated-committed gives layout batch old between new before end fault all none asked far adds deleted told = record {
   answers = answers;
   commits = commits;
-  extends = goes.extends;
-  kept = far.kept ∙ ap (λ (those : List Stop). those ++ commit_stops commits) all.answered.kept;
+  how = finished (worst commits);
+  keeps = Keeps-then layout old.view between.view new (order_stops answers) (commit_stops commits) all.answered.keeps far.keeps;
   timestamps = all.answered.timestamps;
-  answered = λ later more. answered later more;
-  ends = λ later more. inl (asked, subst (EndsAs batch.flags.fail_on_conflict batch.orders answers) none all.ends, far.answered later more, stop ∙ ap commit_stop (sym far.worst_is));
-  once = λ later more. once_committed layout later (stops_of answers) answers commits
-      (orders_once layout later batch.flags.fail_on_conflict batch.orders answers (answered later more)) (far.answered later more).each;
-  last = goes.last;
-  shown = shows_same batch.flags.versions answers before end adds deleted all.shown;
+  answered = answered;
+  ends = λ later more. (
+    went_on batch answers all.how all.ends (sym all.reports.fault ∙ none),
+    (subst (λ (one : Bool). CommitsAsked layout later one commits) (sym asked) (far.answered later more), refl),
+  );
+  once = λ later more. once_committed layout later (order_stops answers) answers commits
+      (orders_once layout later answers (answered later more).each) (far.answered later more).each;
+  reports = record {
+    fault = told ∙ ap commit_fault (sym far.worst_is);
+    shown = shows_same batch.flags.versions answers before end adds deleted all.reports.shown;
+  };
 }
   where
     answers : List OrderAnswer
@@ -106,8 +138,5 @@ updated-committed gives layout batch old between new stops before end fault all 
     commits : List CommitAnswer
     commits = far.answers
 
-    goes : GoesOn layout old.seen new (stops_of answers ++ commit_stops commits)
-    goes = GoesOn-then layout old.seen between.seen new (stops_of answers) (commit_stops commits) all.answered.goes far.goes
-
-    answered : (later : Seen) → SeesMore new later → AnswersOrders layout later batch.flags.fail_on_conflict batch.orders answers
-    answered later more = all.answered.answered later (SeesMore-then between.seen new later far.goes.extends.seen more)
+    answered : (later : Seen) → SeesMore new.seen later → AnswersOrders layout later batch.flags.fail_on_conflict batch.orders answers
+    answered later more = all.answered.answered later (Keeps-sees layout between.view new (commit_stops commits) far.keeps later more)

@@ -1,38 +1,34 @@
--- How the orders of an update are carried out, step by step.
-use Rattle.std.specs.Prelude.{◌≡◌, ◌≢◌, ℕ, ◌+◌, ◌<◌, ◌≤◌, Bool, true, false, List, [], ◌∷◌, ◌++◌, length, count_by, Option, Some, None, Result, IfOk, IsSome, ⊤, is_ok, vec_len, vec_capacity, if◌then◌else◌}
+-- How an update is carried out, step by step.
+use Rattle.std.specs.Prelude.{◌≡◌, ◌≢◌, ◌⊎◌, ℕ, ◌+◌, ◌<◌, ◌≤◌, Bool, true, false, List, [], ◌∷◌, ◌++◌, length, count_by, Option, Some, None, Result, Err, IfOk, IsSome, is_ok, vec_len, vec_capacity, if◌then◌else◌}
 use mathlib.Core.List.{IsPrefix}
 use Rattle.sc_record.specs.declared.order.Order.{Order}
 use Rattle.sc_router.specs.Route.{bucket_of}
 use Rattle.sc_journal.specs.Journal.{write_at, is_settled}
-use Rattle.sc_journal.specs.Outcomes.{Outcome, conflict, partial, log_full, IsOutcome}
-use Rattle.sc_journal.specs.Seen.{Layout, Seen, SeesMore, GoesOn, IsStop, journal_at}
-use Rattle.sc_journal.specs.Batches.{OrderAnswer, AnswersOrders, GivesTimestamps, IsSettling, goes_on, deletes, adds_of, deletes_of, stops_of, timestamps_of}
+use Rattle.sc_journal.specs.Outcomes.{Outcome, IsOutcome}
+use Rattle.sc_journal.specs.Seen.{Layout, Seen, FromNowOn, journal_at}
+use Rattle.sc_journal.specs.Moments.{View, Moment, Keeps}
+use Rattle.sc_journal.specs.Batches.{OrderAnswer, AnswersOrders, GivesTimestamps, IsSettling, goes_on, deletes, accepted_adds, accepted_deletes, order_stops, order_timestamps}
+use Rattle.sc_journal.specs.Committed.{CommitOutcome, committed_now, commit_full, commit_out_of_memory, IsCommitOutcome, CommitAnswer, AnswersCommits, commit_stops, worst}
 use Rattle.sc_journal.specs.declared.stop.Stop.{Stop}
 use Rattle.sc_bucket.specs.Sound.{IsSound}
 use Rattle.sc_bucket.specs.Events.{Settles, outcome_of}
 use Rattle.sc_bucket.specs.declared.bucket.Bucket.{Bucket}
 use Rattle.sc_bucket.specs.declared.accept.Accepted.{Accepted}
 use Rattle.sc_bucket.specs.declared.accept.AcceptFault.{AcceptFault}
-use Rattle.sc_bucket.specs.declared.accept.AcceptFault.TheVariants as faults
-use Rattle.sc_collection.specs.Desks.{Held, IsBucketOf}
-use Rattle.sc_update.specs.declared.end.BatchStop.{BatchStop}
-use Rattle.sc_update.specs.declared.end.BatchStop.TheVariants as stops
-use Rattle.sc_commands.specs.declared.batch.Batch.{Batch}
-use Rattle.sc_journal.specs.Committed.{CommitOutcome, committed_now, commit_full, commit_out_of_memory, IsCommitOutcome, CommitAnswer, AnswersCommits, commit_stops, worst}
+use Rattle.sc_bucket.specs.declared.accept.AcceptFault.TheVariants as accept_faults
 use Rattle.sc_bucket.specs.declared.commit.CommitFault.{CommitFault}
 use Rattle.sc_bucket.specs.declared.commit.CommitFault.TheVariants as commit_faults
-use Rattle.sc_update.specs.Updated.{Shows, EndsAs}
+use Rattle.sc_collection.specs.Desks.{Held, IsBucketOf}
+use Rattle.sc_commands.specs.declared.batch.Batch.{Batch}
+use Rattle.sc_commands.specs.declared.batch.Flags.{Flags}
 use Rattle.sc_update.specs.declared.end.BatchEnd.{BatchEnd}
+use Rattle.sc_update.specs.declared.order.Delivery.{Delivery}
+use Rattle.sc_update.specs.declared.order.Delivery.TheVariants as deliveries
 use Rattle.sc_update.specs.declared.shown.Shown.{Shown}
-
--- what a step of an update finds and leaves: what its desk has seen, its clock and the stops that are kept
-pub record State (C : Type 0) : Type 0 where
-  pub seen : Seen
-  pub clock : C
-  pub stops : List Stop
+use Rattle.sc_update.specs.Updated.{UpdateEnd, finished, OrdersEnd, Reports}
 
 -- Holds of the bucket of a lock made no entry. Of its journal more may be seen, which others made; all else that was seen stayed.
-pub record Looks (old new : Seen) (lock : ℕ) : Type 0 where
+pub record MakeNoEntry (old new : Seen) (lock : ℕ) : Type 0 where
   pub journal : IsPrefix (old.journals lock) (new.journals lock)
   pub others : (other : ℕ) → other ≢ lock → new.journals other ≡ old.journals other
   pub board : new.board ≡ old.board
@@ -45,13 +41,18 @@ pub record Holds (layout : Layout) (seen : Seen) (out : Option Held) (lock : ℕ
   pub is_of : IsBucketOf layout lock bucket
   pub extends : IsPrefix (seen.journals lock) bucket.journal.entries
 
+-- the bucket was given back, or it is held still
+abbrev pub HoldsWhereIdle : Layout → Seen → Option Held → ℕ → Delivery → Type 0
+HoldsWhereIdle layout seen out lock deliveries.Delivered = out ≡ None
+HoldsWhereIdle layout seen out lock (deliveries.Idle bucket) = Holds layout seen out lock bucket
+
 -- An order was carried out at this stop of its id's bucket, and got this answer.
-pub record Tries (layout : Layout) (old new : Seen) (order : Order) (now : ℕ) (first : Stop) (answer : Result Accepted AcceptFault) : Type 0 where
+pub record Tries (layout : Layout) (seen : Seen) (order : Order) (now : ℕ) (first : Stop) (answer : Result Accepted AcceptFault) : Type 0 where
   pub lock : first.lock ≡ bucket_of order.id layout.buckets
   pub made : first.made ≡ is_ok answer
-  pub written : IfOk answer (λ accepted. IsSome (write_at (new.journals first.lock) first.place))
-  pub outcome : (later : Seen) → SeesMore new later
-      → IsOutcome layout.limit layout.first (journal_at later first) order now (outcome_of answer) (later.journals first.lock)
+  pub written : IfOk answer (λ accepted. IsSome (write_at (seen.journals first.lock) first.place))
+  pub outcome : FromNowOn seen
+      (λ later. IsOutcome layout.limit layout.first (journal_at later first) order now (outcome_of answer) (later.journals first.lock))
 
 -- The write at the place is settled: by an entry that was made for it, or it was settled already and nothing changed.
 abbrev pub SettlesWhere : Bool → Bucket → ℕ → Bucket → Type 0
@@ -59,62 +60,53 @@ SettlesWhere true old place new = Settles old place new × (is_settled old.journ
 SettlesWhere false old place new = (new ≡ old) × (is_settled old.journal.entries place ≡ true)
 
 -- The write of the first stop is settled at a stop that comes after it.
-pub record SettlesFirst (layout : Layout) (old new : Seen) (old_stops new_stops : List Stop) (first : Stop) : Type 0 where
+pub record SettlesFirst (layout : Layout) (old new : View) (first : Stop) : Type 0 where
   pub second : Stop
-  pub is_stop : IsStop layout old new old_stops new_stops second
-  pub settling : (later : Seen) → SeesMore new later → IsSettling later first second
+  pub keeps : Keeps layout old new (second ∷ [])
+  pub settling : FromNowOn new.seen (λ later. IsSettling later first second)
 
--- Orders were answered in turn, up to one of them, each at a timestamp that the clock gave for it and at its own stops.
-pub record Answered {C : Type 0} (gives : C → ℕ → C → Type 0) (layout : Layout) (fail : Bool) (orders : List Order) (old new : State C) (answers : List OrderAnswer) : Type 0 where
-  pub goes : GoesOn layout old.seen new.seen (stops_of answers)
-  pub kept : new.stops ≡ old.stops ++ stops_of answers
-  pub timestamps : GivesTimestamps gives old.clock (timestamps_of answers) new.clock
-  pub answered : (later : Seen) → SeesMore new.seen later → AnswersOrders layout later fail orders answers
+-- Orders of a batch were answered in turn, up to one of them, each at a timestamp that the clock gave for it and at its own stops.
+pub record Answered {C : Type 0} (gives : C → ℕ → C → Type 0) (layout : Layout) (batch : Batch) (old new : Moment C) (answers : List OrderAnswer) : Type 0 where
+  pub keeps : Keeps layout old.view new.view (order_stops answers)
+  pub timestamps : GivesTimestamps gives old.clock (order_timestamps answers) new.clock
+  pub answered : FromNowOn new.view.seen (λ later. AnswersOrders layout later batch.flags.fail_on_conflict batch.orders answers)
 
--- one answer has this outcome
-abbrev pub IsOnly : List OrderAnswer → Outcome → Type 0
-IsOnly answers outcome = (answer : OrderAnswer) × (answers ≡ answer ∷ []) × (answer.outcome ≡ outcome)
+-- a batch of one order
+abbrev pub one_order : Flags → Order → Batch
+one_order flags order = record { orders = order ∷ []; flags = flags }
 
 -- one order was carried out, with this outcome
-pub record CarriesOut {C : Type 0} (gives : C → ℕ → C → Type 0) (layout : Layout) (order : Order) (old new : State C) (outcome : Outcome) : Type 0 where
+pub record CarriesOut {C : Type 0} (gives : C → ℕ → C → Type 0) (layout : Layout) (order : Order) (old new : Moment C) (outcome : Outcome) : Type 0 where
   pub answer : OrderAnswer
   pub order_is : answer.order ≡ order
   pub outcome_is : answer.outcome ≡ outcome
-  pub answered : (fail : Bool) → Answered gives layout fail (order ∷ []) old new (answer ∷ [])
+  pub answered : (flags : Flags) → Answered gives layout (one_order flags order) old new (answer ∷ [])
 
 -- the fault, where orders end at it
 abbrev pub ending : Bool → AcceptFault → Option AcceptFault
-ending false (faults.Conflict found) = None
+ending false (accept_faults.Conflict found) = None
 ending fail fault = Some fault
 
--- What one order came to: orders go on after it, or this fault ends them; memory may have run out before it was carried out.
+-- What one order came to: orders go on after it, or they end at it with this fault; or memory ran out before it was carried out.
 abbrev pub EndsOne : Bool → List OrderAnswer → Option AcceptFault → Type 0
 EndsOne fail answers None = (answer : OrderAnswer) × (answers ≡ answer ∷ []) × (goes_on fail answer.outcome ≡ true)
-EndsOne fail answers (Some (faults.Conflict found)) = (fail ≡ true) × IsOnly answers (conflict found)
-EndsOne fail answers (Some (faults.Partial name)) = IsOnly answers (partial name)
-EndsOne fail answers (Some faults.LogFull) = IsOnly answers log_full
-EndsOne fail answers (Some faults.Memory) = ⊤
-
--- what stopped the orders at this place
-abbrev pub stop_of : ℕ → AcceptFault → BatchStop
-stop_of order (faults.Conflict found) = stops.Conflict order found
-stop_of order (faults.Partial name) = stops.Partial order name
-stop_of order faults.LogFull = stops.LogFull
-stop_of order faults.Memory = stops.Memory
+EndsOne fail answers (Some fault) =
+    ((answer : OrderAnswer) × (answers ≡ answer ∷ []) × (answer.outcome ≡ outcome_of (Err fault)) × (goes_on fail answer.outcome ≡ false))
+    ⊎ ((answers ≡ []) × (fault ≡ accept_faults.Memory))
 
 -- what is shown of more answers comes after what was shown; where versions aren't asked for nothing is shown
 abbrev pub ShowsMore : Bool → List OrderAnswer → Shown → Shown → Type 0
 ShowsMore true answers old new =
-    (new.adds.items ≡ old.adds.items ++ adds_of answers) × (new.deletes.items ≡ old.deletes.items ++ deletes_of answers)
+    (new.adds.items ≡ old.adds.items ++ accepted_adds answers) × (new.deletes.items ≡ old.deletes.items ++ accepted_deletes answers)
 ShowsMore false answers old new = (new.adds.items ≡ old.adds.items) × (new.deletes.items ≡ old.deletes.items)
 
 -- there is room to show each of these orders: those that delete, and the others
-pub record HasRoomFor (shown : Shown) (orders : List Order) : Type 0 where
+pub record HasRoomToShow (shown : Shown) (orders : List Order) : Type 0 where
   pub adds : vec_len shown.adds + length orders ≤ vec_capacity shown.adds + count_by (λ (order : Order). deletes order.change) orders
   pub deleted : vec_len shown.deletes + count_by (λ (order : Order). deletes order.change) orders ≤ vec_capacity shown.deletes
 
 -- there is room to show one order more, a deletion or another
-pub record HasRoomForOne (deletion : Bool) (shown : Shown) : Type 0 where
+pub record HasRoomToShowOne (deletion : Bool) (shown : Shown) : Type 0 where
   pub adds : deletion ≡ false → vec_len shown.adds < vec_capacity shown.adds
   pub deleted : deletion ≡ true → vec_len shown.deletes < vec_capacity shown.deletes
 
@@ -125,19 +117,28 @@ pub record GrowsByOne (deletion : Bool) (old new : Shown) : Type 0 where
   pub deleted : vec_len new.deletes ≤ (if deletion then vec_len old.deletes + 1 else vec_len old.deletes)
   pub deleted_room : vec_capacity new.deletes ≡ vec_capacity old.deletes
 
--- one order was taken: what it came to is shown, and orders go on after it or end
-pub record Takes {C : Type 0} (gives : C → ℕ → C → Type 0) (layout : Layout) (fail versions : Bool) (order : Order) (old new : State C) (old_shown new_shown : Shown) (end : Option AcceptFault) : Type 0 where
-  pub answers : List OrderAnswer
-  pub answered : Answered gives layout fail (order ∷ []) old new answers
-  pub shows : ShowsMore versions answers old_shown new_shown
-  pub ends : EndsOne fail answers end
+-- how far an update is: what stands, what is shown of its answers so far, and the fault at which its orders ended, if they did
+pub record UpdateProgress (C : Type 0) : Type 0 where
+  pub moment : Moment C
+  pub shown : Shown
+  pub ended : Option AcceptFault
 
--- The orders of a batch were answered, up to one of them, and what was accepted is shown.
-pub record AnswersAll {C : Type 0} (gives : C → ℕ → C → Type 0) (layout : Layout) (batch : Batch) (old new : State C) (end : BatchEnd) : Type 0 where
+-- one order was taken: what it came to is shown, and orders go on after it or end
+pub record Takes {C : Type 0} (gives : C → ℕ → C → Type 0) (layout : Layout) (flags : Flags) (order : Order) (old new : UpdateProgress C) : Type 0 where
   pub answers : List OrderAnswer
-  pub answered : Answered gives layout batch.flags.fail_on_conflict batch.orders old new answers
-  pub shown : Shows batch.flags.versions answers end
-  pub ends : EndsAs batch.flags.fail_on_conflict batch.orders answers end.stop
+  pub answered : Answered gives layout (one_order flags order) old.moment new.moment answers
+  pub shows : ShowsMore flags.versions answers old.shown new.shown
+  pub grows : GrowsByOne (deletes order.change) old.shown new.shown
+  pub ends : EndsOne flags.fail_on_conflict answers new.ended
+
+-- The orders of a batch were answered, up to one of them, and what was accepted is shown. Nothing was committed.
+pub record AnswersAll {C : Type 0} (gives : C → ℕ → C → Type 0) (layout : Layout) (batch : Batch) (old new : Moment C) (end : BatchEnd) : Type 0 where
+  pub answers : List OrderAnswer
+  pub how : UpdateEnd
+  pub answered : Answered gives layout batch old new answers
+  pub ends : OrdersEnd batch answers how
+  pub uncommitted : (outcome : CommitOutcome) → how ≡ finished outcome → outcome ≡ committed_now
+  pub reports : Reports batch answers how end
 
 -- what a commit came to
 abbrev pub commit_outcome : Option CommitFault → CommitOutcome
@@ -146,16 +147,15 @@ commit_outcome (Some commit_faults.LogFull) = commit_full
 commit_outcome (Some commit_faults.Memory) = commit_out_of_memory
 
 -- The first buckets, so many of them, were committed in turn, and the worst that came of it is this.
-pub record CommitsAll (layout : Layout) (count : ℕ) (old new : Seen) (old_stops new_stops : List Stop) (fault : Option CommitFault) : Type 0 where
+pub record CommitsAll (layout : Layout) (count : ℕ) (old new : View) (fault : Option CommitFault) : Type 0 where
   pub answers : List CommitAnswer
-  pub goes : GoesOn layout old new (commit_stops answers)
-  pub kept : new_stops ≡ old_stops ++ commit_stops answers
-  pub answered : (later : Seen) → SeesMore new later → AnswersCommits layout later count answers
+  pub keeps : Keeps layout old new (commit_stops answers)
+  pub answered : FromNowOn new.seen (λ later. AnswersCommits layout later count answers)
   pub worst_is : worst answers ≡ commit_outcome fault
 
 -- One bucket was committed at its stop, or that was refused.
-pub record CommitsOne (layout : Layout) (old new : Seen) (old_stops new_stops : List Stop) (lock : ℕ) (fault : Option CommitFault) : Type 0 where
+pub record CommitsOne (layout : Layout) (old new : View) (lock : ℕ) (fault : Option CommitFault) : Type 0 where
   pub stop : Stop
   pub lock_is : stop.lock ≡ lock
-  pub is_stop : IsStop layout old new old_stops new_stops stop
-  pub answered : (later : Seen) → SeesMore new later → IsCommitOutcome layout later stop (commit_outcome fault)
+  pub keeps : Keeps layout old new (stop ∷ [])
+  pub answered : FromNowOn new.seen (λ later. IsCommitOutcome layout later stop (commit_outcome fault))

@@ -1,64 +1,88 @@
 -- What an update leaves of its desk, its clock and its trail, and what it reports.
-use Rattle.std.specs.Prelude.{◌≡◌, ◌⊎◌, ℕ, Bool, true, false, List, [], ◌∷◌, ◌++◌, length, Option, Some, None, ⊤}
-use Rattle.std.specs.List.{AllByRecursion}
-use Rattle.sc_record.specs.declared.order.Order.{Order}
+use Rattle.std.specs.Prelude.{◌≡◌, ℕ, ◌-◌, Bool, true, false, List, [], ◌++◌, length, Option, Some, None}
 use Rattle.sc_commands.specs.declared.batch.Batch.{Batch}
-use Rattle.sc_journal.specs.Outcomes.{Outcome, conflict, partial, log_full}
-use Rattle.sc_journal.specs.Seen.{Layout, Seen, Extends, SeesMore, EndAtLast}
-use Rattle.sc_journal.specs.Batches.{OrderAnswer, AnswersOrders, WritesOnce, GivesTimestamps, goes_on, adds_of, deletes_of, stops_of, timestamps_of}
+use Rattle.sc_journal.specs.Journal.{last_of}
+use Rattle.sc_journal.specs.Outcomes.{Outcome, accepted, conflict, partial, log_full, out_of_memory}
+use Rattle.sc_journal.specs.Seen.{Layout, Seen, FromNowOn}
+use Rattle.sc_journal.specs.Moments.{Moment, Keeps}
+use Rattle.sc_journal.specs.Batches.{OrderAnswer, AnswersOrders, GoOn, WritesOnce, GivesTimestamps, goes_on, accepted_adds, accepted_deletes, order_stops, order_timestamps}
 use Rattle.sc_journal.specs.Committed.{CommitOutcome, committed_now, commit_full, commit_out_of_memory, CommitAnswer, AnswersCommits, commit_stops, worst}
-use Rattle.sc_journal.specs.declared.stop.Stop.{Stop}
 use Rattle.sc_update.specs.declared.end.BatchEnd.{BatchEnd}
-use Rattle.sc_update.specs.declared.end.BatchStop.{BatchStop}
-use Rattle.sc_update.specs.declared.end.BatchStop.TheVariants as stops
+use Rattle.sc_update.specs.declared.end.BatchFault.{BatchFault}
+use Rattle.sc_update.specs.declared.end.BatchFault.TheVariants as faults
 
--- the last answer is that of the order at this place, from 0, and has this outcome
-abbrev pub StopsWith : List OrderAnswer → ℕ → Outcome → Type 0
-StopsWith answers order outcome =
-    (before : List OrderAnswer) × (last : OrderAnswer) × (answers ≡ before ++ last ∷ []) × (length before ≡ order) × (last.outcome ≡ outcome)
+-- how an update ended
+pub data UpdateEnd : Type 0 where
+  -- its orders went on to their end, and the commits that were asked for came to this together
+  finished : CommitOutcome → UpdateEnd
+  -- its orders ended at the last that was answered, with this answer
+  refused : OrderAnswer → UpdateEnd
+  -- memory ran out before an order was carried out
+  ran_out : UpdateEnd
 
--- each order was answered, and the orders went on after it
-abbrev pub AllGoOn : Bool → List Order → List OrderAnswer → Type 0
-AllGoOn fail orders answers =
-    (length answers ≡ length orders) × AllByRecursion (λ (answer : OrderAnswer). goes_on fail answer.outcome ≡ true) answers
+-- the orders of a batch ended so, by their answers
+abbrev pub OrdersEnd : Batch → List OrderAnswer → UpdateEnd → Type 0
+OrdersEnd batch answers (finished outcome) =
+    (length answers ≡ length batch.orders) × GoOn batch.flags.fail_on_conflict answers
+OrdersEnd batch answers (refused last) =
+    (last_of answers ≡ Some last) × (goes_on batch.flags.fail_on_conflict last.outcome ≡ false)
+OrdersEnd batch answers ran_out = GoOn batch.flags.fail_on_conflict answers
 
--- What stopped the orders, or that nothing did: then each was answered, and the orders went on after it.
-abbrev pub EndsAs : Bool → List Order → List OrderAnswer → Option BatchStop → Type 0
-EndsAs fail orders answers None = AllGoOn fail orders answers
-EndsAs fail orders answers (Some (stops.Conflict order actual)) = (fail ≡ true) × StopsWith answers order (conflict actual)
-EndsAs fail orders answers (Some (stops.Partial order field)) = StopsWith answers order (partial field)
-EndsAs fail orders answers (Some stops.LogFull) = (order : ℕ) × StopsWith answers order log_full
-EndsAs fail orders answers (Some stops.Memory) = ⊤
+-- every bucket was committed where that was asked for, and else none
+abbrev pub CommitsAsked : Layout → Seen → Bool → List CommitAnswer → Type 0
+CommitsAsked layout seen true commits = AnswersCommits layout seen layout.buckets commits
+CommitsAsked layout seen false commits = commits ≡ []
 
--- what stops an update whose commits came to this
-abbrev pub commit_stop : CommitOutcome → Option BatchStop
-commit_stop committed_now = None
-commit_stop commit_full = Some stops.LogFull
-commit_stop commit_out_of_memory = Some stops.Memory
+-- these are the commits of an update that ended so: none unless its orders went on to their end
+abbrev pub CommitsEnd : Layout → Seen → Batch → List CommitAnswer → UpdateEnd → Type 0
+CommitsEnd layout seen batch commits (finished outcome) =
+    CommitsAsked layout seen batch.flags.commit commits × (outcome ≡ worst commits)
+CommitsEnd layout seen batch commits (refused last) = commits ≡ []
+CommitsEnd layout seen batch commits ran_out = commits ≡ []
 
--- What an update came to. Where its orders went on to the end and a commit is asked for, every bucket was committed, and the
--- worst of what these commits came to stops it, if something does; else none was committed, and what stopped its orders stops it.
-abbrev pub Ends : Layout → Seen → Batch → List OrderAnswer → List CommitAnswer → Option BatchStop → Type 0
-Ends layout seen batch answers commits stop =
-    ((batch.flags.commit ≡ true) × AllGoOn batch.flags.fail_on_conflict batch.orders answers
-    × AnswersCommits layout seen layout.buckets commits × (stop ≡ commit_stop (worst commits)))
-    ⊎ ((commits ≡ []) × EndsAs batch.flags.fail_on_conflict batch.orders answers stop × (stop ≡ None → batch.flags.commit ≡ false))
+-- How an update ended, by the answers to its orders and by its commits.
+abbrev pub Ends : Layout → Seen → Batch → List OrderAnswer → List CommitAnswer → UpdateEnd → Type 0
+Ends layout seen batch answers commits how = OrdersEnd batch answers how × CommitsEnd layout seen batch commits how
+
+-- what is reported of the order at a place that was answered so, where that refuses it
+abbrev pub order_fault : ℕ → Outcome → Option BatchFault
+order_fault order (accepted version) = None
+order_fault order (conflict actual) = Some (faults.Conflict order actual)
+order_fault order (partial field) = Some (faults.Partial order field)
+order_fault order log_full = Some faults.LogFull
+order_fault order out_of_memory = Some faults.Memory
+
+-- what is reported of commits that came to this together
+abbrev pub commit_fault : CommitOutcome → Option BatchFault
+commit_fault committed_now = None
+commit_fault commit_full = Some faults.LogFull
+commit_fault commit_out_of_memory = Some faults.Memory
+
+-- what is reported of an update that ended so after these answers
+abbrev pub reported : List OrderAnswer → UpdateEnd → Option BatchFault
+reported answers (finished outcome) = commit_fault outcome
+reported answers (refused last) = order_fault (length answers - 1) last.outcome
+reported answers ran_out = Some faults.Memory
 
 -- what is shown of the answers: the ids and versions that were accepted, where versions are asked for
 abbrev pub Shows : Bool → List OrderAnswer → BatchEnd → Type 0
-Shows true answers end = (end.adds ≡ adds_of answers) × (end.deletes ≡ deletes_of answers)
+Shows true answers end = (end.adds ≡ accepted_adds answers) × (end.deletes ≡ accepted_deletes answers)
 Shows false answers end = (end.adds ≡ []) × (end.deletes ≡ [])
+
+-- an update that ended so after these answers reports this
+pub record Reports (batch : Batch) (answers : List OrderAnswer) (how : UpdateEnd) (end : BatchEnd) : Type 0 where
+  pub fault : end.fault ≡ reported answers how
+  pub shown : Shows batch.flags.versions answers end
 
 -- The orders of a batch were answered in turn, each at a timestamp that the clock gave for it and at its own stops, and then the
 -- buckets were committed, if they were; the stops were kept, and what was seen went on by them.
-pub record IsUpdated {C : Type 0} (gives : C → ℕ → C → Type 0) (layout : Layout) (batch : Batch) (old new : Seen) (old_clock new_clock : C) (old_stops new_stops : List Stop) (end : BatchEnd) : Type 0 where
+pub record IsUpdated {C : Type 0} (gives : C → ℕ → C → Type 0) (layout : Layout) (batch : Batch) (old new : Moment C) (end : BatchEnd) : Type 0 where
   pub answers : List OrderAnswer
   pub commits : List CommitAnswer
-  pub extends : Extends layout old new (stops_of answers ++ commit_stops commits)
-  pub kept : new_stops ≡ old_stops ++ stops_of answers ++ commit_stops commits
-  pub timestamps : GivesTimestamps gives old_clock (timestamps_of answers) new_clock
-  pub answered : (later : Seen) → SeesMore new later → AnswersOrders layout later batch.flags.fail_on_conflict batch.orders answers
-  pub ends : (later : Seen) → SeesMore new later → Ends layout later batch answers commits end.stop
-  pub once : (later : Seen) → SeesMore new later → WritesOnce later (stops_of answers ++ commit_stops commits) answers
-  pub last : EndAtLast layout new (stops_of answers ++ commit_stops commits)
-  pub shown : Shows batch.flags.versions answers end
+  pub how : UpdateEnd
+  pub keeps : Keeps layout old.view new.view (order_stops answers ++ commit_stops commits)
+  pub timestamps : GivesTimestamps gives old.clock (order_timestamps answers) new.clock
+  pub answered : FromNowOn new.view.seen (λ later. AnswersOrders layout later batch.flags.fail_on_conflict batch.orders answers)
+  pub ends : FromNowOn new.view.seen (λ later. Ends layout later batch answers commits how)
+  pub once : FromNowOn new.view.seen (λ later. WritesOnce later (order_stops answers ++ commit_stops commits) answers)
+  pub reports : Reports batch answers how end

@@ -1,11 +1,14 @@
-ghost use Rattle.std.specs.Prelude.{◌≡◌, ◌+◌, ◌*◌, ◌≤◌, length, None, true, false};
+ghost use Rattle.std.specs.Prelude.{◌≡◌, ◌+◌, ◌*◌, ◌≤◌, length, Some, None, Err, true, false};
+ghost use Rattle.sc_journal.specs.Moments.{moment_of};
 ghost use Rattle.sc_journal.specs.Batches.{deletes};
+ghost use Rattle.sc_bucket.specs.Events.{outcome_of};
+ghost use Rattle.sc_collection.specs.Desks.{IsAtRest};
 ghost use Rattle.sc_collection.specs.declared.trail.TheConstants.{ROOM};
-ghost use Rattle.sc_update.specs.Updated.{IsUpdated, commit_stop};
-ghost use Rattle.sc_update.specs.Steps.{AnswersAll, Takes, commit_outcome, HasRoomForOne, GrowsByOne, ending, stop_of};
+ghost use Rattle.sc_update.specs.Updated.{IsUpdated, order_fault, commit_fault};
+ghost use Rattle.sc_update.specs.Steps.{AnswersAll, Takes, commit_outcome, HasRoomToShowOne, ending};
 
 use crate::commit::commit_all;
-use crate::end::{BatchEnd, BatchStop};
+use crate::end::{BatchEnd, BatchFault};
 use crate::order::carry_out;
 use crate::shown::{Shown, is_deletion, shown_id};
 use sc_bucket::{AcceptFault, CommitFault};
@@ -19,7 +22,7 @@ use std::alloc::Global;
 /// orders.
 ///
 /// For each order the clock is read, the id's bucket is held and the order is carried out. Where it is accepted, up to
-/// `MAX_DELIVERIES` further holds of the bucket come next, to deliver messages; the contract says of them only that they make no
+/// seven further holds of the bucket come next, to deliver messages; the contract says of them only that they make no
 /// entry, since a desk does not show what is in flight. The first of them that finds no message of the write, or the hold after
 /// them, settles the write. The hold that carries out the order and the one that settles its write are the order's stops of the
 /// trail. The orders end at the first that is not accepted, but a conflict is passed over where the batch says so. The lists of
@@ -35,30 +38,30 @@ pub fn update<D: Desk, C: Clock>(
     trail: &mut Trail,
     batch: &Batch,
 ) -> BatchEnd
-    requires nothing_out { D.out desk.old ≡ None }
+    requires rest { IsAtRest (D.layout desk.old) (D.out desk.old) (D.seen desk.old) }
     requires orders { length batch.now.orders ≤ 4096 }
     requires room { length trail.old.stops + 2 * length batch.now.orders + (D.layout desk.old).buckets ≤ ROOM }
-    ensures updated { IsUpdated C.gives (D.layout desk.old) batch.now (D.seen desk.old) (D.seen desk.new)
-        clock.old clock.new trail.old.stops trail.new.stops result }
+    ensures updated { IsUpdated C.gives (D.layout desk.old) batch.now
+        (moment_of (D.seen desk.old) trail.old.stops clock.old) (moment_of (D.seen desk.new) trail.new.stops clock.new) result }
     ensures layout { D.layout desk.new ≡ D.layout desk.old }
-    ensures nothing_out { D.out desk.new ≡ None }
+    ensures rest { IsAtRest (D.layout desk.new) (D.out desk.new) (D.seen desk.new) }
     ensures requests { trail.new.requests ≡ trail.old.requests }
 {
     let mut end = take_orders(alloc, desk, clock, trail, batch);
-    if batch.flags.commit && end.stop.is_none() {
-        end.stop = stop_of_commit(commit_all(alloc, desk, trail));
+    if batch.flags.commit && end.fault.is_none() {
+        end.fault = commit_fault(commit_all(alloc, desk, trail));
     }
     end
 }
 
-/// What stops an update whose commits came to this.
-fn stop_of_commit(fault: Option<CommitFault>) -> Option<BatchStop>
-    ensures { result ≡ commit_stop (commit_outcome fault) }
+/// What is reported of commits that came to this together.
+fn commit_fault(fault: Option<CommitFault>) -> Option<BatchFault>
+    ensures { result ≡ commit_fault (commit_outcome fault) }
 {
     match fault {
         None => None,
-        Some(CommitFault::LogFull) => Some(BatchStop::LogFull),
-        Some(CommitFault::Memory) => Some(BatchStop::Memory),
+        Some(CommitFault::LogFull) => Some(BatchFault::LogFull),
+        Some(CommitFault::Memory) => Some(BatchFault::Memory),
     }
 }
 
@@ -70,26 +73,25 @@ fn take_orders<D: Desk, C: Clock>(
     trail: &mut Trail,
     batch: &Batch,
 ) -> BatchEnd
-    requires nothing_out { D.out desk.old ≡ None }
+    requires rest { IsAtRest (D.layout desk.old) (D.out desk.old) (D.seen desk.old) }
     requires orders { length batch.now.orders ≤ 4096 }
     requires room { length trail.old.stops + 2 * length batch.now.orders ≤ ROOM }
     ensures answers { AnswersAll C.gives (D.layout desk.old) batch.now
-        (record { seen = D.seen desk.old; clock = clock.old; stops = trail.old.stops })
-        (record { seen = D.seen desk.new; clock = clock.new; stops = trail.new.stops }) result }
+        (moment_of (D.seen desk.old) trail.old.stops clock.old) (moment_of (D.seen desk.new) trail.new.stops clock.new) result }
     ensures layout { D.layout desk.new ≡ D.layout desk.old }
-    ensures nothing_out { D.out desk.new ≡ None }
+    ensures rest { IsAtRest (D.layout desk.new) (D.out desk.new) (D.seen desk.new) }
     ensures stops { length trail.new.stops ≤ length trail.old.stops + 2 * length batch.now.orders }
     ensures requests { trail.new.requests ≡ trail.old.requests }
 {
     let orders = batch.orders.as_slice();
     let mut shown = match Shown::with_room(alloc, orders, batch.flags.versions) {
         Ok(shown) => shown,
-        Err(_) => return Shown::none(alloc).end(Some(BatchStop::Memory)),
+        Err(_) => return Shown::none(alloc).end(Some(BatchFault::Memory)),
     };
     for (at, order) in orders.iter().enumerate() {
         let end = take_order(alloc, desk, clock, trail, &mut shown, order, batch.flags);
         if let Some(fault) = end {
-            return shown.end(Some(stop_of(at, fault)));
+            return shown.end(Some(order_fault(at, fault)));
         }
     }
     shown.end(None)
@@ -105,15 +107,14 @@ fn take_order<D: Desk, C: Clock>(
     order: &Order,
     flags: Flags,
 ) -> Option<AcceptFault>
-    requires nothing_out { D.out desk.old ≡ None }
+    requires rest { IsAtRest (D.layout desk.old) (D.out desk.old) (D.seen desk.old) }
     requires room { length trail.old.stops + 2 ≤ ROOM }
-    requires shows { flags.versions ≡ true → HasRoomForOne (deletes order.now.change) shown.old }
-    ensures takes { Takes C.gives (D.layout desk.old) flags.fail_on_conflict flags.versions order.now
-        (record { seen = D.seen desk.old; clock = clock.old; stops = trail.old.stops })
-        (record { seen = D.seen desk.new; clock = clock.new; stops = trail.new.stops }) shown.old shown.new result }
-    ensures shows { GrowsByOne (deletes order.now.change) shown.old shown.new }
+    requires shows { flags.versions ≡ true → HasRoomToShowOne (deletes order.now.change) shown.old }
+    ensures takes { Takes C.gives (D.layout desk.old) flags order.now
+        (record { moment = moment_of (D.seen desk.old) trail.old.stops clock.old; shown = shown.old; ended = None })
+        (record { moment = moment_of (D.seen desk.new) trail.new.stops clock.new; shown = shown.new; ended = result }) }
     ensures layout { D.layout desk.new ≡ D.layout desk.old }
-    ensures nothing_out { D.out desk.new ≡ None }
+    ensures rest { IsAtRest (D.layout desk.new) (D.out desk.new) (D.seen desk.new) }
     ensures stops { length trail.new.stops ≤ length trail.old.stops + 2 }
     ensures requests { trail.new.requests ≡ trail.old.requests }
 {
@@ -144,17 +145,17 @@ fn ending(fault: AcceptFault, fail_on_conflict: bool) -> Option<AcceptFault>
     }
 }
 
-/// What stopped the orders at this place.
-fn stop_of(order: usize, fault: AcceptFault) -> BatchStop
-    ensures { result ≡ stop_of order fault }
+/// What is reported of the order at this place, which was refused so.
+fn order_fault(order: usize, fault: AcceptFault) -> BatchFault
+    ensures { order_fault order (outcome_of (Err fault)) ≡ Some result }
 {
     match fault {
-        AcceptFault::Conflict { found } => BatchStop::Conflict {
+        AcceptFault::Conflict { found } => BatchFault::Conflict {
             order,
             actual: found,
         },
-        AcceptFault::Partial(field) => BatchStop::Partial { order, field },
-        AcceptFault::LogFull => BatchStop::LogFull,
-        AcceptFault::Memory => BatchStop::Memory,
+        AcceptFault::Partial(field) => BatchFault::Partial { order, field },
+        AcceptFault::LogFull => BatchFault::LogFull,
+        AcceptFault::Memory => BatchFault::Memory,
     }
 }

@@ -1,5 +1,7 @@
 ghost use Rattle.std.specs.Prelude.{◌≡◌, ◌+◌, ◌<◌, ◌≤◌, None, length};
+ghost use Rattle.sc_collection.specs.Desks.{IsAtRest};
 ghost use Rattle.sc_collection.specs.declared.trail.TheConstants.{ROOM};
+ghost use Rattle.sc_journal.specs.Moments.{view_of};
 ghost use Rattle.sc_journal.specs.Committed.{worse};
 ghost use Rattle.sc_update.specs.Steps.{CommitsAll, CommitsOne, commit_outcome};
 
@@ -15,10 +17,10 @@ pub(crate) fn commit_all<D: Desk>(
 ) -> Option<CommitFault>
     requires nothing_out { D.out desk.old ≡ None }
     requires room { length trail.old.stops + (D.layout desk.old).buckets ≤ ROOM }
-    ensures committed { CommitsAll (D.layout desk.old) (D.layout desk.old).buckets (D.seen desk.old) (D.seen desk.new)
-        trail.old.stops trail.new.stops result }
+    ensures committed { CommitsAll (D.layout desk.old) (D.layout desk.old).buckets
+        (view_of (D.seen desk.old) trail.old.stops) (view_of (D.seen desk.new) trail.new.stops) result }
     ensures layout { D.layout desk.new ≡ D.layout desk.old }
-    ensures nothing_out { D.out desk.new ≡ None }
+    ensures rest { IsAtRest (D.layout desk.new) (D.out desk.new) (D.seen desk.new) }
     ensures requests { trail.new.requests ≡ trail.old.requests }
 {
     let mut worst = None;
@@ -33,9 +35,9 @@ fn commit_at<D: Desk>(alloc: Global, desk: &mut D, trail: &mut Trail, b: u32) ->
     requires nothing_out { D.out desk.old ≡ None }
     requires within { b < (D.layout desk.old).buckets }
     requires room { length trail.old.stops < ROOM }
-    ensures committed { CommitsOne (D.layout desk.old) (D.seen desk.old) (D.seen desk.new) trail.old.stops trail.new.stops b result }
+    ensures committed { CommitsOne (D.layout desk.old) (view_of (D.seen desk.old) trail.old.stops) (view_of (D.seen desk.new) trail.new.stops) b result }
     ensures layout { D.layout desk.new ≡ D.layout desk.old }
-    ensures nothing_out { D.out desk.new ≡ None }
+    ensures rest { IsAtRest (D.layout desk.new) (D.out desk.new) (D.seen desk.new) }
     ensures stops { length trail.new.stops ≡ length trail.old.stops + 1 }
     ensures requests { trail.new.requests ≡ trail.old.requests }
 {

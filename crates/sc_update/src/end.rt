@@ -1,9 +1,9 @@
 use sc_record::{Ack, List, Text};
 
-/// What stopped an update: its orders before their end, or the commit of some bucket after them. `order` is the place of the
+/// What ended the orders of an update before their end, or was refused of the commits after them. `order` is the place of the
 /// order, from 0. What was accepted before it stands, and so does each commit that was done.
 #[derive(Debug, Drop)]
-pub enum BatchStop {
+pub enum BatchFault {
     /// The order's condition is not met by this version, which was found.
     Conflict { order: usize, actual: i64 },
     /// The field of this name can't take its change.
@@ -15,10 +15,10 @@ pub enum BatchStop {
 }
 
 /// What an update came to: the ids and the versions, as they are shown, of what was accepted of additions and of deletions, each
-/// in order and where versions are asked for; and what stopped it, if something did.
+/// in order and where versions are asked for; and the fault, if there was one.
 #[derive(Debug, Drop)]
 pub struct BatchEnd {
     pub adds: List<Ack>,
     pub deletes: List<Ack>,
-    pub stop: Option<BatchStop>,
+    pub fault: Option<BatchFault>,
 }

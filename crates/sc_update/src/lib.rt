@@ -16,8 +16,7 @@ mod order;
 mod shown;
 
 pub use batch::update;
-pub use end::{BatchEnd, BatchStop};
-pub use order::MAX_DELIVERIES;
+pub use end::{BatchEnd, BatchFault};
 
 #[cfg(test)]
 mod tests;

@@ -1,11 +1,12 @@
-ghost use Rattle.std.specs.Prelude.{◌≡◌, ◌<◌, ◌+◌, ◌≤◌, None, IsSome, MatchOption, length};
+ghost use Rattle.std.specs.Prelude.{◌≡◌, ◌<◌, ◌+◌, ◌≤◌, [], ◌∷◌, None, IsSome, length};
 ghost use Rattle.sc_router.specs.Route.{bucket_of};
 ghost use Rattle.sc_journal.specs.Journal.{write_at};
+ghost use Rattle.sc_journal.specs.Moments.{view_of, moment_of, Keeps};
 ghost use Rattle.sc_bucket.specs.Sound.{IsSound};
 ghost use Rattle.sc_bucket.specs.Events.{outcome_of};
 ghost use Rattle.sc_collection.specs.declared.trail.TheConstants.{ROOM};
-ghost use Rattle.sc_update.specs.Steps.{Looks, Holds, Tries, SettlesFirst, SettlesWhere, CarriesOut};
-ghost use Rattle.sc_journal.specs.Seen.{IsStop};
+ghost use Rattle.sc_collection.specs.Desks.{IsAtRest};
+ghost use Rattle.sc_update.specs.Steps.{MakeNoEntry, Holds, HoldsWhereIdle, Tries, SettlesFirst, SettlesWhere, CarriesOut};
 
 use sc_bucket::{AcceptFault, Accepted, Bucket};
 use sc_collection::{Desk, Stop, Trail};
@@ -16,7 +17,7 @@ use std::alloc::Global;
 
 /// How many messages of a write are delivered at most, each in a hold of its own, before the hold that settles it. It delivers
 /// those that are left.
-pub const MAX_DELIVERIES: usize = 7;
+const MAX_DELIVERIES: usize = 7;
 
 /// Carries out an order at a timestamp, in milliseconds, in one hold of its id's bucket, and keeps that stop.
 fn accept_at<D: Desk>(
@@ -31,10 +32,10 @@ fn accept_at<D: Desk>(
     requires within { b < (D.layout desk.old).buckets }
     requires bucket { b ≡ bucket_of order.now.id (D.layout desk.old).buckets }
     requires room { length trail.old.stops < ROOM }
-    ensures is_stop { IsStop (D.layout desk.old) (D.seen desk.old) (D.seen desk.new) trail.old.stops trail.new.stops result.0 }
-    ensures tried { Tries (D.layout desk.old) (D.seen desk.old) (D.seen desk.new) order.now now result.0 result.1 }
+    ensures keeps { Keeps (D.layout desk.old) (view_of (D.seen desk.old) trail.old.stops) (view_of (D.seen desk.new) trail.new.stops) (result.0 ∷ []) }
+    ensures tried { Tries (D.layout desk.old) (D.seen desk.new) order.now now result.0 result.1 }
     ensures layout { D.layout desk.new ≡ D.layout desk.old }
-    ensures nothing_out { D.out desk.new ≡ None }
+    ensures rest { IsAtRest (D.layout desk.new) (D.out desk.new) (D.seen desk.new) }
     ensures requests { trail.new.requests ≡ trail.old.requests }
 {
     let mut bucket = desk.hold(b);
@@ -50,34 +51,41 @@ fn accept_at<D: Desk>(
     (stop, answer)
 }
 
-/// Holds the bucket and delivers the first message in flight of the write at this place. Where there is none the bucket is
-/// handed on; else it is given back.
-fn deliver_one<D: Desk>(desk: &mut D, lock: u32, place: u64) -> Option<Bucket>
+/// What a hold came to in which a message of a write was to be delivered.
+#[derive(Drop)]
+enum Delivery {
+    /// One was delivered, and the bucket was given back.
+    Delivered,
+    /// None was in flight, and the bucket is held still.
+    Idle(Bucket),
+}
+
+/// Holds the bucket and delivers the first message in flight of the write at this place, where there is one.
+fn deliver_one<D: Desk>(desk: &mut D, lock: u32, place: u64) -> Delivery
     requires nothing_out { D.out desk.old ≡ None }
     requires within { lock < (D.layout desk.old).buckets }
-    ensures looks { Looks (D.seen desk.old) (D.seen desk.new) lock }
-    ensures held { MatchOption result (D.out desk.new ≡ None) (Holds (D.layout desk.old) (D.seen desk.new) (D.out desk.new) lock) }
+    ensures quiet { MakeNoEntry (D.seen desk.old) (D.seen desk.new) lock }
+    ensures held { HoldsWhereIdle (D.layout desk.old) (D.seen desk.new) (D.out desk.new) lock result }
     ensures layout { D.layout desk.new ≡ D.layout desk.old }
 {
     let mut bucket = desk.hold(lock);
     if bucket.deliver(place).is_none() {
-        return Some(bucket);
+        return Delivery::Idle(bucket);
     }
     desk.give(lock, bucket);
-    None
+    Delivery::Delivered
 }
 
-/// Holds the bucket of the write at this place once its messages in flight were delivered, each in a hold of its own, or as many
-/// of them as that may be.
+/// Holds the bucket of the write at this place, after holds that each deliver a message of the write, as long as there are some.
 fn hold_delivered<D: Desk>(desk: &mut D, lock: u32, place: u64) -> Bucket
     requires nothing_out { D.out desk.old ≡ None }
     requires within { lock < (D.layout desk.old).buckets }
-    ensures looks { Looks (D.seen desk.old) (D.seen desk.new) lock }
+    ensures quiet { MakeNoEntry (D.seen desk.old) (D.seen desk.new) lock }
     ensures held { Holds (D.layout desk.old) (D.seen desk.new) (D.out desk.new) lock result }
     ensures layout { D.layout desk.new ≡ D.layout desk.old }
 {
     for _delivery in 0..MAX_DELIVERIES {
-        if let Some(bucket) = deliver_one(desk, lock, place) {
+        if let Delivery::Idle(bucket) = deliver_one(desk, lock, place) {
             return bucket;
         }
     }
@@ -91,9 +99,9 @@ fn settle_at<D: Desk>(desk: &mut D, trail: &mut Trail, first: Stop)
     requires within { first.lock < (D.layout desk.old).buckets }
     requires written { IsSome (write_at ((D.seen desk.old).journals first.lock) first.place) }
     requires room { length trail.old.stops < ROOM }
-    ensures settles { SettlesFirst (D.layout desk.old) (D.seen desk.old) (D.seen desk.new) trail.old.stops trail.new.stops first }
+    ensures settles { SettlesFirst (D.layout desk.old) (view_of (D.seen desk.old) trail.old.stops) (view_of (D.seen desk.new) trail.new.stops) first }
     ensures layout { D.layout desk.new ≡ D.layout desk.old }
-    ensures nothing_out { D.out desk.new ≡ None }
+    ensures rest { IsAtRest (D.layout desk.new) (D.out desk.new) (D.seen desk.new) }
     ensures requests { trail.new.requests ≡ trail.old.requests }
 {
     let mut bucket = hold_delivered(desk, first.lock, first.place);
@@ -132,10 +140,9 @@ pub(crate) fn carry_out<D: Desk, C: Clock>(
     requires nothing_out { D.out desk.old ≡ None }
     requires room { length trail.old.stops + 2 ≤ ROOM }
     ensures carried { CarriesOut C.gives (D.layout desk.old) order.now
-        (record { seen = D.seen desk.old; clock = clock.old; stops = trail.old.stops })
-        (record { seen = D.seen desk.new; clock = clock.new; stops = trail.new.stops }) (outcome_of result) }
+        (moment_of (D.seen desk.old) trail.old.stops clock.old) (moment_of (D.seen desk.new) trail.new.stops clock.new) (outcome_of result) }
     ensures layout { D.layout desk.new ≡ D.layout desk.old }
-    ensures nothing_out { D.out desk.new ≡ None }
+    ensures rest { IsAtRest (D.layout desk.new) (D.out desk.new) (D.seen desk.new) }
     ensures stops { length trail.new.stops ≤ length trail.old.stops + 2 }
     ensures requests { trail.new.requests ≡ trail.old.requests }
 {

@@ -1,8 +1,8 @@
 ghost use Rattle.std.specs.Prelude.{◌≡◌, [], ◌∷◌, ◌++◌, true, false, IfOk, count_by, if◌then◌else◌};
 ghost use Rattle.sc_journal.specs.Batches.{deletes};
-ghost use Rattle.sc_update.specs.Steps.{HasRoomFor, HasRoomForOne, GrowsByOne};
+ghost use Rattle.sc_update.specs.Steps.{HasRoomToShow, HasRoomToShowOne, GrowsByOne};
 
-use crate::end::{BatchEnd, BatchStop};
+use crate::end::{BatchEnd, BatchFault};
 use sc_record::{Ack, Change, Id, List, Order};
 use std::alloc::{AllocError, Global};
 
@@ -33,7 +33,7 @@ impl Shown {
     ) -> Result<Shown, AllocError>
         ensures adds { IfOk result (λ shown. shown.adds.items ≡ []) }
         ensures deletes { IfOk result (λ shown. shown.deletes.items ≡ []) }
-        ensures room { versions ≡ true → IfOk result (λ shown. HasRoomFor shown orders.now) }
+        ensures room { versions ≡ true → IfOk result (λ shown. HasRoomToShow shown orders.now) }
     {
         if !versions {
             return Ok(Shown::none(alloc));
@@ -47,7 +47,7 @@ impl Shown {
 
     /// Puts an order that was accepted after the others, in the room that was made.
     pub(crate) fn push(&mut self, deletion: bool, ack: Ack)
-        requires { HasRoomForOne deletion self.old }
+        requires { HasRoomToShowOne deletion self.old }
         ensures adds { self.new.adds.items ≡ (if deletion then self.old.adds.items else self.old.adds.items ++ ack ∷ []) }
         ensures deletes { self.new.deletes.items ≡ (if deletion then self.old.deletes.items ++ ack ∷ [] else self.old.deletes.items) }
         ensures grows { GrowsByOne deletion self.old self.new }
@@ -60,16 +60,16 @@ impl Shown {
     }
 
     /// The same, as the end of an update.
-    pub(crate) fn end(self, stop: Option<BatchStop>) -> BatchEnd
+    pub(crate) fn end(self, fault: Option<BatchFault>) -> BatchEnd
         ensures adds { result.adds ≡ self.adds.items }
         ensures deletes { result.deletes ≡ self.deletes.items }
-        ensures stop { result.stop ≡ stop }
+        ensures fault { result.fault ≡ fault }
     {
         let Shown { adds, deletes } = self;
         BatchEnd {
             adds: List::from_vec(adds),
             deletes: List::from_vec(deletes),
-            stop,
+            fault,
         }
     }
 }

@@ -93,7 +93,7 @@ fn told(
     for ack in end.deletes.as_slice() {
         text.push_str(format!(in alloc; "-{} {} ", ack.id.as_str(), ack.version)?.as_str())?;
     }
-    text.push_str(format!(in alloc; "{:?}", end.stop)?.as_str())?;
+    text.push_str(format!(in alloc; "{:?}", end.fault)?.as_str())?;
     for at in 0..trail.len() {
         if let Some(stop) = trail.get(at) {
             let sign = if stop.made { "+" } else { "" };

@@ -1,24 +1,27 @@
 -- One order is taken, and shown where versions are asked for.
 use Rattle.std.proofs.Common.{◌≡◌, [], ◌∷◌, sym, ap, ◌∙◌, subst, Option, to_z, of_z, w64, arith}
 use Rattle.std.proofs.lemmas.Int.{ints}
+use Rattle.sc_journal.specs.Moments.{moment_of}
 use Rattle.sc_journal.specs.Outcomes.{accepted}
+use Rattle.sc_journal.specs.Batches.{deletes}
 use Rattle.sc_bucket.specs.declared.accept.AcceptFault.{AcceptFault}
 use Rattle.sc_update.specs.declared.shown.Shown.{Shown}
-use Rattle.sc_update.specs.Steps.{Takes, ShowsMore}
-use Rattle.sc_update.proofs.TakeLemmas.{takes-none, takes-refused, takes-accepted, shows-nothing, shows-pushed}
+use Rattle.sc_update.specs.Steps.{Takes, ShowsMore, GrowsByOne}
+use Rattle.sc_update.proofs.BatchLemmas.{going_on}
+use Rattle.sc_update.proofs.TakeLemmas.{takes-none, takes-refused, takes-accepted, shows-nothing, shows-pushed, GrowsByOne-none}
 use Rattle.sc_update.proofs.batch.take_order.Goals as goal
 use Rattle.sc_update.proofs.batch.take_order.Goals.{in-Some, in-None}
 
 pub returns-in-Err-clause-takes : goal.returns-in-Err-clause-takes
 returns-in-Err-clause-takes g c =
-    takes-none g.C.Clock.gives (g.D.Desk.layout c.args.desk.now) c.args.flags.fail_on_conflict c.args.flags.versions c.args.order.now
-    (record { seen = g.D.Desk.seen c.args.desk.now; clock = c.args.clock.now; stops = c.args.trail.now.stops }) c.args.shown.now
+    takes-none g.C.Clock.gives (g.D.Desk.layout c.args.desk.now) c.args.flags c.args.order.now
+    (moment_of (g.D.Desk.seen c.args.desk.now) c.args.trail.now.stops c.args.clock.now) c.args.shown.now
 
 pub returns-after-id-clause-takes : goal.returns-after-id-clause-takes
 returns-after-id-clause-takes g c =
-    takes-accepted g.C.Clock.gives (g.D.Desk.layout c.args.desk.now) c.args.flags.fail_on_conflict c.args.flags.versions c.args.order.now
-    (record { seen = g.D.Desk.seen c.args.desk.now; clock = c.args.clock.now; stops = c.args.trail.now.stops })
-    (record { seen = g.D.Desk.seen c.carry_out.new.desk; clock = c.carry_out.new.clock; stops = c.carry_out.new.trail.stops })
+    takes-accepted g.C.Clock.gives (g.D.Desk.layout c.args.desk.now) c.args.flags c.args.order.now
+    (moment_of (g.D.Desk.seen c.args.desk.now) c.args.trail.now.stops c.args.clock.now)
+    (moment_of (g.D.Desk.seen c.carry_out.new.desk) c.carry_out.new.trail.stops c.carry_out.new.clock)
     c.args.shown.now c.match-id.shown c.in-Ok-carry_out.accepted c.in-Ok-carry_out.ensures.carried
     (λ answer order_is outcome_is. elim c.match-id.branch [
       | in-Some w ↦
@@ -29,14 +32,20 @@ returns-after-id-clause-takes g c =
       | in-None w ↦ subst (λ (more : Shown). ShowsMore c.args.flags.versions (answer ∷ []) c.args.shown.now more) (sym w.shown-is)
           (shows-nothing c.args.flags.versions c.in-Ok.id c.args.order.now.id answer c.args.shown.now c.in-Ok.ensures.shown w.in-None.is)
     ])
+    (elim c.match-id.branch [
+      | in-Some w ↦ subst (λ (more : Shown). GrowsByOne (deletes c.args.order.now.change) c.args.shown.now more) (sym w.shown-is)
+          (subst (λ b. GrowsByOne b c.args.shown.now w.push.new.self) w.is_deletion.ensures w.push.ensures.grows)
+      | in-None w ↦ subst (λ (more : Shown). GrowsByOne (deletes c.args.order.now.change) c.args.shown.now more) (sym w.shown-is)
+          (GrowsByOne-none (deletes c.args.order.now.change) c.args.shown.now)
+    ])
 
 pub returns-in-Err-carry_out-clause-takes : goal.returns-in-Err-carry_out-clause-takes
 returns-in-Err-carry_out-clause-takes g c =
-    subst (λ (end : Option AcceptFault). Takes g.C.Clock.gives (g.D.Desk.layout c.args.desk.now) c.args.flags.fail_on_conflict c.args.flags.versions c.args.order.now
-    (record { seen = g.D.Desk.seen c.args.desk.now; clock = c.args.clock.now; stops = c.args.trail.now.stops })
-    (record { seen = g.D.Desk.seen c.carry_out.new.desk; clock = c.carry_out.new.clock; stops = c.carry_out.new.trail.stops }) c.args.shown.now c.args.shown.now end)
+    subst (λ (end : Option AcceptFault). Takes g.C.Clock.gives (g.D.Desk.layout c.args.desk.now) c.args.flags c.args.order.now
+    (going_on (moment_of (g.D.Desk.seen c.args.desk.now) c.args.trail.now.stops c.args.clock.now) c.args.shown.now)
+    (record { moment = moment_of (g.D.Desk.seen c.carry_out.new.desk) c.carry_out.new.trail.stops c.carry_out.new.clock; shown = c.args.shown.now; ended = end }))
     (sym c.ending.ensures)
-    (takes-refused g.C.Clock.gives (g.D.Desk.layout c.args.desk.now) c.args.flags.fail_on_conflict c.args.flags.versions c.args.order.now
-    (record { seen = g.D.Desk.seen c.args.desk.now; clock = c.args.clock.now; stops = c.args.trail.now.stops })
-    (record { seen = g.D.Desk.seen c.carry_out.new.desk; clock = c.carry_out.new.clock; stops = c.carry_out.new.trail.stops })
+    (takes-refused g.C.Clock.gives (g.D.Desk.layout c.args.desk.now) c.args.flags c.args.order.now
+    (moment_of (g.D.Desk.seen c.args.desk.now) c.args.trail.now.stops c.args.clock.now)
+    (moment_of (g.D.Desk.seen c.carry_out.new.desk) c.carry_out.new.trail.stops c.carry_out.new.clock)
     c.args.shown.now c.in-Err-carry_out.fault c.in-Err-carry_out.ensures.carried)

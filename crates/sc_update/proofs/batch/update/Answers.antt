@@ -2,37 +2,38 @@
 use Rattle.std.proofs.Common.{◌≡◌, ◌∙◌, true, false, refl, sym, ap, subst}
 use Rattle.std.specs.Prelude.{is_some, not}
 use Rattle.sc_journal.specs.Seen.{Layout}
+use Rattle.sc_journal.specs.Moments.{view_of, moment_of}
 use Rattle.sc_update.specs.declared.end.BatchEnd.{BatchEnd}
 use Rattle.sc_update.specs.Steps.{CommitsAll}
-use Rattle.sc_update.proofs.UpdateLemmas.{none_stopped, updated-idle, updated-committed}
+use Rattle.sc_update.proofs.UpdateLemmas.{no_fault, updated-idle, updated-committed}
 use Rattle.sc_update.proofs.batch.update.Goals as goal
 use Rattle.sc_update.proofs.batch.update.Goals.{else-batch-via-then-batch+else-is_none, else-batch-via-else-batch}
 
 pub returns-then-is_none-clause-updated : goal.returns-then-is_none-clause-updated
 returns-then-is_none-clause-updated g c =
     let before : BatchEnd = c.take_orders-end.result in
+    let new = view_of (g.D.Desk.seen c.commit_all.new.desk) c.commit_all.new.trail.stops in
     updated-committed g.C.Clock.gives (g.D.Desk.layout c.args.desk.now) c.args.batch.now
-    (record { seen = g.D.Desk.seen c.args.desk.now; clock = c.args.clock.now; stops = c.args.trail.now.stops })
-    (record { seen = g.D.Desk.seen c.take_orders-end.new.desk; clock = c.take_orders-end.new.clock; stops = c.take_orders-end.new.trail.stops })
-    (g.D.Desk.seen c.commit_all.new.desk) c.commit_all.new.trail.stops before
-    (record { adds = before.adds; deletes = before.deletes; stop = c.stop_of_commit.result }) c.commit_all.result
+    (moment_of (g.D.Desk.seen c.args.desk.now) c.args.trail.now.stops c.args.clock.now)
+    (moment_of (g.D.Desk.seen c.take_orders-end.new.desk) c.take_orders-end.new.trail.stops c.take_orders-end.new.clock)
+    new before (record { adds = before.adds; deletes = before.deletes; fault = c.commit_fault.result }) c.commit_all.result
     c.take_orders-end.ensures.answers
-    (none_stopped before.stop (c.is_none.ensures ∙ ap not c.if-is_none.true))
+    (no_fault before.fault (c.is_none.ensures ∙ ap not c.if-is_none.true))
     c.if-batch.true
-    (subst (λ (layout : Layout). CommitsAll layout layout.buckets (g.D.Desk.seen c.take_orders-end.new.desk) (g.D.Desk.seen c.commit_all.new.desk)
-    c.take_orders-end.new.trail.stops c.commit_all.new.trail.stops c.commit_all.result) c.take_orders-end.ensures.layout c.commit_all.ensures.committed)
-    refl refl c.stop_of_commit.ensures
+    (subst (λ (layout : Layout). CommitsAll layout layout.buckets (view_of (g.D.Desk.seen c.take_orders-end.new.desk) c.take_orders-end.new.trail.stops) new c.commit_all.result)
+    c.take_orders-end.ensures.layout c.commit_all.ensures.committed)
+    refl refl c.commit_fault.ensures
 
 pub returns-else-batch-clause-updated : goal.returns-else-batch-clause-updated
 returns-else-batch-clause-updated g c =
     updated-idle g.C.Clock.gives (g.D.Desk.layout c.args.desk.now) c.args.batch.now
-    (record { seen = g.D.Desk.seen c.args.desk.now; clock = c.args.clock.now; stops = c.args.trail.now.stops })
-    (record { seen = g.D.Desk.seen c.take_orders-end.new.desk; clock = c.take_orders-end.new.clock; stops = c.take_orders-end.new.trail.stops })
+    (moment_of (g.D.Desk.seen c.args.desk.now) c.args.trail.now.stops c.args.clock.now)
+    (moment_of (g.D.Desk.seen c.take_orders-end.new.desk) c.take_orders-end.new.trail.stops c.take_orders-end.new.clock)
     c.take_orders-end.result c.take_orders-end.ensures.answers
     (λ none. elim c.else-batch.branch [
       | else-batch-via-then-batch+else-is_none w ↦
-          let some : is_some c.take_orders-end.result.stop ≡ true = w.is_none.ensures ∙ ap not w.if-is_none.false in
-          let nothing : is_some c.take_orders-end.result.stop ≡ false = ap is_some none in
+          let some : is_some c.take_orders-end.result.fault ≡ true = w.is_none.ensures ∙ ap not w.if-is_none.false in
+          let nothing : is_some c.take_orders-end.result.fault ≡ false = ap is_some none in
           absurd (let both : true ≡ false = sym some ∙ nothing in cc)
       | else-batch-via-else-batch w ↦ w.if-batch.false
     ])

@@ -1,6 +1,7 @@
 -- One hold in which a bucket is committed.
 use Rattle.std.proofs.Common.{refl, sym, ap, subst}
 use Rattle.sc_journal.specs.Seen.{Layout, Seen}
+use Rattle.sc_journal.specs.Moments.{view_of}
 use Rattle.sc_collection.specs.Kept.{Kept}
 use Rattle.sc_collection.specs.Desks.{Held, SeesGiven, MayReplace}
 use Rattle.sc_collection.proofs.ReplaceLemmas.{commit_may_replace}
@@ -26,7 +27,7 @@ returns-clause-committed g c =
     let held : Held = record { number = c.args.b; bucket = c.hold-bucket.result } in
     let sees : SeesGiven held c.commit-answer.new.self (g.D.Desk.seen c.args.desk.now) (g.D.Desk.seen c.give.new.self) =
     subst (λ (seen : Seen). SeesGiven held c.commit-answer.new.self seen (g.D.Desk.seen c.give.new.self)) c.hold-bucket.ensures.seen (c.give.ensures.seen held c.hold-bucket.ensures.out) in
-    commits-one (g.D.Desk.layout c.args.desk.now) (g.D.Desk.seen c.args.desk.now) (g.D.Desk.seen c.give.new.self) c.args.trail.now.stops c.keep.new.self.stops
-    held c.commit-answer.new.self c.commit-answer.result c.entries-place.result c.is_ok.result c.err.result
+    commits-one (g.D.Desk.layout c.args.desk.now) (view_of (g.D.Desk.seen c.args.desk.now) c.args.trail.now.stops)
+    (view_of (g.D.Desk.seen c.give.new.self) c.keep.new.self.stops) held c.commit-answer.new.self c.commit-answer.result c.entries-place.result c.is_ok.result c.err.result
     c.requires.within c.hold-bucket.ensures.is_of c.hold-bucket.ensures.extends c.commit-answer.ensures.committed c.commit-answer.ensures.refused
     c.commit-answer.ensures.full.0 sees c.entries-place.ensures.count c.is_ok.ensures.value c.err.ensures.value (ap (λ (k : Kept). k.stops) c.keep.ensures)

@@ -6,8 +6,9 @@ use Rattle.sc_collection.specs.Kept.{Kept}
 use Rattle.sc_collection.specs.Desks.{Held, SeesGiven, MayReplace}
 use Rattle.sc_update.specs.Steps.{Tries}
 use Rattle.sc_journal.specs.Seen.{GoesOn}
+use Rattle.sc_collection.proofs.ReplaceLemmas.{answered_may_replace}
 use Rattle.sc_collection.proofs.StopLemmas.{stop_is, GoesOn-held}
-use Rattle.sc_update.proofs.OrderLemmas.{MayReplace-accepted, accepted-entries, tries}
+use Rattle.sc_update.proofs.OrderLemmas.{accepted-entries, tries}
 use Rattle.sc_update.proofs.order.accept_at.Goals as goal
 
 pub give-requires : goal.give-requires
@@ -19,13 +20,13 @@ give-requires g c =
         c.hold-bucket.ensures.out,
         refl,
         subst (λ (layout : Layout). MayReplace layout held c.accept-answer.new.self) (sym c.hold-bucket.ensures.layout)
-            (MayReplace-accepted (g.D.Desk.layout c.args.desk.now) c.args.b c.hold-bucket.result c.accept-answer.new.self c.args.order.now c.args.now c.accept-answer.result
-            c.hold-bucket.ensures.is_of c.accept-answer.ensures.sound c.requires.bucket c.accept-answer.ensures.accepted c.accept-answer.ensures.refused),
+            (answered_may_replace (g.D.Desk.layout c.args.desk.now) held c.accept-answer.new.self c.hold-bucket.ensures.is_of c.accept-answer.ensures.sound
+            c.args.order.now c.args.now c.accept-answer.result (sym c.requires.bucket) c.accept-answer.ensures.accepted c.accept-answer.ensures.refused),
       );
     }
 
-pub returns-clause-is_stop : goal.returns-clause-is_stop
-returns-clause-is_stop g c =
+pub returns-clause-keeps : goal.returns-clause-keeps
+returns-clause-keeps g c =
     let held : Held = record { number = c.args.b; bucket = c.hold-bucket.result } in
     let sees : SeesGiven held c.accept-answer.new.self (g.D.Desk.seen c.args.desk.now) (g.D.Desk.seen c.give.new.self) =
     subst (λ (seen : Seen). SeesGiven held c.accept-answer.new.self seen (g.D.Desk.seen c.give.new.self)) c.hold-bucket.ensures.seen (c.give.ensures.seen held c.hold-bucket.ensures.out) in
@@ -43,7 +44,7 @@ returns-clause-tried g c =
     let held : Held = record { number = c.args.b; bucket = c.hold-bucket.result } in
     let sees : SeesGiven held c.accept-answer.new.self (g.D.Desk.seen c.args.desk.now) (g.D.Desk.seen c.give.new.self) =
     subst (λ (seen : Seen). SeesGiven held c.accept-answer.new.self seen (g.D.Desk.seen c.give.new.self)) c.hold-bucket.ensures.seen (c.give.ensures.seen held c.hold-bucket.ensures.out) in
-    subst (λ (stop : Stop). Tries (g.D.Desk.layout c.args.desk.now) (g.D.Desk.seen c.args.desk.now) (g.D.Desk.seen c.give.new.self) c.args.order.now c.args.now stop c.accept-answer.result)
+    subst (λ (stop : Stop). Tries (g.D.Desk.layout c.args.desk.now) (g.D.Desk.seen c.give.new.self) c.args.order.now c.args.now stop c.accept-answer.result)
     (stop_is c.args.b c.entries-place.result c.hold-bucket.result.journal.entries c.is_ok.result _ c.entries-place.ensures.count c.is_ok.ensures.value)
     (tries (g.D.Desk.layout c.args.desk.now) (g.D.Desk.seen c.args.desk.now) (g.D.Desk.seen c.give.new.self) held c.accept-answer.new.self c.args.order.now c.args.now c.accept-answer.result
     c.hold-bucket.ensures.is_of c.requires.bucket c.accept-answer.ensures.accepted c.accept-answer.ensures.refused c.accept-answer.ensures.outcome sees)

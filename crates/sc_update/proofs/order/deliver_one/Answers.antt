@@ -2,7 +2,7 @@
 use Rattle.std.proofs.Common.{refl, sym, subst}
 use Rattle.sc_journal.specs.Seen.{Layout, Seen}
 use Rattle.sc_collection.specs.Desks.{Held, SeesGiven, MayReplace}
-use Rattle.sc_update.proofs.LookLemmas.{Looks-held, MayReplace-delivered, delivered-entries}
+use Rattle.sc_update.proofs.HoldLemmas.{MakeNoEntry-held, MayReplace-delivered, delivered-entries}
 use Rattle.sc_update.proofs.order.deliver_one.Goals as goal
 
 pub give-requires : goal.give-requires
@@ -19,10 +19,10 @@ give-requires g c =
       );
     }
 
-pub returns-clause-looks : goal.returns-clause-looks
-returns-clause-looks g c =
+pub returns-clause-quiet : goal.returns-clause-quiet
+returns-clause-quiet g c =
     let held : Held = record { number = c.args.lock; bucket = c.hold-bucket.result } in
     let sees : SeesGiven held c.deliver.new.self (g.D.Desk.seen c.args.desk.now) (g.D.Desk.seen c.give.new.self) =
     subst (λ (seen : Seen). SeesGiven held c.deliver.new.self seen (g.D.Desk.seen c.give.new.self)) c.hold-bucket.ensures.seen (c.give.ensures.seen held c.hold-bucket.ensures.out) in
-    Looks-held (g.D.Desk.seen c.args.desk.now) (g.D.Desk.seen c.give.new.self) held c.deliver.new.self c.hold-bucket.ensures.extends
+    MakeNoEntry-held (g.D.Desk.seen c.args.desk.now) (g.D.Desk.seen c.give.new.self) held c.deliver.new.self c.hold-bucket.ensures.extends
     (delivered-entries held.bucket c.deliver.new.self c.args.place c.deliver.result c.deliver.ensures.delivered) sees

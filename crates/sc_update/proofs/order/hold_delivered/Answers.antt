@@ -3,13 +3,13 @@ use Rattle.std.proofs.Common.{◌<◌, refl, sym, ◌∙◌, subst}
 use mathlib.Core.List.{IsPrefix}
 use Rattle.sc_journal.specs.Seen.{Layout, Seen}
 use Rattle.sc_collection.specs.Desks.{IsBucketOf}
-use Rattle.sc_update.specs.Steps.{Looks, Holds}
-use Rattle.sc_update.proofs.LookLemmas.{Looks-none, Looks-then}
+use Rattle.sc_update.specs.Steps.{MakeNoEntry, Holds}
+use Rattle.sc_update.proofs.HoldLemmas.{MakeNoEntry-none, MakeNoEntry-then}
 use Rattle.sc_update.proofs.order.hold_delivered.Goals as goal
 
 pub loop-delivery-init : goal.loop-delivery-init
 loop-delivery-init g c = record {
-  looks = Looks-none (g.D.Desk.seen c.args.desk.now) c.args.lock;
+  quiet = MakeNoEntry-none (g.D.Desk.seen c.args.desk.now) c.args.lock;
   nothing_out = c.requires.nothing_out;
   layout = refl;
 }
@@ -18,20 +18,20 @@ pub deliver_one-requires-clause-within : goal.deliver_one-requires-clause-within
 deliver_one-requires-clause-within g c =
     subst (λ (layout : Layout). c.args.lock < layout.buckets) (sym c.loop-delivery.invariant.layout) c.requires.within
 
-pub returns-in-Some-clause-looks : goal.returns-in-Some-clause-looks
-returns-in-Some-clause-looks g c =
-    Looks-then (g.D.Desk.seen c.args.desk.now) (g.D.Desk.seen c.loop-delivery.desk) (g.D.Desk.seen c.deliver_one.new.desk) c.args.lock
-    c.loop-delivery.invariant.looks c.in-Some.ensures.looks
+pub returns-in-Idle-clause-quiet : goal.returns-in-Idle-clause-quiet
+returns-in-Idle-clause-quiet g c =
+    MakeNoEntry-then (g.D.Desk.seen c.args.desk.now) (g.D.Desk.seen c.loop-delivery.desk) (g.D.Desk.seen c.deliver_one.new.desk) c.args.lock
+    c.loop-delivery.invariant.quiet c.in-Idle.ensures.quiet
 
-pub returns-in-Some-clause-held : goal.returns-in-Some-clause-held
-returns-in-Some-clause-held g c =
-    subst (λ (layout : Layout). Holds layout (g.D.Desk.seen c.deliver_one.new.desk) (g.D.Desk.out c.deliver_one.new.desk) c.args.lock c.in-Some.bucket)
-    c.loop-delivery.invariant.layout c.in-Some.ensures.held
+pub returns-in-Idle-clause-held : goal.returns-in-Idle-clause-held
+returns-in-Idle-clause-held g c =
+    subst (λ (layout : Layout). Holds layout (g.D.Desk.seen c.deliver_one.new.desk) (g.D.Desk.out c.deliver_one.new.desk) c.args.lock c.in-Idle.bucket)
+    c.loop-delivery.invariant.layout c.in-Idle.ensures.held
 
 pub loop-delivery-preserved : goal.loop-delivery-preserved
 loop-delivery-preserved g c = record {
-  looks = Looks-then (g.D.Desk.seen c.args.desk.now) (g.D.Desk.seen c.loop-delivery.desk) (g.D.Desk.seen c.deliver_one.new.desk) c.args.lock
-      c.loop-delivery.invariant.looks c.in_default.ensures.looks;
+  quiet = MakeNoEntry-then (g.D.Desk.seen c.args.desk.now) (g.D.Desk.seen c.loop-delivery.desk) (g.D.Desk.seen c.deliver_one.new.desk) c.args.lock
+      c.loop-delivery.invariant.quiet c.in_default.ensures.quiet;
   nothing_out = c.in_default.ensures.held;
   layout = c.in_default.ensures.layout ∙ c.loop-delivery.invariant.layout;
 }
@@ -40,9 +40,9 @@ pub hold-requires-clause-within : goal.hold-requires-clause-within
 hold-requires-clause-within g c =
     subst (λ (layout : Layout). c.args.lock < layout.buckets) (sym c.loop-delivery.invariant.layout) c.requires.within
 
-pub returns-clause-looks : goal.returns-clause-looks
-returns-clause-looks g c =
-    subst (λ (seen : Seen). Looks (g.D.Desk.seen c.args.desk.now) seen c.args.lock) (sym c.hold.ensures.seen) c.loop-delivery.invariant.looks
+pub returns-clause-quiet : goal.returns-clause-quiet
+returns-clause-quiet g c =
+    subst (λ (seen : Seen). MakeNoEntry (g.D.Desk.seen c.args.desk.now) seen c.args.lock) (sym c.hold.ensures.seen) c.loop-delivery.invariant.quiet
 
 pub returns-clause-held : goal.returns-clause-held
 returns-clause-held g c = record {

@@ -1,11 +1,11 @@
 -- Each hold so far made no entry, and its bucket was given back.
 use Rattle.std.proofs.Common.{◌≡◌, None}
-use Rattle.sc_update.specs.Steps.{Looks}
+use Rattle.sc_update.specs.Steps.{MakeNoEntry}
 use Rattle.sc_update.proofs.order.hold_delivered.Given as goal
 
 abbrev pub invariant-loop-delivery : goal.invariant-loop-delivery
 invariant-loop-delivery g l = record {
-  looks : Looks (g.D.Desk.seen l.fn.desk) (g.D.Desk.seen l.desk) l.lock;
+  quiet : MakeNoEntry (g.D.Desk.seen l.fn.desk) (g.D.Desk.seen l.desk) l.lock;
   nothing_out : g.D.Desk.out l.desk ≡ None;
   layout : g.D.Desk.layout l.desk ≡ g.D.Desk.layout l.fn.desk;
 }

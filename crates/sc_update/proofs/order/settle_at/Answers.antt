@@ -8,7 +8,7 @@ use Rattle.sc_collection.specs.Kept.{Kept}
 use Rattle.sc_collection.specs.Desks.{Held, SeesGiven, MayReplace}
 use Rattle.sc_journal.specs.Seen.{GoesOn}
 use Rattle.sc_collection.proofs.StopLemmas.{stop_at, stop_is, GoesOn-held}
-use Rattle.sc_update.proofs.LookLemmas.{GoesOn-looked, written-held}
+use Rattle.sc_update.proofs.HoldLemmas.{GoesOn-looked, written-held}
 use Rattle.sc_update.proofs.OrderLemmas.{MayReplace-settled, settled-entries, settling}
 use Rattle.sc_update.proofs.order.settle_at.Goals as goal
 
@@ -16,7 +16,7 @@ pub settle_write-made-requires : goal.settle_write-made-requires
 settle_write-made-requires g c = record {
   sound = c.hold_delivered-bucket.ensures.held.sound;
   written = written-held (g.D.Desk.seen c.args.desk.now) (g.D.Desk.seen c.hold_delivered-bucket.new.desk) c.args.first.lock c.args.first.place c.hold_delivered-bucket.result
-      c.hold_delivered-bucket.ensures.looks c.hold_delivered-bucket.ensures.held.extends c.requires.written;
+      c.hold_delivered-bucket.ensures.quiet c.hold_delivered-bucket.ensures.held.extends c.requires.written;
 }
 
 pub give-requires : goal.give-requires
@@ -28,10 +28,10 @@ give-requires g c =
         c.hold_delivered-bucket.ensures.held.out_is,
         refl,
         subst (λ (layout : Layout). MayReplace layout held c.settle_write-made.new.bucket) (sym c.hold_delivered-bucket.ensures.layout)
-            (MayReplace-settled (g.D.Desk.layout c.args.desk.now) c.args.first.lock c.args.first.place c.settle_write-made.result c.hold_delivered-bucket.result c.settle_write-made.new.bucket
+            (MayReplace-settled (g.D.Desk.layout c.args.desk.now) held c.args.first.place c.settle_write-made.result c.settle_write-made.new.bucket
             c.hold_delivered-bucket.ensures.held.is_of c.settle_write-made.ensures.sound
             (written-held (g.D.Desk.seen c.args.desk.now) (g.D.Desk.seen c.hold_delivered-bucket.new.desk) c.args.first.lock c.args.first.place c.hold_delivered-bucket.result
-            c.hold_delivered-bucket.ensures.looks c.hold_delivered-bucket.ensures.held.extends c.requires.written)
+            c.hold_delivered-bucket.ensures.quiet c.hold_delivered-bucket.ensures.held.extends c.requires.written)
             c.settle_write-made.ensures.settles),
       );
     }
@@ -49,10 +49,10 @@ returns-clause-settles g c =
     stop_is c.args.first.lock c.entries-place.result held.bucket.journal.entries c.settle_write-made.result c.settle_write-made.result c.entries-place.ensures.count refl in
     record {
       second = record { lock = c.args.first.lock; place = c.entries-place.result; made = c.settle_write-made.result };
-      is_stop = record {
+      keeps = record {
         goes = subst (λ (stop : Stop). GoesOn layout (g.D.Desk.seen c.args.desk.now) new (stop ∷ [])) at
             (GoesOn-looked layout (g.D.Desk.seen c.args.desk.now) between new (stop_at c.args.first.lock held.bucket.journal.entries c.settle_write-made.result)
-            c.hold_delivered-bucket.ensures.looks
+            c.hold_delivered-bucket.ensures.quiet
             (GoesOn-held layout between new held given c.settle_write-made.result added.0
             c.requires.within c.hold_delivered-bucket.ensures.held.extends added.1 added.2 sees));
         kept = ap (λ (k : Kept). k.stops) c.keep.ensures;
@@ -60,6 +60,6 @@ returns-clause-settles g c =
       settling = λ later more. subst (λ (stop : Stop). IsSettling later c.args.first stop) at
           (settling between new held given c.args.first c.settle_write-made.result refl
           (written-held (g.D.Desk.seen c.args.desk.now) between c.args.first.lock c.args.first.place held.bucket
-          c.hold_delivered-bucket.ensures.looks c.hold_delivered-bucket.ensures.held.extends c.requires.written)
+          c.hold_delivered-bucket.ensures.quiet c.hold_delivered-bucket.ensures.held.extends c.requires.written)
           c.settle_write-made.ensures.settles sees later more);
     }

@@ -1,6 +1,6 @@
 -- What holds that make no entry leave, and a stop after them.
 use Rattle.std.proofs.Common.{◌≡◌, ◌≢◌, ℕ, Bool, true, false, cond, List, [], ◌∷◌, ◌++◌, length, Option, Some, None, refl, sym, ap, ◌∙◌, subst}
-use Rattle.std.specs.Prelude.{◌==◌, All, IsSome, MatchOption, map}
+use Rattle.std.specs.Prelude.{◌==◌, All, IsSome, MatchOption}
 use Rattle.std.proofs.lemmas.List.{append-nil}
 use mathlib.Core.List.{IsPrefix}
 use Rattle.sc_record.specs.declared.entry.Entry.{Entry}
@@ -11,11 +11,11 @@ use Rattle.sc_journal.specs.declared.stop.Stop.{Stop}
 use Rattle.sc_bucket.specs.declared.bucket.Bucket.{Bucket}
 use Rattle.sc_bucket.specs.Kept.{Sent}
 use Rattle.sc_bucket.specs.Sound.{IsSound}
-use Rattle.sc_bucket.specs.Events.{DeliversFirst, without_room}
+use Rattle.sc_bucket.specs.Events.{DeliversFirst}
 use Rattle.sc_collection.specs.Desks.{Held, IsBucketOf, MayReplace, SeesGiven, place_added}
 use Rattle.sc_collection.proofs.PlaceLemmas.{place_added-none}
-use Rattle.sc_collection.proofs.ReplaceLemmas.{unchanged_may_replace, delivered_may_replace}
-use Rattle.sc_update.specs.Steps.{Looks}
+use Rattle.sc_collection.proofs.ReplaceLemmas.{same_may_replace, delivered_may_replace}
+use Rattle.sc_update.specs.Steps.{MakeNoEntry}
 use Rattle.sc_journal.specs.Seen.{GoesOn}
 use Rattle.sc_journal.proofs.ExtendsLemmas.{IsPrefix-self, IsPrefix-then, entries-grow, ascend_earlier}
 use Rattle.sc_collection.proofs.StopLemmas.{at_lock, other_lock}
@@ -37,22 +37,13 @@ delivered-entries old new place (Some core) leaves = leaves.delivers.entries
 pub MayReplace-delivered : (layout : Layout) (held : Held) (given : Bucket) (place : ℕ) (answer : Option CoreId)
     → IsBucketOf layout held.number held.bucket → IsSound given → Leaves held.bucket given place answer
     → MayReplace layout held given
-MayReplace-delivered layout held given place None is_of sound leaves =
-    unchanged_may_replace layout held given is_of sound (record {
-      name = record { first = ap (λ (bucket : Bucket). bucket.first) leaves.0; limit = ap (λ (bucket : Bucket). bucket.limit) leaves.0 };
-      map_is = ap (λ (bucket : Bucket). bucket.map) leaves.0;
-      entries = ap (λ (bucket : Bucket). bucket.journal.entries) leaves.0;
-      messages = ap (λ (bucket : Bucket). bucket.flight.messages) leaves.0;
-      cores = ap (λ (bucket : Bucket). map without_room bucket.replicas) leaves.0;
-      split = record { phase = ap (λ (bucket : Bucket). bucket.phase) leaves.0; feeds = ap (λ (bucket : Bucket). bucket.feeds) leaves.0 };
-      searchers_are = ap (λ (bucket : Bucket). bucket.searchers) leaves.0;
-    })
+MayReplace-delivered layout held given place None is_of sound leaves = same_may_replace layout held given is_of sound leaves.0
 MayReplace-delivered layout held given place (Some core) is_of sound leaves =
     delivered_may_replace layout held given is_of sound leaves.at leaves.message leaves.delivers
 
 -- nothing was held
-pub Looks-none : (seen : Seen) (lock : ℕ) → Looks seen seen lock
-Looks-none seen lock = record {
+pub MakeNoEntry-none : (seen : Seen) (lock : ℕ) → MakeNoEntry seen seen lock
+MakeNoEntry-none seen lock = record {
   journal = IsPrefix-self (seen.journals lock);
   others = λ other is. refl;
   board = refl;
@@ -60,8 +51,8 @@ Looks-none seen lock = record {
 }
 
 -- holds after others
-pub Looks-then : (old between new : Seen) (lock : ℕ) → Looks old between lock → Looks between new lock → Looks old new lock
-Looks-then old between new lock one two = record {
+pub MakeNoEntry-then : (old between new : Seen) (lock : ℕ) → MakeNoEntry old between lock → MakeNoEntry between new lock → MakeNoEntry old new lock
+MakeNoEntry-then old between new lock one two = record {
   journal = IsPrefix-then (old.journals lock) (between.journals lock) (new.journals lock) one.journal two.journal;
   others = λ other is. two.others other is ∙ one.others other is;
   board = two.board ∙ one.board;
@@ -69,9 +60,9 @@ Looks-then old between new lock one two = record {
 }
 
 -- a hold that left the journal as it was
-pub Looks-held : (old new : Seen) (held : Held) (given : Bucket) → IsPrefix (old.journals held.number) held.bucket.journal.entries
-    → given.journal.entries ≡ held.bucket.journal.entries → SeesGiven held given old new → Looks old new held.number
-Looks-held old new held given begins same sees = record {
+pub MakeNoEntry-held : (old new : Seen) (held : Held) (given : Bucket) → IsPrefix (old.journals held.number) held.bucket.journal.entries
+    → given.journal.entries ≡ held.bucket.journal.entries → SeesGiven held given old new → MakeNoEntry old new held.number
+MakeNoEntry-held old new held given begins same sees = record {
   journal = subst (IsPrefix (old.journals held.number)) (sym (sees.journal ∙ same)) begins;
   others = sees.others;
   board = sees.board;
@@ -87,20 +78,20 @@ Looks-held old new held given begins same sees = record {
         ∙ ap (λ places. old.own held.number ++ places) (place_added-none journal) ∙ append-nil (old.own held.number)
 
 -- a write that was seen is in the bucket that is handed out then
-pub written-held : (old new : Seen) (lock place : ℕ) (bucket : Bucket) → Looks old new lock → IsPrefix (new.journals lock) bucket.journal.entries
+pub written-held : (old new : Seen) (lock place : ℕ) (bucket : Bucket) → MakeNoEntry old new lock → IsPrefix (new.journals lock) bucket.journal.entries
     → IsSome (write_at (old.journals lock) place) → IsSome (write_at bucket.journal.entries place)
 written-held old new lock place bucket looks begins written =
     written-later (old.journals lock) bucket.journal.entries place
     (IsPrefix-then (old.journals lock) (new.journals lock) bucket.journal.entries looks.journal begins) written
 
 -- of each lock what was seen before is a prefix of what is seen then
-Looks-begins : (old new : Seen) (lock : ℕ) → Looks old new lock → (other : ℕ) → IsPrefix (old.journals other) (new.journals other)
-Looks-begins old new lock looks other =
+MakeNoEntry-begins : (old new : Seen) (lock : ℕ) → MakeNoEntry old new lock → (other : ℕ) → IsPrefix (old.journals other) (new.journals other)
+MakeNoEntry-begins old new lock looks other =
     at_lock (λ (n : ℕ). IsPrefix (old.journals n) (new.journals n)) lock other (lock == other) refl looks.journal
     (λ is. subst (IsPrefix (old.journals other)) (sym (looks.others other is)) (IsPrefix-self (old.journals other)))
 
 -- holds of a lock that make no entry, and then a stop at it, are that stop
-pub GoesOn-looked : (layout : Layout) (old between new : Seen) (stop : Stop) → Looks old between stop.lock
+pub GoesOn-looked : (layout : Layout) (old between new : Seen) (stop : Stop) → MakeNoEntry old between stop.lock
     → GoesOn layout between new (stop ∷ []) → GoesOn layout old new (stop ∷ [])
 GoesOn-looked layout old between new stop looks goes =
     record {
@@ -120,7 +111,7 @@ GoesOn-looked layout old between new stop looks goes =
     then = goes.extends
 
     begins : (lock : ℕ) → IsPrefix (old.journals lock) (between.journals lock)
-    begins = Looks-begins old between stop.lock looks
+    begins = MakeNoEntry-begins old between stop.lock looks
 
     board : IsPrefix old.board between.board
     board = subst (IsPrefix old.board) (sym looks.board) (IsPrefix-self old.board)

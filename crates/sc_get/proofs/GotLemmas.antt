@@ -12,8 +12,8 @@ use Rattle.sc_record.specs.declared.entry.Entry.{Entry}
 use Rattle.sc_record.specs.declared.write.Write.{Write}
 use Rattle.sc_router.specs.Route.{bucket_of}
 use Rattle.sc_journal.specs.Journal.{last_write}
-use Rattle.sc_journal.specs.Seen.{Layout, Seen, SeesMore, journal_at}
-use Rattle.sc_journal.specs.declared.stop.Stop.{Stop}
+use Rattle.sc_journal.specs.Seen.{Layout, Seen, FromNowOn}
+use Rattle.sc_journal.specs.Moments.{View}
 use Rattle.sc_journal.proofs.GoesOnLemmas.{take-prefix}
 use Rattle.sc_bucket.specs.declared.bucket.Bucket.{Bucket}
 use Rattle.sc_collection.specs.Desks.{SeesGiven}
@@ -24,27 +24,27 @@ use Rattle.sc_get.specs.Got.{IsGot, live, live_at}
 found_later : (id : List ℕ) (new : Seen) (number : ℕ) (journal : List Entry) (found : Result (Option (Arc Write Global)) AllocError)
     → new.journals number ≡ journal
     → IfOk found (λ cell. option_map arc_value cell ≡ live (last_write journal id))
-    → IfOk found (λ cell. (later : Seen) → SeesMore new later → option_map arc_value cell ≡ live_at later id (stop_at number journal false))
+    → IfOk found (λ cell. FromNowOn new (λ later. option_map arc_value cell ≡ live_at later id (stop_at number journal false)))
 found_later id new number journal (Ok cell) seen is = λ later more.
-    let begins : IsPrefix journal (later.journals number) = subst (λ (j : List Entry). IsPrefix j (later.journals number)) seen (more number) in
+    let begins : IsPrefix journal (later.journals number) = subst (λ (j : List Entry). IsPrefix j (later.journals number)) seen (more.journals number) in
     is ∙ ap (λ (j : List Entry). live (last_write j id)) (sym (take-prefix journal (later.journals number) begins))
 found_later id new number journal (Err fault) seen is = is
 
-pub got : (layout : Layout) (old new : Seen) (bucket : Bucket) (number : ℕ) (old_stops new_stops : List Stop) (id : List ℕ)
+pub got : (layout : Layout) (old new : View) (bucket : Bucket) (number : ℕ) (id : List ℕ)
     (found : Result (Option (Arc Write Global)) AllocError)
     → number ≡ bucket_of id layout.buckets → number < layout.buckets
-    → IsPrefix (old.journals number) bucket.journal.entries
-    → SeesGiven (record { number = number; bucket = bucket }) bucket old new
-    → new_stops ≡ old_stops ++ stop_at number bucket.journal.entries false ∷ []
+    → IsPrefix (old.seen.journals number) bucket.journal.entries
+    → SeesGiven (record { number = number; bucket = bucket }) bucket old.seen new.seen
+    → new.stops ≡ old.stops ++ stop_at number bucket.journal.entries false ∷ []
     → IfOk found (λ cell. option_map arc_value cell ≡ live (last_write bucket.journal.entries id))
-    → IsGot layout old new old_stops new_stops id found
-got layout old new bucket number old_stops new_stops id found here below begins sees kept is = record {
+    → IsGot layout old new id found
+got layout old new bucket number id found here below begins sees kept is = record {
   stop = stop_at number bucket.journal.entries false;
   reads = record { lock = here; made = refl };
-  is_stop = record {
-    goes = GoesOn-held layout old new (record { number = number; bucket = bucket }) bucket false [] below begins
+  keeps = record {
+    goes = GoesOn-held layout old.seen new.seen (record { number = number; bucket = bucket }) bucket false [] below begins
         (sym (append-nil bucket.journal.entries)) refl sees;
     kept = kept;
   };
-  found_is = found_later id new number bucket.journal.entries found sees.journal is;
+  found_is = found_later id new.seen number bucket.journal.entries found sees.journal is;
 }

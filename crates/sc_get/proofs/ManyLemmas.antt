@@ -1,6 +1,6 @@
 -- The first ids were read, each at its stop.
 use Rattle.std.proofs.Common.{◌≡◌, ℕ, ◌+◌, ◌<◌, ◌≤◌, List, [], ◌∷◌, ◌++◌, length, refl, sym, ap, ◌∙◌, subst, arith, append_assoc, length-append}
-use Rattle.std.specs.Prelude.{get_or, map, Option, Some, None, option_to_list, Result, Ok, Err, IfOk}
+use Rattle.std.specs.Prelude.{get_or, map, Option, Some, None, option_to_list, Ok, Err}
 use Rattle.std.specs.Arc.{arc_value}
 use Rattle.std.specs.Option.{option_map}
 use Rattle.std.specs.declared.alloc.AllocError.{AllocError}
@@ -8,20 +8,19 @@ use Rattle.std.specs.declared.alloc.Global.{Global}
 use Rattle.std.specs.declared.sync.Arc.{Arc}
 use Rattle.std.proofs.lemmas.List.{append-nil, map-append}
 use Rattle.sc_record.specs.declared.write.Write.{Write}
-use Rattle.sc_journal.specs.Seen.{Layout, Seen, SeesMore, GoesOn}
+use Rattle.sc_journal.specs.Seen.{Layout, Seen, FromNowOn}
+use Rattle.sc_journal.specs.Moments.{View, Keeps}
 use Rattle.sc_journal.specs.declared.stop.Stop.{Stop}
-use Rattle.sc_journal.proofs.GoesOnLemmas.{SeesMore-self, SeesMore-then, GoesOn-none, GoesOn-then}
+use Rattle.sc_journal.proofs.GoesOnLemmas.{Keeps-none, Keeps-then, Keeps-sees}
 use Rattle.sc_get.specs.Got.{IsGot, AreGot, ReadsAt, ReadsEach, live_at, live_writes}
 
 -- so many of the ids were read, and these were found
-pub record SoFar (layout : Layout) (old new : Seen) (old_stops new_stops : List Stop) (ids : List (List ℕ)) (count : ℕ)
-    (found : List (Arc Write Global)) : Type 0 where
+pub record SoFar (layout : Layout) (old new : View) (ids : List (List ℕ)) (count : ℕ) (found : List (Arc Write Global)) : Type 0 where
   pub stops : List Stop
-  pub goes : GoesOn layout old new stops
-  pub kept : new_stops ≡ old_stops ++ stops
+  pub keeps : Keeps layout old new stops
   pub reads : ReadsEach layout ids stops
   pub count_is : length stops ≡ count
-  pub found_are : (later : Seen) → SeesMore new later → map arc_value found ≡ live_writes later ids stops
+  pub found_are : FromNowOn new.seen (λ later. map arc_value found ≡ live_writes later ids stops)
 
 -- the id at the next stop
 reads-push : (layout : Layout) (ids : List (List ℕ)) (stops : List Stop) (id : List ℕ) (stop : Stop)
@@ -57,12 +56,11 @@ one_at_most None = omega arith
 one_at_most (Some x) = omega arith
 
 -- no id was read
-pub SoFar-none : (layout : Layout) (seen : Seen) (stops : List Stop) (ids : List (List ℕ)) (found : List (Arc Write Global))
-    → found ≡ [] → SoFar layout seen seen stops stops ids 0 found
-SoFar-none layout seen stops ids found is = record {
+pub SoFar-none : (layout : Layout) (view : View) (ids : List (List ℕ)) (found : List (Arc Write Global))
+    → found ≡ [] → SoFar layout view view ids 0 found
+SoFar-none layout view ids found is = record {
   stops = [];
-  goes = GoesOn-none layout seen;
-  kept = sym (append-nil stops);
+  keeps = Keeps-none layout view;
   reads = none_read ids;
   count_is = refl;
   found_are = λ later more. ap (map arc_value) is ∙ none_found later ids;
@@ -75,8 +73,8 @@ SoFar-none layout seen stops ids found is = record {
   none_found later [] = refl
   none_found later (id ∷ ids) = refl
 
-module _ (layout : Layout) (old between new : Seen) (old_stops between_stops new_stops : List Stop) (ids : List (List ℕ)) (count : ℕ)
-    (found : List (Arc Write Global)) (id : List ℕ) (far : SoFar layout old between old_stops between_stops ids count found)
+module _ (layout : Layout) (old between new : View) (ids : List (List ℕ)) (count : ℕ)
+    (found : List (Arc Write Global)) (id : List ℕ) (far : SoFar layout old between ids count found)
     (some : count < length ids) (at : get_or ids count id ≡ id) where
   some_left : length far.stops < length ids
   some_left = subst (λ n. n < length ids) (sym far.count_is) some
@@ -86,17 +84,16 @@ module _ (layout : Layout) (old between new : Seen) (old_stops between_stops new
 
   -- one more id was read
   pub SoFar-then : (cell : Option (Arc Write Global)) (all : List (Arc Write Global)) → all ≡ found ++ option_to_list cell
-      → IsGot layout between new between_stops new_stops id (Ok cell)
-      → SoFar layout old new old_stops new_stops ids (count + 1) all
+      → IsGot layout between new id (Ok cell)
+      → SoFar layout old new ids (count + 1) all
   SoFar-then cell all all_are one = record {
     stops = far.stops ++ one.stop ∷ [];
-    goes = GoesOn-then layout old between new far.stops (one.stop ∷ []) far.goes one.is_stop.goes;
-    kept = one.is_stop.kept ∙ ap (λ (stops : List Stop). stops ++ one.stop ∷ []) far.kept ∙ append_assoc old_stops far.stops (one.stop ∷ []);
+    keeps = Keeps-then layout old between new far.stops (one.stop ∷ []) far.keeps one.keeps;
     reads = reads-push layout ids far.stops id one.stop far.reads some_left next one.reads;
     count_is = length-append far.stops (one.stop ∷ []) ∙ ap (λ n. n + 1) far.count_is;
     found_are = λ later more.
         let before : map arc_value found ≡ live_writes later ids far.stops =
-        far.found_are later (SeesMore-then between new later one.is_stop.goes.extends.seen more) in
+        far.found_are later (Keeps-sees layout between new (one.stop ∷ []) one.keeps later more) in
         ap (map arc_value) all_are ∙ map-append arc_value found (option_to_list cell)
         ∙ ap (λ (writes : List Write). writes ++ map arc_value (option_to_list cell)) before
         ∙ ap (λ (writes : List Write). live_writes later ids far.stops ++ writes)
@@ -105,31 +102,26 @@ module _ (layout : Layout) (old between new : Seen) (old_stops between_stops new
   }
 
   -- memory ran out at the next id
-  pub ran_out_at : (fault end : AllocError) → IsGot layout between new between_stops new_stops id (Err fault)
-      → AreGot layout old new old_stops new_stops ids (Err end)
+  pub ran_out_at : (fault end : AllocError) → IsGot layout between new id (Err fault) → AreGot layout old new ids (Err end)
   ran_out_at fault end one = record {
     stops = far.stops ++ one.stop ∷ [];
-    goes = GoesOn-then layout old between new far.stops (one.stop ∷ []) far.goes one.is_stop.goes;
-    kept = one.is_stop.kept ∙ ap (λ (stops : List Stop). stops ++ one.stop ∷ []) far.kept ∙ append_assoc old_stops far.stops (one.stop ∷ []);
+    keeps = Keeps-then layout old between new far.stops (one.stop ∷ []) far.keeps one.keeps;
     reads = reads-push layout ids far.stops id one.stop far.reads some_left next one.reads;
     found_are = tt;
   }
 
 -- memory ran out before an id was read
-pub ran_out : (layout : Layout) (seen : Seen) (stops : List Stop) (ids : List (List ℕ)) (end : AllocError)
-    → AreGot layout seen seen stops stops ids (Err end)
-ran_out layout seen stops ids end =
-    let none = SoFar-none layout seen stops ids [] refl in
-    record { stops = none.stops; goes = none.goes; kept = none.kept; reads = none.reads; found_are = tt }
+pub ran_out : (layout : Layout) (view : View) (ids : List (List ℕ)) (end : AllocError) → AreGot layout view view ids (Err end)
+ran_out layout view ids end =
+    let none = SoFar-none layout view ids [] refl in
+    record { stops = none.stops; keeps = none.keeps; reads = none.reads; found_are = tt }
 
 -- each id was read
-pub all_got : (layout : Layout) (old new : Seen) (old_stops new_stops : List Stop) (ids : List (List ℕ)) (count : ℕ)
-    (found cells : List (Arc Write Global)) → SoFar layout old new old_stops new_stops ids count found → count ≡ length ids → cells ≡ found
-    → AreGot layout old new old_stops new_stops ids (Ok cells)
-all_got layout old new old_stops new_stops ids count found cells far all is = record {
+pub all_got : (layout : Layout) (old new : View) (ids : List (List ℕ)) (count : ℕ) (found cells : List (Arc Write Global))
+    → SoFar layout old new ids count found → count ≡ length ids → cells ≡ found → AreGot layout old new ids (Ok cells)
+all_got layout old new ids count found cells far all is = record {
   stops = far.stops;
-  goes = far.goes;
-  kept = far.kept;
+  keeps = far.keeps;
   reads = far.reads;
   found_are = (far.count_is ∙ all, λ later more. ap (map arc_value) is ∙ far.found_are later more);
 }

@@ -9,7 +9,8 @@ use Rattle.sc_record.specs.declared.write.Write.{Write}
 use Rattle.sc_record.specs.declared.document.Field.{Field}
 use Rattle.sc_router.specs.Route.{bucket_of}
 use Rattle.sc_journal.specs.Journal.{last_write}
-use Rattle.sc_journal.specs.Seen.{Layout, Seen, SeesMore, GoesOn, IsStop, journal_at}
+use Rattle.sc_journal.specs.Seen.{Layout, Seen, FromNowOn, journal_at}
+use Rattle.sc_journal.specs.Moments.{View, Keeps}
 use Rattle.sc_journal.specs.declared.stop.Stop.{Stop}
 
 -- the write, where it is no deletion
@@ -31,11 +32,11 @@ abbrev pub live_at : Seen → List ℕ → Stop → Option Write
 live_at seen id stop = live (last_write (journal_at seen stop) id)
 
 -- One id was read at one stop, which was kept. What was found is its live write there.
-pub record IsGot (layout : Layout) (old new : Seen) (old_stops new_stops : List Stop) (id : List ℕ) (found : Result (Option (Arc Write Global)) AllocError) : Type 0 where
+pub record IsGot (layout : Layout) (old new : View) (id : List ℕ) (found : Result (Option (Arc Write Global)) AllocError) : Type 0 where
   pub stop : Stop
   pub reads : ReadsAt layout id stop
-  pub is_stop : IsStop layout old new old_stops new_stops stop
-  pub found_is : IfOk found (λ cell. (later : Seen) → SeesMore new later → option_map arc_value cell ≡ live_at later id stop)
+  pub keeps : Keeps layout old new (stop ∷ [])
+  pub found_is : IfOk found (λ cell. FromNowOn new.seen (λ later. option_map arc_value cell ≡ live_at later id stop))
 
 -- each id was read in turn at a stop of its own: as many of them as there are stops
 abbrev pub ReadsEach : Layout → List (List ℕ) → List Stop → Type 0
@@ -49,10 +50,9 @@ live_writes seen (id ∷ ids) (stop ∷ stops) = option_to_list (live_at seen id
 live_writes seen _ _ = []
 
 -- The ids were read in turn, each at its stop, which were kept, up to the end or up to where memory ran out.
-pub record AreGot (layout : Layout) (old new : Seen) (old_stops new_stops : List Stop) (ids : List (List ℕ)) (found : Result (List (Arc Write Global)) AllocError) : Type 0 where
+pub record AreGot (layout : Layout) (old new : View) (ids : List (List ℕ)) (found : Result (List (Arc Write Global)) AllocError) : Type 0 where
   pub stops : List Stop
-  pub goes : GoesOn layout old new stops
-  pub kept : new_stops ≡ old_stops ++ stops
+  pub keeps : Keeps layout old new stops
   pub reads : ReadsEach layout ids stops
   pub found_are : IfOk found (λ cells. (length stops ≡ length ids)
-      × ((later : Seen) → SeesMore new later → map arc_value cells ≡ live_writes later ids stops))
+      × FromNowOn new.seen (λ later. map arc_value cells ≡ live_writes later ids stops))

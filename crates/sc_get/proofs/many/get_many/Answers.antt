@@ -1,5 +1,5 @@
 -- The ids were read in turn, up to the end or up to where memory ran out.
-use Rattle.std.proofs.Common.{◌≡◌, ℕ, ◌+◌, ◌<◌, ◌≤◌, Vec, List, ◌++◌, length, refl, sym, ap, ◌∙◌, subst, arith, length-append}
+use Rattle.std.proofs.Common.{◌≡◌, ℕ, ◌+◌, ◌<◌, Vec, List, ◌++◌, length, refl, sym, ap, ◌∙◌, subst, arith, length-append}
 use Rattle.std.specs.Prelude.{get_or, Option, Result, Ok, Err, option_to_list, vec_capacity}
 use Rattle.std.specs.declared.alloc.AllocError.{AllocError}
 use Rattle.std.specs.declared.alloc.Global.{Global}
@@ -8,6 +8,7 @@ use Rattle.std.proofs.lemmas.List.{append-nil}
 use Rattle.std.proofs.lemmas.Result.{err_from_is_err_and}
 use Rattle.sc_record.specs.declared.write.Write.{Write}
 use Rattle.sc_journal.specs.Seen.{Layout}
+use Rattle.sc_journal.specs.Moments.{view_of}
 use Rattle.sc_get.specs.Got.{IsGot, AreGot}
 use Rattle.sc_get.proofs.ManyLemmas.{SoFar-none, SoFar-then, one_at_most, ran_out, ran_out_at, all_got}
 use Rattle.sc_get.proofs.many.get_many.Goals.{in-Some, in_default}
@@ -16,17 +17,17 @@ use Rattle.sc_get.proofs.many.get_many.Goals as goal
 pub returns-in_err-found-clause-got : goal.returns-in_err-found-clause-got
 returns-in_err-found-clause-got g c =
     let layout = g.D.Desk.layout c.args.desk.now in
-    let seen = g.D.Desk.seen c.args.desk.now in
+    let view = view_of (g.D.Desk.seen c.args.desk.now) c.args.trail.now.stops in
     let failed = err_from_is_err_and c.from_residual.result c.from_residual.ensures.1 in
-    subst (λ (r : Result (List (Arc Write Global)) AllocError). AreGot layout seen seen c.args.trail.now.stops c.args.trail.now.stops c.args.ids.now r)
-    (sym failed.1) (ran_out layout seen c.args.trail.now.stops c.args.ids.now failed.0)
+    subst (λ (r : Result (List (Arc Write Global)) AllocError). AreGot layout view view c.args.ids.now r)
+    (sym failed.1) (ran_out layout view c.args.ids.now failed.0)
 
 pub loop-id-init : goal.loop-id-init
 loop-id-init g c = record {
-  far = SoFar-none (g.D.Desk.layout c.args.desk.now) (g.D.Desk.seen c.args.desk.now) c.args.trail.now.stops c.args.ids.now
+  far = SoFar-none (g.D.Desk.layout c.args.desk.now) (view_of (g.D.Desk.seen c.args.desk.now) c.args.trail.now.stops) c.args.ids.now
       c.in_ok-found.found.items c.in_ok-found.ensures.items;
   layout = refl;
-  nothing_out = c.requires.nothing_out;
+  rest = c.requires.rest;
   requests = refl;
   stops = omega arith;
   found = omega (arith, ap length c.in_ok-found.ensures.items);
@@ -36,32 +37,32 @@ loop-id-init g c = record {
 pub returns-in_err-cell-clause-got : goal.returns-in_err-cell-clause-got
 returns-in_err-cell-clause-got g c =
     let layout = g.D.Desk.layout c.args.desk.now in
-    let old = g.D.Desk.seen c.args.desk.now in
-    let between = g.D.Desk.seen c.loop-id.desk in
-    let new = g.D.Desk.seen c.get_one.new.desk in
+    let old = view_of (g.D.Desk.seen c.args.desk.now) c.args.trail.now.stops in
+    let between = view_of (g.D.Desk.seen c.loop-id.desk) c.loop-id.trail.stops in
+    let new = view_of (g.D.Desk.seen c.get_one.new.desk) c.get_one.new.trail.stops in
     let failed = err_from_is_err_and c.from_residual-in_err-cell.result c.from_residual-in_err-cell.ensures.1 in
     let some : c.loop-id.id-index < length c.args.ids.now = omega (arith, c.loop-id-test.true, ap length c.as_slice-id-items.ensures) in
     let at : get_or c.args.ids.now c.loop-id.id-index c.id-item.result ≡ c.id-item.result =
     ap (λ (ids : List (List ℕ)). get_or ids c.loop-id.id-index c.id-item.result) (sym c.as_slice-id-items.ensures) ∙ sym c.id-item.is in
-    let one : IsGot layout between new c.loop-id.trail.stops c.get_one.new.trail.stops c.id-item.result (Err c.in_err-cell.field-0.0) =
-    subst (λ (l : Layout). IsGot l between new c.loop-id.trail.stops c.get_one.new.trail.stops c.id-item.result (Err c.in_err-cell.field-0.0))
+    let one : IsGot layout between new c.id-item.result (Err c.in_err-cell.field-0.0) =
+    subst (λ (l : Layout). IsGot l between new c.id-item.result (Err c.in_err-cell.field-0.0))
     c.loop-id.invariant.layout c.in_err-cell.ensures.got in
-    subst (λ (r : Result (List (Arc Write Global)) AllocError). AreGot layout old new c.args.trail.now.stops c.get_one.new.trail.stops c.args.ids.now r)
+    subst (λ (r : Result (List (Arc Write Global)) AllocError). AreGot layout old new c.args.ids.now r)
     (sym failed.1)
-    (ran_out_at layout old between new c.args.trail.now.stops c.loop-id.trail.stops c.get_one.new.trail.stops c.args.ids.now c.loop-id.id-index
+    (ran_out_at layout old between new c.args.ids.now c.loop-id.id-index
     c.loop-id.found.items c.id-item.result c.loop-id.invariant.far some at c.in_err-cell.field-0.0 failed.0 one)
 
 pub loop-id-preserved : goal.loop-id-preserved
 loop-id-preserved g c =
     let layout = g.D.Desk.layout c.args.desk.now in
-    let old = g.D.Desk.seen c.args.desk.now in
-    let between = g.D.Desk.seen c.loop-id.desk in
-    let new = g.D.Desk.seen c.get_one.new.desk in
+    let old = view_of (g.D.Desk.seen c.args.desk.now) c.args.trail.now.stops in
+    let between = view_of (g.D.Desk.seen c.loop-id.desk) c.loop-id.trail.stops in
+    let new = view_of (g.D.Desk.seen c.get_one.new.desk) c.get_one.new.trail.stops in
     let some : c.loop-id.id-index < length c.args.ids.now = omega (arith, c.loop-id-test.true, ap length c.as_slice-id-items.ensures) in
     let at : get_or c.args.ids.now c.loop-id.id-index c.id-item.result ≡ c.id-item.result =
     ap (λ (ids : List (List ℕ)). get_or ids c.loop-id.id-index c.id-item.result) (sym c.as_slice-id-items.ensures) ∙ sym c.id-item.is in
-    let one : IsGot layout between new c.loop-id.trail.stops c.get_one.new.trail.stops c.id-item.result (Ok c.in_ok-cell.field-0) =
-    subst (λ (l : Layout). IsGot l between new c.loop-id.trail.stops c.get_one.new.trail.stops c.id-item.result (Ok c.in_ok-cell.field-0))
+    let one : IsGot layout between new c.id-item.result (Ok c.in_ok-cell.field-0) =
+    subst (λ (l : Layout). IsGot l between new c.id-item.result (Ok c.in_ok-cell.field-0))
     c.loop-id.invariant.layout c.in_ok-cell.ensures.got in
     let all : c.match-branch-3.found.items ≡ c.loop-id.found.items ++ option_to_list c.in_ok-cell.field-0 = elim c.match-branch-3.branch [
       | in-Some w ↦ ap (λ (v : Vec (Arc Write Global) Global). v.items) w.found-is ∙ w.push_reserved.ensures.items
@@ -74,10 +75,10 @@ loop-id-preserved g c =
       | in_default w ↦ ap vec_capacity w.found-is
     ] in
     record {
-      far = SoFar-then layout old between new c.args.trail.now.stops c.loop-id.trail.stops c.get_one.new.trail.stops c.args.ids.now c.loop-id.id-index
+      far = SoFar-then layout old between new c.args.ids.now c.loop-id.id-index
           c.loop-id.found.items c.id-item.result c.loop-id.invariant.far some at c.in_ok-cell.field-0 c.match-branch-3.found.items all one;
       layout = c.get_one.ensures.layout ∙ c.loop-id.invariant.layout;
-      nothing_out = c.get_one.ensures.nothing_out;
+      rest = c.get_one.ensures.rest;
       requests = c.get_one.ensures.requests ∙ c.loop-id.invariant.requests;
       stops = omega (arith, c.get_one.ensures.stops, c.loop-id.invariant.stops);
       found = omega (
@@ -92,6 +93,6 @@ loop-id-preserved g c =
 
 pub returns-clause-got : goal.returns-clause-got
 returns-clause-got g c =
-    all_got (g.D.Desk.layout c.args.desk.now) (g.D.Desk.seen c.args.desk.now) (g.D.Desk.seen c.loop-id.desk) c.args.trail.now.stops c.loop-id.trail.stops
-    c.args.ids.now c.loop-id.id-index c.loop-id.found.items c.from_vec.result c.loop-id.invariant.far
+    all_got (g.D.Desk.layout c.args.desk.now) (view_of (g.D.Desk.seen c.args.desk.now) c.args.trail.now.stops)
+    (view_of (g.D.Desk.seen c.loop-id.desk) c.loop-id.trail.stops) c.args.ids.now c.loop-id.id-index c.loop-id.found.items c.from_vec.result c.loop-id.invariant.far
     (omega (arith, c.loop-id-test.false, c.loop-id.auto.id-index-end, ap length c.as_slice-id-items.ensures)) c.from_vec.ensures

@@ -1,10 +1,10 @@
 -- What is found of an id is its live write at the stop.
-use Rattle.std.proofs.Common.{◌≡◌, ◌<◌, ℕ, false, List, [], ◌∷◌, ◌++◌, sym, ap, ◌∙◌, subst}
+use Rattle.std.proofs.Common.{◌≡◌, ◌<◌, ℕ, false, List, [], ◌∷◌, ◌++◌, ap, ◌∙◌, subst}
 use Rattle.sc_router.specs.Route.{bucket_of}
 use Rattle.sc_journal.specs.Seen.{Seen}
-use Rattle.sc_journal.specs.declared.stop.Stop.{Stop}
+use Rattle.sc_journal.specs.Moments.{view_of}
 use Rattle.sc_collection.specs.Kept.{Kept}
-use Rattle.sc_collection.specs.Desks.{Held, SeesGiven}
+use Rattle.sc_collection.specs.Desks.{SeesGiven}
 use Rattle.sc_collection.proofs.StopLemmas.{stop_at}
 use Rattle.sc_get.proofs.GotLemmas.{got}
 use Rattle.sc_get.proofs.one.get_one.Goals as goal
@@ -26,5 +26,5 @@ returns-clause-got g c =
     let sees : SeesGiven (record { number = number; bucket = bucket }) bucket old new =
     subst (λ (s : Seen). SeesGiven (record { number = number; bucket = bucket }) bucket s new) c.hold-bucket.ensures.seen
     (c.give.ensures.seen (record { number = number; bucket = bucket }) c.hold-bucket.ensures.out) in
-    got layout old new bucket number c.args.trail.now.stops c.keep.new.self.stops c.args.id.now c.share_live-found.result
+    got layout (view_of old c.args.trail.now.stops) (view_of new c.keep.new.self.stops) bucket number c.args.id.now c.share_live-found.result
     here below c.hold-bucket.ensures.extends sees stops (rw c.read.ensures at c.share_live-found.ensures)

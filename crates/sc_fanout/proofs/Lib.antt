@@ -9,4 +9,5 @@ mod TakenLemmas
 mod ExactlyLemmas
 mod BucketLemmas
 mod SearchLemmas
+mod DeterminedLemmas
 mod LawLemmas

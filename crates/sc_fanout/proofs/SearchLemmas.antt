@@ -1,48 +1,42 @@
 -- A search goes on from bucket to bucket, and a page shows what all of them find.
-use Rattle.std.proofs.Common.{◌≡◌, ◌≢◌, ℕ, zero, suc, ◌+◌, ◌*◌, ◌^◌, ◌<◌, ◌≤◌, false, List, [], ◌∷◌, ◌++◌, length, map, Option, All, Contains, refl, sym, ap, subst, ◌∙◌, ◌⊎◌, inl, inr, ⊎_elim, arith, append_assoc, length-append}
+use Rattle.std.proofs.Common.{◌≡◌, ◌≢◌, ℕ, zero, suc, ◌+◌, ◌*◌, ◌^◌, ◌<◌, ◌≤◌, false, List, [], ◌∷◌, ◌++◌, length, map, All, Contains, refl, sym, ap, subst, ◌∙◌, ◌⊎◌, inl, inr, ⊎_elim, arith, length-append}
 use Rattle.std.specs.Prelude.{Result, Ok, Err, IfOk}
 use Rattle.std.specs.List.{range_with_len}
 use Rattle.std.specs.declared.alloc.AllocError.{AllocError}
-use Rattle.std.proofs.lemmas.List.{append-nil, map-append, length-map}
+use Rattle.std.proofs.lemmas.List.{map-append, length-map}
 use Rattle.std.proofs.lemmas.List.Concat.{flat_map-append}
 use Rattle.std.proofs.lemmas.List.Elements.{All-nil, All-cons, All-append, Contains-append_left, Contains-append_right, Contains-append_cases}
 use Rattle.std.proofs.lemmas.List.Sorted.{length_permutation}
 use Rattle.std.proofs.Math.Nat.{pow-le-pow_right}
-use Rattle.sc_hash.specs.declared.range.Range.{Range}
 use Rattle.sc_router.specs.Route.{bucket_of, IsBucketCount}
 use Rattle.sc_record.specs.declared.write.Write.{Write}
 use Rattle.sc_record.specs.declared.entry.Entry.{Entry}
 use Rattle.sc_snapshot.specs.Rows.{AreRows}
 use Rattle.sc_eval.specs.Conditions.{Condition, condition_of}
-use Rattle.sc_journal.specs.Seen.{Layout, Seen, SeesMore, GoesOn, journal_at}
+use Rattle.sc_journal.specs.Seen.{Layout, Seen, SeesMore, FromNowOn, journal_at}
+use Rattle.sc_journal.specs.Moments.{View, Keeps}
 use Rattle.sc_journal.specs.declared.stop.Stop.{Stop}
 use Rattle.sc_journal.proofs.ExtendsLemmas.{IsPrefix-then}
-use Rattle.sc_journal.proofs.GoesOnLemmas.{take-prefix, SeesMore-then, GoesOn-none, GoesOn-then}
+use Rattle.sc_journal.proofs.GoesOnLemmas.{take-prefix, Keeps-none, Keeps-then, Keeps-sees}
 use Rattle.sc_bucket.specs.declared.standing.Searcher.{Searcher}
 use Rattle.sc_fanout.specs.declared.ask.Ask.{Ask}
 use Rattle.sc_fanout.specs.declared.shown.Page.{Page}
 use Rattle.sc_fanout.specs.Pages.{AreFound, IsPageOf, all_of}
-use Rattle.sc_fanout.specs.Searches.{IsFoundIn, LooksAtBuckets, IsSearched}
+use Rattle.sc_fanout.specs.Searches.{IsFoundIn, IsFoundAtOne, LooksAtBuckets, SearchesBuckets, search_of}
 use Rattle.sc_fanout.specs.Steps.{rows_in, found_in, AreAsked, LooksAtOne}
 use Rattle.sc_fanout.proofs.ExactlyLemmas.{AreExactly, AreExactly-none, AreExactly-same, AreExactly-append, AreExactly-sorted}
 use Rattle.sc_fanout.proofs.BucketLemmas.{bucket-exactly, found-number, few-asked, are-found}
 
 -- the first buckets were looked at, and these stops kept
-pub record Looked (layout : Layout) (old now : Seen) (old_stops now_stops : List Stop) (count : ℕ) : Type 0 where
+pub record Looked (layout : Layout) (old now : View) (count : ℕ) : Type 0 where
   pub stops : List Stop
-  pub goes : GoesOn layout old now stops
-  pub kept : now_stops ≡ old_stops ++ stops
+  pub keeps : Keeps layout old now stops
   pub looks : LooksAtBuckets count stops
 
--- the search finds the write at one of the stops
-abbrev pub IsFoundAtOne : Layout → Seen → List Stop → Condition → Option Range → Write → Type 0
-IsFoundAtOne layout seen stops condition route write =
-    (stop : Stop) × Contains stops stop × IsFoundIn layout.first (journal_at seen stop) condition route write
-
 -- and what the lists hold is what was found in them
-pub record FoundSoFar (layout : Layout) (old now : Seen) (old_stops now_stops : List Stop) (condition : Condition) (route : Option Range) (count : ℕ) (lists : List (List Write)) : Type 0 where
-  pub looked : Looked layout old now old_stops now_stops count
-  pub found : (later : Seen) → SeesMore now later → AreExactly (IsFoundAtOne layout later looked.stops condition route) (all_of lists)
+pub record FoundSoFar (layout : Layout) (old now : View) (ask : Ask) (count : ℕ) (lists : List (List Write)) : Type 0 where
+  pub looked : Looked layout old now count
+  pub found : FromNowOn now.seen (λ later. AreExactly (IsFoundAtOne layout later (search_of ask looked.stops)) (all_of lists))
   pub below : (write : Write) → Contains (all_of lists) write → bucket_of write.id layout.buckets < count
   pub may_be : All AreFound lists
   pub few : length lists ≤ 256 * count
@@ -60,21 +54,19 @@ range-next count =
     let here : 0 + count ≡ count = omega arith in
     ap (range_with_len 0) next_is ∙ range-more 0 count ∙ ap (λ n. range_with_len 0 count ++ n ∷ []) here
 
-pub Looked-none : (layout : Layout) (seen : Seen) (stops : List Stop) → Looked layout seen seen stops stops 0
-Looked-none layout seen stops = record {
+pub Looked-none : (layout : Layout) (view : View) → Looked layout view view 0
+Looked-none layout view = record {
   stops = [];
-  goes = GoesOn-none layout seen;
-  kept = sym (append-nil stops);
+  keeps = Keeps-none layout view;
   looks = record { locks = refl; made = All-nil (λ (stop : Stop). stop.made ≡ false) };
 }
 
-pub Looked-more : (layout : Layout) (old between new : Seen) (stops more most : List Stop) (count : ℕ) (taken : List Entry → Type 0)
-    → Looked layout old between stops more count → LooksAtOne layout between new more most count taken
-    → Looked layout old new stops most (count + 1)
-Looked-more layout old between new stops more most count taken far one = record {
+pub Looked-more : (layout : Layout) (old between new : View) (count : ℕ) (taken : List Entry → Type 0)
+    → Looked layout old between count → LooksAtOne layout between new count taken
+    → Looked layout old new (count + 1)
+Looked-more layout old between new count taken far one = record {
   stops = far.stops ++ stop ∷ [];
-  goes = GoesOn-then layout old between new far.stops (stop ∷ []) far.goes one.is_stop.goes;
-  kept = one.is_stop.kept ∙ ap (λ (all : List Stop). all ++ stop ∷ []) far.kept ∙ append_assoc stops far.stops (stop ∷ []);
+  keeps = Keeps-then layout old between new far.stops (stop ∷ []) far.keeps one.keeps;
   looks = record {
     locks = map-append (λ (each : Stop). each.lock) far.stops (stop ∷ [])
         ∙ ap (λ (locks : List ℕ). locks ++ count ∷ []) far.looks.locks ∙ sym (range-next count);
@@ -86,13 +78,13 @@ Looked-more layout old between new stops more most count taken far one = record 
     stop : Stop
     stop = record { lock = count; place = length one.journal; made = false }
 
-pub FoundSoFar-none : (layout : Layout) (seen : Seen) (stops : List Stop) (condition : Condition) (route : Option Range) (lists : List (List Write))
-    → lists ≡ [] → FoundSoFar layout seen seen stops stops condition route 0 lists
+pub FoundSoFar-none : (layout : Layout) (view : View) (ask : Ask) (lists : List (List Write))
+    → lists ≡ [] → FoundSoFar layout view view ask 0 lists
 unfolding Looked-none
-FoundSoFar-none layout seen stops condition route lists empty =
-    subst (FoundSoFar layout seen seen stops stops condition route 0) (sym empty) (record {
-      looked = Looked-none layout seen stops;
-      found = λ later sees. AreExactly-none (IsFoundAtOne layout later [] condition route) (λ write at. absurd (omega (arith, at.1.1)));
+FoundSoFar-none layout view ask lists empty =
+    subst (FoundSoFar layout view view ask 0) (sym empty) (record {
+      looked = Looked-none layout view;
+      found = λ later sees. AreExactly-none (IsFoundAtOne layout later (search_of ask [])) (λ write at. absurd (omega (arith, at.1.1)));
       below = λ write has. absurd (omega (arith, has.1));
       may_be = All-nil AreFound;
       few = omega arith;
@@ -102,18 +94,18 @@ only-one : {X : Type 0} (x y : X) → Contains (x ∷ []) y → x ≡ y
 only-one x y (zero, within, at) = at
 only-one x y (suc k, within, at) = absurd (omega (arith, within))
 
-pub FoundSoFar-more : (layout : Layout) (old between new : Seen) (stops more most : List Stop) (condition : Condition) (route : Option Range) (count : ℕ)
+pub FoundSoFar-more : (layout : Layout) (old between new : View) (ask : Ask) (count : ℕ)
     (lists next : List (List Write)) (searchers : List Searcher)
-    → FoundSoFar layout old between stops more condition route count lists
-    → LooksAtOne layout between new more most count (λ journal. AreAsked layout count journal route searchers)
+    → FoundSoFar layout old between ask count lists
+    → LooksAtOne layout between new count (λ journal. AreAsked layout count journal ask.route searchers)
     → All (λ (searcher : Searcher). AreRows (rows_in searcher)) searchers
-    → next ≡ lists ++ map (found_in condition) searchers
-    → FoundSoFar layout old new stops most condition route (count + 1) next
+    → next ≡ lists ++ map (found_in (condition_of ask.query)) searchers
+    → FoundSoFar layout old new ask (count + 1) next
 unfolding Looked-more
-FoundSoFar-more layout old between new stops more most condition route count lists next searchers far one rows is =
-    subst (FoundSoFar layout old new stops most condition route (count + 1)) (sym is) (record {
-      looked = Looked-more layout old between new stops more most count (λ journal. AreAsked layout count journal route searchers) far.looked one;
-      found = λ later sees. subst (AreExactly (IsFoundAtOne layout later (far.looked.stops ++ stop ∷ []) condition route)) (sym joined) (found later sees);
+FoundSoFar-more layout old between new ask count lists next searchers far one rows is =
+    subst (FoundSoFar layout old new ask (count + 1)) (sym is) (record {
+      looked = Looked-more layout old between new count (λ journal. AreAsked layout count journal ask.route searchers) far.looked one;
+      found = λ later sees. subst (AreExactly (IsFoundAtOne layout later (search_of ask (far.looked.stops ++ stop ∷ [])))) (sym joined) (found later sees);
       below = λ write has. below write (subst (λ (ws : List Write). Contains ws write) joined has);
       may_be = All-append AreFound lists here far.may_be (are-found condition searchers rows);
       few = omega (
@@ -121,10 +113,13 @@ FoundSoFar-more layout old between new stops more most condition route count lis
         far.few,
         length-append lists here,
         length-map searchers (found_in condition),
-        few-asked layout count one.journal route searchers one.is_taken,
+        few-asked layout count one.journal ask.route searchers one.is_taken,
       );
     })
   where
+    condition : Condition
+    condition = condition_of ask.query
+
     here : List (List Write)
     here = map (found_in condition) searchers
 
@@ -134,11 +129,11 @@ FoundSoFar-more layout old between new stops more most condition route count lis
     joined : all_of (lists ++ here) ≡ all_of lists ++ all_of here
     joined = flat_map-append (λ (ws : List Write). ws) lists here
 
-    exactly_here : AreExactly (IsFoundIn layout.first one.journal condition route) (all_of here)
-    exactly_here = bucket-exactly layout count one.journal condition route searchers one.is_taken rows
+    exactly_here : AreExactly (IsFoundIn layout.first one.journal condition ask.route) (all_of here)
+    exactly_here = bucket-exactly layout count one.journal condition ask.route searchers one.is_taken rows
 
-    number : (write : Write) → IsFoundIn layout.first one.journal condition route write → bucket_of write.id layout.buckets ≡ count
-    number write is_found = found-number layout count one.journal condition route write one.is_taken.is_of is_found
+    number : (write : Write) → IsFoundIn layout.first one.journal condition ask.route write → bucket_of write.id layout.buckets ≡ count
+    number write is_found = found-number layout count one.journal condition ask.route write one.is_taken.is_of is_found
 
     below : (write : Write) → Contains (all_of lists ++ all_of here) write → bucket_of write.id layout.buckets < count + 1
     below write has =
@@ -147,53 +142,52 @@ FoundSoFar-more layout old between new stops more most condition route count lis
         (λ (there : Contains (all_of here) write). omega (arith, number write ((exactly_here.exactly write).0 there)))
         (Contains-append_cases (all_of lists) (all_of here) write has)
 
-    found : (later : Seen) → SeesMore new later
-        → AreExactly (IsFoundAtOne layout later (far.looked.stops ++ stop ∷ []) condition route) (all_of lists ++ all_of here)
+    found : (later : Seen) → SeesMore new.seen later
+        → AreExactly (IsFoundAtOne layout later (search_of ask (far.looked.stops ++ stop ∷ []))) (all_of lists ++ all_of here)
     found later sees =
-        AreExactly-same (λ write. IsFoundAtOne layout later far.looked.stops condition route write ⊎ IsFoundIn layout.first one.journal condition route write)
-        (IsFoundAtOne layout later (far.looked.stops ++ stop ∷ []) condition route) (all_of lists ++ all_of here) to back
-        (AreExactly-append (IsFoundAtOne layout later far.looked.stops condition route) (IsFoundIn layout.first one.journal condition route)
+        AreExactly-same (λ write. IsFoundAtOne layout later (search_of ask far.looked.stops) write ⊎ IsFoundIn layout.first one.journal condition ask.route write)
+        (IsFoundAtOne layout later (search_of ask (far.looked.stops ++ stop ∷ []))) (all_of lists ++ all_of here) to back
+        (AreExactly-append (IsFoundAtOne layout later (search_of ask far.looked.stops)) (IsFoundIn layout.first one.journal condition ask.route)
         (all_of lists) (all_of here) before exactly_here apart)
       where
-        before : AreExactly (IsFoundAtOne layout later far.looked.stops condition route) (all_of lists)
-        before = far.found later (SeesMore-then between new later one.is_stop.goes.extends.seen sees)
+        before : AreExactly (IsFoundAtOne layout later (search_of ask far.looked.stops)) (all_of lists)
+        before = far.found later (Keeps-sees layout between new (stop ∷ []) one.keeps later sees)
 
         then : journal_at later stop ≡ one.journal
         then = take-prefix one.journal (later.journals count)
-            (IsPrefix-then one.journal (new.journals count) (later.journals count) one.begins (sees count))
+            (IsPrefix-then one.journal (new.seen.journals count) (later.journals count) one.begins (sees.journals count))
 
-        to : (write : Write) → IsFoundAtOne layout later far.looked.stops condition route write ⊎ IsFoundIn layout.first one.journal condition route write
-            → IsFoundAtOne layout later (far.looked.stops ++ stop ∷ []) condition route write
+        to : (write : Write) → IsFoundAtOne layout later (search_of ask far.looked.stops) write ⊎ IsFoundIn layout.first one.journal condition ask.route write
+            → IsFoundAtOne layout later (search_of ask (far.looked.stops ++ stop ∷ [])) write
         to write (inl (at, there, is_found)) = (at, Contains-append_left far.looked.stops (stop ∷ []) at there, is_found)
         to write (inr is_found) = (
           stop,
           Contains-append_right far.looked.stops (stop ∷ []) stop (0, omega arith, refl),
-          subst (λ (j : List Entry). IsFoundIn layout.first j condition route write) (sym then) is_found,
+          subst (λ (j : List Entry). IsFoundIn layout.first j condition ask.route write) (sym then) is_found,
         )
 
-        back : (write : Write) → IsFoundAtOne layout later (far.looked.stops ++ stop ∷ []) condition route write
-            → IsFoundAtOne layout later far.looked.stops condition route write ⊎ IsFoundIn layout.first one.journal condition route write
+        back : (write : Write) → IsFoundAtOne layout later (search_of ask (far.looked.stops ++ stop ∷ [])) write
+            → IsFoundAtOne layout later (search_of ask far.looked.stops) write ⊎ IsFoundIn layout.first one.journal condition ask.route write
         back write (at, there, is_found) =
             ⊎_elim
             (λ (early : Contains far.looked.stops at). inl (at, early, is_found))
-            (λ (last : Contains (stop ∷ []) at). inr (subst (λ (j : List Entry). IsFoundIn layout.first j condition route write) then
-            (subst (λ (s : Stop). IsFoundIn layout.first (journal_at later s) condition route write) (sym (only-one stop at last)) is_found)))
+            (λ (last : Contains (stop ∷ []) at). inr (subst (λ (j : List Entry). IsFoundIn layout.first j condition ask.route write) then
+            (subst (λ (s : Stop). IsFoundIn layout.first (journal_at later s) condition ask.route write) (sym (only-one stop at last)) is_found)))
             (Contains-append_cases far.looked.stops (stop ∷ []) at there)
 
-        apart : (first other : Write) → IsFoundAtOne layout later far.looked.stops condition route first
-            → IsFoundIn layout.first one.journal condition route other → first.id ≢ other.id
+        apart : (first other : Write) → IsFoundAtOne layout later (search_of ask far.looked.stops) first
+            → IsFoundIn layout.first one.journal condition ask.route other → first.id ≢ other.id
         apart first other early late same =
             omega (arith, far.below first ((before.exactly first).1 early), number other late, ap (λ id. bucket_of id layout.buckets) same)
 
 -- memory ran out
-pub searched-fault : (layout : Layout) (old new : Seen) (old_stops new_stops : List Stop) (ask : Ask) (count : ℕ) (fault : AllocError) (page : Result Page AllocError)
-    → page ≡ Err fault → count ≤ layout.buckets → Looked layout old new old_stops new_stops count
-    → IsSearched layout old new old_stops new_stops ask page
-searched-fault layout old new old_stops new_stops ask count fault page failed few far =
-    subst (IsSearched layout old new old_stops new_stops ask) (sym failed) (record {
+pub searched-fault : (layout : Layout) (old new : View) (ask : Ask) (count : ℕ) (fault : AllocError) (page : Result Page AllocError)
+    → page ≡ Err fault → count ≤ layout.buckets → Looked layout old new count
+    → SearchesBuckets layout old new ask page
+searched-fault layout old new ask count fault page failed few far =
+    subst (SearchesBuckets layout old new ask) (sym failed) (record {
       stops = far.stops;
-      goes = far.goes;
-      kept = far.kept;
+      keeps = far.keeps;
       count = count;
       few = few;
       looks = far.looks;
@@ -201,25 +195,23 @@ searched-fault layout old new old_stops new_stops ask count fault page failed fe
     })
 
 -- all buckets were looked at, and the page is shown of what they find
-pub searched : (layout : Layout) (old new : Seen) (old_stops new_stops : List Stop) (ask : Ask) (count : ℕ) (lists : List (List Write))
-    (page : Result Page AllocError)
+pub searched : (layout : Layout) (old new : View) (ask : Ask) (count : ℕ) (lists : List (List Write)) (page : Result Page AllocError)
     → count ≡ layout.buckets
-    → FoundSoFar layout old new old_stops new_stops (condition_of ask.query) ask.route count lists
+    → FoundSoFar layout old new ask count lists
     → IfOk page (IsPageOf (all_of lists) ask.start ask.rows)
-    → IsSearched layout old new old_stops new_stops ask page
-searched layout old new old_stops new_stops ask count lists (Err fault) all far is =
-    searched-fault layout old new old_stops new_stops ask count fault (Err fault) refl (omega (arith, all)) far.looked
-searched layout old new old_stops new_stops ask count lists (Ok page) all far is = record {
+    → SearchesBuckets layout old new ask page
+searched layout old new ask count lists (Err fault) all far is =
+    searched-fault layout old new ask count fault (Err fault) refl (omega (arith, all)) far.looked
+searched layout old new ask count lists (Ok page) all far is = record {
   stops = far.looked.stops;
-  goes = far.looked.goes;
-  kept = far.looked.kept;
+  keeps = far.looked.keeps;
   count = count;
   few = omega (arith, all);
   looks = far.looked.looks;
   shows = (
     all,
     λ later sees.
-        let sorted = AreExactly-sorted (IsFoundAtOne layout later far.looked.stops (condition_of ask.query) ask.route) (all_of lists) is.sorted
+        let sorted = AreExactly-sorted (IsFoundAtOne layout later (search_of ask far.looked.stops)) (all_of lists) is.sorted
         (far.found later sees) is.order in
         record {
           sorted = is.sorted;

@@ -1,5 +1,5 @@
 -- What a search finds, by the journals that were seen.
-use Rattle.std.specs.Prelude.{◌≡◌, ◌≤◌, ◌↔◌, ℕ, true, false, List, ◌++◌, length, map, take, drop, All, Contains, Option, Some, None, Result, IfOk, ⊤}
+use Rattle.std.specs.Prelude.{◌≡◌, ◌≤◌, ◌↔◌, ℕ, true, false, List, length, map, take, drop, All, Contains, Option, Some, None, Result, IfOk, ⊤}
 use Rattle.std.specs.Arc.{arc_value}
 use Rattle.std.specs.List.{range_with_len}
 use Rattle.std.specs.declared.alloc.AllocError.{AllocError}
@@ -14,7 +14,8 @@ use Rattle.sc_eval.specs.Conditions.{Condition, condition_of}
 use Rattle.sc_eval.specs.Matching.{matches}
 use Rattle.sc_journal.specs.Splits.{map_after}
 use Rattle.sc_journal.specs.Committed.{IsShown}
-use Rattle.sc_journal.specs.Seen.{Layout, Seen, SeesMore, GoesOn, journal_at}
+use Rattle.sc_journal.specs.Seen.{Layout, Seen, FromNowOn, journal_at}
+use Rattle.sc_journal.specs.Moments.{View, Keeps}
 use Rattle.sc_journal.specs.declared.stop.Stop.{Stop}
 use Rattle.sc_fanout.specs.declared.ask.Ask.{Ask}
 use Rattle.sc_fanout.specs.declared.shown.Page.{Page}
@@ -37,26 +38,50 @@ pub record LooksAtBuckets (count : ℕ) (stops : List Stop) : Type 0 where
   pub locks : map (λ (stop : Stop). stop.lock) stops ≡ range_with_len 0 count
   pub made : All (λ (stop : Stop). stop.made ≡ false) stops
 
--- the writes are exactly those that the search finds in a bucket's journal at its stop, each once, ascending by the ids' bytes
-pub record AreFoundAt (layout : Layout) (seen : Seen) (stops : List Stop) (condition : Condition) (route : Option Range) (sorted : List Write) : Type 0 where
-  pub ascend : AscendById sorted
-  pub exactly : (write : Write) → Contains sorted write
-      ↔ ((stop : Stop) × Contains stops stop × IsFoundIn layout.first (journal_at seen stop) condition route write)
+-- a search: its stops, the condition of its query, and the hashes of its route, if it has one
+pub record Search : Type 0 where
+  pub stops : List Stop
+  pub condition : Condition
+  pub route : Option Range
 
--- A search shows how many documents are found, and of them those from `start` on, counted from 0, at most `rows`.
-pub record ShowsFound (layout : Layout) (seen : Seen) (stops : List Stop) (condition : Condition) (route : Option Range) (start rows found : ℕ) (docs : List Write) : Type 0 where
+-- what a search shows: from which document on, counted from 0, and how many at most; how many are found in all; and the documents
+pub record SearchPage : Type 0 where
+  pub start : ℕ
+  pub rows : ℕ
+  pub found : ℕ
+  pub docs : List Write
+
+-- the search finds the write in the journal at one of its stops
+abbrev pub IsFoundAtOne : Layout → Seen → Search → Write → Type 0
+IsFoundAtOne layout seen search write =
+    (stop : Stop) × Contains search.stops stop × IsFoundIn layout.first (journal_at seen stop) search.condition search.route write
+
+-- the writes are exactly those that the search finds, each once, ascending by the ids' bytes
+pub record AreFoundAt (layout : Layout) (seen : Seen) (search : Search) (sorted : List Write) : Type 0 where
+  pub ascend : AscendById sorted
+  pub exactly : (write : Write) → Contains sorted write ↔ IsFoundAtOne layout seen search write
+
+-- A search shows how many documents are found, and of them those from `start` on, at most `rows`.
+pub record ShowsFound (layout : Layout) (seen : Seen) (search : Search) (page : SearchPage) : Type 0 where
   pub sorted : List Write
-  pub are_found : AreFoundAt layout seen stops condition route sorted
-  pub found_is : found ≡ length sorted
-  pub docs_are : docs ≡ take rows (drop start sorted)
+  pub are_found : AreFoundAt layout seen search sorted
+  pub found_is : page.found ≡ length sorted
+  pub docs_are : page.docs ≡ take page.rows (drop page.start sorted)
+
+-- the search that is asked for, with its stops
+abbrev pub search_of : Ask → List Stop → Search
+search_of ask stops = record { stops = stops; condition = condition_of ask.query; route = ask.route }
+
+-- the page that is shown of what is asked for
+abbrev pub page_of : Ask → Page → SearchPage
+page_of ask page = record { start = ask.start; rows = ask.rows; found = page.found; docs = map arc_value page.docs }
 
 -- A search looked at the buckets in turn, and kept these stops, up to the last or up to where memory ran out.
-pub record IsSearched (layout : Layout) (old new : Seen) (old_stops new_stops : List Stop) (ask : Ask) (page : Result Page AllocError) : Type 0 where
+pub record SearchesBuckets (layout : Layout) (old new : View) (ask : Ask) (page : Result Page AllocError) : Type 0 where
   pub stops : List Stop
-  pub goes : GoesOn layout old new stops
-  pub kept : new_stops ≡ old_stops ++ stops
+  pub keeps : Keeps layout old new stops
   pub count : ℕ
   pub few : count ≤ layout.buckets
   pub looks : LooksAtBuckets count stops
-  pub shows : IfOk page (λ page. (count ≡ layout.buckets) × ((later : Seen) → SeesMore new later
-      → ShowsFound layout later stops (condition_of ask.query) ask.route ask.start ask.rows page.found (map arc_value page.docs)))
+  pub shows : IfOk page (λ page. (count ≡ layout.buckets)
+      × FromNowOn new.seen (λ later. ShowsFound layout later (search_of ask stops) (page_of ask page)))

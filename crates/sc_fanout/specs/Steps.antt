@@ -15,8 +15,8 @@ use Rattle.sc_eval.specs.Matching.{finds}
 use Rattle.sc_journal.specs.Journal.{writes}
 use Rattle.sc_journal.specs.Splits.{map_after}
 use Rattle.sc_journal.specs.Legal.{IsLegal}
-use Rattle.sc_journal.specs.Seen.{Layout, Seen, IsStop}
-use Rattle.sc_journal.specs.declared.stop.Stop.{Stop}
+use Rattle.sc_journal.specs.Seen.{Layout}
+use Rattle.sc_journal.specs.Moments.{View, Keeps}
 use Rattle.sc_bucket.specs.Searchers.{ShowsCommitted}
 use Rattle.sc_bucket.specs.declared.standing.Searcher.{Searcher}
 
@@ -61,8 +61,8 @@ pub record AreAsked (layout : Layout) (number : ℕ) (journal : List Entry) (rou
   pub each : AreOfSlices journal (filter (is_asked route) (map_after layout.first journal)) searchers
 
 -- A bucket was looked at in one hold, whose stop is kept, and what was taken is so by its journal then.
-pub record LooksAtOne (layout : Layout) (old new : Seen) (old_stops new_stops : List Stop) (number : ℕ) (taken : List Entry → Type 0) : Type 0 where
+pub record LooksAtOne (layout : Layout) (old new : View) (number : ℕ) (taken : List Entry → Type 0) : Type 0 where
   pub journal : List Entry
-  pub begins : IsPrefix journal (new.journals number)
-  pub is_stop : IsStop layout old new old_stops new_stops (record { lock = number; place = length journal; made = false })
+  pub begins : IsPrefix journal (new.seen.journals number)
+  pub keeps : Keeps layout old new (record { lock = number; place = length journal; made = false } ∷ [])
   pub is_taken : taken journal

@@ -22,7 +22,7 @@ mod searching;
 mod laws;
 
 pub use ask::Ask;
-pub use laws::{pages_are_determined, searches_find_what_was_committed};
+pub use laws::{pages_are_determined, searches_are_determined, searches_find_what_was_committed};
 pub use pages::page;
 pub use searching::search;
 pub use shown::Page;

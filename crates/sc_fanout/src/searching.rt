@@ -6,8 +6,10 @@ ghost use Rattle.sc_journal.specs.Legal.{HasTerms};
 ghost use Rattle.sc_snapshot.specs.Rows.{AreRows};
 ghost use Rattle.sc_bucket.specs.Sound.{IsSound};
 ghost use Rattle.sc_bucket.specs.declared.standing.Searcher.{Searcher};
+ghost use Rattle.sc_journal.specs.Moments.{view_of};
+ghost use Rattle.sc_collection.specs.Desks.{IsAtRest};
 ghost use Rattle.sc_collection.specs.declared.trail.TheConstants.{ROOM};
-ghost use Rattle.sc_fanout.specs.Searches.{IsSearched};
+ghost use Rattle.sc_fanout.specs.Searches.{SearchesBuckets};
 ghost use Rattle.sc_fanout.specs.Steps.{asks_for, is_asked, rows_in, found_in, AreOfSlices, AreAsked, LooksAtOne};
 
 use crate::ask::Ask;
@@ -31,9 +33,9 @@ pub fn search<D: Desk>(
 ) -> Result<Page, AllocError>
     requires nothing_out { D.out desk.old ≡ None }
     requires room { length trail.old.stops + (D.layout desk.old).buckets ≤ ROOM }
-    ensures searched { IsSearched (D.layout desk.old) (D.seen desk.old) (D.seen desk.new) trail.old.stops trail.new.stops ask.now result }
+    ensures searched { SearchesBuckets (D.layout desk.old) (view_of (D.seen desk.old) trail.old.stops) (view_of (D.seen desk.new) trail.new.stops) ask.now result }
     ensures layout { D.layout desk.new ≡ D.layout desk.old }
-    ensures nothing_out { D.out desk.new ≡ None }
+    ensures rest { IsAtRest (D.layout desk.new) (D.out desk.new) (D.seen desk.new) }
     ensures requests { trail.new.requests ≡ trail.old.requests }
 {
     let mut lists = Vec::new(alloc);
@@ -55,10 +57,10 @@ fn take_searchers<D: Desk>(
     requires nothing_out { D.out desk.old ≡ None }
     requires within { b < (D.layout desk.old).buckets }
     requires room { length trail.old.stops < ROOM }
-    ensures looks { LooksAtOne (D.layout desk.old) (D.seen desk.old) (D.seen desk.new) trail.old.stops trail.new.stops b
+    ensures looks { LooksAtOne (D.layout desk.old) (view_of (D.seen desk.old) trail.old.stops) (view_of (D.seen desk.new) trail.new.stops) b
         (λ journal. IfOk result (λ searchers. AreAsked (D.layout desk.old) b journal route.now searchers.items)) }
     ensures layout { D.layout desk.new ≡ D.layout desk.old }
-    ensures nothing_out { D.out desk.new ≡ None }
+    ensures rest { IsAtRest (D.layout desk.new) (D.out desk.new) (D.seen desk.new) }
     ensures stops { length trail.new.stops ≡ length trail.old.stops + 1 }
     ensures requests { trail.new.requests ≡ trail.old.requests }
 {

@@ -9,6 +9,7 @@ use Rattle.sc_eval.specs.Conditions.{condition_of}
 use Rattle.sc_snapshot.specs.Rows.{AreRows}
 use Rattle.sc_journal.specs.Legal.{HasTerms}
 use Rattle.sc_journal.specs.Seen.{Layout}
+use Rattle.sc_journal.specs.Moments.{view_of}
 use Rattle.sc_bucket.specs.declared.standing.Searcher.{Searcher}
 use Rattle.sc_fanout.specs.Steps.{rows_in, found_in, AreAsked, LooksAtOne}
 use Rattle.sc_fanout.proofs.BucketLemmas.{asked-terms}
@@ -17,10 +18,10 @@ use Rattle.sc_fanout.proofs.searching.search.Goals as goal
 
 pub loop-b-init : goal.loop-b-init
 loop-b-init g c = record {
-  far = FoundSoFar-none (g.D.Desk.layout c.args.desk.now) (g.D.Desk.seen c.args.desk.now) c.args.trail.now.stops (condition_of c.args.ask.now.query)
-      c.args.ask.now.route (map (map arc_value) c.new-lists.result.items) (ap (map (map arc_value)) c.new-lists.ensures.items);
+  far = FoundSoFar-none (g.D.Desk.layout c.args.desk.now) (view_of (g.D.Desk.seen c.args.desk.now) c.args.trail.now.stops) c.args.ask.now
+      (map (map arc_value) c.new-lists.result.items) (ap (map (map arc_value)) c.new-lists.ensures.items);
   layout = refl;
-  nothing_out = c.requires.nothing_out;
+  rest = record { nothing_out = c.requires.nothing_out; legal = c.buckets-b-end.ensures.legal };
   stops = omega arith;
   requests = refl;
 }
@@ -28,16 +29,16 @@ loop-b-init g c = record {
 pub returns-in_err-searchers-clause-searched : goal.returns-in_err-searchers-clause-searched
 returns-in_err-searchers-clause-searched g c =
     let layout = g.D.Desk.layout c.args.desk.now in
-    let old = g.D.Desk.seen c.args.desk.now in
-    let between = g.D.Desk.seen c.loop-b.desk in
-    let new = g.D.Desk.seen c.take_searchers.new.desk in
+    let old = view_of (g.D.Desk.seen c.args.desk.now) c.args.trail.now.stops in
+    let between = view_of (g.D.Desk.seen c.loop-b.desk) c.loop-b.trail.stops in
+    let new = view_of (g.D.Desk.seen c.take_searchers.new.desk) c.take_searchers.new.trail.stops in
     let failed = err_from_is_err_and c.from_residual.result c.from_residual.ensures.1 in
-    let looks : LooksAtOne layout between new c.loop-b.trail.stops c.take_searchers.new.trail.stops c.loop-b.b (λ (journal : List Entry). ⊤) =
-    subst (λ (l : Layout). LooksAtOne l between new c.loop-b.trail.stops c.take_searchers.new.trail.stops c.loop-b.b (λ (journal : List Entry). ⊤))
+    let looks : LooksAtOne layout between new c.loop-b.b (λ (journal : List Entry). ⊤) =
+    subst (λ (l : Layout). LooksAtOne l between new c.loop-b.b (λ (journal : List Entry). ⊤))
     c.loop-b.invariant.layout c.in_err-searchers.ensures.looks in
-    searched-fault layout old new c.args.trail.now.stops c.take_searchers.new.trail.stops c.args.ask.now (c.loop-b.b + 1) failed.0 c.from_residual.result
+    searched-fault layout old new c.args.ask.now (c.loop-b.b + 1) failed.0 c.from_residual.result
     failed.1 (omega (arith, c.loop-b-test.true, c.buckets-b-end.ensures.count))
-    (Looked-more layout old between new c.args.trail.now.stops c.loop-b.trail.stops c.take_searchers.new.trail.stops c.loop-b.b (λ (journal : List Entry). ⊤)
+    (Looked-more layout old between new c.loop-b.b (λ (journal : List Entry). ⊤)
     c.loop-b.invariant.far.looked looks)
 
 pub find-requires : goal.find-requires
@@ -49,42 +50,42 @@ find-requires g c =
 pub returns-in_err-find-clause-searched : goal.returns-in_err-find-clause-searched
 returns-in_err-find-clause-searched g c =
     let layout = g.D.Desk.layout c.args.desk.now in
-    let old = g.D.Desk.seen c.args.desk.now in
-    let between = g.D.Desk.seen c.loop-b.desk in
-    let new = g.D.Desk.seen c.take_searchers.new.desk in
+    let old = view_of (g.D.Desk.seen c.args.desk.now) c.args.trail.now.stops in
+    let between = view_of (g.D.Desk.seen c.loop-b.desk) c.loop-b.trail.stops in
+    let new = view_of (g.D.Desk.seen c.take_searchers.new.desk) c.take_searchers.new.trail.stops in
     let taken : List Entry → Type 0 =
     λ journal. AreAsked (g.D.Desk.layout c.loop-b.desk) c.loop-b.b journal c.args.ask.now.route c.in_ok-searchers.searchers.items in
     let failed = err_from_is_err_and c.from_residual-in_err-find.result c.from_residual-in_err-find.ensures.1 in
-    let looks : LooksAtOne layout between new c.loop-b.trail.stops c.take_searchers.new.trail.stops c.loop-b.b taken =
-    subst (λ (l : Layout). LooksAtOne l between new c.loop-b.trail.stops c.take_searchers.new.trail.stops c.loop-b.b taken)
+    let looks : LooksAtOne layout between new c.loop-b.b taken =
+    subst (λ (l : Layout). LooksAtOne l between new c.loop-b.b taken)
     c.loop-b.invariant.layout c.in_ok-searchers.ensures.looks in
-    searched-fault layout old new c.args.trail.now.stops c.take_searchers.new.trail.stops c.args.ask.now (c.loop-b.b + 1) failed.0
+    searched-fault layout old new c.args.ask.now (c.loop-b.b + 1) failed.0
     c.from_residual-in_err-find.result failed.1 (omega (arith, c.loop-b-test.true, c.buckets-b-end.ensures.count))
-    (Looked-more layout old between new c.args.trail.now.stops c.loop-b.trail.stops c.take_searchers.new.trail.stops c.loop-b.b taken
+    (Looked-more layout old between new c.loop-b.b taken
     c.loop-b.invariant.far.looked looks)
 
 pub loop-b-preserved : goal.loop-b-preserved
 loop-b-preserved g c =
     let layout = g.D.Desk.layout c.args.desk.now in
-    let old = g.D.Desk.seen c.args.desk.now in
-    let between = g.D.Desk.seen c.loop-b.desk in
-    let new = g.D.Desk.seen c.take_searchers.new.desk in
+    let old = view_of (g.D.Desk.seen c.args.desk.now) c.args.trail.now.stops in
+    let between = view_of (g.D.Desk.seen c.loop-b.desk) c.loop-b.trail.stops in
+    let new = view_of (g.D.Desk.seen c.take_searchers.new.desk) c.take_searchers.new.trail.stops in
     let condition = condition_of c.args.ask.now.query in
     let route = c.args.ask.now.route in
     let searchers = c.in_ok-searchers.searchers.items in
-    let looks : LooksAtOne layout between new c.loop-b.trail.stops c.take_searchers.new.trail.stops c.loop-b.b
+    let looks : LooksAtOne layout between new c.loop-b.b
     (λ (journal : List Entry). AreAsked layout c.loop-b.b journal route searchers) =
-    subst (λ (l : Layout). LooksAtOne l between new c.loop-b.trail.stops c.take_searchers.new.trail.stops c.loop-b.b
+    subst (λ (l : Layout). LooksAtOne l between new c.loop-b.b
     (λ (journal : List Entry). AreAsked l c.loop-b.b journal route searchers))
     c.loop-b.invariant.layout c.in_ok-searchers.ensures.looks in
     let before = map (map arc_value) c.loop-b.lists.items in
     record {
-      far = FoundSoFar-more layout old between new c.args.trail.now.stops c.loop-b.trail.stops c.take_searchers.new.trail.stops condition route c.loop-b.b
+      far = FoundSoFar-more layout old between new c.args.ask.now c.loop-b.b
           before (map (map arc_value) c.find.new.lists.items) searchers c.loop-b.invariant.far looks
           (subst (All (λ (searcher : Searcher). AreRows (rows_in searcher))) c.as_slice.ensures.value c.in_ok-find.ensures.rows)
           (c.in_ok-find.ensures.found ∙ ap (λ (these : List Searcher). before ++ map (found_in condition) these) c.as_slice.ensures.value);
       layout = c.take_searchers.ensures.layout ∙ c.loop-b.invariant.layout;
-      nothing_out = c.take_searchers.ensures.nothing_out;
+      rest = c.take_searchers.ensures.rest;
       stops = omega (arith, c.take_searchers.ensures.stops, c.loop-b.invariant.stops);
       requests = c.take_searchers.ensures.requests ∙ c.loop-b.invariant.requests;
     }
@@ -97,6 +98,6 @@ pub returns-clause-searched : goal.returns-clause-searched
 returns-clause-searched g c =
     let low = c.loop-b-test.false in
     let high = c.loop-b.auto.b-end in
-    searched (g.D.Desk.layout c.args.desk.now) (g.D.Desk.seen c.args.desk.now) (g.D.Desk.seen c.loop-b.desk) c.args.trail.now.stops c.loop-b.trail.stops
-    c.args.ask.now c.loop-b.b (map (map arc_value) c.loop-b.lists.items) c.page.result (omega (arith, low, high, c.buckets-b-end.ensures.count))
+    searched (g.D.Desk.layout c.args.desk.now) (view_of (g.D.Desk.seen c.args.desk.now) c.args.trail.now.stops)
+    (view_of (g.D.Desk.seen c.loop-b.desk) c.loop-b.trail.stops) c.args.ask.now c.loop-b.b (map (map arc_value) c.loop-b.lists.items) c.page.result (omega (arith, low, high, c.buckets-b-end.ensures.count))
     c.loop-b.invariant.far c.page.ensures

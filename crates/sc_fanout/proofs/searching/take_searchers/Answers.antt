@@ -26,7 +26,7 @@ returns-clause-looks g c =
     record {
       journal = journal;
       begins = subst (IsPrefix journal) (sym sees.journal) (IsPrefix-self journal);
-      is_stop = record {
+      keeps = record {
         goes = GoesOn-held layout old new held bucket false [] c.requires.within c.hold-bucket.ensures.extends (sym (append-nil journal)) refl sees;
         kept = stops;
       };

@@ -4,6 +4,7 @@ pub mod JournalLemmas
 pub mod CommittedLemmas
 pub mod SettledLemmas
 pub mod SplitLemmas
+pub mod OwedLemmas
 pub mod LegalLemmas
 pub mod RestLemmas
 pub mod VersionLemmas

@@ -13,13 +13,14 @@ use Rattle.sc_cluster.specs.declared.slice.State.TheVariants as states
 use Rattle.sc_cluster.specs.declared.slice.Slice.{Slice}
 use Rattle.sc_cluster.specs.Changes.{Change}
 use Rattle.sc_cluster.proofs.CountLemmas.{count_by-cons, count_by-none}
-use Rattle.sc_cluster.proofs.StateLemmas.{is_settled as is_not_forming, is_other}
+use Rattle.sc_cluster.proofs.StateLemmas.{is_other}
 use Rattle.sc_journal.specs.Journal.{write_at, is_settled, unsettled}
 use Rattle.sc_journal.specs.Splits.{map_after, open_split, is_inactive_state, is_inactive, owed_by_split, owed}
 use Rattle.sc_journal.specs.Legal.{MayFollow, IsLegal}
 use Rattle.sc_journal.specs.Laws.{IsAtRest, OwesNothingAtRest, closes, ComesToRest}
 use Rattle.sc_journal.proofs.ListLemmas.{append-cons}
 use Rattle.sc_journal.proofs.SettledLemmas.{unsettled_is, unsettled_from, unsettled-push_other}
+use Rattle.sc_journal.proofs.OwedLemmas.{owed-push_failed}
 use Rattle.sc_journal.proofs.SplitLemmas.{map_after-push, open_split-push, owed-push_settled}
 use Rattle.sc_journal.proofs.LegalLemmas.{IsLegal-push}
 
@@ -92,14 +93,8 @@ settles_next first journal place there =
 gives_up : (first : List Slice) (journal : List Entry) (parent : SliceId) → open_split journal ≡ Some parent
     → OwesLess first journal (entry.Failed parent)
 gives_up first journal parent opened =
-    let one : Entry = entry.Failed parent in
-    let slices = map_after first journal in
-    let places = ap length (unsettled-push_other journal one refl (λ _. refl)) in
-    let ended = ap owed_by_split (open_split-push journal one) in
-    let begun = ap owed_by_split opened in
-    let left = ap (count_by is_inactive) (map_after-push first journal one (Change.Failed parent) refl) in
-    let fewer = count-filter is_inactive is_not_forming slices in
-    record { may = opened; closing = refl; less = omega (arith, places, ended, begun, left, fewer) }
+    let fewer = owed-push_failed first journal parent opened in
+    record { may = opened; closing = refl; less = omega (arith, fewer) }
 
 -- an inactive slice by its state
 inactive_from_test : (state : State) → is_inactive_state state ≡ true → state ≡ states.Inactive

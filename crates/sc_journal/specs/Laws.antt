@@ -2,6 +2,7 @@
 use Rattle.std.specs.Prelude.{◌≡◌, ◌<ℤ◌, ◌≤◌, ◌↔◌, ℕ, ◌+◌, Bool, true, false, List, [], ◌∷◌, ◌++◌, length, Some, None, IsSome, All}
 use Rattle.sc_record.specs.declared.write.Write.{Write}
 use Rattle.sc_record.specs.declared.slice.SliceId.{SliceId}
+use Rattle.sc_record.specs.declared.slice.SubSlice.{SubSlice}
 use Rattle.sc_record.specs.declared.entry.Entry.{Entry}
 use Rattle.sc_record.specs.declared.entry.Entry.TheVariants as entry
 use Rattle.sc_cluster.specs.declared.slice.Slice.{Slice}
@@ -35,6 +36,30 @@ OwesOneForAWrite = (first : List Slice) (journal : List Entry) (cell : _) → Is
 abbrev pub OwesOneLessSettled : Type 0
 OwesOneLessSettled = (first : List Slice) (journal : List Entry) (place : ℕ) → IsLegal first (journal ++ entry.Settled place ∷ [])
     → owed first (journal ++ entry.Settled place ∷ []) + 1 ≡ owed first journal
+
+-- a split that begins makes two more owed: its end, and the drop of its parent
+abbrev pub OwesTwoForASplit : Type 0
+OwesTwoForASplit = (first : List Slice) (journal : List Entry) (parent : SliceId) (subs : List SubSlice)
+    → IsLegal first (journal ++ entry.Begun parent subs ∷ [])
+    → owed first (journal ++ entry.Begun parent subs ∷ []) ≡ owed first journal + 2
+
+-- it is over with both where it is given up
+abbrev pub OwesTwoLessFailed : Type 0
+OwesTwoLessFailed = (first : List Slice) (journal : List Entry) (parent : SliceId)
+    → IsLegal first (journal ++ entry.Failed parent ∷ [])
+    → owed first (journal ++ entry.Failed parent ∷ []) + 2 ≡ owed first journal
+
+-- where it is switched one of them is left
+abbrev pub OwesOneLessSwitched : Type 0
+OwesOneLessSwitched = (first : List Slice) (journal : List Entry) (parent : SliceId) → IsMap first → forming first ≡ []
+    → IsLegal first (journal ++ entry.Switched parent ∷ [])
+    → owed first (journal ++ entry.Switched parent ∷ []) + 1 ≡ owed first journal
+
+-- which the drop of the parent is
+abbrev pub OwesOneLessDropped : Type 0
+OwesOneLessDropped = (first : List Slice) (journal : List Entry) (slice : SliceId) → IsMap first → forming first ≡ []
+    → IsLegal first (journal ++ entry.Dropped slice ∷ [])
+    → owed first (journal ++ entry.Dropped slice ∷ []) + 1 ≡ owed first journal
 
 -- A journal is at rest: each of its writes is settled, no split is open, and no slice is inactive.
 pub record IsAtRest (first : List Slice) (journal : List Entry) : Type 0 where

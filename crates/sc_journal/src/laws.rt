@@ -1,6 +1,6 @@
 //! Laws of journals, above their definitions.
 
-ghost use Rattle.sc_journal.specs.Laws.{GrowsByWhatMayFollow, HasLegalPrefixes, AscendsInVersions, OwesOneForAWrite, OwesOneLessSettled, OwesNothingAtRest, ComesToRest, KeepsAMap};
+ghost use Rattle.sc_journal.specs.Laws.{GrowsByWhatMayFollow, HasLegalPrefixes, AscendsInVersions, OwesOneForAWrite, OwesOneLessSettled, OwesTwoForASplit, OwesTwoLessFailed, OwesOneLessSwitched, OwesOneLessDropped, OwesNothingAtRest, ComesToRest, KeepsAMap};
 
 /// Whatever a bucket's journal gets, each entry where it may follow.
 pub fn journals_stay_legal()
@@ -13,6 +13,10 @@ pub fn journals_stay_legal()
 pub fn journals_owe_entries()
     ensures write { OwesOneForAWrite }
     ensures settled { OwesOneLessSettled }
+    ensures begun { OwesTwoForASplit }
+    ensures failed { OwesTwoLessFailed }
+    ensures switched { OwesOneLessSwitched }
+    ensures dropped { OwesOneLessDropped }
 {}
 
 /// What the entries are for that a legal journal has still to get.

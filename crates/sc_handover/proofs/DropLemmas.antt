@@ -56,7 +56,7 @@ owes_dropped b slice sound can =
     (omega (arith, less, journal.owed_is), omega (arith, less, journal.owed_is, journal.room))
 
 -- a filter of what another left, which keeps all that passes the first
-filter-left : {A : Type 0} (p q : A → Bool) (xs : List A) → All (λ x. p x ≡ true → q x ≡ true) xs
+pub filter-left : {A : Type 0} (p q : A → Bool) (xs : List A) → All (λ x. p x ≡ true → q x ≡ true) xs
     → filter p (filter q xs) ≡ filter p xs
 filter-left p q [] all = refl
 filter-left p q (x ∷ xs) all =

@@ -39,7 +39,7 @@ attached_where_forming slice = by slice.state where
   by states.Recovery is = refl
 
 -- each core is of a slice of the map, and its name is one of that slice's
-slice_of_core : (b : Bucket) (core : Core) → IsSound b → Contains b.replicas core
+pub slice_of_core : (b : Bucket) (core : Core) → IsSound b → Contains b.replicas core
     → (slice : Slice) × Contains b.map slice × (slice.id ≡ core.core.slice) × Contains (keys_of slice) (core_key core)
 slice_of_core b core sound there =
     let key = All-contains (Contains (core_keys b.map)) (map core_key b.replicas) (core_key core) sound.cores.of_map

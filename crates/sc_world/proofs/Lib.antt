@@ -4,3 +4,5 @@ pub mod RunLemmas
 pub mod LawLemmas
 pub mod CatchUpLemmas
 pub mod StepLemmas
+pub mod OthersLemmas
+pub mod RestLemmas

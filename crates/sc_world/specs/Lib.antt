@@ -2,4 +2,6 @@
 pub mod Steps
 pub mod Runs
 pub mod Laws
+pub mod Others
+pub mod Rests
 pub mod Checks

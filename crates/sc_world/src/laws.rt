@@ -1,6 +1,8 @@
 //! What lists of events come to.
 
 ghost use Rattle.sc_world.specs.Laws.{KeepsTheTable, StaysWithoutOrders, LeavesNothing, FollowersCatchUp};
+ghost use Rattle.sc_world.specs.Others.{SplitsLeaveOthersAlone};
+ghost use Rattle.sc_world.specs.Rests.{BucketsComeToRest};
 
 /// No event of a split makes, moves or takes away a write.
 pub fn splits_keep_the_table()
@@ -16,4 +18,14 @@ pub fn given_up_splits_leave_nothing()
 /// Once nothing is pending, a slice's cores hold the same.
 pub fn followers_catch_up()
     ensures { FollowersCatchUp }
+{}
+
+/// An event of a split changes nothing of the slices that it is not about.
+pub fn splits_leave_others_alone()
+    ensures { SplitsLeaveOthersAlone }
+{}
+
+/// What a bucket owes is enough to end all that was begun.
+pub fn buckets_come_to_rest()
+    ensures { BucketsComeToRest }
 {}

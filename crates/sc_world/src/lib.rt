@@ -18,7 +18,10 @@ mod laws;
 
 pub use condition::can;
 pub use event::Event;
-pub use laws::{followers_catch_up, given_up_splits_leave_nothing, splits_keep_the_table};
+pub use laws::{
+    buckets_come_to_rest, followers_catch_up, given_up_splits_leave_nothing, splits_keep_the_table,
+    splits_leave_others_alone,
+};
 pub use run::run_events;
 
 #[cfg(test)]

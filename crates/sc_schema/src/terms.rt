@@ -7,9 +7,6 @@ use crate::word::{push_term, push_words};
 use sc_record::{Doc, Field, Id, Kind, List, Term, Text, Value, kind_of};
 use std::alloc::{AllocError, Global};
 
-/// For how many terms there is room at first: most documents have no more.
-const FEW_TERMS: usize = 16;
-
 /// The terms by which a document of this id is found. A field of words is found by each of its words, whatever their case,
 /// and any other one by its whole values.
 pub fn terms_of(alloc: Global, id: &Id, doc: &Doc) -> Result<List<Term>, AllocError>
@@ -26,12 +23,35 @@ pub fn terms_of(alloc: Global, id: &Id, doc: &Doc) -> Result<List<Term>, AllocEr
 fn found_by(alloc: Global, id: &Id, fields: &[Field]) -> Result<List<Term>, AllocError>
     ensures { IfOk result (λ terms. terms ≡ found_by id.now fields.now) }
 {
-    let mut terms = List::from_vec(Vec::with_capacity(alloc, FEW_TERMS)?);
+    let mut terms = List::from_vec(Vec::with_capacity(alloc, room_for(fields))?);
     push_term(&mut terms, &Text::new(alloc, "id")?, id.as_text().clone()?)?;
     for field in fields {
         push_field(alloc, &mut terms, field)?;
     }
     Ok(terms)
+}
+
+/// For how many terms room is made at once: one for the id and for each value, and one for each six bytes of words.
+fn room_for(fields: &[Field]) -> usize {
+    let mut room: usize = 1;
+    for field in fields {
+        room = room.saturating_add(field.values.len());
+        if is_found_by_words(field.name.as_str()) {
+            room = room.saturating_add(bytes_of(field.values.as_slice()) / 6);
+        }
+    }
+    room
+}
+
+/// How many bytes the texts among the values have together.
+fn bytes_of(values: &[Value]) -> usize {
+    let mut bytes: usize = 0;
+    for value in values {
+        if let Value::Text(text) = value {
+            bytes = bytes.saturating_add(text.as_str().len());
+        }
+    }
+    bytes
 }
 
 /// Puts the terms of a field at the end.

@@ -2,3 +2,4 @@
 pub mod JsonLemmas
 pub mod FloatLemmas
 pub mod RawLemmas
+pub mod LawLemmas

@@ -2,3 +2,4 @@
 pub mod Bodies
 pub mod RawDocs
 pub mod Documents
+pub mod Laws

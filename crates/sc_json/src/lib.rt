@@ -13,8 +13,12 @@ mod raw;
 mod document;
 mod text;
 
+// What the definitions say together.
+mod laws;
+
 pub use body::{JsonFault, read};
 pub use document::doc_value;
+pub use laws::shown_document;
 pub use raw::{RawFault, raw_doc, raw_one};
 pub use text::print;
 

@@ -1,0 +1,41 @@
+-- The law that a document which is shown and sent back stays the same (Solr Reference Guide, "Optimistic Concurrency").
+use Rattle.std.specs.Prelude.{◌≡◌, ℕ, ◌<◌, ◌≤◌, ℤ, List, length, Some, option_map, Ok, IsTrue, ⊤}
+use Rattle.std.specs.List.{AllByRecursion}
+use Rattle.sc_record.specs.Fields.{IsDocument}
+use Rattle.sc_record.specs.Orders.{is_int, is_long}
+use Rattle.sc_record.specs.declared.document.Field.{Field}
+use Rattle.sc_record.specs.declared.order.Change.TheVariants.{Whole}
+use Rattle.sc_record.specs.declared.value.Value.{Value}
+use Rattle.sc_record.specs.declared.value.Value.TheVariants as values
+use Rattle.sc_schema.specs.Documents.{document_order}
+use Rattle.sc_json.specs.Documents.{document_data}
+use Rattle.sc_json.specs.RawDocs.{raw_fields_of}
+
+-- a number has as many bits as its kind has
+abbrev pub IsInRange : Value → Type 0
+IsInRange (values.Text text) = ⊤
+IsInRange (values.Int n) = IsTrue (is_int n)
+IsInRange (values.Long n) = IsTrue (is_long n)
+IsInRange (values.Flag b) = ⊤
+
+-- so has each number of a field
+abbrev pub IsFieldInRange : Field → Type 0
+IsFieldInRange field = AllByRecursion IsInRange field.values
+
+-- a document as it is kept, with its id of 1 to 512 bytes and its version of 64 bits
+pub record IsKept (id : List ℕ) (version : ℤ) (fields : List Field) : Type 0 where
+  pub named : 0 < length id
+  pub short : length id ≤ 512
+  pub long : IsTrue (is_long version)
+  pub document : IsDocument fields
+  pub numbers : AllByRecursion IsFieldInRange fields
+
+-- what is shown of the document, sent as one to add, asks for the same document of the same id, where its version is still that
+abbrev pub AsksForItself : List ℕ → ℤ → List Field → Type 0
+AsksForItself id version fields =
+    option_map document_order (raw_fields_of (document_data id version (Some fields)))
+    ≡ Some (Ok (record { id = id; condition = version; change = Whole fields }))
+
+-- each document that is kept does
+abbrev pub ReadsBack : Type 0
+ReadsBack = (id : List ℕ) (version : ℤ) (fields : List Field) → IsKept id version fields → AsksForItself id version fields

@@ -1,6 +1,6 @@
 //! The forms of a body.
 
-ghost use Rattle.std.specs.Prelude.{◌≡◌, ◌∷◌, ◌<◌, ◌^◌, ◌++◌, [], false, codes, Some, None, Ok, Err, IfOk, IfErr, OnOk, MatchOption, option_map};
+ghost use Rattle.std.specs.Prelude.{◌≡◌, ◌∷◌, ◌<◌, ◌^◌, ◌++◌, [], false, codes, Some, None, Ok, Err, IfOk, IfErr, IfSome, OnSome, OnOk, MatchOption, option_map};
 ghost use Rattle.std.specs.Option.{option_map_or};
 ghost use Rattle.serde_json.specs.Find.{get};
 ghost use Rattle.serde_json.specs.View.{view, items_view};
@@ -75,11 +75,10 @@ fn object_commands(alloc: Global, mut value: Value) -> Result<Commands, FormFaul
         }),
         Err(fault) => return Err(fault),
     };
-    let commit = match commit_at(&value) {
-        Ok(commit) => commit,
-        Err(at) => return Err(FormFault::Shape {
-            at: adds.len() + (deletes.len() + at),
-        }),
+    let Some(commit) = commit_at(&value) else {
+        return Err(FormFault::Shape {
+            at: adds.len() + deletes.len(),
+        });
     };
     Ok(Commands {
         adds,
@@ -117,20 +116,18 @@ fn deletes_at(alloc: Global, asked: Option<Value>) -> Result<Vec<Value>, FormFau
     }
 }
 
-/// Whether the key `commit` is there.
-fn commit_at(value: &Value) -> Result<bool, usize>
-    ensures ok { IfOk result
-        (λ found. commands.where_there commands.commit_of (get (codes "commit") (view value.now))
-        ≡ Ok []) }
-    ensures commit { IfOk result (λ found. found ≡ commands.asks_commit (view value.now)) }
-    ensures err { IfErr result
-        (λ at. commands.where_there commands.commit_of (get (codes "commit") (view value.now)) ≡ Err 0) }
-    ensures none { IfErr result (λ at. at ≡ 0) }
+/// Whether the key `commit` is there. `None` where what it has is no object.
+fn commit_at(value: &Value) -> Option<bool>
+    ensures some { OnSome result
+        (commands.where_there commands.commit_of (get (codes "commit") (view value.now)) ≡ Ok []) }
+    ensures commit { IfSome result (λ found. found ≡ commands.asks_commit (view value.now)) }
+    ensures none { result ≡ None
+        → commands.where_there commands.commit_of (get (codes "commit") (view value.now)) ≡ Err 0 }
 {
     match value.get("commit") {
-        Some(asked) if asked.is_object() => Ok(true),
-        Some(_) => Err(0),
-        None => Ok(false),
+        Some(asked) if asked.is_object() => Some(true),
+        Some(_) => None,
+        None => Some(false),
     }
 }
 

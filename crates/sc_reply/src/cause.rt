@@ -91,6 +91,21 @@ impl<'a> Cause<'a> {
         ensures { result ≡ status_of (refusal_of self.now) }
     {
         match self {
+            Cause::BadHead
+            | Cause::BadJson
+            | Cause::BadShape { .. }
+            | Cause::TooMany
+            | Cause::NoId
+            | Cause::IdTooLong
+            | Cause::UnknownField { .. }
+            | Cause::WrongValue { .. }
+            | Cause::Partial { .. }
+            | Cause::BadQuery { .. }
+            | Cause::BadParam { .. }
+            | Cause::UnknownShard
+            | Cause::ShardState { .. }
+            | Cause::RangeTooSmall
+            | Cause::TooManySlices => 400,
             Cause::TooLarge => 413,
             Cause::NotFound => 404,
             Cause::MethodNotAllowed => 405,
@@ -100,7 +115,6 @@ impl<'a> Cause<'a> {
             Cause::HostFault { .. } | Cause::Stopped => 500,
             Cause::Memory => 503,
             Cause::LogFull => 507,
-            _ => 400,
         }
     }
 

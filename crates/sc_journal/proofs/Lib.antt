@@ -11,3 +11,4 @@ pub mod VersionLemmas
 pub mod MapLemmas
 pub mod ExtendsLemmas
 pub mod GoesOnLemmas
+pub mod BatchLemmas

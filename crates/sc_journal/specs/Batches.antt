@@ -79,26 +79,31 @@ acknowledged id (partial name) = None
 acknowledged id log_full = None
 acknowledged id out_of_memory = None
 
+-- the same of an answer
 abbrev pub ack_of : OrderAnswer → Option Ack
 ack_of answer = acknowledged answer.order.id answer.outcome
 
--- what was accepted of additions, and what of deletions, each in order
+-- the same of an addition
 abbrev pub add_of : OrderAnswer → Option Ack
 add_of answer = if deletes answer.order.change then None else ack_of answer
 
+-- the same of a deletion
 abbrev pub delete_of : OrderAnswer → Option Ack
 delete_of answer = if deletes answer.order.change then ack_of answer else None
 
+-- what was accepted of additions, in order
 abbrev pub accepted_adds : List OrderAnswer → List Ack
 accepted_adds answers = filter_map add_of answers
 
+-- what was accepted of deletions, in order
 abbrev pub accepted_deletes : List OrderAnswer → List Ack
 accepted_deletes answers = filter_map delete_of answers
 
--- the stops and the timestamps of answers, in order
+-- the stops of answers, in order
 abbrev pub order_stops : List OrderAnswer → List Stop
 order_stops answers = flat_map (λ (answer : OrderAnswer). answer.stops) answers
 
+-- the timestamps of answers, in order
 abbrev pub order_timestamps : List OrderAnswer → List ℕ
 order_timestamps answers = map (λ (answer : OrderAnswer). answer.timestamp) answers
 

@@ -6,5 +6,6 @@ pub mod Outcomes
 pub mod Seen
 pub mod Moments
 pub mod Batches
+pub mod BatchLaws
 pub mod Committed
 pub mod Laws

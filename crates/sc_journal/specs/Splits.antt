@@ -38,6 +38,7 @@ abbrev pub is_inactive_state : State → Bool
 is_inactive_state states.Inactive = true
 is_inactive_state _ = false
 
+-- the slice is in that state
 abbrev pub is_inactive : Slice → Bool
 is_inactive slice = is_inactive_state slice.state
 

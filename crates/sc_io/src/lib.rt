@@ -12,8 +12,6 @@ mod machine;
 mod memory;
 mod sink;
 mod source;
-#[cfg(test)]
-mod tests;
 
 pub use clock::Clock;
 pub use fault::{Failed, Faults};

@@ -55,6 +55,3 @@ pub use kept::Kept;
 pub use lock::Lock;
 pub use pass::Pass;
 pub use turn::Turn;
-
-#[cfg(test)]
-mod tests;

@@ -18,6 +18,3 @@ mod laws;
 pub use cells::Cells;
 pub use laws::cores_keep_the_greatest;
 pub use replica::Replica;
-
-#[cfg(test)]
-mod tests;

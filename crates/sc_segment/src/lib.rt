@@ -19,6 +19,3 @@ pub use key::Key;
 pub use live_bits::LiveBits;
 pub use segment::Segment;
 pub use steps::Steps;
-
-#[cfg(test)]
-mod tests;

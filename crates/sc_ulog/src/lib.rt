@@ -11,6 +11,3 @@ mod mode;
 
 pub use log::Log;
 pub use mode::Mode;
-
-#[cfg(test)]
-mod tests;

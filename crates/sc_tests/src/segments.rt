@@ -1,12 +1,14 @@
+//! `sc_segment`: the rows of each key, in how many steps they are found, and which rows are live.
+
 ghost use Rattle.std.specs.Ordering.{nat_cmp};
 ghost use Rattle.sc_segment.specs.Fresh.{IsFresh};
 ghost use Rattle.std.proofs.lemmas.Cmp.{on_total, nat_cmp_total};
 
-use crate::{Builder, Key, LiveBits, Segment, Steps};
+use sc_segment::{Builder, Key, LiveBits, Segment, Steps};
 use std::alloc::{AllocError, Global};
 use std::cell::Cell;
 use std::cmp::Ordering;
-use std::marker::{Brand, Send, Sync};
+use std::marker::Brand;
 use std::process::Abort;
 use std::sync::ledger::{Blank, Ledger};
 use std::test::Fail;
@@ -165,28 +167,4 @@ fn clears_one_row(rt: HostRuntime) -> Result<(), Fail> {
     }
     LiveBits::new(rt.alloc(), 0)?;
     Ok(())
-}
-
-// Threads may share what a snapshot keeps.
-#[test]
-fn may_be_shared() {
-    assert_shared::<Segment<u64>>();
-    assert_shared::<LiveBits>();
-}
-
-fn assert_shared<T: Send + Sync>() {}
-
-impl Key for u64 {
-    ghost order = { nat_cmp };
-
-    fn compare<L: Ledger>(&self, other: &Self, steps: &mut Steps<L>) -> Ordering {
-        steps.tick();
-        self.cmp(other)
-    }
-
-    fn share(&self) -> Result<Self, AllocError> {
-        Ok(*self)
-    }
-
-    ghost total = { nat_cmp_total };
 }

@@ -1,6 +1,8 @@
+//! `sc_io`: sources, sinks and clocks in memory and of the machine, with calls that fail.
+
 ghost use Rattle.std.specs.Prelude.{◌≡◌, ◌<◌, length, IfOk};
 
-use crate::{
+use sc_io::{
     Clock, Failed, Fixed, MachineClock, MemClock, MemSink, MemSource, Never, Sink, Source, StdSink,
     StdSource,
 };

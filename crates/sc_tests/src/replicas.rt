@@ -1,11 +1,12 @@
+//! `sc_replica` over `sc_ulog`: a core keeps the newest write of each id, and replays what it buffered.
+
 ghost use Rattle.std.specs.Prelude.{◌≡◌, pos, ◌<ℤ◌, IfOk};
 ghost use Rattle.std.specs.Arc.{arc_value};
 
-use crate::{Cells, Replica};
 use sc_record::{Cell, CoreId, Id, List, SliceId, Write};
+use sc_replica::Replica;
 use sc_ulog::Mode;
 use std::alloc::Global;
-use std::marker::{Send, Sync};
 use std::sync::Arc;
 use std::test::Fail;
 
@@ -116,12 +117,3 @@ fn replays_in_two_pieces(rt: HostRuntime) -> Result<(), Fail> {
     assert_eq!(rt; version_of(alloc, &core, "69")?, Some(VERSION + 17));
     Ok(())
 }
-
-// A core goes from thread to thread.
-#[test]
-fn may_be_shared() {
-    assert_shared::<Cells>();
-    assert_shared::<Replica>();
-}
-
-fn assert_shared<T: Send + Sync>() {}

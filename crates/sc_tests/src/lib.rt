@@ -1,0 +1,21 @@
+//! Tests of the lower crates that are behaviour and no table: replays, threads, reads and writes that fail in
+//! mid-stream, searches that count their steps, and trees so deep that a recursion would have no stack for them.
+//! What a table shows, `sc_examples` answers from its standard input.
+//!
+//! Each module tests one crate by its public functions, but for `sharing`. Nothing depends on this crate.
+#![tactic(auto)]
+
+#[cfg(test)]
+mod locks;
+#[cfg(test)]
+mod queries;
+#[cfg(test)]
+mod replicas;
+#[cfg(test)]
+mod requests;
+#[cfg(test)]
+mod segments;
+#[cfg(test)]
+mod sharing;
+#[cfg(test)]
+mod streams;

@@ -1,4 +1,4 @@
--- The bytes of a reply before its body, and how many bytes are written at once.
+-- The bytes of a reply before its body.
 use Rattle.std.specs.Prelude.{ℕ, Bool, List, [], ◌++◌, codes, decimal}
 use Rattle.std.specs.Option.{option_map_or}
 use Rattle.sc_model.specs.Replies.{reason_of, line_end, close_line}
@@ -10,7 +10,3 @@ head_text status length close =
     ++ codes "Content-Type: application/json;charset=utf-8" ++ line_end
     ++ codes "Content-Length: " ++ decimal length ++ line_end
     ++ close_line close ++ line_end
-
--- the most bytes of a reply, its head and its body together, that takes one write
-abbrev pub one_write_limit : ℕ
-one_write_limit = 4096

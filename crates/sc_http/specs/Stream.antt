@@ -1,5 +1,5 @@
 -- What a call took from a source, where the source reports its bytes.
-use Rattle.std.specs.Prelude.{◌≡◌, ◌<◌, ℕ, List, [], ◌++◌, length, Option, Some, IfSome}
+use Rattle.std.specs.Prelude.{◌≡◌, ◌<◌, ◌≤◌, ℕ, List, [], ◌++◌, length, take, max, Option, Some, IfSome}
 use Rattle.sc_io.specs.Pieces.{TakesPrefix}
 use Rattle.sc_model.specs.Messages.{HasNoMessage}
 
@@ -13,6 +13,18 @@ pub record Grows (before after : List ℕ) (old new : Option (List ℕ)) : Type 
   pub some : 0 < length piece
   pub whole : after ≡ before ++ piece
   pub gives : Gives piece old new
+
+-- the first bytes of a buffer stand, and it got no smaller, and no longer than the limit where it was not longer before
+pub record KeepsFilled (filled limit : ℕ) (old new : List ℕ) : Type 0 where
+  pub kept : take filled new ≡ take filled old
+  pub longer : length old ≤ length new
+  pub size : length new ≤ max (length old) limit
+
+-- more of a buffer is filled than before, within the limit
+pub record FillsMore (filled limit : ℕ) (bytes : List ℕ) (now : ℕ) : Type 0 where
+  pub further : filled < now
+  pub bounded : now ≤ limit
+  pub inside : now ≤ length bytes
 
 -- what was given out and what is left are the bytes that were there, and then some that the source gave
 pub record KeepsBytes (out left before : List ℕ) (old new : Option (List ℕ)) : Type 0 where

@@ -1,5 +1,6 @@
 ghost use Rattle.std.specs.Prelude.{◌≡◌, ◌≢◌, ◌<◌, ◌≤◌, ◌⊎◌, ◌^◌, [], ◌++◌, length, vec_len, IfOk, IfErr, OnOk, OnErr, Err};
 ghost use Rattle.sc_http.specs.Stream.{KeepsBytes, FallsShort, HasEnded, LeavesSuffix, ReadsWhile};
+ghost use Rattle.sc_io.specs.Counts.{CountsFaults};
 
 use crate::buffer::Buffer;
 use crate::refill::refill;
@@ -23,9 +24,7 @@ pub(crate) fn read_body<S: Source>(
     ensures order { OnErr result (LeavesSuffix buffer.new buffer.old (S.rest source.old) (S.rest source.new)) }
     ensures short { IfErr result (λ e. e ≢ Stopped.Memory → FallsShort buffer.old whole (S.rest source.old) (S.rest source.new)) }
     ensures ended { result ≡ Err Stopped.Ended → HasEnded (S.rest source.old) (S.rest source.new) }
-    ensures cause { result ≡ Err Stopped.Failed → S.faults source.old < S.faults source.new }
-    ensures steady { result ≢ Err Stopped.Failed → S.faults source.new ≡ S.faults source.old }
-    ensures no_fall { S.faults source.old ≤ S.faults source.new }
+    ensures faults { CountsFaults (result ≡ Err Stopped.Failed) (S.faults source.old) (S.faults source.new) }
 {
     let have = buffer.unread().len();
     let Ok(mut body) = Vec::from_slice(alloc, &buffer.unread()[..have.min(whole)]) else {
@@ -48,9 +47,7 @@ fn read_rest<S: Source>(body: &mut Vec<u8>, source: &mut S, whole: usize) -> Res
         ⊎ ReadsWhile (λ before. length (body.old.items ++ before) < whole) (S.rest source.old) (S.rest source.new)) }
     ensures short { OnErr result (FallsShort body.old.items whole (S.rest source.old) (S.rest source.new)) }
     ensures ended { result ≡ Err Stopped.Ended → HasEnded (S.rest source.old) (S.rest source.new) }
-    ensures cause { result ≡ Err Stopped.Failed → S.faults source.old < S.faults source.new }
-    ensures steady { result ≢ Err Stopped.Failed → S.faults source.new ≡ S.faults source.old }
-    ensures no_fall { S.faults source.old ≤ S.faults source.new }
+    ensures faults { CountsFaults (result ≡ Err Stopped.Failed) (S.faults source.old) (S.faults source.new) }
 {
     let mut filled = body.len();
     while filled < whole {

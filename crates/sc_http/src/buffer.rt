@@ -1,5 +1,6 @@
 ghost use Rattle.std.specs.Prelude.{◌≡◌, ◌≢◌, ◌<◌, ◌≤◌, ◌^◌, [], length, drop, IfOk, OnOk, OnErr, Err};
 ghost use Rattle.sc_http.specs.Stream.{Gives, Grows, HasEnded};
+ghost use Rattle.sc_io.specs.Counts.{CountsFaults};
 
 use crate::refill::refill;
 use crate::stopped::Stopped;
@@ -69,9 +70,7 @@ impl Buffer {
         ensures kept { OnErr result (self.new ≡ self.old) }
         ensures stays { OnErr result (Gives [] (S.rest source.old) (S.rest source.new)) }
         ensures ended { result ≡ Err Stopped.Ended → HasEnded (S.rest source.old) (S.rest source.new) }
-        ensures cause { result ≡ Err Stopped.Failed → S.faults source.old < S.faults source.new }
-        ensures steady { result ≢ Err Stopped.Failed → S.faults source.new ≡ S.faults source.old }
-        ensures no_fall { S.faults source.old ≤ S.faults source.new }
+        ensures faults { CountsFaults (result ≡ Err Stopped.Failed) (S.faults source.old) (S.faults source.new) }
     {
         if self.start > 0 {
             self.bytes.copy_within(self.start..self.filled, 0);

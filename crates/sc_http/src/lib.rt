@@ -23,7 +23,9 @@ mod target;
 mod tests;
 
 pub use end::MessageEnd;
-pub use laws::{bytes_end_in_one_way, no_ending_of_a_request, no_request_is_a_prefix};
+pub use laws::{
+    bytes_end_in_one_way, limits_are_as_defined, no_ending_of_a_request, no_request_is_a_prefix,
+};
 pub use reader::Reader;
 pub use reply::write_reply;
 pub use sc_model::{Bytes, Incoming, Method, Param};

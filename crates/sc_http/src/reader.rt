@@ -6,6 +6,7 @@ ghost use Rattle.sc_http.specs.Stream.{KeepsBytes, HasEnded, HasNoMessageBefore,
 ghost use Rattle.sc_http.specs.HeadEnd.{next_place, IsJudged};
 ghost use Rattle.sc_http.specs.Lines.{IsHeadOf};
 ghost use Rattle.sc_model.specs.Heads.{body_limit};
+ghost use Rattle.sc_io.specs.Counts.{CountsFaults};
 
 use crate::body::read_body;
 use crate::buffer::Buffer;
@@ -61,14 +62,12 @@ impl Reader {
         ensures bounded { length self.new ≤ max (length self.old) reader_limit }
         ensures ends { IfErr result (λ end. IfSome (ending_of end) (λ ending. IfSome (S.rest source.old)
             (λ bytes. EndsSo (self.old ++ bytes) ending))) }
-        ensures fault { result ≡ Err MessageEnd.ReadFault → S.faults source.old < S.faults source.new }
-        ensures steady { result ≢ Err MessageEnd.ReadFault → S.faults source.new ≡ S.faults source.old }
+        ensures faults { CountsFaults (result ≡ Err MessageEnd.ReadFault) (S.faults source.old) (S.faults source.new) }
         ensures unfinished { result ≡ Err MessageEnd.ReadFault → IfSome (S.rest source.old) (λ bytes. IfSome (S.rest source.new)
             (λ more. HasNoMessageBefore more (self.old ++ bytes))) }
         ensures order { OnErr result (IfSome (S.rest source.old) (λ bytes. IfSome (S.rest source.new)
             (λ more. IsSuffix (self.new ++ more) (self.old ++ bytes)))) }
         ensures reports { IsSome (S.rest source.old) → IsSome (S.rest source.new) }
-        ensures no_fall { S.faults source.old ≤ S.faults source.new }
     {
         let head = read_head(alloc, &mut self.buffer, source)?;
         self.buffer.give(head.size);
@@ -113,9 +112,7 @@ fn read_head<S: Source>(
     ensures ends { IfErr result (λ end. IfSome (ending_of end) (λ ending. IfSome (S.rest source.old) (λ bytes.
         EndsSo (buffer.old ++ bytes) ending))) }
     ensures unfinished { result ≡ Err MessageEnd.ReadFault → HasNoMessage buffer.new }
-    ensures cause { result ≡ Err MessageEnd.ReadFault → S.faults source.old < S.faults source.new }
-    ensures steady { result ≢ Err MessageEnd.ReadFault → S.faults source.new ≡ S.faults source.old }
-    ensures no_fall { S.faults source.old ≤ S.faults source.new }
+    ensures faults { CountsFaults (result ≡ Err MessageEnd.ReadFault) (S.faults source.old) (S.faults source.new) }
 {
     match await_head(buffer, source) {
         Ok(()) => parse_head(alloc, buffer.unread()),
@@ -134,9 +131,7 @@ fn await_head<S: Source>(buffer: &mut Buffer, source: &mut S) -> Result<(), Stop
     ensures bounded { length buffer.new ≤ max (length buffer.old) reader_limit }
     ensures waiting { OnErr result (fold next_place Place.Before buffer.new ≢ Place.End) }
     ensures ended { result ≡ Err Stopped.Ended → HasEnded (S.rest source.old) (S.rest source.new) }
-    ensures cause { result ≡ Err Stopped.Failed → S.faults source.old < S.faults source.new }
-    ensures steady { result ≢ Err Stopped.Failed → S.faults source.new ≡ S.faults source.old }
-    ensures no_fall { S.faults source.old ≤ S.faults source.new }
+    ensures faults { CountsFaults (result ≡ Err Stopped.Failed) (S.faults source.old) (S.faults source.new) }
 {
     let mut place = Place::Before;
     let mut searched = 0;

@@ -1,5 +1,6 @@
 ghost use Rattle.std.specs.Prelude.{◌≡◌, ◌≢◌, ◌<◌, ◌≤◌, ◌+◌, ◌^◌, length, take, vec_len, max, IfOk, OnOk, OnErr, Err, []};
-ghost use Rattle.sc_http.specs.Stream.{Gives, Grows, HasEnded};
+ghost use Rattle.sc_http.specs.Stream.{Gives, Grows, FillsMore, KeepsFilled, HasEnded};
+ghost use Rattle.sc_io.specs.Counts.{CountsFaults};
 
 use crate::stopped::Stopped;
 use sc_io::Source;
@@ -20,17 +21,11 @@ pub(crate) fn refill<S: Source>(
     requires below { filled < limit }
     requires small { limit ≤ 2 ^ 32 }
     ensures grows { IfOk result (λ now. Grows (take filled bytes.old.items) (take now bytes.new.items) (S.rest source.old) (S.rest source.new)) }
-    ensures further { IfOk result (λ now. filled < now) }
-    ensures bounded { IfOk result (λ now. now ≤ limit) }
-    ensures inside { IfOk result (λ now. now ≤ vec_len bytes.new) }
-    ensures kept { take filled bytes.new.items ≡ take filled bytes.old.items }
-    ensures longer { vec_len bytes.old ≤ vec_len bytes.new }
-    ensures size { vec_len bytes.new ≤ max (vec_len bytes.old) limit }
+    ensures fills { IfOk result (FillsMore filled limit bytes.new.items) }
+    ensures room { KeepsFilled filled limit bytes.old.items bytes.new.items }
     ensures stays { OnErr result (Gives [] (S.rest source.old) (S.rest source.new)) }
     ensures ended { result ≡ Err Stopped.Ended → HasEnded (S.rest source.old) (S.rest source.new) }
-    ensures cause { result ≡ Err Stopped.Failed → S.faults source.old < S.faults source.new }
-    ensures steady { result ≢ Err Stopped.Failed → S.faults source.new ≡ S.faults source.old }
-    ensures no_fall { S.faults source.old ≤ S.faults source.new }
+    ensures faults { CountsFaults (result ≡ Err Stopped.Failed) (S.faults source.old) (S.faults source.new) }
 {
     if filled == bytes.len() {
         make_room(bytes, limit)?;

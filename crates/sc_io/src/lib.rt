@@ -9,6 +9,7 @@
 mod clock;
 mod fault;
 mod machine;
+mod mem_source;
 mod memory;
 mod sink;
 mod source;
@@ -16,6 +17,7 @@ mod source;
 pub use clock::Clock;
 pub use fault::{Failed, Faults};
 pub use machine::{MachineClock, StdSink, StdSource};
-pub use memory::{Fixed, MemClock, MemSink, MemSource, Never};
+pub use mem_source::MemSource;
+pub use memory::{Fixed, MemClock, MemSink, Never};
 pub use sink::Sink;
 pub use source::Source;

@@ -1,51 +1,16 @@
-ghost use Rattle.std.specs.Prelude.{◌≡◌, ℕ, ◌+◌, ◌-◌, ◌^◌, ◌<◌, ◌≤◌, ◌↔◌, List, [], ◌++◌, length, take, drop, min, Some, None, IfOk, IfSome, IsErr, OnOk, OnErr, Contains, slice_index, if◌then◌else◌};
+ghost use Rattle.std.specs.Prelude.{◌≡◌, ℕ, ◌+◌, ◌-◌, ◌^◌, ◌<◌, ◌≤◌, List, [], ◌++◌, length, take, drop, min, Some, None, IfOk, IfSome, IsErr, OnOk, OnErr, Contains, slice_index, if◌then◌else◌};
 ghost use Rattle.sc_io.specs.Pieces.{TakesPrefix, AddsPrefix};
+ghost use Rattle.sc_io.specs.Memory.{ReadsMemory};
 ghost use Rattle.sc_io.specs.Moments.{next_place};
 
 use crate::clock::Clock;
 use crate::fault::{Failed, Faults};
+use crate::mem_source::MemSource;
 use crate::sink::Sink;
 use crate::source::Source;
 use sc_record::List;
 use std::alloc::Global;
 use std::mem;
-
-/// A source of these bytes. `at` is the place of the next one, `most` how many a read gives at most.
-/// The reads whose numbers, counted from 0, are in `fails` fail. `calls` is the number of the next
-/// read; at 2^64 - 1 it stands still, and each read from there on has that number.
-#[derive(Debug, Drop)]
-pub struct MemSource {
-    pub bytes: List<u8>,
-    pub at: usize,
-    pub most: usize,
-    pub fails: List<u64>,
-    pub calls: u64,
-    pub faults: Faults,
-    pub ghost within: { at ≤ length bytes },
-    pub ghost gives_some: { 0 < most },
-}
-
-impl MemSource {
-    /// A source of which nothing was read yet.
-    pub fn new(bytes: List<u8>, most: usize, fails: List<u64>) -> MemSource
-        requires { 0 < most }
-        ensures bytes { result.bytes ≡ bytes }
-        ensures at { result.at ≡ 0 }
-        ensures most { result.most ≡ most }
-        ensures fails { result.fails ≡ fails }
-        ensures calls { result.calls ≡ 0 }
-        ensures faults { result.faults ≡ 0 }
-    {
-        MemSource {
-            bytes,
-            at: 0,
-            most,
-            fails,
-            calls: 0,
-            faults: Faults::none(),
-        }
-    }
-}
 
 impl Source for MemSource {
     ghost rest = { λ s. Some (drop s.at s.bytes) };
@@ -61,15 +26,7 @@ impl Source for MemSource {
         ensures failed { OnErr result (self.new.at ≡ self.old.at) }
         ensures steady { OnOk result (self.new.faults ≡ self.old.faults) }
         ensures cause { OnErr result (self.new.faults ≡ self.old.faults + 1) }
-
-        ensures fails { IsErr result ↔ Contains self.old.fails self.old.calls }
-        ensures piece { IfOk result (λ n. n ≡ min (min (length self.old.bytes - self.old.at) self.old.most) (length into.old)) }
-        ensures beyond { IfOk result (λ n. drop n into.new ≡ drop n into.old) }
-        ensures untouched { OnErr result (into.new ≡ into.old) }
-        ensures counted { self.new.calls ≡ min (self.old.calls + 1) (2 ^ 64 - 1) }
-        ensures kept_bytes { self.new.bytes ≡ self.old.bytes }
-        ensures kept_fails { self.new.fails ≡ self.old.fails }
-        ensures kept_most { self.new.most ≡ self.old.most }
+        ensures reads { ReadsMemory self.old self.new into.old into.new result }
     {
         let call = self.calls;
         self.calls = call.saturating_add(1);

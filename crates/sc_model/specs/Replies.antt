@@ -7,6 +7,10 @@ pub record Reply : Type 0 where
   pub status : ℕ
   pub body : List ℕ
 
+-- the most bytes of a reply, its head and its body together, that takes one write
+abbrev pub one_write_limit : ℕ
+one_write_limit = 4096
+
 -- the statuses that are answered, with their reasons (RFC 9110, section 15)
 abbrev pub reasons : List (ℕ × List ℕ)
 reasons =

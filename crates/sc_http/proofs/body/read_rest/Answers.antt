@@ -23,13 +23,13 @@ pub loop-filled-preserved : goal.loop-filled-preserved
 loop-filled-preserved g c =
     let few : length (take c.loop-filled.filled c.loop-filled.body.items) < c.args.whole = grind (arith, common_steps) in
     record {
-      within = c.in_ok-filled.ensures.inside;
-      below = c.in_ok-filled.ensures.bounded;
+      within = grind (arith, common_steps);
+      below = c.in_ok-filled.ensures.fills.bounded;
       size = omega arith;
       out = gives_out_more _ _ _ _ _ _ c.loop-filled.invariant.out c.in_ok-filled.ensures.grows;
       needed = inr (reads_while (λ xs. length xs < c.args.whole) _ _ _ _ _ _ _ c.loop-filled.invariant.out c.in_ok-filled.ensures.grows.gives
           (subst (λ (xs : List ℕ). length xs < c.args.whole) (sym (append-nil (take c.loop-filled.filled c.loop-filled.body.items))) few));
-      steady = c.in_ok-filled.ensures.steady (λ failed. cc) ∙ c.loop-filled.invariant.steady;
+      steady = c.in_ok-filled.ensures.faults.steady (λ failed. cc) ∙ c.loop-filled.invariant.steady;
     }
 
 pub returns-in_err-filled-clause-short : goal.returns-in_err-filled-clause-short

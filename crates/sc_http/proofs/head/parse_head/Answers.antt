@@ -1,5 +1,5 @@
 -- What is said of the bytes that a head may have is said of all bytes.
-use Rattle.std.proofs.Common.{List, ℕ, ◌++◌, arith, take, drop, Ok, sym, ap, subst, ◌∙◌}
+use Rattle.std.proofs.Common.{List, ℕ, take, drop, subst}
 use Rattle.std.specs.Prelude.{IfErr, IfSome}
 use Rattle.std.proofs.lemmas.List.{take-append-drop}
 use Rattle.std.proofs.lemmas.Result.{IfOk-weaker}

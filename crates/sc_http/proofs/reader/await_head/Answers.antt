@@ -20,7 +20,7 @@ loop-place-preserved g c =
       gives = left_more _ _ _ _ _ _ c.loop-place.invariant.gives grown;
       needed = inr (reads_while HasNoMessage [] c.loop-place.buffer _ _ _ _ _ c.loop-place.invariant.gives grown.gives none);
       bounded = omega (arith, c.in_ok-fill.ensures.bounded);
-      steady = c.in_ok-fill.ensures.steady (λ failed. cc) ∙ c.loop-place.invariant.steady;
+      steady = c.in_ok-fill.ensures.faults.steady (λ failed. cc) ∙ c.loop-place.invariant.steady;
     }
 
 pub returns-in_err-fill-clause-waiting : goal.returns-in_err-fill-clause-waiting

@@ -70,7 +70,7 @@ loop-request-preserved g c =
       legal = subst (λ (n : Layout). AreLegal n then.seen) (c.exchange.ensures.layout ∙ c.loop-request.invariant.layout) c.exchange.ensures.legal;
       layout = c.exchange.ensures.layout ∙ c.loop-request.invariant.layout;
       nothing_out = c.exchange.ensures.nothing_out;
-      source_faults = c.in-Ok-next_message.ensures.steady (λ e. absurd (cc)) ∙ c.loop-request.invariant.source_faults;
+      source_faults = c.in-Ok-next_message.ensures.faults.steady (λ e. absurd (cc)) ∙ c.loop-request.invariant.source_faults;
       sink_faults = c.in_default.ensures.no_write_fault (λ e. absurd (cc)) ∙ c.loop-request.invariant.sink_faults;
     }
 

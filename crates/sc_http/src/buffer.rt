@@ -1,4 +1,4 @@
-ghost use Rattle.std.specs.Prelude.{◌≡◌, ◌≢◌, ◌<◌, ◌≤◌, ◌^◌, [], length, drop, IfOk, OnOk, OnErr, Err};
+ghost use Rattle.std.specs.Prelude.{◌≡◌, ◌<◌, ◌≤◌, ◌^◌, [], length, drop, IfOk, OnOk, OnErr, Err};
 ghost use Rattle.sc_http.specs.Stream.{Gives, Grows, HasEnded};
 ghost use Rattle.sc_io.specs.Counts.{CountsFaults};
 

@@ -1,4 +1,4 @@
-ghost use Rattle.std.specs.Prelude.{◌≡◌, ◌≢◌, ◌<◌, ◌≤◌, ◌⊎◌, [], ◌++◌, length, max, fold, IfOk, OnOk, IfErr, IfSome, OnErr, Err, IsSome};
+ghost use Rattle.std.specs.Prelude.{◌≡◌, ◌≢◌, ◌≤◌, ◌⊎◌, [], ◌++◌, length, max, fold, IfOk, OnOk, IfErr, IfSome, OnErr, Err, IsSome};
 ghost use Rattle.sc_model.specs.Messages.{ReadsMessage, HasNoMessage, EndsSo};
 ghost use Rattle.sc_http.specs.Ends.{ending_of};
 ghost use mathlib.Core.List.{IsSuffix};

@@ -1,4 +1,4 @@
-ghost use Rattle.std.specs.Prelude.{◌≡◌, ◌≢◌, ◌<◌, ◌≤◌, ◌+◌, ◌^◌, length, take, vec_len, max, IfOk, OnOk, OnErr, Err, []};
+ghost use Rattle.std.specs.Prelude.{◌≡◌, ◌<◌, ◌≤◌, ◌+◌, ◌^◌, length, take, vec_len, max, IfOk, OnOk, OnErr, Err, []};
 ghost use Rattle.sc_http.specs.Stream.{Gives, Grows, FillsMore, KeepsFilled, HasEnded};
 ghost use Rattle.sc_io.specs.Counts.{CountsFaults};
 

@@ -1,8 +1,8 @@
-ghost use Rattle.std.specs.Prelude.{◌≡◌, ◌<◌, ◌≤◌, ◌+◌, ◌++◌, length, decimal, Some, IsSome, IfSome, OnOk, OnErr};
+ghost use Rattle.std.specs.Prelude.{◌≡◌, ◌<◌, ◌≤◌, ◌+◌, ◌++◌, length, Some, IsSome, IfSome, OnOk, OnErr};
 ghost use Rattle.sc_io.specs.Pieces.{AddsPrefix};
 ghost use Rattle.arrayvec.specs.ArrayVec.{array_vec_len};
 ghost use Rattle.sc_http.specs.ReplyHead.{head_text};
-ghost use Rattle.sc_model.specs.Replies.{Reply, reason_of, close_line, one_write_limit, text_of};
+ghost use Rattle.sc_model.specs.Replies.{reason_of, close_line, one_write_limit, text_of};
 
 use arrayvec::ArrayVec;
 use itoa::Buffer;

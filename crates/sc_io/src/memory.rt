@@ -1,5 +1,5 @@
-ghost use Rattle.std.specs.Prelude.{◌≡◌, ℕ, ◌+◌, ◌-◌, ◌^◌, ◌<◌, ◌≤◌, List, [], ◌++◌, length, take, drop, min, Some, None, IfOk, IfSome, IsErr, OnOk, OnErr, Contains, slice_index, if◌then◌else◌};
-ghost use Rattle.sc_io.specs.Pieces.{TakesPrefix, AddsPrefix};
+ghost use Rattle.std.specs.Prelude.{◌≡◌, ◌+◌, ◌-◌, ◌^◌, ◌<◌, ◌≤◌, List, [], ◌++◌, length, take, drop, min, Some, None, IfOk, IsErr, OnOk, OnErr, Contains, slice_index, if◌then◌else◌};
+ghost use Rattle.sc_io.specs.Pieces.{TakesPrefix};
 ghost use Rattle.sc_io.specs.Memory.{ReadsMemory};
 ghost use Rattle.sc_io.specs.Moments.{next_place};
 

@@ -7,6 +7,7 @@ ghost use Rattle.serde_json.specs.View.{view};
 ghost use Rattle.sc_json.specs.Documents as documents;
 ghost use Rattle.sc_reply.specs.Bodies as bodies;
 
+use crate::fixed::null_body;
 use crate::parts::{put_header, text_of};
 use sc_json::doc_value;
 use sc_record::{Cell, List, Text};
@@ -19,8 +20,13 @@ pub fn get_body(alloc: Global, write: Option<&Cell>) -> Result<Text, AllocError>
     ensures { IfOk result
         (λ text. text ≡ bodies.get_text (option_map arc_value (option_copied write.entry))) }
 {
-    let value = get_value(alloc, write)?;
-    text_of(alloc, &value)
+    match write {
+        Some(_) => {
+            let value = get_value(alloc, write)?;
+            text_of(alloc, &value)
+        }
+        None => Text::new(alloc, null_body()),
+    }
 }
 
 /// The value of a get's answer.

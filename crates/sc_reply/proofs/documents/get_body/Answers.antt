@@ -6,4 +6,4 @@ use Rattle.sc_reply.proofs.FloatLemmas.{no_float-get}
 use Rattle.sc_reply.proofs.documents.get_body.Goals as goal
 
 pub text_of-requires : goal.text_of-requires
-text_of-requires c = ap has_float c.in_ok-value.ensures ∙ no_float-get (option_map arc_value (option_copied c.args.write))
+text_of-requires c = ap has_float c.in_ok-value-in-Some.ensures ∙ no_float-get (option_map arc_value (option_copied c.args.write))

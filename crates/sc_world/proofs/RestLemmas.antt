@@ -27,7 +27,7 @@ use Rattle.sc_world.specs.declared.event.Event.{Event}
 use Rattle.sc_world.specs.declared.event.Event.TheVariants as events
 use Rattle.sc_world.specs.Steps.{Can, IsDone, IsRefused, IsOutOfMemory}
 use Rattle.sc_world.specs.Runs.{IsPassed, Runs, RunsOut}
-use Rattle.sc_world.specs.Rests.{closes, BringToRest, BucketsComeToRest}
+use Rattle.sc_world.specs.Rests.{is_closing, BringToRest, BucketsComeToRest}
 
 -- the bucket has this journal, from this first map on, and its map and its phase are those after it
 record HasHistory (first : List Slice) (journal : List Entry) (b : Bucket) : Type 0 where
@@ -50,15 +50,15 @@ sound_history b sound = record {
   by (phases.Recovering parent) is = sym is.0.begun
 
 -- The event makes the entry: it may come to a bucket with this history, it is done then, and the journal gets the entry.
-record Makes (first : List Slice) (journal : List Entry) (one : Entry) (event : Event) : Type 0 where
-  pub close : closes event ≡ true
+record MakesEntry (first : List Slice) (journal : List Entry) (one : Entry) (event : Event) : Type 0 where
+  pub close : is_closing event ≡ true
   pub can : (b : Bucket) → HasHistory first journal b → Can b event
   pub done : (old : Bucket) (added : List Write) (new : Bucket) → HasHistory first journal old → IsDone old event added new
       → HasHistory first (journal ++ one ∷ []) new
 
 -- one that settles a write
 makes_settled : (first : List Slice) (journal : List Entry) (place : ℕ) → MayFollow first journal (entry.Settled place)
-    → Makes first journal (entry.Settled place) (events.Settle place)
+    → MakesEntry first journal (entry.Settled place) (events.Settle place)
 makes_settled first journal place may = record {
   close = refl;
   can = λ b has. (
@@ -77,7 +77,7 @@ makes_settled first journal place may = record {
 
 -- one that gives a split up
 makes_failed : (first : List Slice) (journal : List Entry) (parent : SliceId) → MayFollow first journal (entry.Failed parent)
-    → Makes first journal (entry.Failed parent) events.Abort
+    → MakesEntry first journal (entry.Failed parent) events.Abort
 makes_failed first journal parent may = record {
   close = refl;
   can = λ b has. (parent, has.split ∙ may);
@@ -100,7 +100,7 @@ makes_failed first journal parent may = record {
 
 -- one that drops a slice
 makes_dropped : (first : List Slice) (journal : List Entry) (slice : SliceId) → MayFollow first journal (entry.Dropped slice)
-    → Makes first journal (entry.Dropped slice) (events.Drop slice)
+    → MakesEntry first journal (entry.Dropped slice) (events.Drop slice)
 makes_dropped first journal slice may = record {
   close = refl;
   can = λ b has.
@@ -121,7 +121,7 @@ makes_dropped first journal slice may = record {
 
 -- each entry that is owed is made by an event
 makes_owed : (first : List Slice) (journal : List Entry) (one : Entry) → OwesLess first journal one
-    → (event : Event) × Makes first journal one event
+    → (event : Event) × MakesEntry first journal one event
 makes_owed first journal (entry.Settled place) owes = (events.Settle place, makes_settled first journal place owes.may)
 makes_owed first journal (entry.Failed parent) owes = (events.Abort, makes_failed first journal parent owes.may)
 makes_owed first journal (entry.Dropped slice) owes = (events.Drop slice, makes_dropped first journal slice owes.may)
@@ -131,7 +131,7 @@ makes_owed first journal (entry.Begun parent subs) owes = absurd (false≢true o
 makes_owed first journal (entry.Switched parent) owes = absurd (false≢true owes.closing)
 
 -- such an event is not refused
-never_refused : (old : Bucket) (event : Event) (new : Bucket) → closes event ≡ true → IsRefused old event new → ⊥
+never_refused : (old : Bucket) (event : Event) (new : Bucket) → is_closing event ≡ true → IsRefused old event new → ⊥
 never_refused old (events.Settle place) new close refused = refused
 never_refused old events.Abort new close refused = refused
 never_refused old (events.Drop slice) new close refused = refused
@@ -148,7 +148,7 @@ never_refused old (events.Grow core) new close refused = refused
 never_refused old events.Switch new close refused = refused
 
 -- nor does memory run out at it
-never_out : (old : Bucket) (event : Event) (new : Bucket) → closes event ≡ true → IsOutOfMemory old event new → ⊥
+never_out : (old : Bucket) (event : Event) (new : Bucket) → is_closing event ≡ true → IsOutOfMemory old event new → ⊥
 never_out old (events.Settle place) new close out = out
 never_out old events.Abort new close out = out
 never_out old (events.Drop slice) new close out = out
@@ -166,15 +166,15 @@ never_out old events.Switch new close out = out
 
 -- so a list of them doesn't run out of memory
 never_runs_out : (old : Bucket) (closing : List Event) (added : List Write) (new : Bucket)
-    → All (λ (event : Event). closes event ≡ true) closing → ¬ RunsOut old closing added new
+    → All (λ (event : Event). is_closing event ≡ true) closing → ¬ RunsOut old closing added new
 never_runs_out old closing added new close out =
     let here : Contains (out.before ++ out.event ∷ out.after) out.event =
     Contains-append_right out.before (out.event ∷ out.after) out.event (0, omega arith, refl) in
     let there : Contains closing out.event = subst (λ (these : List Event). Contains these out.event) (sym out.parts) here in
-    never_out out.between out.event new (All-contains (λ (event : Event). closes event ≡ true) closing out.event close there) out.out
+    never_out out.between out.event new (All-contains (λ (event : Event). is_closing event ≡ true) closing out.event close there) out.out
 
 -- where the event comes the journal gets the entry
-passed_makes : (first : List Slice) (journal : List Entry) (one : Entry) (event : Event) → Makes first journal one event
+passed_makes : (first : List Slice) (journal : List Entry) (one : Entry) (event : Event) → MakesEntry first journal one event
     → (old : Bucket) (added : List Write) (new : Bucket) → HasHistory first journal old → IsPassed old event added new
     → HasHistory first (journal ++ one ∷ []) new
 passed_makes first journal one event makes old added new has (inl (cannot, none, same)) = absurd (cannot (makes.can old has))
@@ -190,7 +190,7 @@ record IsRested (first : List Slice) (journal : List Entry) (count : ℕ) (new :
 
 -- these events bring each bucket with this history to rest
 record Closing (first : List Slice) (journal : List Entry) (closing : List Event) : Type 0 where
-  pub close : All (λ (event : Event). closes event ≡ true) closing
+  pub close : All (λ (event : Event). is_closing event ≡ true) closing
   pub few : length closing ≤ owed first journal
   pub rested : (old : Bucket) (added : List Write) (new : Bucket) → HasHistory first journal old → Runs old closing added new
       → IsRested first journal (length closing) new
@@ -198,7 +198,7 @@ record Closing (first : List Slice) (journal : List Entry) (closing : List Event
 -- none where nothing is owed
 none_closing : (first : List Slice) (journal : List Entry) → owed first journal ≡ 0 → Closing first journal []
 none_closing first journal nothing = record {
-  close = All-nil (λ (event : Event). closes event ≡ true);
+  close = All-nil (λ (event : Event). is_closing event ≡ true);
   few = omega arith;
   rested = λ old added new has runs.
       let same : new.journal.entries ≡ journal = ap (λ (b : Bucket). b.journal.entries) runs.1 ∙ has.entries in
@@ -211,10 +211,10 @@ none_closing first journal nothing = record {
 
 -- one, and those that the rest wants
 more_closing : (first : List Slice) (journal : List Entry) (one : Entry) (event : Event) (closing : List Event)
-    → OwesLess first journal one → Makes first journal one event → Closing first (journal ++ one ∷ []) closing
+    → OwesLess first journal one → MakesEntry first journal one event → Closing first (journal ++ one ∷ []) closing
     → Closing first journal (event ∷ closing)
 more_closing first journal one event closing owes makes rest = record {
-  close = All-cons (λ (e : Event). closes e ≡ true) event closing makes.close rest.close;
+  close = All-cons (λ (e : Event). is_closing e ≡ true) event closing makes.close rest.close;
   few = let less = owes.less in let few = rest.few in omega (arith, less, few);
   rested = λ old added new has runs.
       let (between, start, later, passed, runs_on, is) = runs in

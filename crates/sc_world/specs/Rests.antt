@@ -10,16 +10,16 @@ use Rattle.sc_world.specs.declared.event.Event.TheVariants as events
 use Rattle.sc_world.specs.Runs.{Runs, RunsOut}
 
 -- the event settles a write, gives up a split or drops a slice
-abbrev pub closes : Event → Bool
-closes (events.Settle place) = true
-closes events.Abort = true
-closes (events.Drop slice) = true
-closes _ = false
+abbrev pub is_closing : Event → Bool
+is_closing (events.Settle place) = true
+is_closing events.Abort = true
+is_closing (events.Drop slice) = true
+is_closing _ = false
 
 -- Such events bring a bucket to rest, and they are no more than the entries that it owes. Memory doesn't run out at any. Once they
 -- came the journal is within its limit, each write is settled, no split is open, and no slice is inactive.
 pub record BringToRest (old : Bucket) (closing : List Event) : Type 0 where
-  pub close : All (λ (event : Event). closes event ≡ true) closing
+  pub close : All (λ (event : Event). is_closing event ≡ true) closing
   pub few : length closing ≤ owed old.first old.journal.entries
   pub in_memory : (added : List Write) (new : Bucket) → ¬ RunsOut old closing added new
   pub within : (added : List Write) (new : Bucket) → Runs old closing added new → length new.journal.entries ≤ old.limit

@@ -8,13 +8,14 @@ use Rattle.sc_cluster.specs.Changes.{Change}
 use Rattle.sc_cluster.proofs.ListLemmas.{filter-filter, Contains-from_filter}
 use Rattle.sc_cluster.proofs.MapLemmas.{failed_is_idle}
 use Rattle.sc_cluster.proofs.StateLemmas.{is_settled}
+use Rattle.sc_journal.proofs.OwedLemmas.{owed-push_failed}
 use Rattle.sc_journal.proofs.SplitLemmas.{open_split-push}
 use Rattle.sc_bucket.specs.Sound.{IsOpen, IsInPhase, IsSound}
 use Rattle.sc_bucket.specs.declared.bucket.Bucket.{Bucket}
 use Rattle.sc_bucket.specs.declared.phase.Phase.{Phase}
 use Rattle.sc_bucket.specs.declared.phase.Phase.TheVariants as phases
 use Rattle.sc_handover.specs.Conditions.{split_of, CanAbort}
-use Rattle.sc_handover.proofs.NotedLemmas.{is_settled-active, owed-push_failed, TakesOut}
+use Rattle.sc_handover.proofs.NotedLemmas.{is_settled-active, TakesOut}
 use Rattle.sc_handover.proofs.LeftOutLemmas.{IsSound-taken_out}
 
 -- the split of the parent is open

@@ -1,11 +1,9 @@
 -- The journal, the map and the searchers of a bucket once a split has begun.
-use Rattle.std.proofs.Common.{◌≡◌, ◌≤◌, ◌+◌, ◌∙◌, not, true, false, cond, None, List, [], ◌∷◌, ◌++◌, length, map, filter, count_by, All, refl, sym, ap, subst, arith}
+use Rattle.std.proofs.Common.{◌≡◌, ◌≤◌, ◌+◌, ◌∙◌, not, true, false, List, [], ◌++◌, map, filter, All, refl, sym, ap, subst, arith}
 use Rattle.std.proofs.lemmas.List.{append-nil}
 use Rattle.std.proofs.lemmas.List.Elements.{All-map, All-weaker, filter-append}
-use Rattle.std.proofs.lemmas.List.Sums.{sum_by-append}
 use Rattle.sc_record.specs.declared.slice.SliceId.{SliceId}
 use Rattle.sc_record.specs.declared.slice.SubSlice.{SubSlice}
-use Rattle.sc_record.specs.declared.entry.Entry.{Entry}
 use Rattle.sc_record.specs.declared.entry.Entry.TheVariants as entry
 use Rattle.sc_cluster.specs.declared.slice.Slice.{Slice}
 use Rattle.sc_cluster.specs.declared.slice.State.TheVariants as states
@@ -13,31 +11,19 @@ use Rattle.sc_cluster.specs.Slices.{is_active, is_forming, forming}
 use Rattle.sc_cluster.specs.Plans.{IsPlan}
 use Rattle.sc_cluster.specs.Changes.{Change, begun_slice, IsSplit}
 use Rattle.sc_cluster.proofs.BegunLemmas.{All-forming_begun}
-use Rattle.sc_cluster.proofs.CountLemmas.{count_by-none}
 use Rattle.sc_cluster.proofs.ListLemmas.{filter-none, filter-all, none_from_filter}
 use Rattle.sc_cluster.proofs.MapLemmas.{begun_is_split}
 use Rattle.sc_cluster.proofs.StateLemmas.{is_settled, forming-begun}
-use Rattle.sc_journal.specs.Splits.{map_after, open_split, owed, owed_by_split, is_inactive}
-use Rattle.sc_journal.proofs.SettledLemmas.{unsettled-push_other}
-use Rattle.sc_journal.proofs.SplitLemmas.{map_after-push, open_split-push}
+use Rattle.sc_journal.specs.Splits.{open_split, owed}
+use Rattle.sc_journal.proofs.OwedLemmas.{owed-push_begun}
+use Rattle.sc_journal.proofs.SplitLemmas.{open_split-push}
 use Rattle.sc_bucket.specs.Sound.{HasJournal, IsIdle, IsOpen}
 use Rattle.sc_bucket.specs.declared.bucket.Bucket.{Bucket}
 use Rattle.sc_bucket.proofs.AcceptLemmas.{bucket_has_map}
 use Rattle.sc_handover.proofs.PushedLemmas.{HasJournal-pushed}
 use Rattle.sc_handover.specs.Events.{Begins}
 
--- the subs make no slice inactive, and no slice active
-inactive-begun : (slices : List Slice) (subs : List SubSlice)
-    → count_by is_inactive (slices ++ map begun_slice subs) ≡ count_by is_inactive slices
-inactive-begun slices subs =
-    let none : count_by is_inactive (map begun_slice subs) ≡ 0 =
-    count_by-none is_inactive (map begun_slice subs)
-    (All-map (λ (slice : Slice). is_inactive slice ≡ false) begun_slice subs (λ _ _ _. refl)) in
-    let all : count_by is_inactive (slices ++ map begun_slice subs)
-    ≡ count_by is_inactive slices + count_by is_inactive (map begun_slice subs) =
-    sum_by-append (λ (slice : Slice). cond (is_inactive slice) 1 0) slices (map begun_slice subs) in
-    omega (arith, none, all)
-
+-- the subs make no slice active
 pub active-begun : (slices : List Slice) (subs : List SubSlice)
     → filter is_active (slices ++ map begun_slice subs) ≡ filter is_active slices
 active-begun slices subs =
@@ -45,18 +31,6 @@ active-begun slices subs =
     ∙ ap (λ (rest : List Slice). filter is_active slices ++ rest) (filter-none is_active (map begun_slice subs)
     (All-map (λ (slice : Slice). is_active slice ≡ false) begun_slice subs (λ _ _ _. refl)))
     ∙ append-nil (filter is_active slices)
-
--- two entries more are owed
-owed-push_begun : (first : List Slice) (journal : List Entry) (parent : SliceId) (subs : List SubSlice)
-    → open_split journal ≡ None → owed first (journal ++ entry.Begun parent subs ∷ []) ≡ owed first journal + 2
-owed-push_begun first journal parent subs idle =
-    let one : Entry = entry.Begun parent subs in
-    let places = ap length (unsettled-push_other journal one refl (λ place. refl)) in
-    let before = ap owed_by_split idle in
-    let after = ap owed_by_split (open_split-push journal one) in
-    let slices = ap (count_by is_inactive) (map_after-push first journal one (Change.Begun parent subs) refl)
-    ∙ inactive-begun (map_after first journal) subs in
-    omega (arith, places, before, after, slices)
 
 -- the journal is as it has to be
 pub HasJournal-begun : (old new : Bucket) (parent : SliceId) (subs : List SubSlice) → HasJournal old → IsIdle old

@@ -14,6 +14,7 @@ use Rattle.sc_cluster.proofs.MapLemmas.{dropped_is_idle}
 use Rattle.sc_cluster.proofs.StateLemmas.{is_other}
 use Rattle.sc_journal.specs.Splits.{owed}
 use Rattle.sc_journal.specs.Legal.{MayDrop}
+use Rattle.sc_journal.proofs.OwedLemmas.{owed-push_dropped}
 use Rattle.sc_journal.proofs.SplitLemmas.{open_split-push}
 use Rattle.sc_bucket.specs.Searchers.{ArePrepared}
 use Rattle.sc_bucket.specs.Sound.{IsIdle, IsInPhase, IsSound}
@@ -23,7 +24,7 @@ use Rattle.sc_bucket.proofs.AcceptLemmas.{bucket_has_map}
 use Rattle.sc_handover.proofs.NoFeedLemmas.{no_feeds}
 use Rattle.sc_handover.specs.Conditions.{CanDrop}
 use Rattle.sc_handover.proofs.KeptLemmas.{same_number}
-use Rattle.sc_handover.proofs.NotedLemmas.{owed-push_dropped, TakesOut}
+use Rattle.sc_handover.proofs.NotedLemmas.{TakesOut}
 use Rattle.sc_handover.proofs.LeftOutLemmas.{IsSound-taken_out}
 
 -- where no split is open

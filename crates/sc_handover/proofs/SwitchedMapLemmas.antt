@@ -1,25 +1,18 @@
 -- The map and the journal once the subs are put in the place of their parent.
-use Rattle.std.proofs.Common.{◌≡◌, ℕ, ◌+◌, ◌≤◌, ◌&&◌, Bool, true, false, cond, eqb, IsTrue, List, [], ◌∷◌, ◌++◌, length, map, Some, None, refl, ap, ◌∙◌, subst, arith}
-use Rattle.std.specs.List.{count_by}
+use Rattle.std.proofs.Common.{◌≡◌, ◌+◌, ◌≤◌, Bool, true, false, cond, eqb, IsTrue, List, map, None, refl, ap, ◌∙◌, subst, arith}
 use Rattle.std.proofs.Math.Path.{fun_ext}
 use Rattle.std.proofs.lemmas.List.Folds.{flat_map-map}
 use Rattle.std.specs.List.{flat_map}
 use Rattle.sc_record.specs.declared.slice.SliceId.{SliceId}
-use Rattle.sc_record.specs.declared.entry.Entry.{Entry}
 use Rattle.sc_record.specs.declared.entry.Entry.TheVariants as entry
-use Rattle.sc_cluster.specs.declared.slice.State.{State}
 use Rattle.sc_cluster.specs.declared.slice.State.TheVariants as states
 use Rattle.sc_cluster.specs.declared.slice.Slice.{Slice}
-use Rattle.sc_cluster.specs.Slices.{is_active_state, is_forming_state, is_active, is_forming}
+use Rattle.sc_cluster.specs.Slices.{is_forming}
 use Rattle.sc_cluster.specs.Map.{IsMap}
 use Rattle.sc_cluster.specs.Changes.{Change, in_state, switched_slice, IsSplit}
-use Rattle.sc_cluster.proofs.CountLemmas.{count_by-map, count_by-none, count_by-balance}
-use Rattle.sc_cluster.proofs.IdLemmas.{id_of}
-use Rattle.sc_cluster.proofs.OrderLemmas.{at_key, count_by-at_key}
 use Rattle.sc_cluster.proofs.StateLemmas.{switched_keeps}
-use Rattle.sc_journal.specs.Splits.{is_inactive_state, is_inactive, map_after, open_split, owed_by_split, owed}
-use Rattle.sc_journal.proofs.SettledLemmas.{unsettled-push_other}
-use Rattle.sc_journal.proofs.SplitLemmas.{map_after-push, open_split-push}
+use Rattle.sc_journal.specs.Splits.{map_after, owed_by_split, owed}
+use Rattle.sc_journal.proofs.OwedLemmas.{owed-push_switched}
 use Rattle.sc_bucket.specs.Cores.{core_keys, keys_of, is_attached}
 use Rattle.sc_bucket.specs.Sound.{HasJournal, IsOpen, AreLedActively, IsInPhase, IsSound}
 use Rattle.sc_bucket.specs.declared.bucket.Bucket.{Bucket}
@@ -28,74 +21,6 @@ use Rattle.sc_bucket.proofs.AcceptLemmas.{bucket_has_map}
 use Rattle.sc_handover.proofs.PushedLemmas.{HasJournal-pushed}
 use Rattle.sc_handover.specs.Parts.{PutsSwitch}
 use Rattle.sc_handover.proofs.SubLemmas.{attached_where_forming}
-
--- a switch makes the parent inactive, and no other slice that isn't so already
-is_inactive-switched : (parent : SliceId) (slice : Slice) → is_inactive (switched_slice parent slice)
-    ≡ cond (is_forming slice) false (cond (eqb slice.id.0 parent.0) true (is_inactive slice))
-is_inactive-switched parent slice = by (is_forming slice) (eqb slice.id.0 parent.0) where
-  by : (t u : Bool)
-      → is_inactive (cond t (in_state states.Active slice) (cond u (in_state states.Inactive slice) slice))
-      ≡ cond t false (cond u true (is_inactive slice))
-  by true u = refl
-  by false true = refl
-  by false false = refl
-
-inactive_balance : (parent slice : Slice)
-    → cond {A = ℕ} (is_inactive (switched_slice parent.id slice)) 1 0 + cond {A = ℕ} false 1 0
-    ≡ cond (is_inactive slice) 1 0 + cond (at_key id_of is_active parent slice) 1 0
-inactive_balance parent slice =
-    rw (is_inactive-switched parent.id slice)
-    (by slice.state (eqb slice.id.0 parent.id.0)) where
-      by : (state : State) (t : Bool)
-          → cond {A = ℕ} (cond (is_forming_state state) false (cond t true (is_inactive_state state))) 1 0 + cond {A = ℕ} false 1 0
-          ≡ cond (is_inactive_state state) 1 0 + cond (t && is_active_state state) 1 0
-      by states.Active true = refl
-      by states.Active false = refl
-      by states.Inactive true = refl
-      by states.Inactive false = refl
-      by states.Construction true = refl
-      by states.Construction false = refl
-      by states.Recovery true = refl
-      by states.Recovery false = refl
-
--- so there is one inactive slice more
-inactive_more : (slices : List Slice) (parent : SliceId) → IsMap slices → IsSplit slices parent
-    → count_by is_inactive (map (switched_slice parent) slices) ≡ count_by is_inactive slices + 1
-inactive_more slices parent is_map (slice, named, splitting) =
-    subst (λ id. count_by is_inactive (map (switched_slice id) slices) ≡ count_by is_inactive slices + 1) named
-    (omega (arith, mapped, balance, none, one, active))
-  where
-    mapped : count_by is_inactive (map (switched_slice slice.id) slices)
-        ≡ count_by (λ s. is_inactive (switched_slice slice.id s)) slices
-    mapped = count_by-map (switched_slice slice.id) is_inactive slices
-
-    balance : count_by (λ s. is_inactive (switched_slice slice.id s)) slices + count_by (λ (s : Slice). false) slices
-        ≡ count_by is_inactive slices + count_by (at_key id_of is_active slice) slices
-    balance =
-        count_by-balance (λ s. is_inactive (switched_slice slice.id s)) (λ (s : Slice). false) is_inactive
-        (at_key id_of is_active slice) (inactive_balance slice) slices
-
-    none : count_by (λ (s : Slice). false) slices ≡ 0
-    none = count_by-none {A = Slice} (λ _. false) slices (λ _ _ _. refl)
-
-    one : count_by (at_key id_of is_active slice) slices ≡ cond (is_active slice) 1 0
-    one = count_by-at_key id_of is_active slice slices is_map.ids splitting.there
-
-    active : cond {A = ℕ} (is_active slice) 1 0 ≡ 1
-    active = ap {B = ℕ} (λ state. cond (is_active_state state) 1 0) splitting.active
-
--- which owes an entry, and the split that is over owed two
-owed-push_switched : (first : List Slice) (journal : List Entry) (parent : SliceId) → IsMap (map_after first journal)
-    → IsSplit (map_after first journal) parent → open_split journal ≡ Some parent
-    → owed first (journal ++ entry.Switched parent ∷ []) + 1 ≡ owed first journal
-owed-push_switched first journal parent is_map split begun =
-    let one : Entry = entry.Switched parent in
-    let places = ap length (unsettled-push_other journal one refl (λ _. refl)) in
-    let over = ap owed_by_split (open_split-push journal one) in
-    let owing = ap owed_by_split begun in
-    let slices = ap (count_by is_inactive) (map_after-push first journal one (Change.Switched parent) refl) in
-    let more = inactive_more (map_after first journal) parent is_map split in
-    omega (arith, places, over, owing, slices, more)
 
 -- what the phase of a bucket says of its split
 pub split_is_open : (b : Bucket) (parent : SliceId) → IsSound b → b.phase ≡ phases.Recovering parent

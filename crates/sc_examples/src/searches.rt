@@ -1,0 +1,89 @@
+//! `sc_eval` over a snapshot of `sc_snapshot`: `search.find RANGE QUERY`, in three writes of which the second is a deletion.
+
+ghost use Rattle.std.specs.Prelude.{◌≡◌, map, All, IfOk};
+ghost use Rattle.std.specs.Arc.{arc_value};
+ghost use Rattle.sc_record.specs.declared.write.Write.{Write};
+ghost use Rattle.sc_snapshot.specs.Rows.{AreRows};
+ghost use Rattle.sc_journal.specs.Legal.{HasTerms};
+
+use crate::documents::document_of;
+use crate::fault::Fault;
+use sc_eval::{BindFault, bind, evaluate};
+use sc_hash::{Range, parse_range};
+use sc_query::parse;
+use sc_record::{Cell, Doc, Id, List, Write};
+use sc_schema::terms_of;
+use sc_snapshot::Snapshot;
+use std::alloc::Global;
+use std::sync::Arc;
+
+pub fn answer(alloc: Global, text: &str) -> Result<String, Fault> {
+    let (range, query) = text.split_once(' ').ok_or(Fault::Unreadable)?;
+    let range = parse_range(range).ok_or(Fault::Unreadable)?;
+    let snapshot = Snapshot::of(alloc, 3, &cells(alloc)?)?;
+    found(alloc, &snapshot, &range, query)
+}
+
+/// A write of the id: a document, or a deletion.
+fn write(alloc: Global, id: &str, hash: i32, doc: Option<Doc>) -> Result<Cell, Fault>
+    ensures id { IfOk result (λ cell. (arc_value cell).id ≡ id.now) }
+    ensures terms { IfOk result (λ cell.
+        HasTerms (arc_value cell).id (arc_value cell).doc (arc_value cell).terms) }
+{
+    let Ok(id) = Id::new(alloc, id) else {
+        return Err(Fault::Memory);
+    };
+    let terms = match &doc {
+        Some(doc) => terms_of(alloc, &id, doc)?,
+        None => List::new(alloc),
+    };
+    let write = Write {
+        id,
+        hash,
+        version: 1,
+        doc,
+        terms,
+    };
+    Ok(Arc::new(alloc, write)?)
+}
+
+/// Documents `a` and `c`, and `b`, which was deleted.
+fn cells(alloc: Global) -> Result<List<Cell>, Fault>
+    ensures rows { IfOk result (λ cells. AreRows (map arc_value cells)) }
+    ensures terms { IfOk result (λ cells.
+        All (λ (row : Write). HasTerms row.id row.doc row.terms) (map arc_value cells)) }
+{
+    let first = document_of(
+        alloc,
+        r#"{"id":"a","lang_s":"en","n_i":7,"title_t":"Rust in Action"}"#,
+    )?;
+    let last = document_of(
+        alloc,
+        r#"{"id":"c","lang_s":"de","n_i":8,"title_t":"Proofs, great and small"}"#,
+    )?;
+    let mut cells = List::new(alloc);
+    cells.push(write(alloc, "a", -5, Some(first))?)?;
+    cells.push(write(alloc, "b", 0, None)?)?;
+    cells.push(write(alloc, "c", 5, Some(last))?)?;
+    Ok(cells)
+}
+
+/// The ids that a query finds, or the place of its fault.
+fn found(alloc: Global, snapshot: &Snapshot, range: &Range, text: &str) -> Result<String, Fault>
+    requires { All (λ (row : Write). HasTerms row.id row.doc row.terms) snapshot.now.rows }
+{
+    let Ok(query) = parse(alloc, text) else {
+        return Err(Fault::Unreadable);
+    };
+    match bind(alloc, &query) {
+        Ok(bound) => {
+            let mut ids = String::new(alloc);
+            for cell in evaluate(alloc, &bound, snapshot, range)?.as_slice() {
+                ids.push_str(cell.id.as_str())?;
+            }
+            Ok(ids)
+        }
+        Err(BindFault::At { at }) => Ok(format!(in alloc; "fault {at}")?),
+        Err(BindFault::Memory) => Err(Fault::Memory),
+    }
+}

@@ -1,0 +1,132 @@
+//! Splits in a map of `sc_cluster`: `cluster.after SHARDS REPLICAS NODES STEPS`, with commas between the steps, each
+//! `split NAME`, `fail NAME`, `fail-late NAME` or `drop NAME`, and `cluster.during SHARDS REPLICAS NODES NAME`, whose
+//! answer has the map as a split begins, as its subs recover, and as they have taken the slice's place.
+
+ghost use Rattle.std.specs.Prelude.{◌≡◌, ◌≤◌, [], IfOk, OnOk, Contains};
+ghost use Rattle.sc_cluster.specs.declared.slice.Slice.{Slice};
+ghost use Rattle.sc_cluster.specs.declared.slice.State.TheVariants as states;
+ghost use Rattle.sc_cluster.specs.Slices.{forming};
+ghost use Rattle.sc_cluster.specs.Plans.{IsPlan};
+ghost use Rattle.sc_cluster.specs.Changes.{Change, MayChange};
+
+use crate::clusters::slices;
+use crate::fault::Fault;
+use sc_cluster::{ClusterMap, SplitPlan, State, cut};
+use sc_hash::Range;
+use sc_record::{CloneIn, SliceId};
+use std::alloc::{AllocError, Global};
+
+pub fn answer(alloc: Global, question: &str, text: &str) -> Result<String, Fault> {
+    let (shards, rest) = number_and(text)?;
+    let (replicas, rest) = number_and(rest)?;
+    let (nodes, rest) = number_and(rest)?;
+    let mut map = ClusterMap::new(alloc, u32::from(shards), replicas, u32::from(nodes))?;
+    match question {
+        "after" => after(alloc, &mut map, rest),
+        "during" => during(alloc, &mut map, rest),
+        _ => Err(Fault::Unreadable),
+    }
+}
+
+/// A number from 1 to 255, and what follows it.
+fn number_and(text: &str) -> Result<(u8, &str), Fault>
+    ensures { IfOk result (λ found. 1 ≤ found.0) }
+{
+    let (number, rest) = text.split_once(' ').ok_or(Fault::Unreadable)?;
+    match number.parse::<u8>() {
+        Ok(number) if number > 0 => Ok((number, rest)),
+        _ => Err(Fault::Unreadable),
+    }
+}
+
+/// The id and the range of the slice of this name, which has to be in this state.
+fn in_state(map: &ClusterMap, name: &str, state: State) -> Result<(SliceId, Range), Fault>
+    ensures { IfOk result (λ found. (slice : Slice) × Contains map.now slice × (slice.id ≡ found.0) × (slice.range ≡ found.1)
+        × (slice.state ≡ state)) }
+{
+    let id = map.by_name(name).ok_or(Fault::Unreadable)?;
+    match map.by_id(id) {
+        Some(slice) if slice.state == state => Ok((slice.id, slice.range)),
+        _ => Err(Fault::Unreadable),
+    }
+}
+
+/// A copy, by the bound.
+fn copied<T: CloneIn>(alloc: Global, value: &T) -> Result<T, AllocError> {
+    value.clone_in(alloc)
+}
+
+/// A split in two of the active slice of this name.
+fn planned(alloc: Global, map: &ClusterMap, name: &str) -> Result<SplitPlan, Fault>
+    requires { forming map.now ≡ [] }
+    ensures { IfOk result (λ plan. IsPlan map.now plan.parent plan.subs) }
+{
+    let (parent, range) = in_state(map, name, State::Active)?;
+    let Ok(ranges) = cut(alloc, &range, 2) else {
+        return Err(Fault::Unreadable);
+    };
+    if ranges.len() != 2 || map.len() > 254 || map.greatest_id() > 1000 {
+        return Err(Fault::Unreadable);
+    }
+    Ok(map.plan(alloc, parent, &ranges)?)
+}
+
+/// Begins such a split.
+fn begun(alloc: Global, map: &mut ClusterMap, name: &str) -> Result<SliceId, Fault>
+    requires { forming map.old ≡ [] }
+    ensures { IfOk result (λ parent. MayChange map.new (Change.Recovering parent)) }
+{
+    let plan = planned(alloc, map, name)?;
+    map.begin(&plan)?;
+    Ok(plan.parent)
+}
+
+/// Takes one step from an idle map to an idle map.
+fn step(alloc: Global, map: &mut ClusterMap, step: &str, name: &str) -> Result<(), Fault>
+    requires { forming map.old ≡ [] }
+    ensures { OnOk result (forming map.new ≡ []) }
+{
+    if step == "drop" {
+        let (slice, _) = in_state(map, name, State::Inactive)?;
+        map.dropped(slice);
+        return Ok(());
+    }
+    let parent = begun(alloc, map, name)?;
+    if step == "fail" {
+        map.failed(parent);
+        return Ok(());
+    }
+    map.recovering(parent);
+    if step == "fail-late" {
+        map.failed(parent);
+    } else {
+        map.switched(parent);
+    }
+    Ok(())
+}
+
+/// The map after the steps.
+fn after(alloc: Global, map: &mut ClusterMap, steps: &str) -> Result<String, Fault>
+    requires { forming map.old ≡ [] }
+{
+    for words in steps.split(", ") {
+        let (kind, name) = words.split_once(' ').ok_or(Fault::Unreadable)?;
+        step(alloc, map, kind, name)?;
+    }
+    Ok(slices(alloc, map)?)
+}
+
+/// The map, or a copy of it, at each step of a split.
+fn during(alloc: Global, map: &mut ClusterMap, name: &str) -> Result<String, Fault>
+    requires { forming map.old ≡ [] }
+{
+    let plan = copied(alloc, &planned(alloc, map, name)?)?;
+    let allowed = map.allows(&plan);
+    let parent = begun(alloc, map, name)?;
+    let began = slices(alloc, &copied(alloc, map)?)?;
+    map.recovering(parent);
+    let recovering = slices(alloc, map)?;
+    map.switched(parent);
+    let switched = slices(alloc, map)?;
+    Ok(format!(in alloc; "{allowed} / {began} / {recovering} / {switched}")?)
+}

@@ -14,6 +14,3 @@ pub use hash::murmur3;
 pub use hasher::Hasher;
 pub use range::Range;
 pub use text::{parse_range, range_text};
-
-#[cfg(test)]
-mod tests;

@@ -9,6 +9,3 @@ mod route;
 mod share;
 
 pub use route::{bucket_of, key_range, plain_hash, route_hash};
-
-#[cfg(test)]
-mod tests;

@@ -52,6 +52,3 @@ pub use text::Text;
 pub use value::{Kind, Value};
 pub use version::{found, meets, next_version};
 pub use write::{Cell, Write};
-
-#[cfg(test)]
-mod tests;

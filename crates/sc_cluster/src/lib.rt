@@ -35,6 +35,3 @@ pub use parts::{CutFault, cut};
 pub use plan::SplitPlan;
 pub use slice::{Slice, State};
 pub use tile::tiles;
-
-#[cfg(test)]
-mod tests;

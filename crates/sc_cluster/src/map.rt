@@ -223,6 +223,3 @@ fn leader_of(slices: &[Slice], h: i32) -> Option<&Slice>
 {
     slices.iter().find(|slice| is_leader(slice, h))
 }
-
-#[cfg(test)]
-mod tests;

@@ -1,6 +1,5 @@
--- Facts on values, on changes of fields and on documents as they come.
+-- Facts on values and on changes of fields.
 pub mod FitLemmas
 pub mod FoldLemmas
 pub mod PartLemmas
-pub mod RawLemmas
 pub mod ValueLemmas

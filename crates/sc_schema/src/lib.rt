@@ -32,6 +32,3 @@ pub use key::key_of;
 pub use raw::{RawDoc, RawField, RawFlat, RawOne, RawValue};
 pub use terms::terms_of;
 pub use word::fold_word;
-
-#[cfg(test)]
-mod tests;

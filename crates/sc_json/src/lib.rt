@@ -21,6 +21,3 @@ pub use document::doc_value;
 pub use laws::shown_document;
 pub use raw::{RawFault, raw_doc, raw_one};
 pub use text::print;
-
-#[cfg(test)]
-mod tests;

@@ -20,6 +20,3 @@ pub use cause::Cause;
 pub use documents::{get_body, ids_body, select_body};
 pub use fixed::{memory_body, ok_body};
 pub use update::{error_body, update_body};
-
-#[cfg(test)]
-mod tests;

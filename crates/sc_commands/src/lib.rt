@@ -20,6 +20,3 @@ mod update;
 pub use batch::{Batch, Flags};
 pub use fault::CommandFault;
 pub use update::read_update;
-
-#[cfg(test)]
-mod tests;

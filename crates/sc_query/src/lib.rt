@@ -18,6 +18,3 @@ pub use laws::{one_answer, parentheses};
 pub use parser::parse;
 pub use query::{Query, and};
 pub use sc_record::Text as Word;
-
-#[cfg(test)]
-mod tests;

@@ -7,4 +7,3 @@ pub mod DocumentLemmas
 pub mod DistinctLemmas
 pub mod TurnLemmas
 pub mod WholeLemmas
-pub mod TestLemmas

@@ -21,6 +21,3 @@ mod laws;
 pub use fault::PartialFault;
 pub use laws::{changes_in_turn, one_document, values_among, whole_document};
 pub use merge::resolve;
-
-#[cfg(test)]
-mod tests;

@@ -10,6 +10,3 @@ mod snapshot;
 
 pub use laws::rows_are_each_of_one_id;
 pub use snapshot::Snapshot;
-
-#[cfg(test)]
-mod tests;

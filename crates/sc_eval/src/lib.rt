@@ -26,6 +26,3 @@ pub use bound::Bound;
 pub use fault::BindFault;
 pub use laws::{queries_are_bound_or_at_fault, queries_find_as_logic_says};
 pub use searcher::evaluate;
-
-#[cfg(test)]
-mod tests;

@@ -19,8 +19,6 @@ mod refill;
 mod reply;
 mod stopped;
 mod target;
-#[cfg(test)]
-mod tests;
 
 pub use end::MessageEnd;
 pub use laws::{

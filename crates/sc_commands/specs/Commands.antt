@@ -36,17 +36,17 @@ each form no_items = Ok []
 each form (item value items) = followed_by (one (form value)) (each form items)
 
 -- the fields of an object; a text or a number stands for the object that has it as its id
-abbrev pub fields_of : Data → List RawField
-fields_of (object members) = raw_fields members
-fields_of value = record { name = codes "id"; value = Plain (One (raw_one value)) } ∷ []
+abbrev pub members_of : Data → List RawField
+members_of (object members) = raw_fields members
+members_of value = record { name = codes "id"; value = Plain (One (raw_one value)) } ∷ []
 
 -- the value is an object
 abbrev pub is_object : Data → Bool
 is_object value = is_some (as_object value)
 
 -- the value is a text or a whole number of 64 signed bits
-abbrev pub is_id : Data → Bool
-is_id value = is_some (as_str value) || is_some (option_and_then as_i64 (as_number value))
+abbrev pub can_be_id : Data → Bool
+can_be_id value = is_some (as_str value) || is_some (option_and_then as_i64 (as_number value))
 
 -- each key of the members is one of these
 abbrev pub has_only : List (List ℕ) → Members → Bool
@@ -60,7 +60,7 @@ has_keys keys value = false
 
 -- a document to add is an object
 abbrev pub added : Data → Option Command
-added value = if is_object value then Some (add (fields_of value)) else None
+added value = if is_object value then Some (add (members_of value)) else None
 
 -- the object may have documents in the place of older ones: `overwrite` may be left out, or true
 abbrev pub overwrites : Data → Bool
@@ -74,24 +74,24 @@ added_doc value =
     else None
 
 -- what the key `add` has: documents, or an object that adds one
-abbrev pub adds_of : Data → Reading
-adds_of (array items) = each added items
-adds_of value = one (added_doc value)
+abbrev pub orders_of_add : Data → Reading
+orders_of_add (array items) = each added items
+orders_of_add value = one (added_doc value)
 
 -- an id in an array of ids to delete
 abbrev pub deleted : Data → Option Command
-deleted value = if is_id value then Some (delete (fields_of value)) else None
+deleted value = if can_be_id value then Some (delete (members_of value)) else None
 
 -- the value names one document to delete: it is its id, or an object that has the id and may have a version as the condition
 abbrev pub names_one : Data → Bool
 names_one (object members) =
-    has_only (codes "id" ∷ codes "_version_" ∷ []) members && option_map_or is_id (get (codes "id") (object members)) false
-names_one value = is_id value
+    has_only (codes "id" ∷ codes "_version_" ∷ []) members && option_map_or can_be_id (get (codes "id") (object members)) false
+names_one value = can_be_id value
 
 -- what the key `delete` has: ids, or what names one document
-abbrev pub deletes_of : Data → Reading
-deletes_of (array items) = each deleted items
-deletes_of value = if names_one value then Ok (delete (fields_of value) ∷ []) else Err 0
+abbrev pub orders_of_delete : Data → Reading
+orders_of_delete (array items) = each deleted items
+orders_of_delete value = if names_one value then Ok (delete (members_of value) ∷ []) else Err 0
 
 -- what the key `commit` has: an object, whose content is ignored
 abbrev pub commit_of : Data → Reading
@@ -106,8 +106,8 @@ where_there reads (Some value) = reads value
 abbrev pub commands_of : Data → Reading
 commands_of value =
     if has_keys (codes "add" ∷ codes "delete" ∷ codes "commit" ∷ []) value
-    then followed_by (where_there adds_of (get (codes "add") value))
-    (followed_by (where_there deletes_of (get (codes "delete") value)) (where_there commit_of (get (codes "commit") value)))
+    then followed_by (where_there orders_of_add (get (codes "add") value))
+    (followed_by (where_there orders_of_delete (get (codes "delete") value)) (where_there commit_of (get (codes "commit") value)))
     else Err 0
 
 -- what a body's value asks for: an array of documents to add, or an object of commands

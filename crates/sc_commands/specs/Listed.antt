@@ -3,7 +3,7 @@ use Rattle.std.specs.Prelude.{◌≡◌, ℕ, ◌<◌, List, map, Err}
 use Rattle.serde_json.specs.Data.{Data}
 use Rattle.serde_json.specs.View.{view}
 use Rattle.serde_json.specs.declared.value.Value.{Value}
-use Rattle.sc_commands.specs.Commands.{Command, add, delete, fields_of, Reading}
+use Rattle.sc_commands.specs.Commands.{Command, add, delete, members_of, Reading}
 use Rattle.sc_commands.specs.declared.forms.Action.{Action}
 use Rattle.sc_commands.specs.declared.forms.Action.TheVariants as actions
 use Rattle.sc_commands.specs.declared.forms.FormFault.{FormFault}
@@ -11,8 +11,8 @@ use Rattle.sc_commands.specs.declared.forms.FormFault.TheVariants as faults
 
 -- the command of a value
 abbrev pub command_of : Action → Data → Command
-command_of actions.Add value = add (fields_of value)
-command_of actions.Delete value = delete (fields_of value)
+command_of actions.Add value = add (members_of value)
+command_of actions.Delete value = delete (members_of value)
 
 -- the commands of values, in order
 abbrev pub listed : Action → List Value → List Command

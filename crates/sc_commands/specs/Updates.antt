@@ -2,7 +2,7 @@
 use Rattle.std.specs.Prelude.{◌≡◌, ◌⊎◌, ℕ, ◌-◌, ◌^◌, min, ◌||◌, List, [], ◌∷◌, length, map, nat_lt, if◌then◌else◌, Option, Some, None, Result, Ok, Err}
 use Rattle.serde_json.specs.Data.{Data}
 use Rattle.sc_record.specs.declared.order.Change.TheVariants.{Delete}
-use Rattle.sc_schema.specs.Documents.{Asked, asked, document_order, and_then, found_map}
+use Rattle.sc_schema.specs.Documents.{OrderContent, content_of, document_order, and_then, found_map}
 use Rattle.sc_schema.specs.declared.fault.DocFault.{DocFault}
 use Rattle.sc_json.specs.Bodies.{json_of}
 use Rattle.sc_commands.specs.Commands.{Command, add, delete, Reading, reading, asks_commit}
@@ -16,34 +16,34 @@ abbrev pub order_limit : ℕ
 order_limit = 4096
 
 -- a deletion of the document of this id, under this condition
-abbrev pub as_deletion : Asked → Asked
+abbrev pub as_deletion : OrderContent → OrderContent
 as_deletion found = record { id = found.id; condition = found.condition; change = Delete }
 
 -- the order of a command, or the first fault of its document
-abbrev pub order_of : Command → Result Asked DocFault
+abbrev pub order_of : Command → Result OrderContent DocFault
 order_of (add fields) = document_order fields
 order_of (delete fields) = found_map as_deletion (document_order fields)
 
 -- the orders of commands, or the first fault of the first command that has one
-abbrev pub orders_of : List Command → Result (List Asked) DocFault
+abbrev pub orders_of : List Command → Result (List OrderContent) DocFault
 orders_of [] = Ok []
 orders_of (command ∷ commands) = and_then (λ order. found_map (λ orders. order ∷ orders) (orders_of commands)) (order_of command)
 
 -- orders, and what their request sets
 pub record Update : Type 0 where
-  pub orders : List Asked
+  pub orders : List OrderContent
   pub flags : Flags
 
 -- of a batch
 abbrev pub update_of : Batch → Update
-update_of batch = record { orders = map asked batch.orders; flags = batch.flags }
+update_of batch = record { orders = map content_of batch.orders; flags = batch.flags }
 
 -- a commit is set by the request's parameters or by its body
 abbrev pub with_commit : Flags → Data → Flags
 with_commit flags value = record flags { commit = flags.commit || asks_commit value }
 
 -- the orders of a document, or its fault
-abbrev pub checked : Flags → Result (List Asked) DocFault → Result Update CommandFault
+abbrev pub checked : Flags → Result (List OrderContent) DocFault → Result Update CommandFault
 checked flags (Ok orders) = Ok (record { orders = orders; flags = flags })
 checked flags (Err fault) = Err (faults.Doc fault)
 
@@ -64,5 +64,5 @@ asked_by flags [] = Ok (record { orders = []; flags = flags })
 asked_by flags (byte ∷ body) = read_value flags (json_of (byte ∷ body))
 
 -- the fault is the one that is found, or memory ran out before one was
-abbrev pub IsFaultOf : {T : Type 0} → Result T CommandFault → CommandFault → Type 0
-IsFaultOf found fault = (fault ≡ faults.Memory) ⊎ (found ≡ Err fault)
+abbrev pub IsCommandFault : {T : Type 0} → Result T CommandFault → CommandFault → Type 0
+IsCommandFault found fault = (fault ≡ faults.Memory) ⊎ (found ≡ Err fault)

@@ -90,10 +90,10 @@ fn object_commands(alloc: Global, mut value: Value) -> Result<Commands, FormFaul
 /// What the value of the key `add` asks for, where it is there.
 fn adds_at(alloc: Global, asked: Option<Value>) -> Result<Vec<Value>, FormFault>
     ensures ok { IfOk result
-        (λ found. commands.where_there commands.adds_of (option_map view asked)
+        (λ found. commands.where_there commands.orders_of_add (option_map view asked)
         ≡ Ok (listed actions.Add found.items)) }
     ensures err { IfErr result
-        (IsFormFault (commands.where_there commands.adds_of (option_map view asked))) }
+        (IsFormFault (commands.where_there commands.orders_of_add (option_map view asked))) }
 {
     match asked {
         Some(value) => adds_of(alloc, value),
@@ -104,10 +104,10 @@ fn adds_at(alloc: Global, asked: Option<Value>) -> Result<Vec<Value>, FormFault>
 /// What the value of the key `delete` asks for, where it is there.
 fn deletes_at(alloc: Global, asked: Option<Value>) -> Result<Vec<Value>, FormFault>
     ensures ok { IfOk result
-        (λ found. commands.where_there commands.deletes_of (option_map view asked)
+        (λ found. commands.where_there commands.orders_of_delete (option_map view asked)
         ≡ Ok (listed actions.Delete found.items)) }
     ensures err { IfErr result
-        (IsFormFault (commands.where_there commands.deletes_of (option_map view asked))) }
+        (IsFormFault (commands.where_there commands.orders_of_delete (option_map view asked))) }
     ensures small { IfErr result (ComesWithin (2 ^ 62)) }
 {
     match asked {
@@ -134,8 +134,8 @@ fn commit_at(value: &Value) -> Option<bool>
 /// What a value asks to add.
 fn adds_of(alloc: Global, value: Value) -> Result<Vec<Value>, FormFault>
     ensures ok { IfOk result
-        (λ found. commands.adds_of (view value) ≡ Ok (listed actions.Add found.items)) }
-    ensures err { IfErr result (IsFormFault (commands.adds_of (view value))) }
+        (λ found. commands.orders_of_add (view value) ≡ Ok (listed actions.Add found.items)) }
+    ensures err { IfErr result (IsFormFault (commands.orders_of_add (view value))) }
 {
     match value {
         Value::Array(items) => all_objects(items),
@@ -182,8 +182,8 @@ fn overwrites(value: &Value) -> bool
 /// What a value asks to delete.
 fn deletes_of(alloc: Global, value: Value) -> Result<Vec<Value>, FormFault>
     ensures ok { IfOk result
-        (λ found. commands.deletes_of (view value) ≡ Ok (listed actions.Delete found.items)) }
-    ensures err { IfErr result (IsFormFault (commands.deletes_of (view value))) }
+        (λ found. commands.orders_of_delete (view value) ≡ Ok (listed actions.Delete found.items)) }
+    ensures err { IfErr result (IsFormFault (commands.orders_of_delete (view value))) }
     ensures small { IfErr result (ComesWithin (2 ^ 62)) }
 {
     match value {
@@ -209,7 +209,7 @@ fn names_one(value: &Value) -> bool
 
 /// Whether an object has an id.
 fn has_id(value: &Value) -> bool
-    ensures { result ≡ option_map_or commands.is_id (get (codes "id") (view value.now)) false }
+    ensures { result ≡ option_map_or commands.can_be_id (get (codes "id") (view value.now)) false }
 {
     match value.get("id") {
         Some(id) => is_id(id),

@@ -68,7 +68,7 @@ fn take_from(members: &mut Map<String, Value>, key: &str) -> Option<Value>
 
 /// Whether the value is a text or a whole number of 64 signed bits.
 pub(crate) fn is_id(value: &Value) -> bool
-    ensures { result ≡ commands.is_id (view value.now) }
+    ensures { result ≡ commands.can_be_id (view value.now) }
 {
     value.is_string() || value.is_i64()
 }

@@ -3,6 +3,11 @@
 //!
 //! It may depend on `sc_json`, which reads JSON, and on `sc_schema`, which checks documents. The layers above use the clauses
 //! of `read_update`: the batch of orders that a body asks for, or the first cause why it is refused.
+//!
+//! Proved: `read_update` gives the orders of a body in each of its forms, or the first cause why it is refused
+//! (`specs/Commands`).
+//!
+//! Tested alone: the worked bodies.
 #![tactic(auto)]
 
 // What was asked for, and why it is refused.

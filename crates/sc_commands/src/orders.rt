@@ -2,11 +2,11 @@
 
 ghost use Rattle.std.specs.Prelude.{◌≡◌, ◌∷◌, ◌++◌, [], codes, map, Ok, IfOk, IfErr};
 ghost use Rattle.serde_json.specs.View.{view};
-ghost use Rattle.sc_schema.specs.Documents.{asked, found_map, IsFaultOf};
+ghost use Rattle.sc_schema.specs.Documents.{content_of, found_map, IsDocumentFault};
 ghost use Rattle.sc_schema.specs.declared.raw.RawFlat.TheVariants.{One};
 ghost use Rattle.sc_schema.specs.declared.raw.RawValue.TheVariants.{Plain};
 ghost use Rattle.sc_json.specs.RawDocs.{raw_one as one_of};
-ghost use Rattle.sc_commands.specs.Commands.{fields_of};
+ghost use Rattle.sc_commands.specs.Commands.{members_of};
 ghost use Rattle.sc_commands.specs.Listed.{command_of, listed};
 ghost use Rattle.sc_commands.specs.Updates as updates;
 ghost use Rattle.sc_commands.specs.declared.forms.Action.TheVariants as actions;
@@ -22,8 +22,8 @@ use std::alloc::{AllocError, Global};
 pub(crate) fn orders_of(alloc: Global, commands: Commands) -> Result<List<Order>, DocFault>
     ensures ok { IfOk result (λ orders. updates.orders_of
         (listed actions.Add commands.adds.items ++ listed actions.Delete commands.deletes.items)
-        ≡ Ok (map asked orders)) }
-    ensures fault { IfErr result (IsFaultOf (updates.orders_of
+        ≡ Ok (map content_of orders)) }
+    ensures fault { IfErr result (IsDocumentFault (updates.orders_of
         (listed actions.Add commands.adds.items ++ listed actions.Delete commands.deletes.items))) }
 {
     let Commands { adds, deletes, .. } = commands;
@@ -40,9 +40,9 @@ fn with_orders(
     action: Action,
 ) -> Result<List<Order>, DocFault>
     ensures ok { IfOk result
-        (λ all. found_map (λ more. map asked orders ++ more) (updates.orders_of (listed action values.items))
-        ≡ Ok (map asked all)) }
-    ensures fault { IfErr result (IsFaultOf (updates.orders_of (listed action values.items))) }
+        (λ all. found_map (λ more. map content_of orders ++ more) (updates.orders_of (listed action values.items))
+        ≡ Ok (map content_of all)) }
+    ensures fault { IfErr result (IsDocumentFault (updates.orders_of (listed action values.items))) }
 {
     for value in values {
         let order = order_of(alloc, &value, action)?;
@@ -54,9 +54,9 @@ fn with_orders(
 /// The order of one value.
 fn order_of(alloc: Global, value: &Value, action: Action) -> Result<Order, DocFault>
     ensures ok { IfOk result (λ order.
-        updates.order_of (command_of action (view value.now)) ≡ Ok (asked order)) }
+        updates.order_of (command_of action (view value.now)) ≡ Ok (content_of order)) }
     ensures fault { IfErr result
-        (IsFaultOf (updates.order_of (command_of action (view value.now)))) }
+        (IsDocumentFault (updates.order_of (command_of action (view value.now)))) }
 {
     let document = document_of(alloc, value)?;
     let order = check_doc(alloc, &document)?;
@@ -68,7 +68,7 @@ fn order_of(alloc: Global, value: &Value, action: Action) -> Result<Order, DocFa
 
 /// The deletion of the document that an order names, under its condition.
 fn deletion(order: Order) -> Order
-    ensures { asked result ≡ updates.as_deletion (asked order) }
+    ensures { content_of result ≡ updates.as_deletion (content_of order) }
 {
     let Order { id, condition, .. } = order;
     Order {
@@ -80,7 +80,7 @@ fn deletion(order: Order) -> Order
 
 /// The document of an object, or that of the id which a value is.
 fn document_of(alloc: Global, value: &Value) -> Result<RawDoc, AllocError>
-    ensures { IfOk result (λ document. document.fields ≡ fields_of (view value.now)) }
+    ensures { IfOk result (λ document. document.fields ≡ members_of (view value.now)) }
 {
     if !value.is_object() {
         return id_alone(alloc, value);

@@ -22,7 +22,7 @@ const MAX_ORDERS: usize = 4096;
 pub fn read_update(alloc: Global, body: &[u8], flags: &Flags) -> Result<Batch, CommandFault>
     ensures ok { IfOk result
         (λ batch. updates.asked_by flags.now body.now ≡ Ok (updates.update_of batch)) }
-    ensures fault { IfErr result (updates.IsFaultOf (updates.asked_by flags.now body.now)) }
+    ensures fault { IfErr result (updates.IsCommandFault (updates.asked_by flags.now body.now)) }
     ensures few { IfOk result (λ batch. length batch.orders ≤ updates.order_limit) }
 {
     if body.is_empty() {
@@ -43,7 +43,7 @@ fn read_value(alloc: Global, value: Value, flags: &Flags) -> Result<Batch, Comma
     ensures ok { IfOk result
         (λ batch. updates.read_value flags.now (Some (view value)) ≡ Ok (updates.update_of batch)) }
     ensures fault { IfErr result
-        (updates.IsFaultOf (updates.read_value flags.now (Some (view value)))) }
+        (updates.IsCommandFault (updates.read_value flags.now (Some (view value)))) }
     ensures few { IfOk result (λ batch. length batch.orders ≤ updates.order_limit) }
 {
     let commands = match commands_of(alloc, value) {

@@ -5,6 +5,14 @@
 //! found by, on `sc_snapshot` for the rows, on `sc_journal` for what is true of their terms, on `sc_hash` for the range, and on
 //! `thiserror`. It does no input and no output. The layers above use the contract of `bind`, which says of each query which
 //! condition it is or where its fault is, and that of `evaluate`, which is a filter of the rows.
+//!
+//! Proved: `bind` gives the conditions that a query's leaves ask for by their fields' kinds, or the place of the first leaf
+//! at fault (`specs/Conditions`); `evaluate` gives exactly the live rows of a snapshot that match and whose hashes are in a
+//! range, in order of their ids (`specs/Matching`). Laws in `specs/Laws`: NOT of NOT, De Morgan, AND, parts of a range.
+//!
+//! Tested alone: the worked queries.
+//!
+//! Neither: speed.
 #![tactic(auto)]
 
 // Why a query can't be bound.

@@ -17,7 +17,7 @@ use Rattle.httparse.specs.declared.spans.RequestSpans.{RequestSpans}
 use Rattle.sc_model.specs.Heads.{head_limit, line_limit, has_header, body_length, length_by, asks_close, says_close, is_coding, is_encoded}
 use Rattle.sc_model.specs.Messages.{HasHead, window, HasTooManyLines, EndsInHead, EndsSo, bad_head, too_large, not_built}
 use Rattle.sc_http.specs.Ends.{ending_of}
-use Rattle.sc_http.specs.Lines.{has_line, values_in, IsHeadOf}
+use Rattle.sc_http.specs.Lines.{has_line, line_values, IsHeadOf}
 use Rattle.sc_http.specs.LineEnds.{line_ends, EndsLine}
 use Rattle.sc_http.specs.declared.head.Head.{Head}
 use Rattle.sc_http.specs.declared.end.MessageEnd.{MessageEnd}
@@ -37,13 +37,13 @@ module _ (bytes : List ℕ) (headers : List HeaderSpan) (spans : RequestSpans) (
   has_said lines e name r is = is ∙ ap (has_line name) (lines_are lines e) ∙ sym (has_of_head name h)
 
   pub length_said : (lines : List HeaderSpan) → lines ≡ take spans.headers headers
-      → length_by (values_in length_name (map (header_bytes bytes) lines)) ≡ body_length h
-  length_said lines e = ap (λ ps. length_by (values_in length_name ps)) (lines_are lines e) ∙ ap length_by (sym (values_of_head length_name h))
+      → length_by (line_values length_name (map (header_bytes bytes) lines)) ≡ body_length h
+  length_said lines e = ap (λ ps. length_by (line_values length_name ps)) (lines_are lines e) ∙ ap length_by (sym (values_of_head length_name h))
 
   pub encoded_said : (lines : List HeaderSpan) → lines ≡ take spans.headers headers → (r : Bool)
-      → r ≡ list_any is_coding (values_in (codes "content-encoding") (map (header_bytes bytes) lines)) → r ≡ is_encoded h
+      → r ≡ list_any is_coding (line_values (codes "content-encoding") (map (header_bytes bytes) lines)) → r ≡ is_encoded h
   encoded_said lines e r is =
-      is ∙ ap (λ ps. list_any is_coding (values_in (codes "content-encoding") ps)) (lines_are lines e)
+      is ∙ ap (λ ps. list_any is_coding (line_values (codes "content-encoding") ps)) (lines_are lines e)
       ∙ ap (list_any is_coding) (sym (values_of_head (codes "content-encoding") h))
 
   -- HTTP/1.0 closes
@@ -51,10 +51,10 @@ module _ (bytes : List ℕ) (headers : List HeaderSpan) (spans : RequestSpans) (
   old_closes zero = let e : (h.minor == 0) ≡ true = eq-eqb h.minor 0 (sym at.version ∙ zero) in rw (e) refl
 
   pub close_said : (lines : List HeaderSpan) → lines ≡ take spans.headers headers → spans.version ≢ 0 → (r : Bool)
-      → r ≡ list_any says_close (values_in (codes "connection") (map (header_bytes bytes) lines)) → r ≡ asks_close h
+      → r ≡ list_any says_close (line_values (codes "connection") (map (header_bytes bytes) lines)) → r ≡ asks_close h
   close_said lines same other r is =
       let e : (h.minor == 0) ≡ false = ne_eqb h.minor 0 (λ z. other (at.version ∙ z)) in
-      rw (e) (is ∙ ap (λ ps. list_any says_close (values_in (codes "connection") ps)) (lines_are lines same)
+      rw (e) (is ∙ ap (λ ps. list_any says_close (line_values (codes "connection") ps)) (lines_are lines same)
       ∙ ap (list_any says_close) (sym (values_of_head (codes "connection") h)))
 
   -- the head comes first, within its limits

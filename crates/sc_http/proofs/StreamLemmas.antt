@@ -3,7 +3,7 @@ use Rattle.std.proofs.Common.{◌≡◌, ℕ, ◌+◌, ◌-◌, ◌<◌, ◌≤�
 use Rattle.std.proofs.lemmas.Bool.{cases_lt}
 use Rattle.std.proofs.lemmas.List.{drop-drop, drop-take, drop_all, take_all, take-append-drop, length-take, take-take, take-append-le, length-take-le}
 use Rattle.std.proofs.Math.Seq.{take-append-add}
-use Rattle.sc_http.specs.Stream.{Gives, Grows, KeepsBytes, FallsShort, ReadsWhile, LeavesSuffix}
+use Rattle.sc_http.specs.Stream.{Gives, TakesMore, KeepsBytes, FallsShort, ReadsWhile, LeavesSuffix}
 
 drop-take_prefix : (n m : ℕ) (xs : List ℕ) → drop n (take m xs) ≡ take (m - n) (drop n xs)
 drop-take_prefix n m xs = by_order (cases_lt m n)
@@ -57,7 +57,7 @@ pub gives_out_nothing : (bytes : List ℕ) (rest : Option (List ℕ)) → KeepsB
 gives_out_nothing bytes rest = record { piece = []; whole = sym (append-nil bytes); gives = gives_none rest }
 
 -- what grew after bytes that were given out
-pub gives_out_more : (out after before : List ℕ) (a b c : Option (List ℕ)) → KeepsBytes out [] before a b → Grows out after b c → KeepsBytes after [] before a c
+pub gives_out_more : (out after before : List ℕ) (a b c : Option (List ℕ)) → KeepsBytes out [] before a b → TakesMore out after b c → KeepsBytes after [] before a c
 gives_out_more out after before a b c given grown = record {
   piece = given.piece ++ grown.piece;
   whole = ap (λ xs. xs ++ []) (grown.whole ∙ ap (λ xs. xs ++ grown.piece) (sym (append-nil out) ∙ given.whole) ∙ append_assoc before given.piece grown.piece)
@@ -66,7 +66,7 @@ gives_out_more out after before a b c given grown = record {
 }
 
 -- what is left grew
-pub left_more : (left after before : List ℕ) (a b c : Option (List ℕ)) → KeepsBytes [] left before a b → Grows left after b c → KeepsBytes [] after before a c
+pub left_more : (left after before : List ℕ) (a b c : Option (List ℕ)) → KeepsBytes [] left before a b → TakesMore left after b c → KeepsBytes [] after before a c
 left_more left after before a b c given grown = record {
   piece = given.piece ++ grown.piece;
   whole = grown.whole ∙ ap (λ xs. xs ++ grown.piece) given.whole ∙ append_assoc before given.piece grown.piece;

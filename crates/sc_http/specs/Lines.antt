@@ -14,8 +14,8 @@ abbrev pub is_named : List ℕ → List ℕ × List ℕ → Bool
 is_named name line = str_eq_ignore_ascii_case line.0 name
 
 -- the values of the lines of a name, in order
-abbrev pub values_in : List ℕ → List (List ℕ × List ℕ) → List (List ℕ)
-values_in name lines = map (λ line. line.1) (filter (is_named name) lines)
+abbrev pub line_values : List ℕ → List (List ℕ × List ℕ) → List (List ℕ)
+line_values name lines = map (λ line. line.1) (filter (is_named name) lines)
 
 -- there is a line of the name
 abbrev pub has_line : List ℕ → List (List ℕ × List ℕ) → Bool

@@ -8,7 +8,7 @@ abbrev pub Gives : List ℕ → Option (List ℕ) → Option (List ℕ) → Type
 Gives piece old new = IfSome old (λ bytes. TakesPrefix piece bytes new)
 
 -- the bytes grew by some that the source gave
-pub record Grows (before after : List ℕ) (old new : Option (List ℕ)) : Type 0 where
+pub record TakesMore (before after : List ℕ) (old new : Option (List ℕ)) : Type 0 where
   pub piece : List ℕ
   pub some : 0 < length piece
   pub whole : after ≡ before ++ piece

@@ -1,5 +1,5 @@
 ghost use Rattle.std.specs.Prelude.{◌≡◌, ◌<◌, ◌≤◌, ◌^◌, [], length, drop, IfOk, OnOk, OnErr, Err};
-ghost use Rattle.sc_http.specs.Stream.{Gives, Grows, HasEnded};
+ghost use Rattle.sc_http.specs.Stream.{Gives, TakesMore, HasEnded};
 ghost use Rattle.sc_io.specs.Counts.{CountsFaults};
 
 use crate::refill::refill;
@@ -65,7 +65,7 @@ impl Buffer {
     pub(crate) fn fill<S: Source>(&mut self, source: &mut S, limit: usize) -> Result<(), Stopped>
         requires below { length self.old < limit }
         requires small { limit ≤ 2 ^ 32 }
-        ensures grows { OnOk result (Grows self.old self.new (S.rest source.old) (S.rest source.new)) }
+        ensures grows { OnOk result (TakesMore self.old self.new (S.rest source.old) (S.rest source.new)) }
         ensures bounded { OnOk result (length self.new ≤ limit) }
         ensures kept { OnErr result (self.new ≡ self.old) }
         ensures stays { OnErr result (Gives [] (S.rest source.old) (S.rest source.new)) }

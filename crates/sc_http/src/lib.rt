@@ -4,6 +4,15 @@
 //! `httparse` and `form_urlencoded`. The layer above uses the clauses of `Reader::next_message`: the
 //! request that comes first of a connection's bytes, however these are cut into pieces, or why there
 //! is none; and that of `write_reply`: the bytes that a reply is.
+//!
+//! Proved: `Reader::next_message` gives the first request of the bytes however they are cut into pieces, or why there is
+//! none; it reads no further than a request needs (`needed`, `bounded`), and reports each fault; `bytes_end_in_one_way`:
+//! bytes have one ending, but for the one place that is left open; `write_reply` writes the text of a reply in at most two
+//! writes, and one of at most 4,096 bytes in one, as the sink counts them.
+//!
+//! Tested alone: heads that come byte by byte.
+//!
+//! Neither: that time is linear and a body is copied once holds by construction.
 #![tactic(auto)]
 
 mod body;

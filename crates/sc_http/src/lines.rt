@@ -5,7 +5,7 @@ ghost use Rattle.std.specs.Char.{is_ascii_digit, digit_value};
 ghost use Rattle.httparse.specs.Spans.{span_bytes, header_bytes, IsHeaderWithin};
 ghost use Rattle.httparse.specs.Grammar.{is_ows, trim_ows};
 ghost use Rattle.sc_model.specs.Heads.{body_limit, comma, says_close, is_coding, length_by};
-ghost use Rattle.sc_http.specs.Lines.{is_named, values_in, has_line, length_is, is_close};
+ghost use Rattle.sc_http.specs.Lines.{is_named, line_values, has_line, length_is, is_close};
 
 use httparse::spans::HeaderSpan;
 
@@ -43,7 +43,7 @@ pub(crate) fn has_line(head: &[u8], lines: &[HeaderSpan], name: &[u8]) -> bool
 pub(crate) fn stated_length(head: &[u8], lines: &[HeaderSpan]) -> Result<usize, LengthError>
     requires { All (IsHeaderWithin (length head.now)) lines.now }
     ensures bounded { IfOk result (λ length. length ≤ body_limit) }
-    ensures length { length_is result ≡ length_by (values_in (codes "content-length") (map (header_bytes head.now) lines.now)) }
+    ensures length { length_is result ≡ length_by (line_values (codes "content-length") (map (header_bytes head.now) lines.now)) }
 {
     for (i, line) in lines.iter().enumerate() {
         if is_named(head, line, b"content-length") {
@@ -92,7 +92,7 @@ fn digit_of(byte: u8) -> Option<u64>
 /// Whether the body has a content coding.
 pub(crate) fn is_encoded(head: &[u8], lines: &[HeaderSpan]) -> bool
     requires { All (IsHeaderWithin (length head.now)) lines.now }
-    ensures { result ≡ list_any is_coding (values_in (codes "content-encoding") (map (header_bytes head.now) lines.now)) }
+    ensures { result ≡ list_any is_coding (line_values (codes "content-encoding") (map (header_bytes head.now) lines.now)) }
 {
     for line in lines {
         if line_encodes(head, line) {
@@ -113,7 +113,7 @@ fn line_encodes(head: &[u8], line: &HeaderSpan) -> bool
 /// Whether a Connection header asks to close.
 pub(crate) fn asks_close(head: &[u8], lines: &[HeaderSpan]) -> bool
     requires { All (IsHeaderWithin (length head.now)) lines.now }
-    ensures { result ≡ list_any says_close (values_in (codes "connection") (map (header_bytes head.now) lines.now)) }
+    ensures { result ≡ list_any says_close (line_values (codes "connection") (map (header_bytes head.now) lines.now)) }
 {
     for line in lines {
         if line_asks_close(head, line) {

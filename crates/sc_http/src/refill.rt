@@ -1,5 +1,5 @@
 ghost use Rattle.std.specs.Prelude.{◌≡◌, ◌<◌, ◌≤◌, ◌+◌, ◌^◌, length, take, vec_len, max, IfOk, OnOk, OnErr, Err, []};
-ghost use Rattle.sc_http.specs.Stream.{Gives, Grows, FillsMore, KeepsFilled, HasEnded};
+ghost use Rattle.sc_http.specs.Stream.{Gives, TakesMore, FillsMore, KeepsFilled, HasEnded};
 ghost use Rattle.sc_io.specs.Counts.{CountsFaults};
 
 use crate::stopped::Stopped;
@@ -20,7 +20,7 @@ pub(crate) fn refill<S: Source>(
     requires within { filled ≤ vec_len bytes.old }
     requires below { filled < limit }
     requires small { limit ≤ 2 ^ 32 }
-    ensures grows { IfOk result (λ now. Grows (take filled bytes.old.items) (take now bytes.new.items) (S.rest source.old) (S.rest source.new)) }
+    ensures grows { IfOk result (λ now. TakesMore (take filled bytes.old.items) (take now bytes.new.items) (S.rest source.old) (S.rest source.new)) }
     ensures fills { IfOk result (FillsMore filled limit bytes.new.items) }
     ensures room { KeepsFilled filled limit bytes.old.items bytes.new.items }
     ensures stays { OnErr result (Gives [] (S.rest source.old) (S.rest source.new)) }

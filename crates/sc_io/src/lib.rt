@@ -4,6 +4,13 @@
 //! `Source`, `Sink` and `Clock`, and use the clauses of their one method each: which bytes a call
 //! took or gave, which timestamp it answered, that its object's count of faults rose exactly where it
 //! failed, and that a sink counts at most one write a call.
+//!
+//! Proved: the streams and clocks in memory give exactly their bytes and timestamps, and fail exactly if they are told to:
+//! the clauses of `Source::read`, `Sink::write`, `Clock::now`; a call that succeeds leaves the count of faults as it was; of
+//! a reader and a writer that report their bytes, the machine's source and sink take and give exactly those, by clauses of
+//! their own `read` and `write`.
+//!
+//! Tested alone: the machine's clock; an interrupted read and write.
 #![tactic(auto)]
 
 mod clock;

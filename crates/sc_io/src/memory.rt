@@ -1,7 +1,7 @@
 ghost use Rattle.std.specs.Prelude.{◌≡◌, ◌+◌, ◌-◌, ◌^◌, ◌<◌, ◌≤◌, List, [], ◌++◌, length, take, drop, min, Some, None, IfOk, IsErr, OnOk, OnErr, Contains, slice_index, if◌then◌else◌};
 ghost use Rattle.sc_io.specs.Pieces.{TakesPrefix};
 ghost use Rattle.sc_io.specs.Memory.{ReadsMemory};
-ghost use Rattle.sc_io.specs.Moments.{next_place};
+ghost use Rattle.sc_io.specs.Moments.{next_moment};
 
 use crate::clock::Clock;
 use crate::fault::{Failed, Faults};
@@ -135,7 +135,7 @@ impl MemClock {
 
 impl Clock for MemClock {
     ghost gives = { λ s moment t. (moment ≡ slice_index s.moments s.at)
-        × (t.moments ≡ s.moments) × (t.at ≡ next_place s.moments s.at) };
+        × (t.moments ≡ s.moments) × (t.at ≡ next_moment s.moments s.at) };
 
     fn now(&mut self) -> u64 {
         let moments = self.moments.as_slice();

@@ -1,5 +1,12 @@
 //! What a bucket's journal is, which journals can be, and what an order is answered by one. The definitions stand in
 //! `specs/`; the layers above cite them, and use the facts of `proofs/`.
+//!
+//! Proved: laws: `journals_stay_legal` (a legal journal grows by what may follow it, its prefixes are legal, and per id
+//! versions ascend), `journals_owe_entries` (what each entry makes owed, and takes off it), `journals_come_to_rest` (a legal
+//! journal has a legal continuation, no longer than what it owes, after which each write is settled, no split is open and no
+//! slice is inactive; it owes nothing exactly then), `second_stops_settle` (after an accepted order's second stop its write
+//! is settled), `journals_keep_a_map` (the slices after a legal journal are those of a cluster, and those being made are the
+//! subs of the slice whose split is open).
 #![tactic(auto)]
 
 mod batches;

@@ -25,13 +25,13 @@ use Rattle.sc_record.specs.declared.value.Kind.{Kind}
 use Rattle.sc_record.specs.declared.value.Kind.TheVariants as kinds
 use Rattle.sc_record.specs.declared.value.Value.{Value}
 use Rattle.sc_record.specs.declared.value.Value.TheVariants as values
-use Rattle.sc_schema.specs.Documents.{member as found, id_of, id_text, condition_of, is_field_name, is_object, parts_of, part_of, and_then, found_map, change_of, set_field, field_of, document_order}
-use Rattle.sc_schema.specs.Values.{value_of, values_in, how_of}
+use Rattle.sc_schema.specs.Documents.{member as found, id_of, id_text, version_condition, is_field_name, is_object, parts_of, part_of, and_then, found_map, change_of_members, set_field, field_of, document_order}
+use Rattle.sc_schema.specs.Values.{value_of, values_in, how_of_value}
 use Rattle.sc_schema.specs.declared.raw.RawField.{RawField}
 use Rattle.sc_schema.specs.declared.raw.RawOne.TheVariants as ones
 use Rattle.sc_json.specs.Documents.{members_of, whole_number, value_data, field_data, field_member}
 use Rattle.sc_json.specs.RawDocs.{raw_number, raw_one, raw_items, raw_value, raw_fields}
-use Rattle.sc_json.specs.Laws.{IsInRange, IsFieldInRange, IsKept, ReadsBack}
+use Rattle.sc_json.specs.Laws.{IsInRange, IsFieldInRange, IsStoredDocument, ReadsBack}
 
 -- names are one just where they compare equal
 name_from : (k l : List ℕ) (o : Ordering) → slice_cmp nat_cmp k l ≡ o → bytes_eq l k ≡ is_eq o
@@ -188,7 +188,7 @@ values_back kind (v ∷ vs) fits range =
 
 -- a value alone sets the field to it
 one_back : (kind : Kind) (v : Value) → value_of kind (raw_one (value_data v)) ≡ Some v → IsInRange v
-    → how_of kind false (raw_value (value_data v)) ≡ Some (Set (v ∷ []))
+    → how_of_value kind false (raw_value (value_data v)) ≡ Some (Set (v ∷ []))
 one_back kind (values.Text text) back range = rw back refl
 one_back kind (values.Int n) back range =
     let read = as_long n (int-long n range) in
@@ -202,7 +202,7 @@ one_back kind (values.Flag b) back range = rw back refl
 
 -- the values that are shown of a field set it to them
 field_back : (kind : Kind) (many : Bool) (vs : List Value) → list_all (fits_kind kind) vs ≡ true → fits_count many (length vs) ≡ true
-    → AllByRecursion IsInRange vs → how_of kind many (raw_value (field_data (Some (kind, many)) vs)) ≡ Some (Set vs)
+    → AllByRecursion IsInRange vs → how_of_value kind many (raw_value (field_data (Some (kind, many)) vs)) ≡ Some (Set vs)
 field_back kind true vs fits count range = rw (values_back kind vs fits range) refl
 field_back kind false [] fits count range = cc
 field_back kind false (v ∷ []) fits count range =
@@ -266,13 +266,13 @@ fields_back (f ∷ fields) each = ap₂ cons_option (set_back f.name (kind_of f.
 
 -- the order of a document by its parts
 ordered : (raws : List RawField) (id : List ℕ) (condition : ℤ) (parts : List FieldChange) (change : Change)
-    → id_of (found raws (codes "id")) ≡ Ok id → condition_of (found raws (codes "_version_")) ≡ Ok condition
-    → parts_of raws ≡ Ok parts → change_of raws parts ≡ change
+    → id_of (found raws (codes "id")) ≡ Ok id → version_condition (found raws (codes "_version_")) ≡ Ok condition
+    → parts_of raws ≡ Ok parts → change_of_members raws parts ≡ change
     → document_order raws ≡ Ok (record { id = id; condition = condition; change = change })
 ordered raws id condition parts change named asked read is = rw (named, asked, read, is) refl
 
 whole_change : (raws : List RawField) (parts : List FieldChange) (fields : List Field) → has_object raws ≡ false
-    → filter_map field_of parts ≡ fields → change_of raws parts ≡ Whole fields
+    → filter_map field_of parts ≡ fields → change_of_members raws parts ≡ Whole fields
 unfolding has_object
 whole_change raws parts fields plain same = rw plain (ap Whole same)
 
@@ -288,8 +288,8 @@ reads_back id version fields kept =
     let named : id_of (found raws (codes "id")) ≡ Ok id =
     ap id_of (kept-put (codes "id") (codes "_version_") (whole_number version) with_id refl ∙ found-put (codes "id") (string id) shown)
     ∙ id_back id kept.named kept.short in
-    let asked : condition_of (found raws (codes "_version_")) ≡ Ok version =
-    ap condition_of (found-put (codes "_version_") (whole_number version) with_id) ∙ rw (as_long version kept.long) refl in
+    let asked : version_condition (found raws (codes "_version_")) ≡ Ok version =
+    ap version_condition (found-put (codes "_version_") (whole_number version) with_id) ∙ rw (as_long version kept.long) refl in
     let read : parts_of raws ≡ Ok (map set_to fields) =
     parts-put (codes "_version_") (whole_number version) with_id refl ∙ parts-put (codes "id") (string id) shown refl
     ∙ parts_back fields kept.document.ascends kept.document.each kept.numbers in

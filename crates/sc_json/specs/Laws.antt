@@ -23,7 +23,7 @@ abbrev pub IsFieldInRange : Field → Type 0
 IsFieldInRange field = AllByRecursion IsInRange field.values
 
 -- a document as it is kept, with its id of 1 to 512 bytes and its version of 64 bits
-pub record IsKept (id : List ℕ) (version : ℤ) (fields : List Field) : Type 0 where
+pub record IsStoredDocument (id : List ℕ) (version : ℤ) (fields : List Field) : Type 0 where
   pub named : 0 < length id
   pub short : length id ≤ 512
   pub long : IsTrue (is_long version)
@@ -38,4 +38,4 @@ AsksForItself id version fields =
 
 -- each document that is kept does
 abbrev pub ReadsBack : Type 0
-ReadsBack = (id : List ℕ) (version : ℤ) (fields : List Field) → IsKept id version fields → AsksForItself id version fields
+ReadsBack = (id : List ℕ) (version : ℤ) (fields : List Field) → IsStoredDocument id version fields → AsksForItself id version fields

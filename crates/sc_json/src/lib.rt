@@ -3,6 +3,12 @@
 //! It may depend on the documents of `sc_record` and `sc_schema`, and on the parser and printer of `serde_json`, which does
 //! all reading, printing and escaping. The layers above use the clauses of `read` and `raw_doc`, which say which value a body
 //! has and what its members are, and those of `doc_value` and `print`, which say which text a document has.
+//!
+//! Proved: `read`, `raw_doc`, `doc_value` and `print` are the definitions in `specs/` over the JSON values of `serde_json`.
+//! Law `shown_document`: a document that is shown, sent back as it is, makes the same document, under the condition of its
+//! version.
+//!
+//! Tested alone: the worked documents.
 #![tactic(auto)]
 
 // A body's value, and the members of an object.

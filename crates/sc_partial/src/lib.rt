@@ -3,6 +3,17 @@
 //!
 //! It may depend on `sc_record` and `thiserror` alone, and does no input and no output. The layers above use the clauses of
 //! `resolve`: the document is what `IsChanged` says, which determines it, and the field is that of `first_refused`.
+//!
+//! Proved: `resolve` gives the one document that an atomic update makes of the old one (`IsChanged` in `specs/Resolved`):
+//! each name has the values after its change, or as they were, and a field without values is left out. It names a field
+//! exactly if one can't take its change, and then the first by name (`first_refused`). Laws: `one_document` (changes that no
+//! field refuses make one document, and no two), `whole_document` (a document as a whole is one whose fields are all set),
+//! `changes_in_turn` (the last set stands, add-distinct twice is once, what is added and removed is removed, increments sum),
+//! `values_among` (what stands after add-distinct and remove).
+//!
+//! Tested alone: the worked changes of one field, with numbers at the borders of 32 and 64 bits; merges of several.
+//!
+//! Neither: speed; that each value is copied once holds by construction.
 #![tactic(auto)]
 
 // Why a document can't be changed.

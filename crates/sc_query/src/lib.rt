@@ -4,6 +4,13 @@
 //!
 //! The crate depends on std, `sc_record` and `thiserror` alone, and knows no field and no document. The layer above uses the contract
 //! of [`parse`], which says of each text which tree it has or where its fault is, and that of [`and`].
+//!
+//! Proved: `parse` answers each text by the grammar in `specs/`: the tree that it has, or where its fault lies.
+//!
+//! Tested alone: that a query millions of operators deep is dropped without stack; that no text is answered out of memory
+//! while there is memory; that threads may share a query.
+//!
+//! Neither: speed.
 #![tactic(auto)]
 
 mod fault;

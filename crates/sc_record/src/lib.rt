@@ -5,6 +5,15 @@
 //! read a `Doc` as its fields with `IsDocument`, get a field's kind by `kind_of`, show a write's
 //! version by `shown` and `found`, test an order's condition by `meets`, and give each new write the
 //! version of `next_version`, which is above the clock and at least the timestamp's.
+//!
+//! Proved: `next_version` is above the clock and at least the timestamp's (up to 2^42 - 1 ms); `meets` is the rule of
+//! conditions; `kind_of`, `found`; ids of 1 to 512 bytes; an `Order`'s changes fit their fields; a `Text` is the text that it
+//! was made of, however it is kept; a core's replica is counted from 1, and a planned slice has a range, a replica and a
+//! node; `clone_in` gives a value that equals its original.
+//!
+//! Tested alone: the numbers at the borders; that a text takes 16 bytes.
+//!
+//! Neither: that copies of a text share it holds by construction.
 #![tactic(auto)]
 
 // Copies, texts and lists.

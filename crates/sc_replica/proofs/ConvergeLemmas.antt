@@ -10,7 +10,7 @@ use Rattle.sc_record.specs.declared.write.Write.{Write}
 use Rattle.sc_record.specs.Writes.{is_of, write_of, AscendById}
 use Rattle.sc_ulog.specs.declared.mode.Mode.TheVariants.{Active}
 use Rattle.sc_replica.specs.Core.{Core}
-use Rattle.sc_replica.specs.Deliveries.{Delivery, carried, delivered, delivered_all, IsGreatest}
+use Rattle.sc_replica.specs.Deliveries.{Delivery, carried, after_delivery, after_deliveries, IsGreatest}
 use Rattle.sc_replica.specs.Laws.{AreOrdered}
 use Rattle.sc_replica.proofs.IdLemmas.{order, order-back, same-id, id-itself, one-id}
 use Rattle.sc_replica.proofs.CellLemmas.{ids, below-below}
@@ -115,11 +115,11 @@ same-cells (x ∷ xs) (y ∷ ys) a b same =
 
 -- whatever is delivered to an active core, its cells stay in order
 delivered-ascends : (core : Core) (deliveries : List Delivery) → core.mode ≡ Active → AscendById core.cells
-    → AscendById (delivered_all core deliveries).cells
+    → AscendById (after_deliveries core deliveries).cells
 delivered-ascends core [] active a = a
 delivered-ascends core (delivery ∷ deliveries) active a =
     let cells = ap (λ (c : Core). c.cells) (delivered-applied core delivery active) in
-    delivered-ascends (delivered core delivery) deliveries (mode-delivered core delivery active) (rw cells (applied-ascends core.cells (carried delivery) a))
+    delivered-ascends (after_delivery core delivery) deliveries (mode-delivered core delivery active) (rw cells (applied-ascends core.cells (carried delivery) a))
 
 -- no cells are in order
 none-ascends : (cells : List Write) → cells ≡ [] → AscendById cells
@@ -128,7 +128,7 @@ none-ascends cells none = rw none tt
 
 -- the cell of an id of a core that had none is the greatest of the writes of it that came
 from-nothing : (core : Core) (deliveries : List Delivery) (id : List ℕ) → core.mode ≡ Active → core.cells ≡ []
-    → IsGreatest (filter (is_of id) (map carried deliveries)) (write_of (delivered_all core deliveries).cells id)
+    → IsGreatest (filter (is_of id) (map carried deliveries)) (write_of (after_deliveries core deliveries).cells id)
 from-nothing core deliveries id active none =
     let no_cell : write_of core.cells id ≡ None = ap (λ (cells : List Write). write_of cells id) none in
     rw no_cell at (keeps-greatest core deliveries id active)
@@ -138,9 +138,9 @@ pub converge : (one other : Core) (ones others : List Delivery)
     → one.mode ≡ Active → one.cells ≡ [] → other.mode ≡ Active → other.cells ≡ []
     → ((write : Write) → Contains (map carried ones) write ↔ Contains (map carried others) write)
     → AreOrdered (map carried ones)
-    → (delivered_all one ones).cells ≡ (delivered_all other others).cells
+    → (after_deliveries one ones).cells ≡ (after_deliveries other others).cells
 converge one other ones others one_active one_none other_active other_none same ordered =
-    same-cells (delivered_all one ones).cells (delivered_all other others).cells
+    same-cells (after_deliveries one ones).cells (after_deliveries other others).cells
     (delivered-ascends one ones one_active (none-ascends one.cells one_none))
     (delivered-ascends other others other_active (none-ascends other.cells other_none))
     (λ id. same-greatest (filter (is_of id) (map carried ones)) (filter (is_of id) (map carried others)) _ _

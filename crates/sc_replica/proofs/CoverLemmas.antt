@@ -14,7 +14,7 @@ use Rattle.sc_ulog.specs.declared.mode.Mode.{Mode}
 use Rattle.sc_ulog.specs.declared.mode.Mode.TheVariants.{Active, Buffering, Replaying}
 use Rattle.sc_replica.specs.Cells.{applied}
 use Rattle.sc_replica.specs.Core.{Core, fed, buffered, received_in, fed_all, replay_limit, replayed}
-use Rattle.sc_replica.specs.Deliveries.{Delivery, carried, delivered, Step, came, stepped, stepped_all, IsGreatest}
+use Rattle.sc_replica.specs.Deliveries.{Delivery, carried, after_delivery, Step, came, stepped, stepped_all, IsGreatest}
 use Rattle.sc_replica.proofs.GreatestLemmas.{greater, write_of-applied}
 
 -- the second list has nothing that the first has not, and for each of the first one of at least its version
@@ -176,7 +176,7 @@ received-covers Replaying core write id = fed-covers core write id
 
 -- and what is delivered
 delivered-covers : (core : Core) (delivery : Delivery) (id : List ℕ)
-    → Covers (held core id ++ of id (carried delivery ∷ [])) (held (delivered core delivery) id)
+    → Covers (held core id ++ of id (carried delivery ∷ [])) (held (after_delivery core delivery) id)
 delivered-covers core (Delivery.Received write) id = received-covers core.mode core write id
 delivered-covers core (Delivery.Fed write) id = fed-covers core write id
 

@@ -12,7 +12,7 @@ use Rattle.sc_record.specs.Writes.{is_of, write_of}
 use Rattle.sc_ulog.specs.declared.mode.Mode.TheVariants.{Active}
 use Rattle.sc_replica.specs.Cells.{put, is_above, is_newer, applied}
 use Rattle.sc_replica.specs.Core.{Core, IsCore, led, fed}
-use Rattle.sc_replica.specs.Deliveries.{Delivery, carried, delivered, delivered_all, IsGreatest}
+use Rattle.sc_replica.specs.Deliveries.{Delivery, carried, after_delivery, after_deliveries, IsGreatest}
 use Rattle.sc_replica.proofs.IdLemmas.{one-id}
 use Rattle.sc_replica.proofs.CellLemmas.{write_of-put}
 use Rattle.sc_replica.proofs.CoreLemmas.{received-applied}
@@ -59,37 +59,37 @@ IsGreatest-more known (Some cell) write is = by_test (int_lt cell.version write.
 
 -- what an active core is sent or fed is applied
 pub delivered-applied : (core : Core) (delivery : Delivery) → core.mode ≡ Active
-    → delivered core delivery ≡ fed core (carried delivery)
+    → after_delivery core delivery ≡ fed core (carried delivery)
 delivered-applied core (Delivery.Received write) active = received-applied core write (inl active)
 delivered-applied core (Delivery.Fed write) active = refl
 
 -- and it stays active
-pub mode-delivered : (core : Core) (delivery : Delivery) → core.mode ≡ Active → (delivered core delivery).mode ≡ Active
+pub mode-delivered : (core : Core) (delivery : Delivery) → core.mode ≡ Active → (after_delivery core delivery).mode ≡ Active
 mode-delivered core delivery active = ap (λ (c : Core). c.mode) (delivered-applied core delivery active) ∙ active
 
 -- the cell of an id once something was delivered
 pub write_of-delivered : (core : Core) (delivery : Delivery) (id : List ℕ) → core.mode ≡ Active
-    → write_of (delivered core delivery).cells id ≡ cond (is_of id (carried delivery)) (greater (write_of core.cells id) (carried delivery)) (write_of core.cells id)
+    → write_of (after_delivery core delivery).cells id ≡ cond (is_of id (carried delivery)) (greater (write_of core.cells id) (carried delivery)) (write_of core.cells id)
 write_of-delivered core delivery id active =
     ap (λ (c : Core). write_of c.cells id) (delivered-applied core delivery active) ∙ write_of-applied core.cells (carried delivery) id
 
 -- the cell is the greatest of what was known and what is delivered
 greatest-all : (core : Core) (deliveries : List Delivery) (id : List ℕ) (known : List Write) → core.mode ≡ Active
     → IsGreatest known (write_of core.cells id)
-    → IsGreatest (known ++ filter (is_of id) (map carried deliveries)) (write_of (delivered_all core deliveries).cells id)
+    → IsGreatest (known ++ filter (is_of id) (map carried deliveries)) (write_of (after_deliveries core deliveries).cells id)
 greatest-all core [] id known active is = rw append-nil is
 greatest-all core (delivery ∷ deliveries) id known active is =
-    by_test (is_of id (carried delivery)) refl (λ more h. greatest-all (delivered core delivery) deliveries id more (mode-delivered core delivery active) h)
+    by_test (is_of id (carried delivery)) refl (λ more h. greatest-all (after_delivery core delivery) deliveries id more (mode-delivered core delivery active) h)
   where
     by_test : (b : Bool) → is_of id (carried delivery) ≡ b
-        → ((more : List Write) → IsGreatest more (write_of (delivered core delivery).cells id) → IsGreatest (more ++ filter (is_of id) (map carried deliveries)) (write_of (delivered_all (delivered core delivery) deliveries).cells id))
+        → ((more : List Write) → IsGreatest more (write_of (after_delivery core delivery).cells id) → IsGreatest (more ++ filter (is_of id) (map carried deliveries)) (write_of (after_deliveries (after_delivery core delivery) deliveries).cells id))
         → IsGreatest (known ++ cond b (carried delivery ∷ filter (is_of id) (map carried deliveries)) (filter (is_of id) (map carried deliveries)))
-        (write_of (delivered_all (delivered core delivery) deliveries).cells id)
+        (write_of (after_deliveries (after_delivery core delivery) deliveries).cells id)
     by_test true same rest =
-        let now : write_of (delivered core delivery).cells id ≡ greater (write_of core.cells id) (carried delivery) = write_of-delivered core delivery id active ∙ rw same refl in
+        let now : write_of (after_delivery core delivery).cells id ≡ greater (write_of core.cells id) (carried delivery) = write_of-delivered core delivery id active ∙ rw same refl in
         rw append_assoc at (rest (known ++ carried delivery ∷ []) (rw now (IsGreatest-more known (write_of core.cells id) (carried delivery) is)))
     by_test false other rest =
-        let now : write_of (delivered core delivery).cells id ≡ write_of core.cells id = write_of-delivered core delivery id active ∙ rw other refl in
+        let now : write_of (after_delivery core delivery).cells id ≡ write_of core.cells id = write_of-delivered core delivery id active ∙ rw other refl in
         rest known (rw now is)
 
 -- a cell is the greatest of itself, and none of no writes
@@ -100,7 +100,7 @@ IsGreatest-itself (Some cell) =
 
 -- so it is from any cell on
 pub keeps-greatest : (core : Core) (deliveries : List Delivery) (id : List ℕ) → core.mode ≡ Active
-    → IsGreatest (option_to_list (write_of core.cells id) ++ filter (is_of id) (map carried deliveries)) (write_of (delivered_all core deliveries).cells id)
+    → IsGreatest (option_to_list (write_of core.cells id) ++ filter (is_of id) (map carried deliveries)) (write_of (after_deliveries core deliveries).cells id)
 keeps-greatest core deliveries id active = greatest-all core deliveries id (option_to_list (write_of core.cells id)) active (IsGreatest-itself (write_of core.cells id))
 
 -- a write that is above the clock is newer than every cell

@@ -15,14 +15,14 @@ carried (Delivery.Received write) = write
 carried (Delivery.Fed write) = write
 
 -- the core after a delivery
-abbrev pub delivered : Core → Delivery → Core
-delivered core (Delivery.Received write) = received core write
-delivered core (Delivery.Fed write) = fed core write
+abbrev pub after_delivery : Core → Delivery → Core
+after_delivery core (Delivery.Received write) = received core write
+after_delivery core (Delivery.Fed write) = fed core write
 
 -- the core after all of them
-abbrev pub delivered_all : Core → List Delivery → Core
-delivered_all core [] = core
-delivered_all core (delivery ∷ deliveries) = delivered_all (delivered core delivery) deliveries
+abbrev pub after_deliveries : Core → List Delivery → Core
+after_deliveries core [] = core
+after_deliveries core (delivery ∷ deliveries) = after_deliveries (after_delivery core delivery) deliveries
 
 -- the core once it was sent all the writes
 abbrev pub received_all : Core → List Write → Core
@@ -52,7 +52,7 @@ came Step.Replays = []
 
 -- the core after it: a delivery, the beginning of a replay or one replay
 abbrev pub stepped : Core → Step → Core
-stepped core (Step.Delivers delivery) = delivered core delivery
+stepped core (Step.Delivers delivery) = after_delivery core delivery
 stepped core Step.Begins = replaying core
 stepped core Step.Replays = replayed core
 

@@ -7,7 +7,7 @@ use Rattle.sc_record.specs.Writes.{is_of, write_of, AscendById}
 use Rattle.sc_ulog.specs.declared.mode.Mode.TheVariants.{Active, Buffering}
 use Rattle.sc_replica.specs.Cells.{put, is_newer}
 use Rattle.sc_replica.specs.Core.{Core, IsCore, led, fed, received, replayed, replay_limit}
-use Rattle.sc_replica.specs.Deliveries.{Delivery, carried, delivered_all, received_all, replaying, replayed_times}
+use Rattle.sc_replica.specs.Deliveries.{Delivery, carried, after_deliveries, received_all, replaying, replayed_times}
 use Rattle.sc_replica.specs.Deliveries.{Step, came, stepped_all, IsGreatest}
 
 -- a put changes the cell of the write's id alone
@@ -24,7 +24,7 @@ PutsInOrder = (cells : List Write) (write : Write) → AscendById cells → Asce
 abbrev pub KeepsTheGreatest : Type 0
 KeepsTheGreatest = (core : Core) (deliveries : List Delivery) (id : List ℕ) → core.mode ≡ Active
     → IsGreatest (option_to_list (write_of core.cells id) ++ filter (is_of id) (map carried deliveries))
-    (write_of (delivered_all core deliveries).cells id)
+    (write_of (after_deliveries core deliveries).cells id)
 
 -- no two different writes of one id have one version
 abbrev pub AreOrdered : List Write → Type 0
@@ -37,7 +37,7 @@ Converge = (one other : Core) (ones others : List Delivery)
     → one.mode ≡ Active → one.cells ≡ [] → other.mode ≡ Active → other.cells ≡ []
     → ((write : Write) → Contains (map carried ones) write ↔ Contains (map carried others) write)
     → AreOrdered (map carried ones)
-    → (delivered_all one ones).cells ≡ (delivered_all other others).cells
+    → (after_deliveries one ones).cells ≡ (after_deliveries other others).cells
 
 -- a core that buffers what it is sent, and then replays it to the end, has the cells and the clock of one that got it at
 -- once

@@ -3,6 +3,10 @@
 //!
 //! It may depend on `sc_record` and `sc_json`, which shows documents and prints. The layers above use the clauses that give
 //! each body's whole text, and those of `Cause::status` and `Cause::message`.
+//!
+//! Proved: the bodies of updates, errors and gets, and their messages, are the texts of `specs/Bodies` and `Refusals`.
+//!
+//! Tested alone: the worked answers.
 #![tactic(auto)]
 
 // Why a request is refused.

@@ -2,6 +2,13 @@
 //! separated by `!`, and each gives some bits of its own hash. It depends on `sc_hash`.
 //! The layers above use the contracts of `route_hash`, `plain_hash`, `bucket_of` and `key_range`, which
 //! name the definitions of these names at the list of the id's bytes.
+//!
+//! Proved: `route_hash`, `plain_hash`, `bucket_of` and `key_range` are the definitions in `specs/` of Solr's compositeId
+//! router.
+//!
+//! Tested alone: Solr's values for a list of ids.
+//!
+//! Neither: speed; that each part is hashed once, as it is read, holds by construction.
 #![tactic(auto)]
 
 mod part;

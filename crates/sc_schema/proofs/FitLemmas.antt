@@ -14,7 +14,7 @@ use Rattle.sc_record.specs.declared.value.Value.{Value}
 use Rattle.sc_record.specs.declared.value.Value.TheVariants as values
 use Rattle.sc_record.specs.declared.order.How.{How}
 use Rattle.sc_record.specs.declared.order.How.TheVariants as hows
-use Rattle.sc_schema.specs.Values.{text_of, number_of, flag_of, int_value, value_of, values_in, given, within_count, values_for, not_empty, some_values_for, fitting_amount, amount_for, how_of}
+use Rattle.sc_schema.specs.Values.{text_value, number_of, flag_of, int_value, value_of, values_in, given, within_count, values_for, not_empty, some_values_for, fitting_amount, amount_for, how_of_value}
 use Rattle.sc_schema.specs.Documents.{set_field}
 use Rattle.sc_schema.specs.declared.raw.RawOne.{RawOne}
 use Rattle.sc_schema.specs.declared.raw.RawFlat.{RawFlat}
@@ -36,14 +36,14 @@ fits_int n false v h = cc
 
 value-fits : (kind : Kind) (one : RawOne) (v : Value) → value_of kind one ≡ Some v → fits_kind kind v ≡ true
 value-fits kinds.Str one v h =
-    mapped values.Text (text_of one) v h (λ x was e. subst (λ (w : Value). fits_kind kinds.Str w ≡ true) e refl)
+    mapped values.Text (text_value one) v h (λ x was e. subst (λ (w : Value). fits_kind kinds.Str w ≡ true) e refl)
 value-fits kinds.Int one v h = option_and_then_some int_value (number_of one) v h (λ n was e. fits_int n (is_int n) v e)
 value-fits kinds.Long one v h =
     mapped values.Long (number_of one) v h (λ x was e. subst (λ (w : Value). fits_kind kinds.Long w ≡ true) e refl)
 value-fits kinds.Flag one v h =
     mapped values.Flag (flag_of one) v h (λ x was e. subst (λ (w : Value). fits_kind kinds.Flag w ≡ true) e refl)
 value-fits kinds.Words one v h =
-    mapped values.Text (text_of one) v h (λ x was e. subst (λ (w : Value). fits_kind kinds.Words w ≡ true) e refl)
+    mapped values.Text (text_value one) v h (λ x was e. subst (λ (w : Value). fits_kind kinds.Words w ≡ true) e refl)
 
 -- so is each of several
 values-fit : (kind : Kind) (list : List RawOne) (vs : List Value) → values_in kind list ≡ Some vs
@@ -159,7 +159,7 @@ named false false false false true kind many flat how h = incs kind many flat ho
 named false false false false false kind many flat how h = cc
 
 -- what a member does fits the kind of its field
-pub how-fits : (kind : Kind) (many : Bool) (value : RawValue) (how : How) → how_of kind many value ≡ Some how
+pub how-fits : (kind : Kind) (many : Bool) (value : RawValue) (how : How) → how_of_value kind many value ≡ Some how
     → FitsKind kind many how
 how-fits kind many (raws.Plain flat) how h = sets kind many flat how h
 how-fits kind many (raws.Change name flat) how h =

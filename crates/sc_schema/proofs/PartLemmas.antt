@@ -17,8 +17,8 @@ use Rattle.sc_record.specs.declared.order.How.TheVariants as hows
 use Rattle.sc_record.specs.declared.order.FieldChange.{FieldChange}
 use Rattle.sc_record.specs.declared.order.Change.TheVariants as changes
 use Rattle.sc_schema.specs.Raw.{raw_names, AscendByName}
-use Rattle.sc_schema.specs.Values.{how_of}
-use Rattle.sc_schema.specs.Documents.{and_then, found_map, changed_by, part_of, is_field_name, parts_of, set_field, field_of, NamesFields}
+use Rattle.sc_schema.specs.Values.{how_of_value}
+use Rattle.sc_schema.specs.Documents.{and_then, found_map, how_of_member, part_of, is_field_name, parts_of, set_field, field_of, NamesFields}
 use Rattle.sc_schema.specs.declared.raw.RawField.{RawField}
 use Rattle.sc_schema.specs.declared.fault.DocFault.{DocFault}
 use Rattle.sc_schema.specs.declared.fault.DocFault.TheVariants as faults
@@ -97,12 +97,12 @@ pub Fits : FieldChange → Type 0
 Fits part = IsFieldChange part × IfSome (field_of part) IsField
 
 kind-fits : (field : RawField) (kind : Option (Kind × Bool)) (how : How) → kind_of field.name ≡ kind
-    → changed_by kind field ≡ Ok how
+    → how_of_member kind field ≡ Ok how
     → IsTrue (fits_change (kind_of field.name) how) × IfSome (set_field field.name how) IsField
 kind-fits field None how e h = cc
-kind-fits field (Some (kind, many)) how e h = by_value (how_of kind many field.value) refl h
+kind-fits field (Some (kind, many)) how e h = by_value (how_of_value kind many field.value) refl h
   where
-    by_value : (read : Option How) → how_of kind many field.value ≡ read
+    by_value : (read : Option How) → how_of_value kind many field.value ≡ read
         → ok_or read (faults.WrongValue field.name) ≡ Ok how
         → IsTrue (fits_change (kind_of field.name) how) × IfSome (set_field field.name how) IsField
     by_value None was ok = cc

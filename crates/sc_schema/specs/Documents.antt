@@ -12,7 +12,7 @@ use Rattle.sc_record.specs.declared.order.Change.{Change}
 use Rattle.sc_record.specs.declared.order.Change.TheVariants as changes
 use Rattle.sc_record.specs.declared.order.Order.{Order}
 use Rattle.sc_schema.specs.Raw.{raw_names}
-use Rattle.sc_schema.specs.Values.{number_text, how_of}
+use Rattle.sc_schema.specs.Values.{number_text, how_of_value}
 use Rattle.sc_schema.specs.declared.raw.RawField.{RawField}
 use Rattle.sc_schema.specs.declared.raw.RawOne.TheVariants as ones
 use Rattle.sc_schema.specs.declared.raw.RawFlat.TheVariants as flats
@@ -32,8 +32,8 @@ found_map f (Ok x) = Ok (f x)
 found_map f (Err fault) = Err fault
 
 -- the fault is the one that is found, or memory ran out before one was
-abbrev pub IsFaultOf : {T : Type 0} → Result T DocFault → DocFault → Type 0
-IsFaultOf found fault = (fault ≡ faults.Memory) ⊎ (found ≡ Err fault)
+abbrev pub IsDocumentFault : {T : Type 0} → Result T DocFault → DocFault → Type 0
+IsDocumentFault found fault = (fault ≡ faults.Memory) ⊎ (found ≡ Err fault)
 
 -- the value of the member of this name, if a member has it
 abbrev pub member : List RawField → List ℕ → Option RawValue
@@ -61,20 +61,20 @@ abbrev pub condition_text : List ℕ → Result ℤ DocFault
 condition_text text = and_then (canonical text) (ok_or (number_text text) (faults.WrongValue (codes "_version_")))
 
 -- the condition of a document: its version, as a whole number of 64 bits or its decimal text, and 0 where it has none
-abbrev pub condition_of : Option RawValue → Result ℤ DocFault
-condition_of None = Ok (pos 0)
-condition_of (Some (raws.Plain (flats.One (ones.Number n)))) = Ok n
-condition_of (Some (raws.Plain (flats.One (ones.Text text)))) = condition_text text
-condition_of (Some value) = Err (faults.WrongValue (codes "_version_"))
+abbrev pub version_condition : Option RawValue → Result ℤ DocFault
+version_condition None = Ok (pos 0)
+version_condition (Some (raws.Plain (flats.One (ones.Number n)))) = Ok n
+version_condition (Some (raws.Plain (flats.One (ones.Text text)))) = condition_text text
+version_condition (Some value) = Err (faults.WrongValue (codes "_version_"))
 
 -- how a member changes its field, by the field's kind
-abbrev pub changed_by : Option (Kind × Bool) → RawField → Result How DocFault
-changed_by None field = Err (faults.UnknownField field.name)
-changed_by (Some (kind, many)) field = ok_or (how_of kind many field.value) (faults.WrongValue field.name)
+abbrev pub how_of_member : Option (Kind × Bool) → RawField → Result How DocFault
+how_of_member None field = Err (faults.UnknownField field.name)
+how_of_member (Some (kind, many)) field = ok_or (how_of_value kind many field.value) (faults.WrongValue field.name)
 
 -- the change of a field that a member asks for
 abbrev pub part_of : RawField → Result FieldChange DocFault
-part_of field = found_map (λ how. record { name = field.name; how = how }) (changed_by (kind_of field.name) field)
+part_of field = found_map (λ how. record { name = field.name; how = how }) (how_of_member (kind_of field.name) field)
 
 -- the id and the version stand apart from the fields
 abbrev pub is_field_name : List ℕ → Bool
@@ -101,24 +101,24 @@ abbrev pub field_of : FieldChange → Option Field
 field_of part = set_field part.name part.how
 
 -- the change that a document asks for: an atomic update where a member's value is an object, else the document as it is
-abbrev pub change_of : List RawField → List FieldChange → Change
-change_of fields parts = if list_any (λ (field : RawField). is_object field.value) fields then changes.Parts parts else changes.Whole (filter_map field_of parts)
+abbrev pub change_of_members : List RawField → List FieldChange → Change
+change_of_members fields parts = if list_any (λ (field : RawField). is_object field.value) fields then changes.Parts parts else changes.Whole (filter_map field_of parts)
 
 -- what an order asks for
-pub record Asked : Type 0 where
+pub record OrderContent : Type 0 where
   pub id : List ℕ
   pub condition : ℤ
   pub change : Change
 
 -- of an order
-abbrev pub asked : Order → Asked
-asked order = record { id = order.id; condition = order.condition; change = order.change }
+abbrev pub content_of : Order → OrderContent
+content_of order = record { id = order.id; condition = order.condition; change = order.change }
 
 -- the order that a document's members ask for, or the first fault: of the id, of the version, then of the fields in order
-abbrev pub document_order : List RawField → Result Asked DocFault
+abbrev pub document_order : List RawField → Result OrderContent DocFault
 document_order fields =
-    and_then (λ id. and_then (λ condition. found_map (λ parts. record { id = id; condition = condition; change = change_of fields parts }) (parts_of fields))
-    (condition_of (member fields (codes "_version_")))) (id_of (member fields (codes "id")))
+    and_then (λ id. and_then (λ condition. found_map (λ parts. record { id = id; condition = condition; change = change_of_members fields parts }) (parts_of fields))
+    (version_condition (member fields (codes "_version_")))) (id_of (member fields (codes "id")))
 
 -- an atomic update names each member but the id and the version, in order; and no document asks for a deletion
 abbrev pub NamesFields : List RawField → Change → Type 0

@@ -22,12 +22,12 @@ abbrev pub flag_text : Bool → List ℕ
 flag_text flag = if flag then codes "true" else codes "false"
 
 -- the text that a value is: a text as it is, a whole number as its decimal text, a truth value by its name
-abbrev pub text_of : RawOne → Option (List ℕ)
-text_of ones.Null = None
-text_of (ones.Flag flag) = Some (flag_text flag)
-text_of (ones.Number n) = Some (signed_decimal n)
-text_of ones.Other = None
-text_of (ones.Text text) = Some text
+abbrev pub text_value : RawOne → Option (List ℕ)
+text_value ones.Null = None
+text_value (ones.Flag flag) = Some (flag_text flag)
+text_value (ones.Number n) = Some (signed_decimal n)
+text_value ones.Other = None
+text_value (ones.Text text) = Some text
 
 -- a text without the minus sign that it may begin with
 abbrev pub without_minus : List ℕ → List ℕ
@@ -67,11 +67,11 @@ int_value n = if is_int n then Some (values.Int n) else None
 
 -- the value of a field of this kind; None where it does not fit
 abbrev pub value_of : Kind → RawOne → Option Value
-value_of kinds.Str one = option_map values.Text (text_of one)
+value_of kinds.Str one = option_map values.Text (text_value one)
 value_of kinds.Int one = option_and_then int_value (number_of one)
 value_of kinds.Long one = option_map values.Long (number_of one)
 value_of kinds.Flag one = option_map values.Flag (flag_of one)
-value_of kinds.Words one = option_map values.Text (text_of one)
+value_of kinds.Words one = option_map values.Text (text_value one)
 
 -- the values of a field, in order; None where one does not fit
 abbrev pub values_in : Kind → List RawOne → Option (List Value)
@@ -120,6 +120,6 @@ change_named name kind many flat =
     else None))))
 
 -- how a member changes its field: a plain value sets it
-abbrev pub how_of : Kind → Bool → RawValue → Option How
-how_of kind many (raws.Plain flat) = option_map hows.Set (values_for kind many flat)
-how_of kind many (raws.Change name flat) = change_named name kind many flat
+abbrev pub how_of_value : Kind → Bool → RawValue → Option How
+how_of_value kind many (raws.Plain flat) = option_map hows.Set (values_for kind many flat)
+how_of_value kind many (raws.Change name flat) = change_named name kind many flat

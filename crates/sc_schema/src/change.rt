@@ -1,6 +1,6 @@
 ghost use Rattle.std.specs.Prelude.{◌≡◌, IfOk};
 ghost use Rattle.sc_record.specs.Orders.{fits_amount};
-ghost use Rattle.sc_schema.specs.Values.{amount_for, change_named, how_of};
+ghost use Rattle.sc_schema.specs.Values.{amount_for, change_named, how_of_value};
 
 use crate::raw::{RawFlat, RawValue};
 use crate::value::number_of;
@@ -15,7 +15,7 @@ pub fn how_of(
     many: bool,
     value: &RawValue,
 ) -> Result<Option<How>, AllocError>
-    ensures { IfOk result (λ how. how ≡ how_of kind many value.now) }
+    ensures { IfOk result (λ how. how ≡ how_of_value kind many value.now) }
 {
     match value {
         RawValue::Plain(flat) => Ok(values_for(alloc, kind, many, flat)?.map(How::Set)),

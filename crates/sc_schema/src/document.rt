@@ -3,7 +3,7 @@ ghost use Rattle.std.specs.List.{list_any};
 ghost use Rattle.sc_record.specs.Orders.{IsChange};
 ghost use Rattle.sc_record.specs.declared.order.Order.{Order};
 ghost use Rattle.sc_schema.specs.declared.raw.RawField.{RawField};
-ghost use Rattle.sc_schema.specs.Documents.{asked, change_of, changed_by, condition_of, condition_text, document_order, field_of, id_of, id_text, is_field_name, is_object, IsFaultOf, member, NamesFields, part_of, parts_of};
+ghost use Rattle.sc_schema.specs.Documents.{content_of, change_of_members, how_of_member, version_condition, condition_text, document_order, field_of, id_of, id_text, is_field_name, is_object, IsDocumentFault, member, NamesFields, part_of, parts_of};
 
 use crate::change::how_of;
 use crate::fault::DocFault;
@@ -14,8 +14,8 @@ use std::alloc::{AllocError, Global};
 
 /// The order that a document's members ask for, or the first of their faults.
 pub fn check_doc(alloc: Global, raw: &RawDoc) -> Result<Order, DocFault>
-    ensures ok { IfOk result (λ order. document_order raw.now.fields ≡ Ok (asked order)) }
-    ensures fault { IfErr result (IsFaultOf (document_order raw.now.fields)) }
+    ensures ok { IfOk result (λ order. document_order raw.now.fields ≡ Ok (content_of order)) }
+    ensures fault { IfErr result (IsDocumentFault (document_order raw.now.fields)) }
     ensures names { IfOk result (λ order. NamesFields raw.now.fields order.change) }
 {
     let fields = raw.fields.as_slice();
@@ -45,7 +45,7 @@ fn member<'a>(fields: &'a [RawField], name: &str) -> Option<&'a RawValue>
 /// The id of a document, by the value of its member `id`.
 fn id_of(alloc: Global, value: Option<&RawValue>) -> Result<Id, DocFault>
     ensures ok { IfOk result (λ id. id_of (option_copied value.entry) ≡ Ok id) }
-    ensures fault { IfErr result (IsFaultOf (id_of (option_copied value.entry))) }
+    ensures fault { IfErr result (IsDocumentFault (id_of (option_copied value.entry))) }
 {
     match value {
         None | Some(RawValue::Plain(RawFlat::One(RawOne::Null))) => Err(DocFault::NoId),
@@ -61,7 +61,7 @@ fn id_of(alloc: Global, value: Option<&RawValue>) -> Result<Id, DocFault>
 /// The text as an id.
 fn id_text(alloc: Global, text: &str) -> Result<Id, DocFault>
     ensures ok { IfOk result (λ id. id_text text.now ≡ Ok id) }
-    ensures fault { IfErr result (IsFaultOf (id_text text.now)) }
+    ensures fault { IfErr result (IsDocumentFault (id_text text.now)) }
 {
     match Id::new(alloc, text) {
         Ok(id) => Ok(id),
@@ -73,8 +73,8 @@ fn id_text(alloc: Global, text: &str) -> Result<Id, DocFault>
 
 /// The condition of a document, by the value of its member `_version_`.
 fn condition_of(alloc: Global, value: Option<&RawValue>) -> Result<i64, DocFault>
-    ensures ok { IfOk result (λ condition. condition_of (option_copied value.entry) ≡ Ok condition) }
-    ensures fault { IfErr result (IsFaultOf (condition_of (option_copied value.entry))) }
+    ensures ok { IfOk result (λ condition. version_condition (option_copied value.entry) ≡ Ok condition) }
+    ensures fault { IfErr result (IsDocumentFault (version_condition (option_copied value.entry))) }
 {
     match value {
         None => Ok(0),
@@ -89,7 +89,7 @@ fn condition_of(alloc: Global, value: Option<&RawValue>) -> Result<i64, DocFault
 /// The changes of fields that the members ask for, or the first fault of a field.
 fn parts_of(alloc: Global, fields: &[RawField]) -> Result<List<FieldChange>, DocFault>
     ensures ok { IfOk result (λ parts. parts_of fields.now ≡ Ok parts) }
-    ensures fault { IfErr result (IsFaultOf (parts_of fields.now)) }
+    ensures fault { IfErr result (IsDocumentFault (parts_of fields.now)) }
 {
     let mut parts = List::from_vec(Vec::with_capacity(alloc, fields.len())?);
     for field in fields {
@@ -110,7 +110,7 @@ fn is_field_name(name: &str) -> bool
 /// The change of a field that a member asks for.
 fn part_of(alloc: Global, field: &RawField) -> Result<FieldChange, DocFault>
     ensures ok { IfOk result (λ part. part_of field.now ≡ Ok part) }
-    ensures fault { IfErr result (IsFaultOf (part_of field.now)) }
+    ensures fault { IfErr result (IsDocumentFault (part_of field.now)) }
 {
     let name = field.name.clone()?;
     let Some((kind, many)) = kind_of(name.as_str()) else {
@@ -125,7 +125,7 @@ fn part_of(alloc: Global, field: &RawField) -> Result<FieldChange, DocFault>
 /// The condition that a version's text states, which is just its decimal text.
 fn condition_text(alloc: Global, text: &str) -> Result<i64, DocFault>
     ensures ok { IfOk result (λ condition. condition_text text.now ≡ Ok condition) }
-    ensures fault { IfErr result (IsFaultOf (condition_text text.now)) }
+    ensures fault { IfErr result (IsDocumentFault (condition_text text.now)) }
 {
     let Some(number) = number_text(text) else {
         return Err(DocFault::WrongValue(Text::new(alloc, "_version_")?));
@@ -140,7 +140,7 @@ fn condition_text(alloc: Global, text: &str) -> Result<i64, DocFault>
 /// The change that the document asks for.
 fn change_of(alloc: Global, raw: &RawDoc, parts: List<FieldChange>) -> Result<Change, AllocError>
     requires { parts_of raw.now.fields ≡ Ok parts }
-    ensures value { IfOk result (λ change. change ≡ change_of raw.now.fields parts) }
+    ensures value { IfOk result (λ change. change ≡ change_of_members raw.now.fields parts) }
     ensures lawful { IfOk result IsChange }
 {
     if is_update(raw.fields.as_slice()) {

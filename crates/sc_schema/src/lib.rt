@@ -5,6 +5,15 @@
 //! read a document's members into a `RawDoc`, and use the clause of `check_doc`: the order that the members ask for, or the
 //! first fault that they have; and those of `terms_of` and `key_of`: the terms of a
 //! document, and the key that a query's leaf asks for.
+//!
+//! Proved: `check_doc` gives the order that a document's members ask for, or the first of its faults (`specs/Documents`), for
+//! ten kinds of fields and five kinds of change; `terms_of` gives exactly the terms of a document, ascending and each once;
+//! `fold_word`; `key_of`, the key that a query's text asks for in a field of each kind.
+//!
+//! Tested alone: texts by the rules of Unicode's word breaks and by its case folding; the worked documents; that a megabyte
+//! of words ends in time.
+//!
+//! Neither: speed; that `unicode_segmentation` and `caseless` agree with Unicode.
 #![tactic(auto)]
 
 // Documents as they come.

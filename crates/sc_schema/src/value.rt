@@ -1,6 +1,6 @@
 ghost use Rattle.std.specs.Fmt.{signed_decimal};
 ghost use Rattle.std.specs.Prelude.{◌≡◌, IfOk};
-ghost use Rattle.sc_schema.specs.Values.{text_of, number_text, number_of, flag_named, flag_of, int_value, value_of};
+ghost use Rattle.sc_schema.specs.Values.{text_value, number_text, number_of, flag_named, flag_of, int_value, value_of};
 
 use crate::raw::RawOne;
 use itoa::Buffer;
@@ -28,7 +28,7 @@ fn int_value(number: i64) -> Option<Value>
 
 /// The text that the value is.
 fn text_of(alloc: Global, one: &RawOne) -> Result<Option<Text>, AllocError>
-    ensures { IfOk result (λ text. text ≡ text_of one.now) }
+    ensures { IfOk result (λ text. text ≡ text_value one.now) }
 {
     match one {
         RawOne::Null | RawOne::Other => Ok(None),

@@ -5,6 +5,11 @@
 //! a segment as the list of the distinct keys with their rows, and a layer above says by `IsIndexOf` which
 //! pairs it has added: `Segment::postings` then gives a filter of these pairs, and `Steps` bounds the number
 //! of comparisons.
+//!
+//! Proved: `Segment::postings` gives exactly the rows of a key, ascending and each once, within a bound on comparisons;
+//! `LiveBits` is the list of its bits.
+//!
+//! Neither: speed.
 #![tactic(auto)]
 
 mod builder;

@@ -3,6 +3,13 @@
 //! It depends on `sc_record` alone, and does no input and no output. The layers above take a snapshot of the cells of a core
 //! by `Snapshot::of` and read it by `place`, `rows` and `row`. Contracts see a `Snapshot` as a `SnapshotState`, whose rows
 //! ascend and are at most 2^24.
+//!
+//! Proved: `Snapshot::of` and `from_list` have the rows of the cells that they are given, deletions too, and `row` gives each
+//! by its place.
+//!
+//! Tested alone: the worked rows.
+//!
+//! Neither: speed; that a snapshot shares the writes holds by construction.
 #![tactic(auto)]
 
 mod laws;

@@ -11,8 +11,7 @@ use Rattle.sc_journal.specs.Legal.{IsLegal}
 use Rattle.sc_journal.specs.Seen.{Layout, AreLegal}
 use Rattle.sc_bucket.specs.declared.bucket.Bucket.{Bucket}
 use Rattle.sc_collection.specs.Desks.{Held}
-use Rattle.sc_collection.specs.Places.{update_places}
-use Rattle.sc_collection.specs.Alone.{AloneState, desk_of, journal_in, seen_of, IsKept, IsDesk, AreNew}
+use Rattle.sc_collection.specs.Alone.{AloneState, desk_of, journal_in, seen_of, IsKept, IsDesk, AreNew, places}
 use Rattle.sc_collection.specs.Shapes.{SeesNothing}
 
 -- two numbers are equal, or they are not
@@ -89,7 +88,7 @@ pub new_sees_nothing : (slots : List (Option Bucket)) (nodes : ℕ) (first : Lis
 new_sees_nothing slots nodes first limit items new = record {
   journals = λ lock. empty lock;
   board = refl;
-  own = λ lock. ap update_places (empty lock);
+  own = λ lock. ap places (empty lock);
 } where
   out : Option Held
   out = (desk_of slots nodes first limit items).out

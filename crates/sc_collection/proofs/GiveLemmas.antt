@@ -5,8 +5,7 @@ use Rattle.std.proofs.lemmas.Option.{slice_get_within}
 use Rattle.sc_record.specs.declared.entry.Entry.{Entry}
 use Rattle.sc_bucket.specs.declared.bucket.Bucket.{Bucket}
 use Rattle.sc_collection.specs.Desks.{Held, MayReplace, SeesGiven, place_added}
-use Rattle.sc_collection.specs.Places.{update_places}
-use Rattle.sc_collection.specs.Alone.{AloneState, desk_of, journal_in, journal_of, seen_of, IsKept, IsDesk}
+use Rattle.sc_collection.specs.Alone.{AloneState, desk_of, journal_in, journal_of, seen_of, IsKept, IsDesk, places}
 use Rattle.sc_collection.proofs.PlaceLemmas.{step_places}
 use Rattle.sc_collection.proofs.SlotLemmas.{slice_get-set_same, slice_get-set_other}
 use Rattle.sc_collection.specs.declared.alone.Alone.TheInside.{Inside}
@@ -65,9 +64,9 @@ module _ (desk : AloneState) (is : IsDesk desk) (held : Held) (bucket : Bucket)
     others = journal_other;
     board = refl;
     own =
-        ap update_places journal_back ∙ step_places held.bucket bucket may.step
-        ∙ ap (λ (journal : List Entry). update_places journal ++ added) (sym journal_out);
-    others_own = λ lock other. ap update_places (journal_other lock other);
+        ap places journal_back ∙ step_places held.bucket bucket may.step
+        ∙ ap (λ (journal : List Entry). places journal ++ added) (sym journal_out);
+    others_own = λ lock other. ap places (journal_other lock other);
   } where
     added : List ℕ
     added = place_added held.bucket.journal.entries bucket.journal.entries

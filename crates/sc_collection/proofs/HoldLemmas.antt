@@ -6,8 +6,7 @@ use Rattle.std.proofs.lemmas.Option.{slice_get_read, slice_get_within}
 use Rattle.sc_record.specs.declared.entry.Entry.{Entry}
 use Rattle.sc_bucket.specs.declared.bucket.Bucket.{Bucket}
 use Rattle.sc_collection.specs.Desks.{Held}
-use Rattle.sc_collection.specs.Places.{update_places}
-use Rattle.sc_collection.specs.Alone.{AloneState, desk_of, journal_in, journal_of, seen_of, IsKept, IsOut, IsDesk}
+use Rattle.sc_collection.specs.Alone.{AloneState, desk_of, journal_in, journal_of, seen_of, IsKept, IsOut, IsDesk, places}
 use Rattle.sc_collection.proofs.SlotLemmas.{slice_get-set_same, slice_get-set_other}
 use Rattle.sc_collection.specs.declared.alone.Alone.TheInside.{Inside}
 use Rattle.sc_collection.proofs.AloneLemmas.{same_or_other}
@@ -59,7 +58,7 @@ module _ (desk : AloneState) (is : IsDesk desk) (number : ℕ) (bucket : Bucket)
   pub handed_out_seen : seen_of (handed_out desk number bucket) ≡ seen_of desk
   handed_out_seen =
       ap (λ (journals : ℕ → List Entry).
-      record { journals = journals; board = []; own = λ lock. update_places (journals lock) }) (fun_ext handed_out_journal)
+      record { journals = journals; board = []; own = λ lock. places (journals lock) }) (fun_ext handed_out_journal)
 
   pub handed_out_is_desk : IsDesk (handed_out desk number bucket)
   handed_out_is_desk = record {

@@ -1,5 +1,6 @@
 -- What a desk for one thread keeps, what is seen of it, and what is true of it.
 use Rattle.std.specs.Prelude.{◌≡◌, ◌≤◌, ℕ, List, [], ◌∷◌, length, slice_get, Option, Some, None}
+use Rattle.std.specs.List.{range_with_len}
 use Rattle.sc_record.specs.declared.entry.Entry.{Entry}
 use Rattle.sc_router.specs.Route.{IsBucketCount}
 use Rattle.sc_cluster.specs.declared.slice.Slice.{Slice}
@@ -7,7 +8,6 @@ use Rattle.sc_journal.specs.Seen.{Layout, Seen}
 use Rattle.sc_bucket.specs.declared.bucket.Bucket.{Bucket}
 use Rattle.sc_bucket.specs.Sound.{IsSound}
 use Rattle.sc_collection.specs.Desks.{Held, IsBucketOf}
-use Rattle.sc_collection.specs.Places.{update_places}
 
 -- a desk: how it is laid out, a slot for each bucket by its number, which is empty while the bucket is out, and the bucket
 -- that is out, as it was when it was handed out
@@ -40,12 +40,16 @@ journal_in (Some held) (Some None) = held.bucket.journal.entries
 abbrev pub journal_of : AloneState → ℕ → List Entry
 journal_of desk lock = journal_in desk.out (slice_get desk.slots lock)
 
--- what is seen of a desk for one thread: all that happened, and what updates did is one's own
+-- the places of a journal's entries, from 0 on
+abbrev pub places : List Entry → List ℕ
+places journal = range_with_len 0 (length journal)
+
+-- what is seen of a desk for one thread: all that happened, and each entry is one's own
 abbrev pub seen_of : AloneState → Seen
 seen_of desk = record {
   journals = λ lock. journal_of desk lock;
   board = [];
-  own = λ lock. update_places (journal_of desk lock);
+  own = λ lock. places (journal_of desk lock);
 }
 
 -- the bucket is sound, and the one of this number

@@ -1,8 +1,24 @@
--- What a trail keeps of a connection.
-use Rattle.std.specs.Prelude.{ℕ, List}
+-- What a trail keeps of a connection, and when a connection has had enough.
+use Rattle.std.specs.Prelude.{ℕ, Bool, ◌||◌, List, length, nat_le}
 use Rattle.sc_journal.specs.declared.stop.Stop.{Stop}
 
 -- the stops that were kept, in order, and how many requests were answered
 pub record Kept : Type 0 where
   pub stops : List Stop
   pub requests : ℕ
+
+-- the most requests of a connection
+abbrev pub request_limit : ℕ
+request_limit = 1000
+
+-- the number of stops after which a connection takes no further request
+abbrev pub stop_limit : ℕ
+stop_limit = 65536
+
+-- so many requests and stops are as many as a connection may have
+abbrev pub are_enough : (requests stops : ℕ) → Bool
+are_enough requests stops = nat_le request_limit requests || nat_le stop_limit stops
+
+-- a connection takes no further request: it has had its requests or its stops
+abbrev pub is_full : Kept → Bool
+is_full kept = are_enough kept.requests (length kept.stops)

@@ -3,5 +3,4 @@ pub mod Kept
 pub mod Packed
 pub mod Shapes
 pub mod Desks
-pub mod Places
 pub mod Alone

@@ -18,7 +18,7 @@ pub use alone::Alone;
 pub use desk::Desk;
 pub use sc_journal::Stop;
 pub use shape::Shape;
-pub use trail::{MAX_REQUESTS, MAX_STOPS, ROOM, Trail};
+pub use trail::{ROOM, Trail};
 
 #[cfg(test)]
 mod tests;

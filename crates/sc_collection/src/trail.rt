@@ -1,5 +1,5 @@
 ghost use Rattle.std.specs.Prelude.{◌≡◌, ◌+◌, ◌<◌, ◌^◌, [], ◌∷◌, ◌++◌, length, slice_get, IfOk};
-ghost use Rattle.sc_collection.specs.Kept.{Kept};
+ghost use Rattle.sc_collection.specs.Kept.{Kept, is_full, request_limit};
 
 use crate::packed::PackedStop;
 use sc_journal::Stop;
@@ -7,10 +7,10 @@ use std::alloc::{AllocError, Global};
 use std::marker::Model;
 
 /// The most requests of a connection.
-pub const MAX_REQUESTS: u32 = 1_000;
+const MAX_REQUESTS: u32 = 1_000;
 
 /// The number of stops after which a connection takes no further request.
-pub const MAX_STOPS: usize = 65_536;
+const MAX_STOPS: usize = 65_536;
 
 /// How many stops a trail has room for: those after which a connection takes no further request, two for each of the 4,096
 /// orders that one update may have, and one for each of 256 buckets.
@@ -76,6 +76,13 @@ impl Trail {
         self.requests
     }
 
+    /// Whether the connection has had its requests or its stops, and takes no further request.
+    pub fn is_full(&self) -> bool
+        ensures { result ≡ is_full self.now }
+    {
+        self.requests >= MAX_REQUESTS || self.stops.len() >= MAX_STOPS
+    }
+
     /// Keeps one more stop.
     pub fn keep(&mut self, stop: Stop)
         requires room { length self.old.stops < ROOM }
@@ -87,7 +94,7 @@ impl Trail {
 
     /// Counts one more request.
     pub fn count_request(&mut self)
-        requires { self.old.requests < MAX_REQUESTS }
+        requires { self.old.requests < request_limit }
         ensures { self.new ≡ record { stops = self.old.stops; requests = self.old.requests + 1 } }
     {
         self.requests += 1;

@@ -1,29 +1,28 @@
 -- What was asked is answered.
-use Rattle.std.proofs.Common.{◌≡◌, ℕ, false, List, [], ◌∷◌, refl, sym, subst, inl, inr}
-use Rattle.std.specs.Prelude.{◌⊎◌}
-use Rattle.std.proofs.lemmas.List.{append-nil}
+use Rattle.std.proofs.Common.{◌≡◌, ◌≤◌, ℕ, false, List, [], ◌∷◌, Result, Ok, Err, IfOk, refl, sym, subst, arith, inl}
 use Rattle.std.proofs.lemmas.List.Elements.{All-nil}
+use Rattle.std.specs.declared.alloc.AllocError.{AllocError}
 use Rattle.sc_reply.specs.Refusals as refusals
-use Rattle.sc_model.specs.Replies as model
 use Rattle.sc_eval.specs.declared.fault.BindFault.{BindFault}
 use Rattle.sc_eval.specs.declared.fault.BindFault.TheVariants as faults
 use Rattle.sc_journal.specs.Seen.{Layout, Seen}
 use Rattle.sc_journal.specs.Batches.{GivesTimestamps}
 use Rattle.sc_journal.specs.declared.stop.Stop.{Stop}
-use Rattle.sc_journal.proofs.ExtendsLemmas.{Extends-none}
+use Rattle.sc_journal.proofs.GoesOnLemmas.{Keeps-none}
+use Rattle.sc_journal.specs.Moments.{Moment, moment_of}
 use Rattle.sc_session.specs.Queries.{HaveFault}
 use Rattle.sc_session.specs.Requests.{Asked, Select, not_built, refused, update, get, get_ids, select}
-use Rattle.sc_session.specs.Answers.{no_trace, IsReply, IsOutOfMemory, Stands, memory_reply, refusal_after}
-use Rattle.sc_session.specs.Answering.{AnswersAsked, RefusesQuery, unread}
+use Rattle.sc_session.specs.Answers.{Answer, replied, ran_out, no_trace, IsAnswer, Stands, refusal_after}
+use Rattle.sc_session.specs.Answering.{AnswersAsked, RefusesQuery, unread, reply_of, answer_of}
+use Rattle.sc_session.specs.declared.reply.Reply.{Reply}
 
--- a reply that looks at no journal
-pub answered_at_once : {C : Type 0} (gives : C → ℕ → C → Type 0) (layout : Layout) (asked : Asked) (seen : Seen) (clock : C) (stops : List Stop) (reply : model.Reply)
-    → ((later : Seen) → IsReply layout later asked no_trace reply ⊎ IsOutOfMemory layout later asked no_trace reply)
-    → AnswersAsked gives layout asked seen seen clock clock stops stops reply
-answered_at_once gives layout asked seen clock stops reply answered = record {
+-- an answer that looks at no journal
+pub answered_at_once : {C : Type 0} (gives : C → ℕ → C → Type 0) (layout : Layout) (asked : Asked) (now : Moment C) (answer : Answer)
+    → ((later : Seen) → IsAnswer layout later asked no_trace answer)
+    → AnswersAsked gives layout asked now now answer
+answered_at_once gives layout asked now answer answered = record {
   trace = no_trace;
-  extends = Extends-none layout seen;
-  kept = sym (append-nil stops);
+  keeps = Keeps-none layout now.view;
   given = refl;
   answered = λ later more. answered later;
   once = λ later more. refl;
@@ -36,28 +35,34 @@ nothing_stands layout seen (refused refusal) = refl
 nothing_stands layout seen (update batch) = inl refl
 nothing_stands layout seen (get id) = ([], record { trace_is = refl; reads = tt })
 nothing_stands layout seen (get_ids ids) = ([], record { trace_is = refl; reads = tt })
-nothing_stands layout seen (select ask) = ([], 0, refl, record { locks = refl; made = All-nil (λ (stop : Stop). stop.made ≡ false) })
+nothing_stands layout seen (select ask) = ([], 0, omega arith, refl, record { locks = refl; made = All-nil (λ (stop : Stop). stop.made ≡ false) })
 
 -- memory ran out before a journal was looked at
-pub ran_out : {C : Type 0} (gives : C → ℕ → C → Type 0) (layout : Layout) (asked : Asked) (seen : Seen) (clock : C) (stops : List Stop) (reply : model.Reply) → reply ≡ memory_reply
-    → AnswersAsked gives layout asked seen seen clock clock stops stops reply
-ran_out gives layout asked seen clock stops reply e = answered_at_once gives layout asked seen clock stops reply (λ later. inr (e, nothing_stands layout later asked))
+pub ran_out_at_once : {C : Type 0} (gives : C → ℕ → C → Type 0) (layout : Layout) (asked : Asked) (now : Moment C)
+    → AnswersAsked gives layout asked now now ran_out
+ran_out_at_once gives layout asked now = answered_at_once gives layout asked now ran_out (λ later. nothing_stands layout later asked)
+
+-- an answer that is an error says that memory ran out
+pub with_error : {C : Type 0} (gives : C → ℕ → C → Type 0) (layout : Layout) (asked : Asked) (old new : Moment C) (answer : Result Reply AllocError) (fault : AllocError) → answer ≡ Err fault
+    → AnswersAsked gives layout asked old new ran_out → AnswersAsked gives layout asked old new (answer_of answer)
+with_error gives layout asked old new answer fault is h = subst (λ (r : Result Reply AllocError). AnswersAsked gives layout asked old new (answer_of r)) (sym is) h
 
 -- a refusal by the request alone, or memory ran out
-pub refused_at_once : {C : Type 0} (gives : C → ℕ → C → Type 0) (layout : Layout) (refusal : refusals.Refusal) (seen : Seen) (clock : C) (stops : List Stop) (reply : model.Reply)
-    → (reply ≡ refusal_after false [] refusal) ⊎ (reply ≡ memory_reply)
-    → AnswersAsked gives layout (refused refusal) seen seen clock clock stops stops reply
-refused_at_once gives layout refusal seen clock stops reply (inl e) = answered_at_once gives layout (refused refusal) seen clock stops reply (λ later. inl (refl, e))
-refused_at_once gives layout refusal seen clock stops reply (inr e) = ran_out gives layout (refused refusal) seen clock stops reply e
+pub refused_at_once : {C : Type 0} (gives : C → ℕ → C → Type 0) (layout : Layout) (refusal : refusals.Refusal) (now : Moment C) (reply : Result Reply AllocError)
+    → IfOk reply (λ reply. reply_of reply ≡ refusal_after false [] refusal)
+    → AnswersAsked gives layout (refused refusal) now now (answer_of reply)
+refused_at_once gives layout refusal now (Ok reply) is = answered_at_once gives layout (refused refusal) now (replied (reply_of reply)) (λ later. (refl, is))
+refused_at_once gives layout refusal now (Err fault) is = ran_out_at_once gives layout (refused refusal) now
 
 -- a query that is at fault
-pub query_refused : (layout : Layout) (ask : Select) (fault : BindFault) (seen : Seen) (stops : List Stop) (reply : model.Reply)
-    → ((at : ℕ) → fault ≡ faults.At at → HaveFault ask.queries at) → RefusesQuery fault reply
-    → AnswersAsked unread layout (select ask) seen seen tt tt stops stops reply
-query_refused layout ask (faults.At at) seen stops reply is (inl e) =
-    answered_at_once unread layout (select ask) seen tt stops reply (λ later. inl (inl (at, is at refl, refl, e)))
-query_refused layout ask (faults.At at) seen stops reply is (inr e) = ran_out unread layout (select ask) seen tt stops reply e
-query_refused layout ask faults.Memory seen stops reply is e = ran_out unread layout (select ask) seen tt stops reply e
+pub query_refused : (layout : Layout) (ask : Select) (fault : BindFault) (now : Moment (Unit {0})) (answer : Answer)
+    → ((at : ℕ) → fault ≡ faults.At at → HaveFault ask.queries at) → RefusesQuery fault answer
+    → AnswersAsked unread layout (select ask) now now answer
+query_refused layout ask (faults.At at) now (replied reply) is e =
+    answered_at_once unread layout (select ask) now (replied reply) (λ later. inl (at, is at refl, refl, e))
+query_refused layout ask (faults.At at) now ran_out is e = ran_out_at_once unread layout (select ask) now
+query_refused layout ask faults.Memory now (replied reply) is e = absurd e
+query_refused layout ask faults.Memory now ran_out is e = ran_out_at_once unread layout (select ask) now
 
 -- no timestamp came of a clock that is not read
 none_given : (timestamps : List ℕ) → GivesTimestamps unread tt timestamps tt → timestamps ≡ []
@@ -65,13 +70,12 @@ none_given [] given = refl
 none_given (timestamp ∷ timestamps) given = absurd given.1
 
 -- any clock that is not read stays
-pub by_no_clock : {C : Type 0} (gives : C → ℕ → C → Type 0) (layout : Layout) (asked : Asked) (old new : Seen) (clock : C) (old_stops new_stops : List Stop) (reply : model.Reply)
-    → AnswersAsked unread layout asked old new tt tt old_stops new_stops reply
-    → AnswersAsked gives layout asked old new clock clock old_stops new_stops reply
-by_no_clock gives layout asked old new clock old_stops new_stops reply a = record {
+pub by_no_clock : {C : Type 0} (gives : C → ℕ → C → Type 0) (layout : Layout) (asked : Asked) (old new : Seen) (clock : C) (old_stops new_stops : List Stop) (answer : Answer)
+    → AnswersAsked unread layout asked (moment_of old old_stops tt) (moment_of new new_stops tt) answer
+    → AnswersAsked gives layout asked (moment_of old old_stops clock) (moment_of new new_stops clock) answer
+by_no_clock gives layout asked old new clock old_stops new_stops answer a = record {
   trace = a.trace;
-  extends = a.extends;
-  kept = a.kept;
+  keeps = a.keeps;
   given = subst (λ (timestamps : List ℕ). GivesTimestamps gives clock timestamps clock) (sym (none_given a.trace.timestamps a.given)) refl;
   answered = a.answered;
   once = a.once;

@@ -1,91 +1,89 @@
 -- What ends an open connection.
-use Rattle.std.proofs.Common.{◌≡◌, ℕ, Bool, true, false, cond, List, [], ◌++◌, Option, Some, None, refl, sym, ap, ◌∙◌, subst, inl, inr}
-use Rattle.std.specs.Prelude.{◌≢◌, map, IfSome, IsSome}
+use Rattle.std.proofs.Common.{◌≡◌, ℕ, Bool, true, false, List, [], ◌∷◌, ◌++◌, Option, Some, None, refl, sym, ap, ◌∙◌, subst, inl, inr}
+use Rattle.std.specs.Prelude.{◌≢◌, ◌<◌, map, IfSome, IsSome, is_some}
 use Rattle.std.proofs.lemmas.List.{append-nil}
 use Rattle.sc_io.specs.Pieces.{AddsPrefix}
 use Rattle.sc_model.specs.declared.message.Incoming.{Incoming}
 use Rattle.sc_model.specs.Messages.{ReadsMessage, ReadsMessages, Ending, done, cut, bad_head, too_large, not_built}
 use Rattle.sc_model.specs.Replies.{text_of}
-use Rattle.sc_journal.specs.Seen.{Layout, Seen, Extends, AreLegal}
-use Rattle.sc_journal.specs.Batches.{OrderAnswer, WritesOnce}
-use Rattle.sc_journal.specs.declared.stop.Stop.{Stop}
-use Rattle.sc_collection.specs.Kept.{Kept}
+use Rattle.sc_journal.specs.Seen.{Layout, Extends, AreLegal}
+use Rattle.sc_journal.specs.Batches.{GivesTimestamps}
+use Rattle.sc_journal.specs.Moments.{Moment}
+use Rattle.sc_session.specs.Answers.{Answer, replied, ran_out, reply_of}
 use Rattle.sc_session.specs.declared.end.End.{End}
 use Rattle.sc_session.specs.declared.end.End.TheVariants as ends
-use Rattle.sc_session.specs.Connection.{Exchange, Last, ended, answered, out_of_memory, read_failed, closes_after, stops_of, texts_of, is_out_of_memory, end_of, last_text, stops_of_last, timestamps_of_last, answers_of_last, IsLastAnswered, EndsWith, IsReadFrom, HasEnd, IsWritten, Closes}
-use Rattle.sc_session.specs.Served.{Moment, timestamps_of, answers_of, IsServed}
-use Rattle.sc_session.specs.Serving.{Exchanges, Writes, WritesPrefix, EndsWriting, closes_by}
-use Rattle.sc_journal.proofs.GoesOnLemmas.{SeesMore-self}
-use Rattle.sc_session.proofs.OpenLemmas.{IsOpen, HasRead, stops_after, closes_same, extends_after, answers_after, once_after, given_after, read_after}
+use Rattle.sc_session.specs.Connection.{Exchange, Last, ended, answered, out_of_memory, read_failed, exchanges_of, AreExchanges, stops_of, timestamps_of, texts_of, end_after, end_of, last_text, EndsWith, IsReadFrom, HasEnd, IsWritten}
+use Rattle.sc_session.specs.States.{ConnectionState, CountsFault}
+use Rattle.sc_session.specs.Served.{LeavesTraces, IsServed}
+use Rattle.sc_session.specs.Serving.{Exchanges, Writes, EndsWriting, end_by}
+use Rattle.sc_session.proofs.OpenLemmas.{IsOpen, HasRead, without_source, traces_after, end_same, read_after, some_of}
+
+-- no answer ends a connection by a fault of the sink or of the source
+answer_end : (end : End) (answer : Answer) (close full : Bool) → end_after answer close full ≡ Some end → (end ≢ ends.WriteFault) × (end ≢ ends.ReadFault)
+answer_end end (replied reply) false false e = absurd (cc)
+answer_end end (replied reply) false true e = ((λ h. absurd (cc)), (λ h. absurd (cc)))
+answer_end end (replied reply) true full e = ((λ h. absurd (cc)), (λ h. absurd (cc)))
+answer_end end ran_out close full e = ((λ h. absurd (cc)), (λ h. absurd (cc)))
+
+ending_end : (before : List Exchange) (e : Ending) → end_of before (ended e) ≢ Some ends.WriteFault
+ending_end before done h = absurd (cc)
+ending_end before cut h = absurd (cc)
+ending_end before bad_head h = absurd (cc)
+ending_end before too_large h = absurd (cc)
+ending_end before not_built h = absurd (cc)
 
 -- no last exchange ends a connection by a fault of the sink
-chosen_end : (b d : Bool) → cond b ends.Memory (cond d ends.Closed ends.Limit) ≢ ends.WriteFault
-chosen_end true d h = absurd (cc)
-chosen_end false true h = absurd (cc)
-chosen_end false false h = absurd (cc)
-
-ending_end : (e : Ending) → end_of (ended e) ≢ ends.WriteFault
-ending_end done h = absurd (cc)
-ending_end cut h = absurd (cc)
-ending_end bad_head h = absurd (cc)
-ending_end too_large h = absurd (cc)
-ending_end not_built h = absurd (cc)
-
-end_of-no_fault : (last : Last) → end_of last ≢ ends.WriteFault
-end_of-no_fault (ended e) h = ending_end e h
-end_of-no_fault (answered x) h = chosen_end (is_out_of_memory x.reply) x.request.close h
-end_of-no_fault out_of_memory h = absurd (cc)
-end_of-no_fault read_failed h = absurd (cc)
+no_fault : (before : List Exchange) (last : Last) → end_of before last ≢ Some ends.WriteFault
+no_fault before (ended e) h = ending_end before e h
+no_fault before (answered x) h = (answer_end ends.WriteFault x.answer x.request.close _ h).0 refl
+no_fault before out_of_memory h = absurd (cc)
+no_fault before read_failed h = absurd (cc)
 
 -- what was written before, and then the last text or a prefix of it
-written_last : (end : End) (before : List Exchange) (last : Last) (old mid new : Option (List ℕ)) → Writes (texts_of before) old mid → EndsWriting end (end_of last) (last_text before last) mid new
-    → IfSome old (λ bytes. IfSome new (λ more. IsWritten end before last bytes more))
+written_last : (end : End) (before : List Exchange) (last : Last) (old mid new : Option (List ℕ)) → Writes (texts_of before) old mid
+    → EndsWriting (Some end) (end_of before last) (last_text before last) mid new
+    → IfSome old (λ bytes. (more : List ℕ) × (new ≡ Some more) × IsWritten end before last bytes more)
 written_last end before last None mid new w e = tt
-written_last end before last (Some bytes) mid new w e = at new refl
-  where
-    at : (o : Option (List ℕ)) → new ≡ o → IfSome o (λ more. IsWritten end before last bytes more)
-    at None n = tt
-    at (Some more) n = elim e [
-      | inl whole ↦
-          (let all : new ≡ Some ((bytes ++ texts_of before) ++ last_text before last) = subst (λ (o : Option (List ℕ)). IfSome o (λ (xs : List ℕ). new ≡ Some (xs ++ last_text before last))) w whole.1 in
-          let same : more ≡ (bytes ++ texts_of before) ++ last_text before last = (let s : Some more ≡ Some ((bytes ++ texts_of before) ++ last_text before last) = sym n ∙ all in cc) in
-          inl ((λ fault. end_of-no_fault last (sym whole.0 ∙ fault)), same))
-      | inr part ↦
-          (let added : AddsPrefix (bytes ++ texts_of before) (last_text before last) new = subst (λ (o : Option (List ℕ)). IfSome o (λ (xs : List ℕ). AddsPrefix xs (last_text before last) new)) w part.1 in
-          let same : more ≡ (bytes ++ texts_of before) ++ added.prefix = (let s : Some more ≡ Some ((bytes ++ texts_of before) ++ added.prefix) = sym n ∙ added.added in cc) in
-          inr (part.0, (added.prefix, (added.left, sym added.whole), same)))
-    ]
+written_last end before last (Some bytes) mid new w e = elim e [
+  | inl whole ↦
+      (let all : new ≡ Some ((bytes ++ texts_of before) ++ last_text before last) = subst (λ (o : Option (List ℕ)). IfSome o (λ (xs : List ℕ). new ≡ Some (xs ++ last_text before last))) w whole.1 in
+      ((bytes ++ texts_of before) ++ last_text before last, all, inl ((λ fault. no_fault before last (sym whole.0 ∙ ap Some fault)), refl)))
+  | inr part ↦
+      (let added : AddsPrefix (bytes ++ texts_of before) (last_text before last) new = subst (λ (o : Option (List ℕ)). IfSome o (λ (xs : List ℕ). AddsPrefix xs (last_text before last) new)) w part.1 in
+      let fault : end ≡ ends.WriteFault = (let same : Some end ≡ Some ends.WriteFault = part.0 in cc) in
+      ((bytes ++ texts_of before) ++ added.prefix, added.added, inr (fault, (added.prefix, (added.left, sym added.whole), refl))))
+]
+
+-- a connection that ends so, or by a fault of the sink
+ends_so : (end : End) (before : List Exchange) (last : Last) (text : List ℕ) (old new : Option (List ℕ)) → EndsWriting (Some end) (end_of before last) text old new → HasEnd end before last
+ends_so end before last text old new e = elim e [
+  | inl whole ↦ inl (sym whole.0)
+  | inr part ↦ (let same : Some end ≡ Some ends.WriteFault = part.0 in let fault : end ≡ ends.WriteFault = cc in inr fault)
+]
 
 -- a connection that ends without an exchange
 abbrev pub IsPlain : Last → Type 0
 IsPlain (answered x) = ⊥
 IsPlain last = Unit {0}
 
-plain_stops : (last : Last) → IsPlain last → stops_of_last last ≡ []
-plain_stops (ended e) p = refl
-plain_stops (answered x) p = absurd p
-plain_stops out_of_memory p = refl
-plain_stops read_failed p = refl
+plain_exchanges : (last : Last) → IsPlain last → exchanges_of last ≡ []
+plain_exchanges (ended e) p = refl
+plain_exchanges (answered x) p = absurd p
+plain_exchanges out_of_memory p = refl
+plain_exchanges read_failed p = refl
 
-plain_timestamps : (last : Last) → IsPlain last → timestamps_of_last last ≡ []
-plain_timestamps (ended e) p = refl
-plain_timestamps (answered x) p = absurd p
-plain_timestamps out_of_memory p = refl
-plain_timestamps read_failed p = refl
+-- its end and its last text are the same after any exchanges
+plain_end : (before : List Exchange) (last : Last) → IsPlain last → end_of [] last ≡ end_of before last
+plain_end before (ended done) p = refl
+plain_end before (ended cut) p = refl
+plain_end before (ended bad_head) p = refl
+plain_end before (ended too_large) p = refl
+plain_end before (ended not_built) p = refl
+plain_end before (answered x) p = absurd p
+plain_end before out_of_memory p = refl
+plain_end before read_failed p = refl
 
-plain_answers : (last : Last) → IsPlain last → answers_of_last last ≡ []
-plain_answers (ended e) p = refl
-plain_answers (answered x) p = absurd p
-plain_answers out_of_memory p = refl
-plain_answers read_failed p = refl
-
-plain_closes : (before : List Exchange) (last : Last) → IsPlain last → Closes before last
-plain_closes before (ended e) p = tt
-plain_closes before (answered x) p = absurd p
-plain_closes before out_of_memory p = tt
-plain_closes before read_failed p = tt
-
-plain_text : (before : List Exchange) (last : Last) → IsPlain last → last_text before last ≡ last_text [] last
+plain_text : (before : List Exchange) (last : Last) → IsPlain last → last_text [] last ≡ last_text before last
 plain_text before (ended done) p = refl
 plain_text before (ended cut) p = refl
 plain_text before (ended bad_head) p = refl
@@ -95,102 +93,98 @@ plain_text before (answered x) p = absurd p
 plain_text before out_of_memory p = refl
 plain_text before read_failed p = refl
 
-plain_answered : (layout : Layout) (seen : Seen) (last : Last) → IsPlain last → IsLastAnswered layout seen last
-plain_answered layout seen (ended e) p = tt
-plain_answered layout seen (answered x) p = absurd p
-plain_answered layout seen out_of_memory p = tt
-plain_answered layout seen read_failed p = tt
-
-ends_so : (end : End) (before : List Exchange) (last : Last) (text : List ℕ) (old new : Option (List ℕ)) → Closes before last → EndsWriting end (end_of last) text old new → HasEnd end before last
-ends_so end before last text old new closes e = elim e [ inl whole ↦ inl (whole.0, closes) | inr part ↦ inr part.0 ]
+-- a count goes on from one that stayed
+counts_on : {fault : Type 0} (old mid new : ℕ) → mid ≡ old → CountsFault fault mid new → CountsFault fault old new
+counts_on {fault} old mid new same c = subst (λ n. CountsFault fault n new) same c
 
 -- an open connection that ends without an exchange more keeps what it promises
-pub served_at_end : {C : Type 0} (gives : C → ℕ → C → Type 0) (layout : Layout) (before now : Moment C) (then_unread then_written : Option (List ℕ)) (kept : Kept) (held : List ℕ) (last : Last) (end : End)
-    → IsOpen gives layout before now kept held → IsPlain last → AreLegal layout now.seen
-    → IfSome now.unread (λ bytes. IfSome then_unread (λ more. EndsWith (held ++ bytes) last more))
-    → EndsWriting end (end_of last) (last_text [] last) now.written then_written
-    → IsServed gives layout before (record now { unread = then_unread; written = then_written }) kept.stops end
-served_at_end gives layout before now then_unread then_written kept held last end open_ plain legal ends_with writes =
-    let x : List Exchange = open_.exchanges in
-    let all_stops : kept.stops ≡ stops_of x ++ stops_of_last last = open_.stops ∙ sym (ap (λ (ss : List Stop). stops_of x ++ ss) (plain_stops last plain) ∙ append-nil (stops_of x)) in
-    let all_answers : answers_of x ++ answers_of_last last ≡ answers_of x = ap (λ (those : List OrderAnswer). answers_of x ++ those) (plain_answers last plain) ∙ append-nil (answers_of x) in
-    let text : EndsWriting end (end_of last) (last_text x last) now.written then_written = subst (λ (t : List ℕ). EndsWriting end (end_of last) t now.written then_written) (sym (plain_text x last plain)) writes in
+pub served_at_end : {C : Type 0} (gives : C → ℕ → C → Type 0) (layout : Layout) (before now then : ConnectionState C) (held : List ℕ) (last : Last) (end : End)
+    → IsOpen gives layout before now held → IsPlain last → AreLegal layout now.moment.view.seen → then.moment ≡ now.moment → then.requests ≡ now.requests
+    → (IsSome now.unread → IsSome then.unread) → IfSome now.unread (λ bytes. IfSome then.unread (λ more. EndsWith (held ++ bytes) last more))
+    → EndsWriting (Some end) (end_of [] last) (last_text [] last) now.written then.written
+    → CountsFault (end ≡ ends.ReadFault) now.read_faults then.read_faults → CountsFault (end ≡ ends.WriteFault) now.write_faults then.write_faults
+    → IsServed gives layout before then end
+served_at_end {C} gives layout before now then held last end open_ plain legal moment count reports ends_with writes read_faults write_faults =
     record {
-      exchanges = x;
+      exchanges = xs;
       last = last;
-      timestamps = timestamps_of x;
-      journals = subst (Extends layout before.seen now.seen) (sym open_.stops) open_.extends;
-      legal = legal;
-      answers = record {
-        each = open_.answers now.seen (SeesMore-self now.seen);
-        last_one = plain_answered layout now.seen last plain;
-        stays_open = open_.stays_open;
-        stops_are = all_stops;
-        once = subst (λ (ss : List Stop). WritesOnce now.seen ss (answers_of x ++ answers_of_last last)) (sym open_.stops)
-            (subst (WritesOnce now.seen (stops_of x)) (sym all_answers) (open_.once now.seen (SeesMore-self now.seen)));
-        timestamps_are = sym (ap (λ (ms : List ℕ). timestamps_of x ++ ms) (plain_timestamps last plain) ∙ append-nil (timestamps_of x));
-      };
-      given = open_.given;
+      stays_open = open_.stays_open;
+      traces = subst (LeavesTraces gives layout before then) (sym (ap (λ (more : List Exchange). xs ++ more) (plain_exchanges last plain) ∙ append-nil xs)) traces;
       carries = record {
         requests = reads before.unread open_.read;
-        replies = written_last end x last before.written now.written then_written open_.wrote text;
-        end_is = ends_so end x last (last_text x last) now.written then_written (plain_closes x last plain) text;
+        replies = written_last end xs last before.written now.written then.written open_.wrote text;
+        end_is = ends_so end xs last (last_text xs last) now.written then.written text;
+        read_faults = counts_on before.read_faults now.read_faults then.read_faults open_.read_faults read_faults;
+        write_faults = counts_on before.write_faults now.write_faults then.write_faults open_.write_faults write_faults;
       };
+      legal = subst (λ (m : Moment C). AreLegal layout m.view.seen) (sym moment) legal;
     }
   where
-    reads : (o : Option (List ℕ)) → IfSome o (λ bytes. (more : List ℕ) × (now.unread ≡ Some more) × ReadsMessages bytes (map (λ (y : Exchange). y.request) open_.exchanges) (held ++ more)) → IfSome o (λ bytes. IfSome then_unread (λ more. IsReadFrom bytes more open_.exchanges last))
+    xs : List Exchange
+    xs = open_.exchanges
+
+    text : EndsWriting (Some end) (end_of xs last) (last_text xs last) now.written then.written
+    text = subst (λ (e : Option End). EndsWriting (Some end) e (last_text xs last) now.written then.written) (plain_end xs last plain)
+        (subst (λ (bytes : List ℕ). EndsWriting (Some end) (end_of [] last) bytes now.written then.written) (plain_text xs last plain) writes)
+
+    traces : LeavesTraces gives layout before then xs
+    traces = record {
+      each = subst (λ (m : Moment C). AreExchanges layout before.moment.view.seen xs m.view.seen) (sym moment) open_.traces.each;
+      journals = subst (λ (m : Moment C). Extends layout before.moment.view.seen m.view.seen (stops_of xs)) (sym moment) open_.traces.journals;
+      stops = ap (λ (m : Moment C). m.view.stops) moment ∙ open_.traces.stops;
+      requests = count ∙ open_.traces.requests;
+      timestamps = subst (λ (m : Moment C). GivesTimestamps gives before.moment.clock (timestamps_of xs) m.clock) (sym moment) open_.traces.timestamps;
+    }
+
+    reads : (o : Option (List ℕ)) → IfSome o (λ bytes. (more : List ℕ) × (now.unread ≡ Some more) × ReadsMessages bytes (map (λ (y : Exchange). y.request) xs) (held ++ more))
+        → IfSome o (λ bytes. (more : List ℕ) × (then.unread ≡ Some more) × IsReadFrom bytes more xs last)
     reads None r = tt
     reads (Some bytes) r =
-        let here : IfSome then_unread (λ more. EndsWith (held ++ r.0) last more) = subst (λ (o : Option (List ℕ)). IfSome o (λ bs. IfSome then_unread (λ more. EndsWith (held ++ bs) last more))) r.1 ends_with in
-        at then_unread here
-      where
-        at : (o : Option (List ℕ)) → IfSome o (λ more. EndsWith (held ++ r.0) last more) → IfSome o (λ more. IsReadFrom bytes more open_.exchanges last)
-        at None h = tt
-        at (Some more) h = record { rest = held ++ r.0; requests = r.2; end = h }
+        let some : (x : List ℕ) × (then.unread ≡ Some x) = some_of then.unread (reports (rw r.1 refl)) in
+        let here : IfSome then.unread (λ more. EndsWith (held ++ r.0) last more) = subst (λ (o : Option (List ℕ)). IfSome o (λ bs. IfSome then.unread (λ more. EndsWith (held ++ bs) last more))) r.1 ends_with in
+        let end_here : EndsWith (held ++ r.0) last some.0 = subst (λ (o : Option (List ℕ)). IfSome o (λ more. EndsWith (held ++ r.0) last more)) some.1 here in
+        (some.0, some.1, record { rest = held ++ r.0; requests = r.2; end = end_here })
 
 -- an open connection that an exchange ends keeps what it promises
-pub served_at_exchange : {C : Type 0} (gives : C → ℕ → C → Type 0) (layout : Layout) (before now then : Moment C) (first second : Kept) (held next : List ℕ) (request : Incoming) (end : End)
-    → IsOpen gives layout before now first held
-    → Exchanges gives layout request now.seen then.seen now.clock then.clock first second now.written then.written (Some end) → AreLegal layout then.seen
+pub served_at_exchange : {C : Type 0} (gives : C → ℕ → C → Type 0) (layout : Layout) (before now then : ConnectionState C) (held next : List ℕ) (request : Incoming) (end : End)
+    → IsOpen gives layout before now held
+    → Exchanges gives layout request (without_source now) (without_source then) (Some end) → AreLegal layout then.moment.view.seen
     → (IsSome now.unread → IsSome then.unread) → IfSome now.unread (λ bytes. IfSome then.unread (λ more. ReadsMessage (held ++ bytes) request (next ++ more)))
-    → IsServed gives layout before then second.stops end
-served_at_exchange gives layout before now then first second held next request end open_ step legal reports message =
-    let x : List Exchange = open_.exchanges in
-    let y : Exchange = step.exchange in
-    let all_stops : second.stops ≡ stops_of x ++ y.trace.stops = stops_after gives layout before now then first second held next request (Some end) open_ step in
-    let same : closes_after x y ≡ closes_by y second = closes_same gives layout before now then first second held next request (Some end) open_ step in
-    let text : EndsWriting end (end_of (answered y)) (last_text x (answered y)) now.written then.written = elim step.replies [
-      | inl whole ↦ inl (whole.0, subst (λ (q : Bool). Writes (text_of y.reply q) now.written then.written) (sym (same ∙ whole.1)) whole.2)
-      | inr part ↦ inr (part.0, subst (λ (q : Bool). WritesPrefix (text_of y.reply q) now.written then.written) (sym same) part.1)
-    ] in
-    let end_is : HasEnd end x (answered y) = elim step.replies [ inl whole ↦ inl (whole.0, same ∙ whole.1) | inr part ↦ inr part.0 ] in
+    → then.read_faults ≡ now.read_faults
+    → IsServed gives layout before then end
+served_at_exchange gives layout before now then held next request end open_ step legal reports message steady =
     record {
-      exchanges = x;
-      last = answered y;
-      timestamps = timestamps_of x ++ y.trace.timestamps;
-      journals = subst (Extends layout before.seen then.seen) (sym all_stops) (extends_after gives layout before now then first second held next request (Some end) open_ step);
-      legal = legal;
-      answers = record {
-        each = answers_after gives layout before now then first second held next request (Some end) open_ step then.seen (SeesMore-self then.seen);
-        last_one = step.is_answered then.seen (SeesMore-self then.seen);
-        stays_open = open_.stays_open;
-        stops_are = all_stops;
-        once = subst (λ (ss : List Stop). WritesOnce then.seen ss (answers_of x ++ y.trace.answers)) (sym all_stops) (once_after gives layout before now then first second held next request (Some end) open_ step then.seen (SeesMore-self then.seen));
-        timestamps_are = refl;
-      };
-      given = given_after gives layout before now then first second held next request (Some end) open_ step;
+      exchanges = xs;
+      last = answered step.exchange;
+      stays_open = open_.stays_open;
+      traces = traces_after gives layout before now then held next request (Some end) open_ step;
       carries = record {
-        requests = reads before.unread (read_after gives layout before now then first second held next request (Some end) open_ step reports message);
-        replies = written_last end x (answered y) before.written now.written then.written open_.wrote text;
-        end_is = end_is;
+        requests = reads before.unread (read_after gives layout before now then held next request (Some end) open_ step reports message);
+        replies = written_last end xs (answered step.exchange) before.written now.written then.written open_.wrote text;
+        end_is = ends_so end xs (answered step.exchange) (last_text xs (answered step.exchange)) now.written then.written text;
+        read_faults = record { rises = λ fault. absurd (no_read_fault fault); stays = λ none. steady ∙ open_.read_faults };
+        write_faults = counts_on before.write_faults now.write_faults then.write_faults open_.write_faults (record {
+          rises = λ fault. step.write_faults.rises (ap Some fault);
+          stays = λ none. step.write_faults.stays (λ fault. none (cc));
+        });
       };
+      legal = legal;
     }
   where
-    reads : (o : Option (List ℕ)) → HasRead o then.unread open_.exchanges step.exchange.request next
-        → IfSome o (λ bytes. IfSome then.unread (λ more. IsReadFrom bytes more open_.exchanges (answered step.exchange)))
+    xs : List Exchange
+    xs = open_.exchanges
+
+    text : EndsWriting (Some end) (end_of xs (answered step.exchange)) (last_text xs (answered step.exchange)) now.written then.written
+    text = subst (λ (e : Option End). EndsWriting (Some end) e (text_of (reply_of step.exchange.answer) (is_some e)) now.written then.written)
+        (end_same gives layout before now then held next request (Some end) open_ step) step.responds
+
+    no_read_fault : end ≢ ends.ReadFault
+    no_read_fault fault = elim step.responds [
+      | inl whole ↦ (answer_end end step.exchange.answer step.exchange.request.close _ (sym whole.0)).1 fault
+      | inr part ↦ (let same : Some end ≡ Some ends.WriteFault = part.0 in absurd (cc))
+    ]
+
+    reads : (o : Option (List ℕ)) → HasRead o then.unread xs step.exchange.request next
+        → IfSome o (λ bytes. (more : List ℕ) × (then.unread ≡ Some more) × IsReadFrom bytes more xs (answered step.exchange))
     reads None r = tt
-    reads (Some bytes) r = at then.unread
-      where
-        at : (o : Option (List ℕ)) → IfSome o (λ more. IsReadFrom bytes more open_.exchanges (answered step.exchange))
-        at None = tt
-        at (Some more) = record { rest = r.0; requests = r.3; end = (next ++ r.1, r.4) }
+    reads (Some bytes) r = (r.1, r.2, record { rest = r.0; requests = r.3; end = (next ++ r.1, r.4) })

@@ -1,5 +1,6 @@
 -- Facts on connections, lowest first.
 pub mod TextLemmas
+pub mod DigitLemmas
 pub mod AnswerLemmas
 pub mod ReadLemmas
 pub mod UpdateLemmas

@@ -1,6 +1,6 @@
 -- Documents are shown as they were read.
-use Rattle.std.proofs.Common.{◌≡◌, ℕ, false, List, [], ◌∷◌, ◌++◌, length, take, drop, Option, Some, None, Result, Ok, Err, refl, sym, ap, ◌∙◌, subst, inl, inr}
-use Rattle.std.specs.Prelude.{◌⊎◌, map, filter_map, option_to_list, Contains, IsSome, IfOk, IfErr, MatchResult}
+use Rattle.std.proofs.Common.{◌≡◌, ℕ, false, List, [], ◌∷◌, ◌++◌, take, drop, Option, Some, None, Result, Ok, Err, refl, sym, ap, ◌∙◌, subst, inr}
+use Rattle.std.specs.Prelude.{map, filter_map, option_to_list, Contains, IsSome, IfOk, ⊤}
 use Rattle.std.specs.Arc.{arc_value}
 use Rattle.std.specs.List.{AllByRecursion, cons_option}
 use Rattle.std.specs.Option.{option_map}
@@ -11,28 +11,23 @@ use Rattle.std.proofs.lemmas.List.Elements.{All-take, All-drop, All-contains_its
 use Rattle.sc_record.specs.declared.write.Write.{Write}
 use Rattle.sc_record.specs.declared.document.Field.{Field}
 use Rattle.sc_record.specs.declared.ack.Ack.{Ack}
-use Rattle.sc_hash.specs.declared.range.Range.{Range}
-use Rattle.sc_reply.specs.Bodies.{IsLiveOrNone, AreLive, get_text}
-use Rattle.sc_model.specs.Replies as model
-use Rattle.sc_eval.specs.Conditions.{Condition, condition_of}
+use Rattle.sc_reply.specs.Bodies.{IsLiveOrNone, AreLive, get_text, ids_text, select_text}
+use Rattle.sc_eval.specs.Conditions.{condition_of}
 use Rattle.sc_journal.specs.Journal.{last_write}
 use Rattle.sc_journal.specs.Seen.{Layout, Seen, SeesMore, journal_at}
 use Rattle.sc_journal.specs.Batches.{ack_made}
 use Rattle.sc_journal.specs.declared.stop.Stop.{Stop}
 use Rattle.sc_get.specs.Got.{IsGot, AreGot, ReadsEach, live, live_at, live_writes}
-use Rattle.sc_fanout.specs.Searches.{IsSearched, LooksAtBuckets, ShowsFound}
+use Rattle.sc_fanout.specs.Searches.{Search, SearchPage, SearchesBuckets, LooksAtBuckets, ShowsFound, search_of, page_of}
 use Rattle.sc_fanout.specs.declared.ask.Ask.{Ask}
 use Rattle.sc_fanout.specs.declared.shown.Page.{Page}
 use Rattle.sc_session.specs.Queries.{HaveCondition, IsRouteOf}
 use Rattle.sc_session.specs.Requests.{Select, get, get_ids, select}
-use Rattle.sc_session.specs.Answers.{ReadsIds, IsReply, IsOutOfMemory, read_trace, memory_reply, get_reply, ids_reply, select_reply}
-use Rattle.sc_session.specs.Answering.{AnswersAsked, unread}
-
--- a reply with a body that was made, or memory ran out
-pub made_or_memory : (given reply : model.Reply) (body : Result (List ℕ) AllocError) → IfOk body (λ text. text ≡ given.body)
-    → MatchResult body (λ text. reply ≡ record { status = given.status; body = text }) (λ _. reply ≡ memory_reply) → (reply ≡ given) ⊎ (reply ≡ memory_reply)
-made_or_memory given reply (Ok text) is made = inl (made ∙ ap (λ (t : List ℕ). record { status = given.status; body = t }) is)
-made_or_memory given reply (Err e) is made = inr made
+use Rattle.sc_session.specs.Answers.{Answer, replied, ran_out, IsAnswer, read_trace, ids_reply}
+use Rattle.sc_session.specs.Answering.{AnswersAsked, unread, reply_of, answer_of}
+use Rattle.sc_session.specs.declared.reply.Reply.{Reply}
+use Rattle.sc_journal.specs.Moments.{Moment, moment_of}
+use Rattle.sc_journal.proofs.GoesOnLemmas.{SeesMore-self}
 
 -- what is live is no deletion
 pub live_is_live : (last : Option Write) → IsLiveOrNone (live last)
@@ -42,22 +37,6 @@ live_is_live (Some write) = by write.doc where
   by None = tt
   by (Some doc) = refl
 
--- the reply to a get that found what is live of its last write
-pub found_reply : (found : Result (Option (Arc Write Global)) AllocError) (last : Option Write) (reply : model.Reply)
-    → IfOk found (λ cell. option_map arc_value cell ≡ live last)
-    → IfOk found (λ cell. (reply ≡ record { status = 200; body = get_text (option_map arc_value cell) }) ⊎ (reply ≡ memory_reply))
-    → IfErr found (λ _. reply ≡ memory_reply)
-    → (reply ≡ get_reply last) ⊎ (reply ≡ memory_reply)
-found_reply (Ok cell) last reply is (inl made) err = inl (made ∙ ap (λ (write : Option Write). record { status = 200; body = get_text write }) is)
-found_reply (Ok cell) last reply is (inr memory) err = inr memory
-found_reply (Err fault) last reply is ok memory = inr memory
-
--- what holds of all that is seen later
-at_later : {X : Type 0} (P : X → Seen → Type 0) (new later : Seen) (found : Result X AllocError) → SeesMore new later
-    → IfOk found (λ x. (seen : Seen) → SeesMore new seen → P x seen) → IfOk found (λ x. P x later)
-at_later P new later (Ok x) more is = is later more
-at_later P new later (Err fault) more is = tt
-
 -- stops that made no entry made no write
 unmade : (seen : Seen) (stops : List Stop) → AllByRecursion (λ (stop : Stop). stop.made ≡ false) stops → filter_map (ack_made seen) stops ≡ []
 unmade seen [] none = refl
@@ -65,35 +44,43 @@ unmade seen (stop ∷ stops) none =
     let here : ack_made seen stop ≡ None = rw none.0 refl in
     ap (λ (ack : Option Ack). cons_option ack (filter_map (ack_made seen) stops)) here ∙ unmade seen stops none.1
 
--- a get is answered by its id's last write at the stop
-pub got : (layout : Layout) (id : List ℕ) (old new : Seen) (old_stops new_stops : List Stop) (found : Result (Option (Arc Write Global)) AllocError) (reply : model.Reply)
-    → IsGot layout old new old_stops new_stops id found
-    → IfOk found (λ cell. (reply ≡ record { status = 200; body = get_text (option_map arc_value cell) }) ⊎ (reply ≡ memory_reply))
-    → IfErr found (λ _. reply ≡ memory_reply)
-    → AnswersAsked unread layout (get id) old new tt tt old_stops new_stops reply
-got layout id old new old_stops new_stops found reply is made memory = record {
+-- the looks of a get at its id's journal, with an answer to it
+got_with : (layout : Layout) (id : List ℕ) (old new : Moment ⊤) (found : Result (Option (Arc Write Global)) AllocError) (answer : Answer)
+    → (is : IsGot layout old.view new.view id found)
+    → ((later : Seen) → SeesMore new.view.seen later → IsAnswer layout later (get id) (read_trace (is.stop ∷ [])) answer)
+    → AnswersAsked unread layout (get id) old new answer
+got_with layout id old new found answer is answered = record {
   trace = read_trace (is.stop ∷ []);
-  extends = is.is_stop.goes.extends;
-  kept = is.is_stop.kept;
+  keeps = is.keeps;
   given = refl;
-  answered = λ later more.
-      elim (found_reply found (last_write (journal_at later is.stop) id) reply
-      (at_later (λ (cell : Option (Arc Write Global)) (seen : Seen). option_map arc_value cell ≡ live_at seen id is.stop) new later found more is.found_is)
-      made memory) [
-        | inl e ↦ inl (is.stop, reads, e)
-        | inr e ↦ inr (e, (is.stop ∷ [], reads))
-      ];
+  answered = answered;
   once = λ later more. unmade later (is.stop ∷ []) (is.reads.made, tt);
 }
-  where
-    reads : ReadsIds layout (id ∷ []) (read_trace (is.stop ∷ [])) (is.stop ∷ [])
-    reads = record { trace_is = refl; reads = (is.reads, tt) }
+
+-- where memory ran out its look stands
+pub got_none : (layout : Layout) (id : List ℕ) (old new : Moment ⊤) (found : Result (Option (Arc Write Global)) AllocError)
+    → IsGot layout old.view new.view id found → AnswersAsked unread layout (get id) old new ran_out
+got_none layout id old new found is =
+    got_with layout id old new found ran_out is (λ later more. (is.stop ∷ [], record { trace_is = refl; reads = (is.reads, tt) }))
+
+-- a get is answered by its id's last write at the stop
+pub got : (layout : Layout) (id : List ℕ) (old new : Moment ⊤) (cell : Option (Arc Write Global)) (answer : Result Reply AllocError)
+    → IsGot layout old.view new.view id (Ok cell)
+    → IfOk answer (λ reply. reply_of reply ≡ record { status = 200; body = get_text (option_map arc_value cell) })
+    → AnswersAsked unread layout (get id) old new (answer_of answer)
+got layout id old new cell (Err fault) is made = got_none layout id old new (Ok cell) is
+got layout id old new cell (Ok reply) is made =
+    got_with layout id old new (Ok cell) (replied (reply_of reply)) is (λ later more. (
+      is.stop,
+      record { trace_is = refl; reads = (is.reads, tt) },
+      made ∙ ap (λ (write : Option Write). record { status = 200; body = get_text write }) (is.found_is later more),
+    ))
 
 -- what a get shows is no deletion
-pub got_live : (layout : Layout) (id : List ℕ) (old new : Seen) (old_stops new_stops : List Stop) (found : Result (Option (Arc Write Global)) AllocError)
-    → SeesMore new new → IsGot layout old new old_stops new_stops id found → IfOk found (λ cell. IsLiveOrNone (option_map arc_value cell))
-got_live layout id old new old_stops new_stops (Ok cell) more is = subst IsLiveOrNone (sym (is.found_is new more)) (live_is_live (last_write (journal_at new is.stop) id))
-got_live layout id old new old_stops new_stops (Err fault) more is = tt
+pub got_live : (layout : Layout) (id : List ℕ) (old new : Moment ⊤) (cell : Option (Arc Write Global))
+    → IsGot layout old.view new.view id (Ok cell) → IsLiveOrNone (option_map arc_value cell)
+got_live layout id old new cell is =
+    subst IsLiveOrNone (sym (is.found_is new.view.seen (SeesMore-self new.view.seen))) (live_is_live (last_write (journal_at new.view.seen is.stop) id))
 
 -- each id was read at a stop that made no entry
 reads_unmade : (layout : Layout) (ids : List (List ℕ)) (stops : List Stop) → ReadsEach layout ids stops → AllByRecursion (λ (stop : Stop). stop.made ≡ false) stops
@@ -112,44 +99,49 @@ writes_live seen (id ∷ ids) (stop ∷ stops) =
       by (Some write) is rest = (is, rest)
 
 -- the documents that were got are no deletions
-pub are_got_live : (layout : Layout) (ids : List (List ℕ)) (old new : Seen) (old_stops new_stops : List Stop) (cells : List (Arc Write Global))
-    → SeesMore new new → AreGot layout old new old_stops new_stops ids (Ok cells) → AreLive (map arc_value cells)
-are_got_live layout ids old new old_stops new_stops cells more are =
-    subst AreLive (sym (are.found_are.1 new more)) (writes_live new ids are.stops)
+pub are_got_live : (layout : Layout) (ids : List (List ℕ)) (old new : Moment ⊤) (cells : List (Arc Write Global))
+    → AreGot layout old.view new.view ids (Ok cells) → AreLive (map arc_value cells)
+are_got_live layout ids old new cells are =
+    subst AreLive (sym (are.found_are.1 new.view.seen (SeesMore-self new.view.seen))) (writes_live new.view.seen ids are.stops)
 
--- a get of several ids is answered by what is live of them at their stops
-pub are_got : (layout : Layout) (ids : List (List ℕ)) (old new : Seen) (old_stops new_stops : List Stop) (found : Result (List (Arc Write Global)) AllocError) (reply : model.Reply)
-    → AreGot layout old new old_stops new_stops ids found
-    → MatchResult found (λ cells. (reply ≡ ids_reply (map arc_value cells)) ⊎ (reply ≡ memory_reply)) (λ _. reply ≡ memory_reply)
-    → AnswersAsked unread layout (get_ids ids) old new tt tt old_stops new_stops reply
-are_got layout ids old new old_stops new_stops found reply are made = record {
+-- the looks of a get at its ids' journals, with an answer to it
+are_got_with : (layout : Layout) (ids : List (List ℕ)) (old new : Moment ⊤) (found : Result (List (Arc Write Global)) AllocError) (answer : Answer)
+    → (are : AreGot layout old.view new.view ids found)
+    → ((later : Seen) → SeesMore new.view.seen later → IsAnswer layout later (get_ids ids) (read_trace are.stops) answer)
+    → AnswersAsked unread layout (get_ids ids) old new answer
+are_got_with layout ids old new found answer are answered = record {
   trace = read_trace are.stops;
-  extends = are.goes.extends;
-  kept = are.kept;
+  keeps = are.keeps;
   given = refl;
-  answered = λ later more. by later more found are.found_are made;
+  answered = answered;
   once = λ later more. unmade later are.stops (reads_unmade layout ids are.stops are.reads);
 }
-  where
-    reads : ReadsIds layout ids (read_trace are.stops) are.stops
-    reads = record { trace_is = refl; reads = are.reads }
 
-    by : (later : Seen) → SeesMore new later → (found : Result (List (Arc Write Global)) AllocError)
-        → IfOk found (λ cells. (length are.stops ≡ length ids) × ((seen : Seen) → SeesMore new seen → map arc_value cells ≡ live_writes seen ids are.stops))
-        → MatchResult found (λ cells. (reply ≡ ids_reply (map arc_value cells)) ⊎ (reply ≡ memory_reply)) (λ _. reply ≡ memory_reply)
-        → IsReply layout later (get_ids ids) (read_trace are.stops) reply ⊎ IsOutOfMemory layout later (get_ids ids) (read_trace are.stops) reply
-    by later more (Ok cells) is (inl e) = inl (are.stops, reads, is.0, e ∙ ap ids_reply (is.1 later more))
-    by later more (Ok cells) is (inr e) = inr (e, (are.stops, reads))
-    by later more (Err fault) is e = inr (e, (are.stops, reads))
+-- where memory ran out its looks stand
+pub are_got_none : (layout : Layout) (ids : List (List ℕ)) (old new : Moment ⊤) (found : Result (List (Arc Write Global)) AllocError)
+    → AreGot layout old.view new.view ids found → AnswersAsked unread layout (get_ids ids) old new ran_out
+are_got_none layout ids old new found are =
+    are_got_with layout ids old new found ran_out are (λ later more. (are.stops, record { trace_is = refl; reads = are.reads }))
+
+-- a get of several ids is answered by what is live of them at their stops
+pub are_got : (layout : Layout) (ids : List (List ℕ)) (old new : Moment ⊤) (cells : List (Arc Write Global)) (body : List ℕ)
+    → AreGot layout old.view new.view ids (Ok cells) → body ≡ ids_text (map arc_value cells)
+    → AnswersAsked unread layout (get_ids ids) old new (replied (record { status = 200; body = body }))
+are_got layout ids old new cells body are is =
+    are_got_with layout ids old new (Ok cells) (replied (record { status = 200; body = body })) are (λ later more. (
+      are.stops,
+      record { trace_is = refl; reads = are.reads },
+      are.found_are.0,
+      ap (λ (text : List ℕ). record { status = 200; body = text }) is ∙ ap ids_reply (are.found_are.1 later more),
+    ))
 
 -- each document of a page is no deletion
-shown_live : (layout : Layout) (seen : Seen) (stops : List Stop) (condition : Condition) (route : Option Range) (start rows found : ℕ) (docs : List Write)
-    → ShowsFound layout seen stops condition route start rows found docs → AreLive docs
-shown_live layout seen stops condition route start rows found docs shows =
+shown_live : (layout : Layout) (seen : Seen) (search : Search) (page : SearchPage) → ShowsFound layout seen search page → AreLive page.docs
+shown_live layout seen search page shows =
     subst AreLive (sym shows.docs_are)
-    (recursion_from_All (λ (write : Write). IsSome write.doc) (take rows (drop start shows.sorted))
-    (All-take (λ (write : Write). IsSome write.doc) rows (drop start shows.sorted)
-    (All-drop (λ (write : Write). IsSome write.doc) start shows.sorted
+    (recursion_from_All (λ (write : Write). IsSome write.doc) (take page.rows (drop page.start shows.sorted))
+    (All-take (λ (write : Write). IsSome write.doc) page.rows (drop page.start shows.sorted)
+    (All-drop (λ (write : Write). IsSome write.doc) page.start shows.sorted
     (All-from_recursion (λ (write : Write). IsSome write.doc) shows.sorted
     (each shows.sorted (recursion_from_All (Contains shows.sorted) shows.sorted (All-contains_itself shows.sorted)))))))
   where
@@ -158,45 +150,45 @@ shown_live layout seen stops condition route start rows found docs shows =
     each (write ∷ writes) all = (let is = (shows.are_found.exactly write).0 all.0 in is.2.shown.live, each writes all.1)
 
 -- the page of a search shows no deletion
-pub page_live : (layout : Layout) (old new : Seen) (old_stops new_stops : List Stop) (ask : Ask) (page : Page)
-    → SeesMore new new → IsSearched layout old new old_stops new_stops ask (Ok page) → AreLive (map arc_value page.docs)
-page_live layout old new old_stops new_stops ask page more is =
-    shown_live layout new is.stops (condition_of ask.query) ask.route ask.start ask.rows page.found (map arc_value page.docs) (is.shows.1 new more)
+pub page_live : (layout : Layout) (old new : Moment ⊤) (ask : Ask) (page : Page)
+    → SearchesBuckets layout old.view new.view ask (Ok page) → AreLive (map arc_value page.docs)
+page_live layout old new ask page is =
+    shown_live layout new.view.seen (search_of ask is.stops) (page_of ask page) (is.shows.1 new.view.seen (SeesMore-self new.view.seen))
 
--- a search is answered by what its condition finds in the buckets at their stops
-pub searched : (layout : Layout) (ask : Select) (made : Ask) (old new : Seen) (old_stops new_stops : List Stop) (page : Result Page AllocError) (reply : model.Reply)
-    → HaveCondition ask.queries (condition_of made.query) → IsRouteOf ask.route made.route → made.start ≡ ask.start → made.rows ≡ ask.rows
-    → IsSearched layout old new old_stops new_stops made page
-    → MatchResult page (λ page. (reply ≡ select_reply page.found ask.start (map arc_value page.docs)) ⊎ (reply ≡ memory_reply)) (λ _. reply ≡ memory_reply)
-    → AnswersAsked unread layout (select ask) old new tt tt old_stops new_stops reply
-searched layout ask made old new old_stops new_stops page reply asks route start rows is shown = record {
+-- the looks of a search at the buckets, with an answer to it
+searched_with : (layout : Layout) (ask : Select) (made : Ask) (old new : Moment ⊤) (found : Result Page AllocError) (answer : Answer)
+    → (is : SearchesBuckets layout old.view new.view made found)
+    → ((later : Seen) → SeesMore new.view.seen later → IsAnswer layout later (select ask) (read_trace is.stops) answer)
+    → AnswersAsked unread layout (select ask) old new answer
+searched_with layout ask made old new found answer is answered = record {
   trace = read_trace is.stops;
-  extends = is.goes.extends;
-  kept = is.kept;
+  keeps = is.keeps;
   given = refl;
-  answered = λ later more. by later more page is.shows shown;
+  answered = answered;
   once = λ later more. unmade later is.stops (recursion_from_All (λ (stop : Stop). stop.made ≡ false) is.stops is.looks.made);
 }
-  where
-    by : (later : Seen) → SeesMore new later → (page : Result Page AllocError)
-        → IfOk page (λ page. (is.count ≡ layout.buckets) × ((seen : Seen) → SeesMore new seen
-        → ShowsFound layout seen is.stops (condition_of made.query) made.route made.start made.rows page.found (map arc_value page.docs)))
-        → MatchResult page (λ page. (reply ≡ select_reply page.found ask.start (map arc_value page.docs)) ⊎ (reply ≡ memory_reply)) (λ _. reply ≡ memory_reply)
-        → IsReply layout later (select ask) (read_trace is.stops) reply ⊎ IsOutOfMemory layout later (select ask) (read_trace is.stops) reply
-    by later more (Ok page) shows (inl e) = inl (inr (record {
-      condition = condition_of made.query;
+
+-- where memory ran out its looks stand
+pub searched_none : (layout : Layout) (ask : Select) (made : Ask) (old new : Moment ⊤) (found : Result Page AllocError)
+    → SearchesBuckets layout old.view new.view made found → AnswersAsked unread layout (select ask) old new ran_out
+searched_none layout ask made old new found is =
+    searched_with layout ask made old new found ran_out is (λ later more. (is.stops, is.count, is.few, refl, is.looks))
+
+-- a search is answered by what its condition finds in the buckets at their stops
+pub searched : (layout : Layout) (ask : Select) (made : Ask) (old new : Moment ⊤) (page : Page) (body : List ℕ)
+    → HaveCondition ask.queries (condition_of made.query) → IsRouteOf ask.route made.route → made.start ≡ ask.start → made.rows ≡ ask.rows
+    → SearchesBuckets layout old.view new.view made (Ok page) → body ≡ select_text page.found ask.start (map arc_value page.docs)
+    → AnswersAsked unread layout (select ask) old new (replied (record { status = 200; body = body }))
+searched layout ask made old new page body asks route start rows is text =
+    searched_with layout ask made old new (Ok page) (replied (record { status = 200; body = body })) is (λ later more. inr (record {
+      search = search_of made is.stops;
+      page = page_of made page;
       asks = asks;
-      route = made.route;
       route_is = route;
-      stops = is.stops;
       trace_is = refl;
-      looks = subst (λ n. LooksAtBuckets n is.stops) shows.0 is.looks;
-      found = page.found;
-      docs = map arc_value page.docs;
-      shows = subst (λ n. ShowsFound layout later is.stops (condition_of made.query) made.route n ask.rows page.found (map arc_value page.docs)) start
-          (subst (λ n. ShowsFound layout later is.stops (condition_of made.query) made.route made.start n page.found (map arc_value page.docs)) rows
-          (shows.1 later more));
-      reply_is = e;
+      looks = subst (λ n. LooksAtBuckets n is.stops) is.shows.0 is.looks;
+      start_is = start;
+      rows_is = rows;
+      shows = is.shows.1 later more;
+      reply_is = ap (λ (t : List ℕ). record { status = 200; body = t }) (text ∙ ap (λ n. select_text page.found n (map arc_value page.docs)) (sym start));
     }))
-    by later more (Ok page) shows (inr e) = inr (e, (is.stops, is.count, refl, is.looks))
-    by later more (Err fault) shows e = inr (e, (is.stops, is.count, refl, is.looks))

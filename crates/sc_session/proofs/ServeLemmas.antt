@@ -1,70 +1,94 @@
--- What one step makes of an open connection.
-use Rattle.std.proofs.Common.{◌≡◌, ℕ, false, ◌||◌, List, [], ◌∷◌, ◌++◌, length, Option, Some, None, sym, ap, ◌∙◌, subst, arith, length-append, inl, inr}
-use Rattle.std.specs.Prelude.{map, nat_le, IfSome, IsSome}
+-- What one exchange makes of an open connection.
+use Rattle.std.proofs.Common.{◌≡◌, ℕ, ◌+◌, Bool, true, false, List, [], ◌∷◌, ◌++◌, length, Option, Some, None, refl, sym, ap, ◌∙◌, subst, inl, inr}
+use Rattle.std.specs.Prelude.{◌⊎◌, map, IfSome, IsSome, is_some}
 use Rattle.std.proofs.lemmas.List.{append-nil, map-append}
 use Rattle.std.proofs.lemmas.Grind.{flat_map-append}
 use Rattle.sc_model.specs.declared.message.Incoming.{Incoming}
 use Rattle.sc_model.specs.Messages.{ReadsMessage, ReadsMessages}
 use Rattle.sc_model.specs.Replies.{text_of}
-use Rattle.sc_journal.specs.Seen.{Layout, Extends}
-use Rattle.sc_journal.specs.Batches.{OrderAnswer, WritesOnce, GivesTimestamps}
-use Rattle.sc_journal.specs.declared.stop.Stop.{Stop}
+use Rattle.sc_journal.specs.Seen.{Layout}
 use Rattle.sc_journal.proofs.ListLemmas.{split_last}
-use Rattle.sc_collection.specs.Kept.{Kept}
-use Rattle.sc_collection.specs.declared.trail.TheConstants.{MAX_REQUESTS, MAX_STOPS}
-use Rattle.sc_session.specs.Connection.{Exchange, IsAnswered, StaysOpen, closes_after, stops_of, texts_of, is_out_of_memory}
-use Rattle.sc_session.specs.Served.{Moment, timestamps_of, answers_of}
-use Rattle.sc_session.specs.Serving.{Exchanges, Writes}
-use Rattle.std.proofs.ByRecursion.{All-append}
-use Rattle.sc_session.proofs.OpenLemmas.{IsOpen, HasRead, stops_after, closes_same, extends_after, answers_after, once_after, given_after, read_after, stops_of-push, or_left, or_right, below, reads_more, writes_then}
+use Rattle.sc_collection.specs.Kept.{are_enough}
+use Rattle.sc_session.specs.Answers.{Answer, replied, ran_out, reply_of}
+use Rattle.sc_session.specs.Connection.{Exchange, StaysOpen, texts_of, end_after, end_at}
+use Rattle.sc_session.specs.Requests.{asked}
+use Rattle.sc_session.specs.States.{ConnectionState, CountsFault}
+use Rattle.sc_session.specs.Answering.{AnswersAsked}
+use Rattle.sc_session.specs.Serving.{Exchanges, Responds, Writes, end_by}
+use Rattle.sc_session.specs.declared.end.End.{End}
+use Rattle.sc_session.specs.declared.end.End.TheVariants as ends
+use Rattle.sc_session.proofs.OpenLemmas.{IsOpen, HasRead, without_source, traces_after, end_same, read_after, reads_more, writes_then}
 
-texts_of-push : (exchanges : List Exchange) (x : Exchange) → texts_of (exchanges ++ x ∷ []) ≡ texts_of exchanges ++ text_of x.reply false
-texts_of-push exchanges x = flat_map-append (λ (y : Exchange). text_of y.reply false) exchanges (x ∷ []) ∙ ap (λ (bytes : List ℕ). texts_of exchanges ++ bytes) (append-nil (text_of x.reply false))
-
-timestamps_of-push : (exchanges : List Exchange) (x : Exchange) → timestamps_of (exchanges ++ x ∷ []) ≡ timestamps_of exchanges ++ x.trace.timestamps
-timestamps_of-push exchanges x = flat_map-append (λ (y : Exchange). y.trace.timestamps) exchanges (x ∷ []) ∙ ap (λ (ms : List ℕ). timestamps_of exchanges ++ ms) (append-nil x.trace.timestamps)
-
-answers_of-push : (exchanges : List Exchange) (x : Exchange) → answers_of (exchanges ++ x ∷ []) ≡ answers_of exchanges ++ x.trace.answers
-answers_of-push exchanges x = flat_map-append (λ (y : Exchange). y.trace.answers) exchanges (x ∷ []) ∙ ap (λ (those : List OrderAnswer). answers_of exchanges ++ those) (append-nil x.trace.answers)
+texts_of-push : (exchanges : List Exchange) (x : Exchange) → texts_of (exchanges ++ x ∷ []) ≡ texts_of exchanges ++ text_of (reply_of x.answer) false
+texts_of-push exchanges x = flat_map-append (λ (y : Exchange). text_of (reply_of y.answer) false) exchanges (x ∷ []) ∙ ap (λ (bytes : List ℕ). texts_of exchanges ++ bytes) (append-nil (text_of (reply_of x.answer) false))
 
 -- where each exchange leaves the connection open and one more does, all do
-stays_more : (exchanges : List Exchange) (x : Exchange) → StaysOpen exchanges → closes_after exchanges x ≡ false → StaysOpen (exchanges ++ x ∷ [])
+stays_more : (exchanges : List Exchange) (x : Exchange) → StaysOpen exchanges → end_at exchanges x ≡ None → StaysOpen (exchanges ++ x ∷ [])
 stays_more exchanges x open_ last before y after h =
     elim (split_last exchanges x before y after h) [
-      | inl both ↦ subst (λ (b : List Exchange). closes_after b y ≡ false) both.0 (subst (λ (z : Exchange). closes_after exchanges z ≡ false) both.1 last)
+      | inl both ↦ subst (λ (b : List Exchange). end_at b y ≡ None) both.0 (subst (λ (z : Exchange). end_at exchanges z ≡ None) both.1 last)
       | inr some ↦ open_ before y some.0 some.1
     ]
 
+-- a connection that stays open has not had all
+not_full : (answer : Answer) (close full : Bool) → end_after answer close full ≡ None → full ≡ false
+not_full (replied reply) false false h = refl
+not_full (replied reply) false true h = absurd (cc)
+not_full (replied reply) true full h = absurd (cc)
+not_full ran_out close full h = absurd (cc)
+
 -- it stays open after an exchange that leaves it so
-pub open_more : {C : Type 0} (gives : C → ℕ → C → Type 0) (layout : Layout) (before now then : Moment C) (first second : Kept) (held next : List ℕ) (request : Incoming)
-    → IsOpen gives layout before now first held
-    → Exchanges gives layout request now.seen then.seen now.clock then.clock first second now.written then.written None
+pub open_more : {C : Type 0} (gives : C → ℕ → C → Type 0) (layout : Layout) (before now then : ConnectionState C) (held next : List ℕ) (request : Incoming)
+    → IsOpen gives layout before now held
+    → Exchanges gives layout request (without_source now) (without_source then) None
     → (IsSome now.unread → IsSome then.unread) → IfSome now.unread (λ bytes. IfSome then.unread (λ more. ReadsMessage (held ++ bytes) request (next ++ more)))
-    → IsOpen gives layout before then second next
-open_more gives layout before now then first second held next request open_ step reports message =
-    let x : Exchange = step.exchange in
-    let stops : second.stops ≡ stops_of (open_.exchanges ++ x ∷ []) = stops_after gives layout before now then first second held next request None open_ step ∙ sym (stops_of-push open_.exchanges x) in
-    let still : closes_after open_.exchanges x ≡ false = closes_same gives layout before now then first second held next request None open_ step ∙ step.replies.0 in
-    let limits : nat_le MAX_REQUESTS second.requests || nat_le MAX_STOPS (length second.stops) ≡ false = or_right (is_out_of_memory x.reply || x.request.close) (nat_le MAX_REQUESTS second.requests || nat_le MAX_STOPS (length second.stops)) step.replies.0 in
+    → then.read_faults ≡ now.read_faults
+    → IsOpen gives layout before then next
+open_more {C} gives layout before now then held next request open_ step reports message steady =
     record {
-      exchanges = open_.exchanges ++ x ∷ [];
-      stays_open = stays_more open_.exchanges x open_.stays_open still;
-      extends = subst (Extends layout before.seen then.seen) (sym (stops_of-push open_.exchanges x)) (extends_after gives layout before now then first second held next request None open_ step);
-      stops = stops;
-      requests = omega (arith, length-append open_.exchanges (x ∷ []), step.counted, open_.requests);
-      few = below MAX_REQUESTS second.requests (or_left (nat_le MAX_REQUESTS second.requests) (nat_le MAX_STOPS (length second.stops)) limits);
-      short = below MAX_STOPS (length second.stops) (or_right (nat_le MAX_REQUESTS second.requests) (nat_le MAX_STOPS (length second.stops)) limits);
-      answers = λ later more. All-append (IsAnswered layout later) open_.exchanges (x ∷ [])
-          (answers_after gives layout before now then first second held next request None open_ step later more) (step.is_answered later more, tt);
-      once = λ later more. subst (λ (ss : List Stop). WritesOnce later ss (answers_of (open_.exchanges ++ x ∷ []))) (sym (stops_of-push open_.exchanges x))
-          (subst (WritesOnce later (stops_of open_.exchanges ++ x.trace.stops)) (sym (answers_of-push open_.exchanges x))
-          (once_after gives layout before now then first second held next request None open_ step later more));
-      given = subst (λ (ms : List ℕ). GivesTimestamps gives before.clock ms then.clock) (sym (timestamps_of-push open_.exchanges x)) (given_after gives layout before now then first second held next request None open_ step);
-      read = reads before.unread (read_after gives layout before now then first second held next request None open_ step reports message);
-      wrote = subst (λ (text : List ℕ). Writes text before.written then.written) (sym (texts_of-push open_.exchanges x)) (writes_then (texts_of open_.exchanges) (text_of x.reply false) before.written now.written then.written open_.wrote step.replies.1);
+      exchanges = open_.exchanges ++ step.exchange ∷ [];
+      stays_open = stays_more open_.exchanges step.exchange open_.stays_open (sym (end_same gives layout before now then held next request None open_ step) ∙ sym went.0);
+      traces = traces_after gives layout before now then held next request None open_ step;
+      more = not_full step.exchange.answer step.exchange.request.close (are_enough then.requests (length then.moment.view.stops)) (sym went.0);
+      read = reads before.unread (read_after gives layout before now then held next request None open_ step reports message);
+      wrote = subst (λ (text : List ℕ). Writes text before.written then.written) (sym (texts_of-push open_.exchanges step.exchange))
+          (writes_then (texts_of open_.exchanges) (text_of (reply_of step.exchange.answer) false) before.written now.written then.written open_.wrote went.1);
+      read_faults = steady ∙ open_.read_faults;
+      write_faults = step.write_faults.stays (λ fault. absurd (cc)) ∙ open_.write_faults;
     }
   where
+    -- its reply was written, and the connection stays open
+    went : (None ≡ end_by step.exchange (without_source then)) × Writes (text_of (reply_of step.exchange.answer) false) now.written then.written
+    went = elim step.responds [
+      | inl whole ↦ (whole.0, subst (λ (end : Option End). Writes (text_of (reply_of step.exchange.answer) (is_some end)) now.written then.written) (sym whole.0) whole.1)
+      | inr part ↦ (let fault : None ≡ Some ends.WriteFault = part.0 in absurd (cc))
+    ]
+
     reads : (o : Option (List ℕ)) → HasRead o then.unread open_.exchanges step.exchange.request next
         → IfSome o (λ bytes. (more : List ℕ) × (then.unread ≡ Some more) × ReadsMessages bytes (map (λ (y : Exchange). y.request) (open_.exchanges ++ step.exchange ∷ [])) (next ++ more))
     reads None r = tt
-    reads (Some bytes) r = (r.1, r.2, subst (λ (rs : List Incoming). ReadsMessages bytes rs (next ++ r.1)) (sym (map-append (λ (y : Exchange). y.request) open_.exchanges (step.exchange ∷ []))) (reads_more bytes (map (λ (y : Exchange). y.request) open_.exchanges) r.0 step.exchange.request (next ++ r.1) r.3 r.4))
+    reads (Some bytes) r = (
+      r.1,
+      r.2,
+      subst (λ (rs : List Incoming). ReadsMessages bytes rs (next ++ r.1)) (sym (map-append (λ (y : Exchange). y.request) open_.exchanges (step.exchange ∷ [])))
+          (reads_more bytes (map (λ (y : Exchange). y.request) open_.exchanges) r.0 step.exchange.request (next ++ r.1) r.3 r.4),
+    )
+
+-- one request that was answered, and whose reply was written
+pub exchanged : {C : Type 0} (gives : C → ℕ → C → Type 0) (layout : Layout) (request : Incoming) (old new : ConnectionState C) (answer : Answer) (end expected : Option End)
+    → AnswersAsked gives layout (asked request) old.moment new.moment answer → new.requests ≡ old.requests + 1
+    → expected ≡ end_after answer request.close (are_enough new.requests (length new.moment.view.stops))
+    → Responds end expected (reply_of answer) old.written new.written
+    → CountsFault (end ≡ Some ends.WriteFault) old.write_faults new.write_faults
+    → Exchanges gives layout request old new end
+exchanged gives layout request old new answer end expected answers count is responds faults = record {
+  exchange = record { request = request; trace = answers.trace; answer = answer; seen = new.moment.view.seen };
+  request_is = refl;
+  seen_is = refl;
+  is = record { goes = answers.keeps.goes; answered = answers.answered; once = answers.once };
+  stops = answers.keeps.kept;
+  requests = count;
+  timestamps = answers.given;
+  responds = subst (λ (e : Option End). Responds end e (reply_of answer) old.written new.written) is responds;
+  write_faults = faults;
+}

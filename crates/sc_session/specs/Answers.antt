@@ -1,23 +1,22 @@
 -- What a request is answered, by the journals that were seen.
-use Rattle.std.specs.Prelude.{◌≡◌, ◌⊎◌, ℕ, Bool, true, false, List, [], ◌∷◌, ◌++◌, length, codes, map, Option, Some, None}
+use Rattle.std.specs.Prelude.{◌≡◌, ◌≤◌, ◌⊎◌, ℕ, Bool, false, List, [], ◌∷◌, ◌++◌, length, codes, Option, Some, None}
 use Rattle.sc_record.specs.declared.write.Write.{Write}
 use Rattle.sc_record.specs.declared.order.Order.{Order}
-use Rattle.sc_schema.specs.Documents.{asked as order_asked}
-use Rattle.sc_commands.specs.declared.batch.Flags.{Flags}
+use Rattle.sc_commands.specs.declared.batch.Batch.{Batch}
+use Rattle.sc_commands.specs.Updates.{update_of}
 use Rattle.sc_reply.specs.Bodies.{update_text, error_text, get_text, ids_text, select_text}
 use Rattle.sc_reply.specs.Refusals as refusals
 use Rattle.sc_model.specs.Replies.{Reply}
 use Rattle.sc_journal.specs.Journal.{last_write}
 use Rattle.sc_journal.specs.Outcomes.{Outcome, accepted, conflict, partial, log_full, out_of_memory}
 use Rattle.sc_journal.specs.Seen.{Layout, Seen, journal_at}
-use Rattle.sc_journal.specs.Batches.{OrderAnswer, AnswersOrders, goes_on, adds_of, deletes_of, stops_of, timestamps_of}
+use Rattle.sc_journal.specs.Batches.{OrderAnswer, AnswersOrders, accepted_adds, accepted_deletes, order_stops, order_timestamps}
 use Rattle.sc_journal.specs.declared.stop.Stop.{Stop}
-use Rattle.sc_journal.specs.Committed.{CommitOutcome, committed_now, commit_full, commit_out_of_memory, CommitAnswer, AnswersCommits, commit_stops, worst}
-use Rattle.sc_hash.specs.declared.range.Range.{Range}
-use Rattle.sc_eval.specs.Conditions.{Condition}
-use Rattle.sc_update.specs.Updated.{AllGoOn}
+use Rattle.sc_journal.specs.Committed.{committed_now, commit_full, commit_out_of_memory, CommitAnswer, commit_stops}
+use Rattle.sc_update.specs.Updated as updates
+use Rattle.sc_update.specs.Updated.{UpdateEnd, finished, Ends}
 use Rattle.sc_get.specs.Got.{live, ReadsEach, live_writes}
-use Rattle.sc_fanout.specs.Searches.{LooksAtBuckets, ShowsFound}
+use Rattle.sc_fanout.specs.Searches.{Search, SearchPage, LooksAtBuckets, ShowsFound}
 use Rattle.sc_session.specs.Queries.{HaveCondition, HaveFault, IsRouteOf}
 use Rattle.sc_session.specs.Requests.{Asked, Select, not_built, refused, update, get, get_ids, select}
 
@@ -25,7 +24,7 @@ use Rattle.sc_session.specs.Requests.{Asked, Select, not_built, refused, update,
 abbrev pub refusal_after : Bool → List OrderAnswer → refusals.Refusal → Reply
 refusal_after versions answers refusal = record {
   status = refusals.status_of refusal;
-  body = error_text (refusals.status_of refusal) (refusals.message_of refusal) (adds_of answers) (deletes_of answers) versions;
+  body = error_text (refusals.status_of refusal) (refusals.message_of refusal) (accepted_adds answers) (accepted_deletes answers) versions;
 }
 
 -- a refusal by the request alone
@@ -42,7 +41,7 @@ memory_reply = refusal_reply refusals.memory
 
 -- the reply to an update that was done
 abbrev pub update_reply : Bool → List OrderAnswer → Reply
-update_reply versions answers = record { status = 200; body = update_text (adds_of answers) (deletes_of answers) versions }
+update_reply versions answers = record { status = 200; body = update_text (accepted_adds answers) (accepted_deletes answers) versions }
 
 -- the reply to a get, by the last write of the id
 abbrev pub get_reply : Option Write → Reply
@@ -67,23 +66,31 @@ refusal_of answer = by_outcome answer.order answer.outcome
     by_outcome order log_full = Some refusals.log_full
     by_outcome order out_of_memory = None
 
--- the reply to an update whose commits came to this
-abbrev pub commit_reply : Bool → List OrderAnswer → CommitOutcome → Reply
-commit_reply versions answers committed_now = update_reply versions answers
-commit_reply versions answers commit_full = refusal_after versions answers refusals.log_full
-commit_reply versions answers commit_out_of_memory = memory_reply
+-- what came of a request
+pub data Answer : Type 0 where
+  -- it was answered
+  replied : Reply → Answer
+  -- memory ran out
+  ran_out : Answer
 
--- The reply to an update. Its orders were all answered and went on; then every bucket was committed where that is asked for, and the
--- reply is by the worst that came of it. Or its orders ended at the last that was answered, and the reply says why.
-abbrev pub IsUpdateReply : Layout → Seen → Flags → List Order → List OrderAnswer → List CommitAnswer → Reply → Type 0
-IsUpdateReply layout seen flags orders answers commits reply =
-    (AllGoOn flags.fail_on_conflict orders answers
-    × (((flags.commit ≡ false) × (commits ≡ []) × (reply ≡ update_reply flags.versions answers))
-    ⊎ ((flags.commit ≡ true) × AnswersCommits layout seen layout.buckets commits
-    × (reply ≡ commit_reply flags.versions answers (worst commits)))))
-    ⊎ ((before : List OrderAnswer) × (last : OrderAnswer) × (refusal : refusals.Refusal) × (answers ≡ before ++ last ∷ [])
-    × (goes_on flags.fail_on_conflict last.outcome ≡ false) × (refusal_of last ≡ Some refusal) × (commits ≡ [])
-    × (reply ≡ refusal_after flags.versions answers refusal))
+-- the reply that is written
+abbrev pub reply_of : Answer → Reply
+reply_of (replied reply) = reply
+reply_of ran_out = memory_reply
+
+-- the answer to an update that was refused for this reason, where there is one; else memory ran out
+abbrev pub refusal_answer : Bool → List OrderAnswer → Option refusals.Refusal → Answer
+refusal_answer versions answers (Some refusal) = replied (refusal_after versions answers refusal)
+refusal_answer versions answers None = ran_out
+
+-- The answer to an update, by the answers to its orders and by how it ended: its orders went on to their end, and it is by the
+-- worst that came of its commits; or they ended at the last that was answered, and it says why.
+abbrev pub update_answer : Bool → List OrderAnswer → UpdateEnd → Answer
+update_answer versions answers (finished committed_now) = replied (update_reply versions answers)
+update_answer versions answers (finished commit_full) = refusal_answer versions answers (Some refusals.log_full)
+update_answer versions answers (finished commit_out_of_memory) = ran_out
+update_answer versions answers (updates.refused last) = refusal_answer versions answers (refusal_of last)
+update_answer versions answers updates.ran_out = ran_out
 
 -- what a request left: the answers to its orders, the commits, the timestamps that were read for it and the stops that were kept
 pub record Trace : Type 0 where
@@ -100,15 +107,13 @@ read_trace stops = record { answers = []; commits = []; timestamps = []; stops =
 abbrev pub no_trace : Trace
 no_trace = read_trace []
 
--- the timestamps and the stops are those of the orders' answers, and then of the commits
-pub record IsOfUpdate (trace : Trace) : Type 0 where
-  pub timestamps_are : trace.timestamps ≡ timestamps_of trace.answers
-  pub stops_are : trace.stops ≡ stops_of trace.answers ++ commit_stops trace.commits
-
--- the orders of a batch were answered in turn
-pub record AnswersBatch (layout : Layout) (seen : Seen) (fail : Bool) (orders : List Order) (trace : Trace) : Type 0 where
-  pub answered : AnswersOrders layout seen fail orders trace.answers
-  pub of_update : IsOfUpdate trace
+-- A batch ended so: its orders were answered in turn, and then its buckets were committed, if they were. The timestamps and the
+-- stops are those of the orders' answers, and then of the commits.
+pub record EndsBatch (layout : Layout) (seen : Seen) (batch : Batch) (trace : Trace) (how : UpdateEnd) : Type 0 where
+  pub answered : AnswersOrders layout seen batch.flags.fail_on_conflict batch.orders trace.answers
+  pub ends : Ends layout seen batch trace.answers trace.commits how
+  pub timestamps_are : trace.timestamps ≡ order_timestamps trace.answers
+  pub stops_are : trace.stops ≡ order_stops trace.answers ++ commit_stops trace.commits
 
 -- the ids were each read at a stop
 pub record ReadsIds (layout : Layout) (ids : List (List ℕ)) (trace : Trace) (stops : List Stop) : Type 0 where
@@ -117,26 +122,24 @@ pub record ReadsIds (layout : Layout) (ids : List (List ℕ)) (trace : Trace) (s
 
 -- The reply to a search that has a condition: the buckets were looked at, and the page is of all that the search finds there.
 pub record IsSelected (layout : Layout) (seen : Seen) (ask : Select) (trace : Trace) (reply : Reply) : Type 0 where
-  pub condition : Condition
-  pub asks : HaveCondition ask.queries condition
-  pub route : Option Range
-  pub route_is : IsRouteOf ask.route route
-  pub stops : List Stop
-  pub trace_is : trace ≡ read_trace stops
-  pub looks : LooksAtBuckets layout.buckets stops
-  pub found : ℕ
-  pub docs : List Write
-  pub shows : ShowsFound layout seen stops condition route ask.start ask.rows found docs
-  pub reply_is : reply ≡ select_reply found ask.start docs
+  pub search : Search
+  pub page : SearchPage
+  pub asks : HaveCondition ask.queries search.condition
+  pub route_is : IsRouteOf ask.route search.route
+  pub trace_is : trace ≡ read_trace search.stops
+  pub looks : LooksAtBuckets layout.buckets search.stops
+  pub start_is : page.start ≡ ask.start
+  pub rows_is : page.rows ≡ ask.rows
+  pub shows : ShowsFound layout seen search page
+  pub reply_is : reply ≡ select_reply page.found page.start page.docs
 
 -- the reply to what was asked, with the trace that the request left; a refused request looks at no journal
 abbrev pub IsReply : Layout → Seen → Asked → Trace → Reply → Type 0
 IsReply layout seen not_built trace reply = (trace ≡ no_trace) × (reply ≡ not_built_reply)
 IsReply layout seen (refused refusal) trace reply = (trace ≡ no_trace) × (reply ≡ refusal_reply refusal)
-IsReply layout seen (update batch) trace reply =
-    (orders : List Order) × (map order_asked orders ≡ batch.orders)
-    × AnswersBatch layout seen batch.flags.fail_on_conflict orders trace
-    × IsUpdateReply layout seen batch.flags orders trace.answers trace.commits reply
+IsReply layout seen (update asked) trace reply =
+    (batch : Batch) × (how : UpdateEnd) × (update_of batch ≡ asked) × EndsBatch layout seen batch trace how
+    × (update_answer batch.flags.versions trace.answers how ≡ replied reply)
 IsReply layout seen (get id) trace reply =
     (stop : Stop) × ReadsIds layout (id ∷ []) trace (stop ∷ []) × (reply ≡ get_reply (last_write (journal_at seen stop) id))
 IsReply layout seen (get_ids ids) trace reply =
@@ -145,20 +148,19 @@ IsReply layout seen (select ask) trace reply =
     ((at : ℕ) × HaveFault ask.queries at × (trace ≡ no_trace) × (reply ≡ refusal_reply (refusals.bad_query at)))
     ⊎ IsSelected layout seen ask trace reply
 
--- What stands where memory ran out: the orders of an update that were answered before, and its commits; of a get the looks at its
--- ids' journals up to there, and of a search those at the buckets; of a request that looks at no journal nothing.
+-- What stands where memory ran out: of an update the orders that were answered before and its commits, as it ended; of a get the
+-- looks at its ids' journals up to there, and of a search those at the buckets; of a request that looks at no journal nothing.
 abbrev pub Stands : Layout → Seen → Asked → Trace → Type 0
 Stands layout seen not_built trace = trace ≡ no_trace
 Stands layout seen (refused refusal) trace = trace ≡ no_trace
-Stands layout seen (update batch) trace =
-    (trace ≡ no_trace)
-    ⊎ ((orders : List Order) × (map order_asked orders ≡ batch.orders) × AnswersBatch layout seen batch.flags.fail_on_conflict orders trace
-    × ((trace.commits ≡ []) ⊎ AnswersCommits layout seen layout.buckets trace.commits))
+Stands layout seen (update asked) trace =
+    (trace ≡ no_trace) ⊎ ((batch : Batch) × (how : UpdateEnd) × (update_of batch ≡ asked) × EndsBatch layout seen batch trace how)
 Stands layout seen (get id) trace = (stops : List Stop) × ReadsIds layout (id ∷ []) trace stops
 Stands layout seen (get_ids ids) trace = (stops : List Stop) × ReadsIds layout ids trace stops
 Stands layout seen (select ask) trace =
-    (stops : List Stop) × (count : ℕ) × (trace ≡ read_trace stops) × LooksAtBuckets count stops
+    (stops : List Stop) × (count : ℕ) × (count ≤ layout.buckets) × (trace ≡ read_trace stops) × LooksAtBuckets count stops
 
--- the reply where memory ran out
-abbrev pub IsOutOfMemory : Layout → Seen → Asked → Trace → Reply → Type 0
-IsOutOfMemory layout seen asked trace reply = (reply ≡ memory_reply) × Stands layout seen asked trace
+-- what was asked was answered by the journals that were seen, at the trace's stops; or memory ran out
+abbrev pub IsAnswer : Layout → Seen → Asked → Trace → Answer → Type 0
+IsAnswer layout seen asked trace (replied reply) = IsReply layout seen asked trace reply
+IsAnswer layout seen asked trace ran_out = Stands layout seen asked trace

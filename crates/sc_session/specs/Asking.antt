@@ -1,11 +1,14 @@
 -- What the code reads of a request, as the definitions see it.
-use Rattle.std.specs.Prelude.{◌≤◌, ◌<◌, ◌^◌, length, IfSome, ⊤}
+use Rattle.std.specs.Prelude.{◌≡◌, ◌≤◌, ◌<◌, ◌^◌, List, length, IfSome, ⊤}
 use Rattle.sc_reply.specs.Refusals as refusals
 use Rattle.sc_commands.specs.Updates.{update_of, order_limit}
+use Rattle.sc_model.specs.declared.message.Param.{Param}
 use Rattle.sc_session.specs.Requests as asking
 use Rattle.sc_session.specs.declared.asked.Asked.{Asked}
 use Rattle.sc_session.specs.declared.asked.Asked.TheVariants as asks
 use Rattle.sc_session.specs.declared.select.Select.{Select}
+use Rattle.sc_session.specs.declared.select.SelectFault.{SelectFault}
+use Rattle.sc_session.specs.declared.select.SelectFault.TheVariants as select_faults
 use Rattle.sc_session.specs.declared.asked.Refused.{Refused}
 use Rattle.sc_session.specs.declared.asked.Refused.TheVariants as refuses
 
@@ -18,6 +21,11 @@ refused_of (refuses.Command fault) = asking.command_refusal fault
 -- a search that is asked for
 abbrev pub select_of : Select → asking.Select
 select_of select = record { queries = select.queries; route = select.route; start = select.start; rows = select.rows }
+
+-- the parameters ask for no search for this fault, or memory ran out
+abbrev pub RefusesSearch : List Param → SelectFault → Type 0
+RefusesSearch params (select_faults.BadParam name) = asking.asked_search params ≡ asking.bad_parameter name.now
+RefusesSearch params select_faults.Memory = ⊤
 
 -- what a request asks for
 abbrev pub asked_of : Asked → asking.Asked

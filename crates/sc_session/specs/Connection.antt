@@ -1,55 +1,76 @@
 -- What a whole connection is: its requests, their answers and how it ends.
-use Rattle.std.specs.Prelude.{◌≡◌, ◌≢◌, ◌⊎◌, ℕ, ◌==◌, Bool, true, false, ◌||◌, List, [], ◌∷◌, ◌++◌, length, map, nat_le, if◌then◌else◌, ⊤}
+use Rattle.std.specs.Prelude.{◌≡◌, ◌≢◌, ◌⊎◌, ℕ, Bool, true, false, List, [], ◌∷◌, ◌++◌, length, map, if◌then◌else◌, Option, Some, None, is_some, ⊤}
 use Rattle.std.specs.List.{flat_map}
 use mathlib.Core.List.{IsPrefix}
 use Rattle.sc_session.specs.Requests.{asked}
 use Rattle.sc_reply.specs.Refusals as refusals
-use Rattle.sc_model.specs.Replies.{Reply, text_of}
+use Rattle.sc_model.specs.Replies.{text_of}
 use Rattle.sc_model.specs.Messages.{ReadsMessage, HasNoMessage, Ending, done, cut, bad_head, too_large, not_built, EndsSo, ReadsMessages}
-use Rattle.sc_journal.specs.Seen.{Layout, Seen}
-use Rattle.sc_journal.specs.Batches.{OrderAnswer}
+use Rattle.sc_journal.specs.Seen.{Layout, Seen, FromNowOn, GoesOn}
+use Rattle.sc_journal.specs.Batches.{WritesOnce}
 use Rattle.sc_journal.specs.declared.stop.Stop.{Stop}
-use Rattle.sc_collection.specs.declared.trail.TheConstants.{MAX_REQUESTS, MAX_STOPS}
-use Rattle.sc_session.specs.Answers.{Trace, refusal_reply, not_built_reply, memory_reply, IsReply, IsOutOfMemory}
+use Rattle.sc_collection.specs.Kept.{are_enough}
+use Rattle.sc_session.specs.Answers.{Answer, replied, ran_out, Trace, IsAnswer, reply_of, refusal_reply, not_built_reply, memory_reply}
 use Rattle.sc_model.specs.declared.message.Incoming.{Incoming}
 use Rattle.sc_session.specs.declared.end.End.{End}
 use Rattle.sc_session.specs.declared.end.End.TheVariants as ends
 
--- a request with the trace that it left and its reply
+-- a request with the trace that it left and what it was answered, and what was seen of the collection once it was
 pub record Exchange : Type 0 where
   pub request : Incoming
   pub trace : Trace
-  pub reply : Reply
+  pub answer : Answer
+  pub seen : Seen
 
--- the reply is that of the journals seen; where memory ran out it is the one that says so
-abbrev pub IsAnswered : Layout → Seen → Exchange → Type 0
-IsAnswered layout seen x =
-    IsReply layout seen (asked x.request) x.trace x.reply
-    ⊎ IsOutOfMemory layout seen (asked x.request) x.trace x.reply
+-- One exchange, after this was seen. What was seen went on by its stops: of each lock the last is at the end of what was seen
+-- there. It is answered as was asked, by all that is seen from then on, and of the entries that its stops made the writes are
+-- those of the orders that it accepted.
+pub record IsExchange (layout : Layout) (old : Seen) (x : Exchange) : Type 0 where
+  pub goes : GoesOn layout old x.seen x.trace.stops
+  pub answered : FromNowOn x.seen (λ later. IsAnswer layout later (asked x.request) x.trace x.answer)
+  pub once : FromNowOn x.seen (λ later. WritesOnce later x.trace.stops x.trace.answers)
+
+-- exchanges one after another, from what was seen before them to what is seen after them
+abbrev pub AreExchanges : Layout → Seen → List Exchange → Seen → Type 0
+AreExchanges layout old [] new = new ≡ old
+AreExchanges layout old (x ∷ exchanges) new = IsExchange layout old x × AreExchanges layout x.seen exchanges new
 
 -- the stops of exchanges, in order
 abbrev pub stops_of : List Exchange → List Stop
 stops_of exchanges = flat_map (λ (x : Exchange). x.trace.stops) exchanges
 
--- memory ran out: this status says so, and no other reply has it
-abbrev pub is_out_of_memory : Reply → Bool
-is_out_of_memory reply = reply.status == 503
+-- the timestamps that were read for exchanges, in order
+abbrev pub timestamps_of : List Exchange → List ℕ
+timestamps_of exchanges = flat_map (λ (x : Exchange). x.trace.timestamps) exchanges
+
+-- memory ran out
+abbrev pub is_out_of_memory : Answer → Bool
+is_out_of_memory (replied reply) = false
+is_out_of_memory ran_out = true
 
 -- these exchanges have reached a limit of their connection
 abbrev pub is_at_limit : List Exchange → Bool
-is_at_limit exchanges = nat_le MAX_REQUESTS (length exchanges) || nat_le MAX_STOPS (length (stops_of exchanges))
+is_at_limit exchanges = are_enough (length exchanges) (length (stops_of exchanges))
 
--- the connection is closed after an exchange that comes after these
-abbrev pub closes_after : List Exchange → Exchange → Bool
-closes_after before x = is_out_of_memory x.reply || x.request.close || is_at_limit (before ++ x ∷ [])
+-- how a connection ends after a request, if it does: memory ran out, the request asked for it, or it was the last that may be
+abbrev pub end_after : Answer → (close full : Bool) → Option End
+end_after answer close full =
+    if is_out_of_memory answer then Some ends.Memory
+    else (if close then Some ends.Closed
+    else (if full then Some ends.Limit
+    else None))
+
+-- how the connection ends after an exchange that comes after these, if it does
+abbrev pub end_at : List Exchange → Exchange → Option End
+end_at before x = end_after x.answer x.request.close (is_at_limit (before ++ x ∷ []))
 
 -- each exchange leaves the connection open
 abbrev pub StaysOpen : List Exchange → Type 0
-StaysOpen exchanges = (before : List Exchange) (x : Exchange) (after : List Exchange) → exchanges ≡ before ++ x ∷ after → closes_after before x ≡ false
+StaysOpen exchanges = (before : List Exchange) (x : Exchange) (after : List Exchange) → exchanges ≡ before ++ x ∷ after → end_at before x ≡ None
 
 -- the bytes of replies after which the connection stays open
 abbrev pub texts_of : List Exchange → List ℕ
-texts_of exchanges = flat_map (λ (x : Exchange). text_of x.reply false) exchanges
+texts_of exchanges = flat_map (λ (x : Exchange). text_of (reply_of x.answer) false) exchanges
 
 -- what comes after the last exchange that left the connection open
 pub data Last : Type 0 where
@@ -69,43 +90,25 @@ last_text before (ended cut) = []
 last_text before (ended bad_head) = text_of (refusal_reply refusals.bad_head) true
 last_text before (ended too_large) = text_of (refusal_reply refusals.too_large) true
 last_text before (ended not_built) = text_of not_built_reply true
-last_text before (answered x) = text_of x.reply (closes_after before x)
+last_text before (answered x) = text_of (reply_of x.answer) (is_some (end_at before x))
 last_text before out_of_memory = text_of memory_reply true
 last_text before read_failed = []
 
--- the end of a connection, once its last reply is written
-abbrev pub end_of : Last → End
-end_of (ended done) = ends.Done
-end_of (ended cut) = ends.Cut
-end_of (ended bad_head) = ends.BadHead
-end_of (ended too_large) = ends.TooLarge
-end_of (ended not_built) = ends.BadHead
-end_of (answered x) = if is_out_of_memory x.reply then ends.Memory else (if x.request.close then ends.Closed else ends.Limit)
-end_of out_of_memory = ends.Memory
-end_of read_failed = ends.ReadFault
+-- the end of a connection, once its last reply is written; an exchange with which it stays open is not the last
+abbrev pub end_of : List Exchange → Last → Option End
+end_of before (ended done) = Some ends.Done
+end_of before (ended cut) = Some ends.Cut
+end_of before (ended bad_head) = Some ends.BadHead
+end_of before (ended too_large) = Some ends.TooLarge
+end_of before (ended not_built) = Some ends.BadHead
+end_of before (answered x) = end_at before x
+end_of before out_of_memory = Some ends.Memory
+end_of before read_failed = Some ends.ReadFault
 
--- an exchange after which a connection ends closes it
-abbrev pub Closes : List Exchange → Last → Type 0
-Closes before (answered x) = closes_after before x ≡ true
-Closes before last = ⊤
-
--- the stops, the timestamps and the orders' answers of what came last
-abbrev pub stops_of_last : Last → List Stop
-stops_of_last (answered x) = x.trace.stops
-stops_of_last last = []
-
-abbrev pub timestamps_of_last : Last → List ℕ
-timestamps_of_last (answered x) = x.trace.timestamps
-timestamps_of_last last = []
-
-abbrev pub answers_of_last : Last → List OrderAnswer
-answers_of_last (answered x) = x.trace.answers
-answers_of_last last = []
-
--- what came last is answered as it is to be
-abbrev pub IsLastAnswered : Layout → Seen → Last → Type 0
-IsLastAnswered layout seen (answered x) = IsAnswered layout seen x
-IsLastAnswered layout seen last = ⊤
+-- the exchange that came last, if one did
+abbrev pub exchanges_of : Last → List Exchange
+exchanges_of (answered x) = x ∷ []
+exchanges_of last = []
 
 -- After the exchanges, the bytes are what came last says. `more` is what the source has not given yet: where it failed,
 -- no request is whole in what it gave.
@@ -123,7 +126,7 @@ pub record IsReadFrom (bytes more : List ℕ) (exchanges : List Exchange) (last 
 
 -- the end is that of what came last, or the sink failed
 abbrev pub HasEnd : End → List Exchange → Last → Type 0
-HasEnd end before last = ((end ≡ end_of last) × Closes before last) ⊎ (end ≡ ends.WriteFault)
+HasEnd end before last = (end_of before last ≡ Some end) ⊎ (end ≡ ends.WriteFault)
 
 -- each reply was written, or the sink failed after a prefix of the last one
 abbrev pub IsWritten : End → List Exchange → Last → List ℕ → List ℕ → Type 0

@@ -1,10 +1,7 @@
 -- What a request asks for.
-use Rattle.std.specs.Prelude.{ℕ, ℤ, pos, negsuc, ◌-◌, ◌^◌, ◌==◌, filter, map, Bool, true, false, not, ◌&&◌, ◌||◌, List, [], ◌∷◌, length, codes, nat_lt, nat_le, if◌then◌else◌, Option, Some, None, is_some, option_map, find, Result, Ok, Err}
+use Rattle.std.specs.Prelude.{ℕ, ◌-◌, ◌==◌, Bool, true, false, not, ◌&&◌, ◌||◌, List, [], ◌∷◌, length, codes, nat_lt, nat_le, if◌then◌else◌, Option, Some, None, is_some, Result, Ok, Err}
 use Rattle.std.specs.List.{list_any, list_all, slice_split}
-use Rattle.std.specs.Option.{option_map_or, option_and_then, unwrap_or}
 use Rattle.std.specs.Str.{bytes_eq}
-use Rattle.sc_record.specs.declared.id.TheConstants.{MAX_ID_LENGTH}
-use Rattle.sc_schema.specs.Values.{number_text}
 use Rattle.sc_schema.specs.declared.fault.DocFault.{DocFault}
 use Rattle.sc_schema.specs.declared.fault.DocFault.TheVariants as documents
 use Rattle.sc_commands.specs.declared.batch.Flags.{Flags}
@@ -16,14 +13,7 @@ use Rattle.sc_model.specs.declared.message.Incoming.{Incoming}
 use Rattle.sc_model.specs.declared.message.Method.{Method}
 use Rattle.sc_model.specs.declared.message.Method.TheVariants as methods
 use Rattle.sc_model.specs.declared.message.Param.{Param}
-
--- the value of the first parameter of a name
-abbrev pub parameter : List ℕ → List Param → Option (List ℕ)
-parameter name params = option_map (λ (param : Param). param.value) (find (λ (param : Param). bytes_eq param.name name) params)
-
--- the first parameter of the name has this value
-abbrev pub is_set_to : List ℕ → List ℕ → List Param → Bool
-is_set_to value name params = option_map_or (λ found. bytes_eq found value) (parameter name params) false
+use Rattle.sc_session.specs.Parameters.{parameter, is_set_to, count_of, query_texts, other_fault}
 
 -- a search that is asked for: the texts of its queries, the text of its route, and the page that is to be shown
 pub record Select : Type 0 where
@@ -90,9 +80,13 @@ asked_update request =
     then asked_batch (asked_by (flags_of request.params) request.body)
     else not_built
 
+-- the most bytes of an id
+abbrev pub id_limit : ℕ
+id_limit = 512
+
 -- the text is an id
 abbrev pub is_id : List ℕ → Bool
-is_id text = nat_lt 0 (length text) && nat_le (length text) MAX_ID_LENGTH
+is_id text = nat_lt 0 (length text) && nat_le (length text) id_limit
 
 -- what a parameter that names an id asks for; a faulty one beside `ids` is told as `ids`
 abbrev pub asked_id : List ℕ → List Param → Asked
@@ -127,16 +121,6 @@ asked_params params = by_id params (parameter (codes "id") params) (parameter (c
 abbrev pub asked_get : Incoming → Asked
 asked_get request = if is_get request.method && not request.encoded then asked_params request.params else not_built
 
--- the number is a whole one from 0 to the greatest
-abbrev pub within_count : ℕ → ℤ → Option ℕ
-within_count most (pos n) = if nat_le n most then Some n else None
-within_count most (negsuc n) = None
-
--- the count that a parameter gives, from 0 to the greatest; the usual one where it is not there
-abbrev pub count_of : (usual most : ℕ) → Option (List ℕ) → Option ℕ
-count_of usual most None = Some usual
-count_of usual most (Some text) = option_and_then (within_count most) (number_text text)
-
 -- the most rows of a page, the number of rows where none is given, and the end of the last page
 abbrev pub most_rows : ℕ
 most_rows = 1000
@@ -146,30 +130,6 @@ usual_rows = 10
 
 abbrev pub last_row : ℕ
 last_row = 100000
-
--- the first parameter of the name has another value than this
-abbrev pub is_other_than : List ℕ → List ℕ → List Param → Bool
-is_other_than value name params = option_map_or (λ found. not (bytes_eq found value)) (parameter name params) false
-
--- the texts of all queries: `q`, which is empty where it is not there, and then each `fq` in order
-abbrev pub query_texts : List Param → List (List ℕ)
-query_texts params =
-    unwrap_or (parameter (codes "q") params) []
-    ∷ map (λ (param : Param). param.value) (filter (λ (param : Param). bytes_eq param.name (codes "fq")) params)
-
--- there is a route that is none: it has no byte, or 2^32 and more, which no head has
-abbrev pub has_bad_route : List Param → Bool
-has_bad_route params =
-    option_map_or (λ route. nat_le (length route) 0 || nat_le (2 ^ 32) (length route)) (parameter (codes "_route_") params) false
-
--- the first parameter after `rows` and `start` that has no such value
-abbrev pub other_fault : List Param → Option (List ℕ)
-other_fault params =
-    if has_bad_route params then Some (codes "_route_")
-    else (if is_other_than (codes "id asc") (codes "sort") params then Some (codes "sort")
-    else (if is_some (parameter (codes "fl") params) then Some (codes "fl")
-    else (if is_other_than (codes "json") (codes "wt") params then Some (codes "wt")
-    else None)))
 
 -- a parameter of this name has no such value
 abbrev pub bad_parameter : List ℕ → Asked

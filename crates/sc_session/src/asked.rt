@@ -1,11 +1,12 @@
 ghost use Rattle.std.specs.Prelude.{◌≡◌, ◌||◌, ◌&&◌, not, List, IfOk, Some, None, if◌then◌else◌, codes, is_some};
 ghost use Rattle.sc_model.specs.declared.message.Param.{Param};
+ghost use Rattle.sc_session.specs.Parameters as parameters;
 ghost use Rattle.sc_session.specs.Requests as asking;
 ghost use Rattle.sc_session.specs.Asking.{asked_of, refused_of, IsWithinLimits};
 ghost use Rattle.sc_reply.specs.Causes.{refusal_of};
 
 use crate::params::{is_set_to, parameter};
-use crate::select::Select;
+use crate::select::{Select, SelectFault};
 use sc_commands::{Batch, CommandFault, Flags, read_update};
 use sc_http::{Incoming, Method, Param};
 use sc_record::{Id, IdFault, List, Text};
@@ -159,7 +160,7 @@ fn asked_get(alloc: Global, request: &Incoming) -> Result<Asked, AllocError>
 
 /// What a parameter that names an id asks for; a faulty one beside `ids` is told as `ids`.
 fn asked_id(alloc: Global, id: &Text, beside_ids: bool) -> Result<Asked, AllocError>
-    ensures asked { IfOk result (λ answer. (params : List Param) → is_some (asking.parameter (codes "ids") params) ≡ beside_ids
+    ensures asked { IfOk result (λ answer. (params : List Param) → is_some (parameters.parameter (codes "ids") params) ≡ beside_ids
         → asked_of answer ≡ asking.asked_id id.now params) }
     ensures limits { IfOk result IsWithinLimits }
 {
@@ -209,8 +210,9 @@ fn asked_select(alloc: Global, request: &Incoming) -> Result<Asked, AllocError>
     if request.method != Method::Get || request.encoded {
         return Ok(Asked::NotBuilt);
     }
-    match Select::of(alloc, request.params.as_slice())? {
+    match Select::of(alloc, request.params.as_slice()) {
         Ok(select) => Ok(Asked::Select(select)),
-        Err(name) => Ok(Asked::Refused(Refused::BadParam(name))),
+        Err(SelectFault::BadParam(name)) => Ok(Asked::Refused(Refused::BadParam(name))),
+        Err(SelectFault::Memory) => Err(AllocError),
     }
 }

@@ -1,22 +1,25 @@
-ghost use Rattle.std.specs.Prelude.{◌≡◌, ◌≢◌, ◌↔◌, ◌<◌, [], length, true, ◌||◌, if◌then◌else◌, Some, None, IsSome};
+ghost use Rattle.std.specs.Prelude.{◌≡◌, ◌≢◌, ◌↔◌, [], false, Some, None, IsSome};
 ghost use Rattle.sc_model.specs.Replies as replies;
-ghost use Rattle.sc_journal.specs.Seen.{AreLegal};
-ghost use Rattle.sc_collection.specs.declared.trail.TheConstants.{MAX_REQUESTS, MAX_STOPS};
-ghost use Rattle.sc_session.specs.Connection.{end_of, last_text};
+ghost use Rattle.sc_router.specs.Route.{IsBucketCount};
+ghost use Rattle.sc_journal.specs.Moments.{moment_of};
+ghost use Rattle.sc_collection.specs.Desks.{IsAtRest};
+ghost use Rattle.sc_collection.specs.Kept.{is_full};
+ghost use Rattle.sc_session.specs.Connection.{end_after, end_of, last_text};
+ghost use Rattle.sc_session.specs.States.{CountsFault};
 ghost use Rattle.sc_session.specs.Served.{IsServed};
 ghost use Rattle.sc_session.specs.Ends.{last_without_request};
-ghost use Rattle.sc_session.specs.Serving.{EndsWriting, Exchanges, Replies, is_at_end};
-ghost use Rattle.sc_session.specs.Answering.{reply_of};
+ghost use Rattle.sc_session.specs.Serving.{EndsWriting, Exchanges, Responds};
+ghost use Rattle.sc_session.specs.Answering.{answer_of};
 
 use crate::answer::answer;
 use crate::end::End;
 use crate::fixed;
 use crate::reply::Reply;
-use sc_collection::{Desk, MAX_REQUESTS, MAX_STOPS, Trail};
+use sc_collection::{Desk, Trail};
 use sc_http::{Incoming, MessageEnd, Reader, write_reply};
 use sc_io::{Clock, Sink, Source};
 use sc_reply::memory_body;
-use std::alloc::Global;
+use std::alloc::{AllocError, Global};
 
 /// Serves one connection: reads its requests, answers each over the desk and writes the answers, up to its end. The trail keeps
 /// the stops at which it read and wrote.
@@ -31,17 +34,26 @@ pub fn serve<D: Desk, C: Clock, S: Source, W: Sink>(
     requires trail { trail.old ≡ record { stops = []; requests = 0 } }
     requires nothing_out { D.out desk.old ≡ None }
     ensures connection { IsServed C.gives (D.layout desk.old)
-        (record { seen = D.seen desk.old; clock = clock.old; unread = S.rest source.old; written = W.written sink.old })
-        (record { seen = D.seen desk.new; clock = clock.new; unread = S.rest source.new; written = W.written sink.new })
-        trail.new.stops result }
+        (record {
+          moment = moment_of (D.seen desk.old) trail.old.stops clock.old;
+          requests = trail.old.requests;
+          unread = S.rest source.old;
+          written = W.written sink.old;
+          read_faults = S.faults source.old;
+          write_faults = W.faults sink.old;
+        })
+        (record {
+          moment = moment_of (D.seen desk.new) trail.new.stops clock.new;
+          requests = trail.new.requests;
+          unread = S.rest source.new;
+          written = W.written sink.new;
+          read_faults = S.faults source.new;
+          write_faults = W.faults sink.new;
+        }) result }
     ensures layout { D.layout desk.new ≡ D.layout desk.old }
     ensures nothing_out { D.out desk.new ≡ None }
-    ensures read_fault { result ≡ End.ReadFault → S.faults source.old < S.faults source.new }
-    ensures no_read_fault { result ≢ End.ReadFault → S.faults source.new ≡ S.faults source.old }
-    ensures write_fault { result ≡ End.WriteFault → W.faults sink.old < W.faults sink.new }
-    ensures no_write_fault { result ≢ End.WriteFault → W.faults sink.new ≡ W.faults sink.old }
 {
-    let _ = desk.buckets(); // by it the proof knows that what was seen is legal
+    let _ = desk.buckets(); // by it the proof knows how many there may be, and that what was seen is legal
     let mut reader = match Reader::new(alloc) {
         Ok(reader) => reader,
         Err(_) => return end_with(sink, MessageEnd::Memory),
@@ -67,74 +79,72 @@ fn exchange<D: Desk, C: Clock, W: Sink>(
     trail: &mut Trail,
     request: &Incoming,
 ) -> Option<End>
-    requires nothing_out { D.out desk.old ≡ None }
-    requires requests { trail.old.requests < MAX_REQUESTS }
-    requires stops { length trail.old.stops < MAX_STOPS }
-    ensures exchange { Exchanges C.gives (D.layout desk.old) request.now (D.seen desk.old) (D.seen desk.new) clock.old clock.new trail.old trail.new
-        (W.written sink.old) (W.written sink.new) result }
-    ensures legal { AreLegal (D.layout desk.new) (D.seen desk.new) }
+    requires rest { IsAtRest (D.layout desk.old) (D.out desk.old) (D.seen desk.old) }
+    requires buckets { IsBucketCount (D.layout desk.old).buckets }
+    requires open { is_full trail.old ≡ false }
+    ensures exchange { Exchanges C.gives (D.layout desk.old) request.now
+        (record {
+          moment = moment_of (D.seen desk.old) trail.old.stops clock.old;
+          requests = trail.old.requests;
+          unread = None;
+          written = W.written sink.old;
+          read_faults = 0;
+          write_faults = W.faults sink.old;
+        })
+        (record {
+          moment = moment_of (D.seen desk.new) trail.new.stops clock.new;
+          requests = trail.new.requests;
+          unread = None;
+          written = W.written sink.new;
+          read_faults = 0;
+          write_faults = W.faults sink.new;
+        }) result }
+    ensures rest { IsAtRest (D.layout desk.new) (D.out desk.new) (D.seen desk.new) }
     ensures layout { D.layout desk.new ≡ D.layout desk.old }
-    ensures nothing_out { D.out desk.new ≡ None }
-    ensures read_fault { result ≢ Some End.ReadFault }
-    ensures write_fault { result ≡ Some End.WriteFault → W.faults sink.old < W.faults sink.new }
-    ensures no_write_fault { result ≢ Some End.WriteFault → W.faults sink.new ≡ W.faults sink.old }
 {
-    let reply = answer(alloc, desk, clock, trail, request);
+    let answer = answer(alloc, desk, clock, trail, request);
     trail.count_request();
-    let memory = reply.is_out_of_memory();
-    let close = closes(memory, request.close, is_full(trail));
-    respond(sink, &reply, close, end_after(memory, request.close))
-}
-
-/// Whether the connection takes no further request.
-fn is_full(trail: &Trail) -> bool
-    ensures { result ≡ is_at_end trail.now }
-{
-    trail.requests() >= MAX_REQUESTS || trail.len() >= MAX_STOPS
-}
-
-/// Whether a connection is closed after a reply.
-fn closes(memory: bool, close: bool, full: bool) -> bool
-    ensures { result ≡ (memory || close || full) }
-{
-    memory || close || full
-}
-
-/// How a connection ends after a reply that closes it.
-fn end_after(memory: bool, close: bool) -> End
-    ensures { result ≡ (if memory then End.Memory else (if close then End.Closed else End.Limit)) }
-{
-    if memory {
-        End::Memory
-    } else if close {
-        End::Closed
-    } else {
-        End::Limit
+    let end = end_after(&answer, request.close, trail.is_full());
+    match &answer {
+        Ok(reply) => respond(sink, reply.status, reply.body.as_str(), end),
+        Err(_) => respond(sink, 503, memory_body(), end),
     }
 }
 
-/// Writes a reply. Reports the connection's end where it ends after it.
-fn respond<W: Sink>(sink: &mut W, reply: &Reply, close: bool, end: End) -> Option<End>
-    requires status { IsSome (replies.reason_of reply.now.status) }
-    requires no_fault { (end ≢ End.WriteFault) × (end ≢ End.ReadFault) }
-    ensures replies { Replies result end (reply_of reply.now) close (W.written sink.old) (W.written sink.new) }
-    ensures read_fault { result ≢ Some End.ReadFault }
-    ensures write_fault { result ≡ Some End.WriteFault → W.faults sink.old < W.faults sink.new }
-    ensures no_write_fault { result ≢ Some End.WriteFault → W.faults sink.new ≡ W.faults sink.old }
+/// How a connection ends after a request that was answered so, if it does.
+fn end_after(answer: &Result<Reply, AllocError>, close: bool, full: bool) -> Option<End>
+    ensures { result ≡ end_after (answer_of answer.now) close full }
 {
-    match write_reply(sink, reply.status, reply.body.as_str().as_bytes(), close) {
+    if answer.is_err() {
+        Some(End::Memory)
+    } else if close {
+        Some(End::Closed)
+    } else if full {
+        Some(End::Limit)
+    } else {
+        None
+    }
+}
+
+/// Writes a reply, after which the connection ends or stays open. Reports its end where it ends after it.
+fn respond<W: Sink>(sink: &mut W, status: u16, body: &str, end: Option<End>) -> Option<End>
+    requires status { IsSome (replies.reason_of status) }
+    requires no_fault { end ≢ Some End.WriteFault }
+    ensures replies { Responds result end (record { status = status; body = body.now }) (W.written sink.old) (W.written sink.new) }
+    ensures write_faults { CountsFault (result ≡ Some End.WriteFault) (W.faults sink.old) (W.faults sink.new) }
+{
+    match write_reply(sink, status, body.as_bytes(), end.is_some()) {
+        Ok(()) => end,
         Err(_) => Some(End::WriteFault),
-        Ok(()) if close => Some(end),
-        Ok(()) => None,
     }
 }
 
 /// Ends a connection of which no further request is read, with the reply that says why, where there is one.
 fn end_with<W: Sink>(sink: &mut W, end: MessageEnd) -> End
-    ensures ends { EndsWriting result (end_of (last_without_request end)) (last_text [] (last_without_request end)) (W.written sink.old) (W.written sink.new) }
+    ensures ends { let last = last_without_request end in
+        EndsWriting (Some result) (end_of [] last) (last_text [] last) (W.written sink.old) (W.written sink.new) }
     ensures read_fault { (result ≡ End.ReadFault) ↔ (end ≡ MessageEnd.ReadFault) }
-    ensures write_fault { result ≡ End.WriteFault → W.faults sink.old < W.faults sink.new }
-    ensures no_write_fault { result ≢ End.WriteFault → W.faults sink.new ≡ W.faults sink.old }
+    ensures write_faults { CountsFault (result ≡ End.WriteFault) (W.faults sink.old) (W.faults sink.new) }
 {
     match end {
         MessageEnd::Done => End::Done,
@@ -151,10 +161,9 @@ fn end_with<W: Sink>(sink: &mut W, end: MessageEnd) -> End
 fn last_reply<W: Sink>(sink: &mut W, status: u16, body: &str, end: End) -> End
     requires status { IsSome (replies.reason_of status) }
     requires no_fault { (end ≢ End.WriteFault) × (end ≢ End.ReadFault) }
-    ensures ends { EndsWriting result end (replies.text_of (record { status = status; body = body.now }) true) (W.written sink.old) (W.written sink.new) }
+    ensures ends { Responds (Some result) (Some end) (record { status = status; body = body.now }) (W.written sink.old) (W.written sink.new) }
     ensures read_fault { result ≢ End.ReadFault }
-    ensures write_fault { result ≡ End.WriteFault → W.faults sink.old < W.faults sink.new }
-    ensures no_write_fault { result ≢ End.WriteFault → W.faults sink.new ≡ W.faults sink.old }
+    ensures write_faults { CountsFault (result ≡ End.WriteFault) (W.faults sink.old) (W.faults sink.new) }
 {
     match write_reply(sink, status, body.as_bytes(), true) {
         Ok(()) => end,

@@ -1,12 +1,12 @@
 ghost use Rattle.std.specs.Prelude.{◌≡◌, option_copied};
-ghost use Rattle.sc_session.specs.Requests as asking;
+ghost use Rattle.sc_session.specs.Parameters as parameters;
 
 use sc_http::Param;
 use sc_record::Text;
 
 /// Whether the first parameter of the name has this value.
 pub(crate) fn is_set_to(value: &str, name: &str, params: &[Param]) -> bool
-    ensures { result ≡ asking.is_set_to value.now name.now params.now }
+    ensures { result ≡ parameters.is_set_to value.now name.now params.now }
 {
     match parameter(name, params) {
         Some(found) => found.as_str() == value,
@@ -16,7 +16,7 @@ pub(crate) fn is_set_to(value: &str, name: &str, params: &[Param]) -> bool
 
 /// Whether the first parameter of the name has another value than this.
 pub(crate) fn is_other_than(value: &str, name: &str, params: &[Param]) -> bool
-    ensures { result ≡ asking.is_other_than value.now name.now params.now }
+    ensures { result ≡ parameters.is_other_than value.now name.now params.now }
 {
     match parameter(name, params) {
         Some(found) => found.as_str() != value,
@@ -26,7 +26,7 @@ pub(crate) fn is_other_than(value: &str, name: &str, params: &[Param]) -> bool
 
 /// The value of the first parameter of this name.
 pub(crate) fn parameter<'a>(name: &str, params: &'a [Param]) -> Option<&'a Text>
-    ensures { option_copied result ≡ asking.parameter name.now params.now }
+    ensures { option_copied result ≡ parameters.parameter name.now params.now }
 {
     for param in params {
         if param.name.as_str() == name {

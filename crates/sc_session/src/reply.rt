@@ -1,4 +1,4 @@
-ghost use Rattle.std.specs.Prelude.{◌≡◌, ◌⊎◌, MatchResult, IsSome};
+ghost use Rattle.std.specs.Prelude.{◌≡◌, IsSome, IfOk};
 ghost use Rattle.sc_model.specs.Replies as replies;
 ghost use Rattle.sc_reply.specs.Bodies.{error_text};
 ghost use Rattle.sc_reply.specs.Refusals.{status_of, message_of};
@@ -6,7 +6,7 @@ ghost use Rattle.sc_reply.specs.Causes.{refusal_of};
 
 use crate::fixed;
 use sc_record::{Ack, List, Text};
-use sc_reply::{Cause, error_body, memory_body};
+use sc_reply::{Cause, error_body};
 use std::alloc::{AllocError, Global};
 
 /// A body, which is fixed or was made for its reply.
@@ -37,8 +37,7 @@ pub(crate) struct Reply {
 }
 
 impl Reply {
-    ghost use Rattle.sc_session.specs.Answers.{not_built_reply, memory_reply};
-    ghost use Rattle.sc_session.specs.Connection.{is_out_of_memory};
+    ghost use Rattle.sc_session.specs.Answers.{not_built_reply};
     ghost use Rattle.sc_session.specs.Answering.{reply_of};
 
     /// A reply with a fixed body.
@@ -51,20 +50,6 @@ impl Reply {
         }
     }
 
-    /// The reply where memory ran out.
-    pub(crate) fn memory() -> Reply
-        ensures { reply_of result ≡ memory_reply }
-    {
-        Reply::fixed(503, memory_body())
-    }
-
-    /// Whether memory ran out.
-    pub(crate) fn is_out_of_memory(&self) -> bool
-        ensures { result ≡ is_out_of_memory (reply_of self.now) }
-    {
-        self.status == 503
-    }
-
     /// The reply where this program does not do that yet.
     pub(crate) fn not_built() -> Reply
         ensures { reply_of result ≡ not_built_reply }
@@ -72,39 +57,31 @@ impl Reply {
         Reply::fixed(501, fixed::not_built_body())
     }
 
-    /// A reply with this body, unless memory ran out while it was made.
-    pub(crate) fn made(status: u16, body: Result<Text, AllocError>) -> Reply
-        ensures { MatchResult body (λ text. reply_of result ≡ record { status = status; body = text }) (λ _. reply_of result ≡ memory_reply) }
+    /// A reply with a body that was made.
+    pub(crate) fn made(status: u16, body: Text) -> Reply
+        ensures { reply_of result ≡ record { status = status; body = body } }
     {
-        match body {
-            Ok(text) => Reply {
-                status,
-                body: Body::Made(text),
-            },
-            Err(_) => Reply::memory(),
+        Reply {
+            status,
+            body: Body::Made(body),
         }
     }
 
-    /// A refusal, after these orders were accepted; or the reply where memory ran out.
+    /// A refusal, after these orders were accepted. An error means out of memory.
     pub(crate) fn refused(
         alloc: Global,
         cause: &Cause<'_>,
         adds: &List<Ack>,
         deletes: &List<Ack>,
         versions: bool,
-    ) -> Reply
+    ) -> Result<Reply, AllocError>
         ensures reply { let refusal = refusal_of cause.now in
-            (reply_of result ≡ record { status = status_of refusal; body = error_text (status_of refusal) (message_of refusal) adds.now deletes.now versions })
-            ⊎ (reply_of result ≡ memory_reply) }
-        ensures status { IsSome (replies.reason_of result.status) }
+            IfOk result (λ reply. reply_of reply ≡ record { status = status_of refusal; body = error_text (status_of refusal) (message_of refusal) adds.now deletes.now versions }) }
+        ensures status { IfOk result (λ reply. IsSome (replies.reason_of reply.status)) }
     {
         let status = cause.status();
-        match cause.message(alloc) {
-            Ok(message) => Reply::made(
-                status,
-                error_body(alloc, status, message.as_str(), adds, deletes, versions),
-            ),
-            Err(_) => Reply::memory(),
-        }
+        let message = cause.message(alloc)?;
+        let body = error_body(alloc, status, message.as_str(), adds, deletes, versions)?;
+        Ok(Reply::made(status, body))
     }
 }

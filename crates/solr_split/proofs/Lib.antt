@@ -1,5 +1,4 @@
 -- What the proofs of the arguments and of a run share.
 pub mod RunLemmas
-pub mod DigitLemmas
 pub mod SettingLemmas
 pub mod ShapeLemmas

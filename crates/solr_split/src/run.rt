@@ -1,8 +1,8 @@
-ghost use Rattle.std.specs.Prelude.{◌≡◌, ◌≢◌, ◌⊎◌, ◌<◌, ◌↔◌, [], map, IfOk, IfSome, None, string_bytes};
+ghost use Rattle.std.specs.Prelude.{◌≡◌, ◌<◌, ◌↔◌, map, IfOk, IfSome, None, string_bytes};
 ghost use Rattle.sc_session.specs.Served.{IsServed};
 ghost use Rattle.sc_collection.specs.Alone.{seen_of};
 ghost use Rattle.sc_collection.specs.Shapes.{IsShape, HasShape, SeesNothing};
-ghost use Rattle.solr_split.specs.Running.{RunsScript, clock_of, moment_of, status_of};
+ghost use Rattle.solr_split.specs.Running.{Runs, clock_of, state_of, none_kept, status_of};
 ghost use Rattle.solr_split.specs.Arguments.{script_of};
 
 use crate::arguments::script_of;
@@ -31,11 +31,10 @@ pub fn run<S: Source, W: Sink, C: Clock>(
     ensures nothing_done { script_of (map string_bytes arguments.now) ≡ None → (source.new ≡ source.old) × (sink.new ≡ sink.old) × (clock.new ≡ clock.old) }
 
     // A script serves one connection, unless memory ran out before it began.
-    ensures script { IfSome (script_of (map string_bytes arguments.now)) (λ script.
-        RunsScript script C.gives
-        (record { clock = clock.old; unread = S.rest source.old; written = W.written sink.old })
-        (record { clock = clock.new; unread = S.rest source.new; written = W.written sink.new }) result
-        ⊎ ((result ≡ 6) × (source.new ≡ source.old) × (sink.new ≡ sink.old) × (clock.new ≡ clock.old))) }
+    ensures script { IfSome (script_of (map string_bytes arguments.now)) (λ script. Runs script C.gives
+        (record { clock = clock.old; unread = S.rest source.old; written = W.written sink.old; read_faults = S.faults source.old; write_faults = W.faults sink.old })
+        (record { clock = clock.new; unread = S.rest source.new; written = W.written sink.new; read_faults = S.faults source.new; write_faults = W.faults sink.new })
+        ((source.new ≡ source.old) × (sink.new ≡ sink.old) × (clock.new ≡ clock.old)) result) }
     ensures read_fault { (result ≡ 4) ↔ (S.faults source.old < S.faults source.new) }
     ensures write_fault { (result ≡ 5) ↔ (W.faults sink.old < W.faults sink.new) }
 {
@@ -68,17 +67,12 @@ fn serve_script<D: Desk, S: Source, W: Sink, C: Clock>(
     clock: &mut C,
     trail: &mut Trail,
 ) -> End
-    requires trail { trail.old ≡ record { stops = []; requests = 0 } }
+    requires trail { trail.old ≡ none_kept }
     requires nothing_out { D.out desk.old ≡ None }
     ensures served { IsServed (clock_of timestamp C.gives) (D.layout desk.old)
-        (moment_of (D.seen desk.old) (record { clock = clock.old; unread = S.rest source.old; written = W.written sink.old }))
-        (moment_of (D.seen desk.new) (record { clock = clock.new; unread = S.rest source.new; written = W.written sink.new }))
-        trail.new.stops result }
+        (state_of (D.seen desk.old) trail.old (record { clock = clock.old; unread = S.rest source.old; written = W.written sink.old; read_faults = S.faults source.old; write_faults = W.faults sink.old }))
+        (state_of (D.seen desk.new) trail.new (record { clock = clock.new; unread = S.rest source.new; written = W.written sink.new; read_faults = S.faults source.new; write_faults = W.faults sink.new })) result }
     ensures layout { D.layout desk.new ≡ D.layout desk.old }
-    ensures read_fault { result ≡ End.ReadFault → S.faults source.old < S.faults source.new }
-    ensures no_read_fault { result ≢ End.ReadFault → S.faults source.new ≡ S.faults source.old }
-    ensures write_fault { result ≡ End.WriteFault → W.faults sink.old < W.faults sink.new }
-    ensures no_write_fault { result ≢ End.WriteFault → W.faults sink.new ≡ W.faults sink.old }
 {
     match timestamp {
         None => serve(alloc, desk, clock, source, sink, trail),
@@ -92,7 +86,7 @@ fn memory_of(alloc: Global, shape: &Shape) -> Result<(Alone, Trail), AllocError>
     ensures layout { IfOk result (λ memory. HasShape shape.now memory.0.layout) }
     ensures seen { IfOk result (λ memory. SeesNothing (seen_of memory.0)) }
     ensures out { IfOk result (λ memory. memory.0.out ≡ None) }
-    ensures trail { IfOk result (λ memory. memory.1 ≡ record { stops = []; requests = 0 }) }
+    ensures trail { IfOk result (λ memory. memory.1 ≡ none_kept) }
 {
     Ok((Alone::new(alloc, shape)?, Trail::new(alloc)?))
 }

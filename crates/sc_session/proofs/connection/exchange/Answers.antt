@@ -1,31 +1,51 @@
 -- One request is answered, and its reply written.
-use Rattle.std.proofs.Common.{◌≡◌, ◌+◌, Bool, ◌||◌, cond, refl, ap, ◌∙◌, subst}
-use Rattle.sc_collection.specs.Kept.{Kept}
-use Rattle.sc_session.specs.declared.end.End.{End}
-use Rattle.sc_session.specs.declared.end.End.TheVariants as ends
-use Rattle.sc_session.specs.Requests.{asked}
-use Rattle.sc_session.specs.Connection.{Exchange, answered, end_of, is_out_of_memory}
-use Rattle.sc_session.specs.Answering.{AnswersAsked, reply_of}
-use Rattle.sc_session.specs.Serving.{Replies, closes_by}
+use Rattle.std.proofs.Common.{◌≡◌, ◌+◌, List, ℕ, Result, None, refl, sym, ap, ◌∙◌, subst}
+use Rattle.std.specs.declared.alloc.AllocError.{AllocError}
+use Rattle.sc_collection.specs.Kept.{Kept, is_full}
+use Rattle.sc_model.specs.Replies as model
+use Rattle.sc_session.specs.Answers as answers
+use Rattle.sc_session.specs.Connection.{end_after}
+use Rattle.sc_session.specs.Serving.{Exchanges, Responds}
+use Rattle.sc_session.specs.Answering.{answer_of}
+use Rattle.sc_session.specs.declared.reply.Reply.{Reply}
+use Rattle.sc_session.proofs.OpenLemmas.{beside}
+use Rattle.sc_session.proofs.ServeLemmas.{exchanged}
 use Rattle.sc_session.proofs.connection.exchange.Goals as goal
+
+pub returns-in-Ok-clause-exchange : goal.returns-in-Ok-clause-exchange
+returns-in-Ok-clause-exchange g c =
+    let gives = g.C.Clock.gives in
+    let layout = g.D.Desk.layout c.args.desk.now in
+    let request = c.args.request.now in
+    let old = beside (g.D.Desk.seen c.args.desk.now) c.args.clock.now c.args.trail.now None (g.W.Sink.written c.args.sink.now) 0 (g.W.Sink.faults c.args.sink.now) in
+    let kept : Kept = record { stops = c.answer-answer.new.trail.stops; requests = c.answer-answer.new.trail.requests + 1 } in
+    let new = beside (g.D.Desk.seen c.answer-answer.new.desk) c.answer-answer.new.clock kept None (g.W.Sink.written c.respond.new.sink) 0 (g.W.Sink.faults c.respond.new.sink) in
+    let answer = answer_of c.answer-answer.result in
+    let reply : record { status = c.in-Ok.reply.status; body = c.as_str.result.now } ≡ answers.reply_of answer =
+    ap (λ (text : List ℕ). record { status = c.in-Ok.reply.status; body = text }) c.as_str.ensures
+    ∙ sym (ap (λ (r : Result Reply AllocError). answers.reply_of (answer_of r)) c.in-Ok.is) in
+    subst (λ (k : Kept). Exchanges gives layout request old (beside (g.D.Desk.seen c.answer-answer.new.desk) c.answer-answer.new.clock k None (g.W.Sink.written c.respond.new.sink) 0 (g.W.Sink.faults c.respond.new.sink)) c.respond.result) (sym c.count_request.ensures)
+    (exchanged gives layout request old new answer c.respond.result c.end_after-end.result c.answer-answer.ensures.answers
+    (ap (λ n. n + 1) c.answer-answer.ensures.requests)
+    (c.end_after-end.ensures ∙ ap (end_after answer request.close) (c.is_full.ensures ∙ ap is_full c.count_request.ensures))
+    (subst (λ (r : model.Reply). Responds c.respond.result c.end_after-end.result r old.written new.written) reply c.respond.ensures.replies)
+    c.respond.ensures.write_faults)
 
 pub returns-clause-exchange : goal.returns-clause-exchange
 returns-clause-exchange g c =
-    let answers : AnswersAsked g.C.Clock.gives (g.D.Desk.layout c.args.desk.now) (asked c.args.request.now) (g.D.Desk.seen c.args.desk.now) (g.D.Desk.seen c.answer-reply.new.desk) c.args.clock.now c.answer-reply.new.clock c.args.trail.now.stops c.answer-reply.new.trail.stops (reply_of c.answer-reply.result) = c.answer-reply.ensures.answers in
-    let x : Exchange = record { request = c.args.request.now; trace = answers.trace; reply = reply_of c.answer-reply.result } in
-    let memory : c.is_out_of_memory-memory.result ≡ is_out_of_memory (reply_of c.answer-reply.result) = c.is_out_of_memory-memory.ensures in
-    let end : c.end_after.result ≡ end_of (answered x) = c.end_after.ensures ∙ ap (λ b. cond b ends.Memory (cond c.args.request.now.close ends.Closed ends.Limit)) memory in
-    let close : c.closes-close.result ≡ closes_by x c.count_request.new.self = c.closes-close.ensures ∙ ap (λ b. b || c.args.request.now.close || c.is_full.result) memory ∙ ap (λ b. is_out_of_memory (reply_of c.answer-reply.result) || c.args.request.now.close || b) c.is_full.ensures in
-    let replies : Replies c.respond.result c.end_after.result (reply_of c.answer-reply.result) c.closes-close.result (g.W.Sink.written c.args.sink.now) (g.W.Sink.written c.respond.new.sink) = c.respond.ensures.replies in
-    record {
-      exchange = x;
-      asked = refl;
-      extends = answers.extends;
-      kept = ap (λ (k : Kept). k.stops) c.count_request.ensures ∙ answers.kept;
-      counted = ap (λ (k : Kept). k.requests) c.count_request.ensures ∙ ap (λ n. n + 1) c.answer-reply.ensures.requests;
-      given = answers.given;
-      is_answered = answers.answered;
-      once = answers.once;
-      replies = subst (λ (b : Bool). Replies c.respond.result (end_of (answered x)) x.reply b (g.W.Sink.written c.args.sink.now) (g.W.Sink.written c.respond.new.sink)) close
-          (subst (λ (e : End). Replies c.respond.result e x.reply c.closes-close.result (g.W.Sink.written c.args.sink.now) (g.W.Sink.written c.respond.new.sink)) end replies);
-    }
+    let gives = g.C.Clock.gives in
+    let layout = g.D.Desk.layout c.args.desk.now in
+    let request = c.args.request.now in
+    let old = beside (g.D.Desk.seen c.args.desk.now) c.args.clock.now c.args.trail.now None (g.W.Sink.written c.args.sink.now) 0 (g.W.Sink.faults c.args.sink.now) in
+    let kept : Kept = record { stops = c.answer-answer.new.trail.stops; requests = c.answer-answer.new.trail.requests + 1 } in
+    let new = beside (g.D.Desk.seen c.answer-answer.new.desk) c.answer-answer.new.clock kept None (g.W.Sink.written c.respond-in-Err.new.sink) 0 (g.W.Sink.faults c.respond-in-Err.new.sink) in
+    let answer = answer_of c.answer-answer.result in
+    let reply : record { status = 503; body = c.memory_body.result.now } ≡ answers.reply_of answer =
+    ap (λ (text : List ℕ). record { status = 503; body = text }) c.memory_body.ensures
+    ∙ sym (ap (λ (r : Result Reply AllocError). answers.reply_of (answer_of r)) c.in-Err.is) in
+    subst (λ (k : Kept). Exchanges gives layout request old (beside (g.D.Desk.seen c.answer-answer.new.desk) c.answer-answer.new.clock k None (g.W.Sink.written c.respond-in-Err.new.sink) 0 (g.W.Sink.faults c.respond-in-Err.new.sink)) c.respond-in-Err.result) (sym c.count_request.ensures)
+    (exchanged gives layout request old new answer c.respond-in-Err.result c.end_after-end.result c.answer-answer.ensures.answers
+    (ap (λ n. n + 1) c.answer-answer.ensures.requests)
+    (c.end_after-end.ensures ∙ ap (end_after answer request.close) (c.is_full.ensures ∙ ap is_full c.count_request.ensures))
+    (subst (λ (r : model.Reply). Responds c.respond-in-Err.result c.end_after-end.result r old.written new.written) reply c.respond-in-Err.ensures.replies)
+    c.respond-in-Err.ensures.write_faults)

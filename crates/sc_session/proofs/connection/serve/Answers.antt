@@ -1,11 +1,14 @@
 -- The connection stays open from request to request, and its end keeps the promise.
-use Rattle.std.proofs.Common.{[], Some, None, Err, refl, sym, ap, ◌∙◌, subst}
+use Rattle.std.proofs.Common.{◌≡◌, [], Some, None, Err, refl, sym, ap, ◌∙◌, subst, arith}
+use Rattle.std.specs.Prelude.{◌≢◌}
+use Rattle.sc_router.specs.Route.{IsBucketCount}
+use Rattle.sc_http.specs.declared.end.MessageEnd.TheVariants as reads
 use Rattle.sc_journal.specs.Seen.{Layout, AreLegal}
 use Rattle.sc_collection.specs.Kept.{Kept}
 use Rattle.sc_session.specs.Connection.{out_of_memory}
 use Rattle.sc_session.specs.Ends.{last_without_request}
 use Rattle.sc_session.specs.Serving.{Exchanges}
-use Rattle.sc_session.proofs.OpenLemmas.{IsOpen, open_first, moment}
+use Rattle.sc_session.proofs.OpenLemmas.{IsOpen, beside, without_source, open_first}
 use Rattle.sc_session.proofs.ServeLemmas.{open_more}
 use Rattle.sc_session.proofs.EndLemmas.{served_at_end, served_at_exchange}
 use Rattle.sc_session.proofs.MessageEndLemmas.{nothing_reported, last_without_request-plain, ends_as_reported}
@@ -15,63 +18,73 @@ pub returns-in-Err-clause-connection : goal.returns-in-Err-clause-connection
 returns-in-Err-clause-connection g c =
     let gives = g.C.Clock.gives in
     let layout = g.D.Desk.layout c.args.desk.now in
+    let seen = g.D.Desk.seen c.args.desk.now in
     let unread = g.S.Source.rest c.args.source.now in
-    let before = moment (g.D.Desk.seen c.args.desk.now) c.args.clock.now unread (g.W.Sink.written c.args.sink.now) in
-    served_at_end gives layout before before unread (g.W.Sink.written c.end_with.new.sink) c.args.trail.now [] out_of_memory c.end_with.result
-    (subst (λ (k : Kept). IsOpen gives layout before before k []) (sym c.requires.trail) (open_first gives layout before))
-    tt c.buckets.ensures.legal (nothing_reported unread unread) c.end_with.ensures.ends
+    let faults = g.S.Source.faults c.args.source.now in
+    let before = beside seen c.args.clock.now c.args.trail.now unread (g.W.Sink.written c.args.sink.now) faults (g.W.Sink.faults c.args.sink.now) in
+    let then = beside seen c.args.clock.now c.args.trail.now unread (g.W.Sink.written c.end_with.new.sink) faults (g.W.Sink.faults c.end_with.new.sink) in
+    served_at_end gives layout before before then [] out_of_memory c.end_with.result
+    (open_first gives layout before (ap (λ (k : Kept). k.stops) c.requires.trail) (ap (λ (k : Kept). k.requests) c.requires.trail))
+    tt c.buckets.ensures.legal refl refl (λ some. some) (nothing_reported unread unread) c.end_with.ensures.ends
+    (record { rises = λ fault. absurd (let end = c.end_with.ensures.read_fault.0 fault in cc); stays = λ none. refl })
+    c.end_with.ensures.write_faults
 
 pub loop-request-init : goal.loop-request-init
 loop-request-init g c =
     let gives = g.C.Clock.gives in
     let layout = g.D.Desk.layout c.args.desk.now in
-    let before = moment (g.D.Desk.seen c.args.desk.now) c.args.clock.now (g.S.Source.rest c.args.source.now) (g.W.Sink.written c.args.sink.now) in
+    let before = beside (g.D.Desk.seen c.args.desk.now) c.args.clock.now c.args.trail.now (g.S.Source.rest c.args.source.now) (g.W.Sink.written c.args.sink.now) (g.S.Source.faults c.args.source.now) (g.W.Sink.faults c.args.sink.now) in
     record {
-      is_open = subst (λ (k : Kept). IsOpen gives layout before before k c.in-Ok.reader) (sym c.requires.trail)
-          (subst (IsOpen gives layout before before (record { stops = []; requests = 0 })) (sym c.in-Ok.ensures) (open_first gives layout before));
+      is_open = subst (IsOpen gives layout before before) (sym c.in-Ok.ensures)
+          (open_first gives layout before (ap (λ (k : Kept). k.stops) c.requires.trail) (ap (λ (k : Kept). k.requests) c.requires.trail));
       legal = c.buckets.ensures.legal;
       layout = refl;
       nothing_out = c.requires.nothing_out;
-      source_faults = refl;
-      sink_faults = refl;
     }
+
+pub exchange-requires-clause-buckets : goal.exchange-requires-clause-buckets
+exchange-requires-clause-buckets g c =
+    subst IsBucketCount (c.buckets.ensures.count ∙ sym (ap (λ (n : Layout). n.buckets) c.loop-request.invariant.layout)) c.buckets.ensures.power
+
+pub exchange-requires-clause-rest : goal.exchange-requires-clause-rest
+exchange-requires-clause-rest g c = record {
+  nothing_out = c.loop-request.invariant.nothing_out;
+  legal = subst (λ (n : Layout). AreLegal n (g.D.Desk.seen c.loop-request.desk)) (sym c.loop-request.invariant.layout) c.loop-request.invariant.legal;
+}
+
+pub exchange-requires-clause-open : goal.exchange-requires-clause-open
+exchange-requires-clause-open g c = c.loop-request.invariant.is_open.more
 
 pub returns-in-Some-clause-connection : goal.returns-in-Some-clause-connection
 returns-in-Some-clause-connection g c =
     let gives = g.C.Clock.gives in
     let layout = g.D.Desk.layout c.args.desk.now in
-    let before = moment (g.D.Desk.seen c.args.desk.now) c.args.clock.now (g.S.Source.rest c.args.source.now) (g.W.Sink.written c.args.sink.now) in
-    let now = moment (g.D.Desk.seen c.loop-request.desk) c.loop-request.clock (g.S.Source.rest c.loop-request.source) (g.W.Sink.written c.loop-request.sink) in
-    let then = moment (g.D.Desk.seen c.exchange.new.desk) c.exchange.new.clock (g.S.Source.rest c.next_message.new.source) (g.W.Sink.written c.exchange.new.sink) in
-    let first = c.loop-request.trail in
-    let second = c.exchange.new.trail in
+    let before = beside (g.D.Desk.seen c.args.desk.now) c.args.clock.now c.args.trail.now (g.S.Source.rest c.args.source.now) (g.W.Sink.written c.args.sink.now) (g.S.Source.faults c.args.source.now) (g.W.Sink.faults c.args.sink.now) in
+    let now = beside (g.D.Desk.seen c.loop-request.desk) c.loop-request.clock c.loop-request.trail (g.S.Source.rest c.loop-request.source) (g.W.Sink.written c.loop-request.sink) (g.S.Source.faults c.loop-request.source) (g.W.Sink.faults c.loop-request.sink) in
+    let then = beside (g.D.Desk.seen c.exchange.new.desk) c.exchange.new.clock c.exchange.new.trail (g.S.Source.rest c.next_message.new.source) (g.W.Sink.written c.exchange.new.sink) (g.S.Source.faults c.next_message.new.source) (g.W.Sink.faults c.exchange.new.sink) in
     let request = c.in-Ok-next_message.request in
-    served_at_exchange gives layout before now then first second c.loop-request.reader c.next_message.new.self request c.in-Some.end
+    served_at_exchange gives layout before now then c.loop-request.reader c.next_message.new.self request c.in-Some.end
     c.loop-request.invariant.is_open
-    (subst (λ (n : Layout). Exchanges gives n request now.seen then.seen now.clock then.clock first second now.written then.written (Some c.in-Some.end)) c.loop-request.invariant.layout c.in-Some.ensures.exchange)
-    (subst (λ (n : Layout). AreLegal n then.seen) (c.in-Some.ensures.layout ∙ c.loop-request.invariant.layout) c.in-Some.ensures.legal)
-    c.in-Ok-next_message.ensures.reports c.in-Ok-next_message.ensures.message
+    (subst (λ (n : Layout). Exchanges gives n request (without_source now) (without_source then) (Some c.in-Some.end)) c.loop-request.invariant.layout c.in-Some.ensures.exchange)
+    (subst (λ (n : Layout). AreLegal n then.moment.view.seen) (c.in-Some.ensures.layout ∙ c.loop-request.invariant.layout) c.in-Some.ensures.rest.legal)
+    c.in-Ok-next_message.ensures.reports c.in-Ok-next_message.ensures.message (c.in-Ok-next_message.ensures.faults.steady (λ e. absurd (cc)))
 
 pub loop-request-preserved : goal.loop-request-preserved
 loop-request-preserved g c =
     let gives = g.C.Clock.gives in
     let layout = g.D.Desk.layout c.args.desk.now in
-    let before = moment (g.D.Desk.seen c.args.desk.now) c.args.clock.now (g.S.Source.rest c.args.source.now) (g.W.Sink.written c.args.sink.now) in
-    let now = moment (g.D.Desk.seen c.loop-request.desk) c.loop-request.clock (g.S.Source.rest c.loop-request.source) (g.W.Sink.written c.loop-request.sink) in
-    let then = moment (g.D.Desk.seen c.exchange.new.desk) c.exchange.new.clock (g.S.Source.rest c.next_message.new.source) (g.W.Sink.written c.exchange.new.sink) in
-    let first = c.loop-request.trail in
-    let second = c.exchange.new.trail in
+    let before = beside (g.D.Desk.seen c.args.desk.now) c.args.clock.now c.args.trail.now (g.S.Source.rest c.args.source.now) (g.W.Sink.written c.args.sink.now) (g.S.Source.faults c.args.source.now) (g.W.Sink.faults c.args.sink.now) in
+    let now = beside (g.D.Desk.seen c.loop-request.desk) c.loop-request.clock c.loop-request.trail (g.S.Source.rest c.loop-request.source) (g.W.Sink.written c.loop-request.sink) (g.S.Source.faults c.loop-request.source) (g.W.Sink.faults c.loop-request.sink) in
+    let then = beside (g.D.Desk.seen c.exchange.new.desk) c.exchange.new.clock c.exchange.new.trail (g.S.Source.rest c.next_message.new.source) (g.W.Sink.written c.exchange.new.sink) (g.S.Source.faults c.next_message.new.source) (g.W.Sink.faults c.exchange.new.sink) in
     let request = c.in-Ok-next_message.request in
     record {
-      is_open = open_more gives layout before now then first second c.loop-request.reader c.next_message.new.self request
+      is_open = open_more gives layout before now then c.loop-request.reader c.next_message.new.self request
           c.loop-request.invariant.is_open
-          (subst (λ (n : Layout). Exchanges gives n request now.seen then.seen now.clock then.clock first second now.written then.written None) c.loop-request.invariant.layout c.in_default.ensures.exchange)
-          c.in-Ok-next_message.ensures.reports c.in-Ok-next_message.ensures.message;
-      legal = subst (λ (n : Layout). AreLegal n then.seen) (c.exchange.ensures.layout ∙ c.loop-request.invariant.layout) c.exchange.ensures.legal;
+          (subst (λ (n : Layout). Exchanges gives n request (without_source now) (without_source then) None) c.loop-request.invariant.layout c.in_default.ensures.exchange)
+          c.in-Ok-next_message.ensures.reports c.in-Ok-next_message.ensures.message (c.in-Ok-next_message.ensures.faults.steady (λ e. absurd (cc)));
+      legal = subst (λ (n : Layout). AreLegal n then.moment.view.seen) (c.exchange.ensures.layout ∙ c.loop-request.invariant.layout) c.exchange.ensures.rest.legal;
       layout = c.exchange.ensures.layout ∙ c.loop-request.invariant.layout;
-      nothing_out = c.exchange.ensures.nothing_out;
-      source_faults = c.in-Ok-next_message.ensures.faults.steady (λ e. absurd (cc)) ∙ c.loop-request.invariant.source_faults;
-      sink_faults = c.in_default.ensures.no_write_fault (λ e. absurd (cc)) ∙ c.loop-request.invariant.sink_faults;
+      nothing_out = c.exchange.ensures.rest.nothing_out;
     }
 
 pub returns-in-Err-next_message-clause-connection :
@@ -79,12 +92,19 @@ pub returns-in-Err-next_message-clause-connection :
 returns-in-Err-next_message-clause-connection g c =
     let gives = g.C.Clock.gives in
     let layout = g.D.Desk.layout c.args.desk.now in
-    let before = moment (g.D.Desk.seen c.args.desk.now) c.args.clock.now (g.S.Source.rest c.args.source.now) (g.W.Sink.written c.args.sink.now) in
-    let now = moment (g.D.Desk.seen c.loop-request.desk) c.loop-request.clock (g.S.Source.rest c.loop-request.source) (g.W.Sink.written c.loop-request.sink) in
-    let unread = g.S.Source.rest c.next_message.new.source in
+    let before = beside (g.D.Desk.seen c.args.desk.now) c.args.clock.now c.args.trail.now (g.S.Source.rest c.args.source.now) (g.W.Sink.written c.args.sink.now) (g.S.Source.faults c.args.source.now) (g.W.Sink.faults c.args.sink.now) in
+    let now = beside (g.D.Desk.seen c.loop-request.desk) c.loop-request.clock c.loop-request.trail (g.S.Source.rest c.loop-request.source) (g.W.Sink.written c.loop-request.sink) (g.S.Source.faults c.loop-request.source) (g.W.Sink.faults c.loop-request.sink) in
+    let then = beside (g.D.Desk.seen c.loop-request.desk) c.loop-request.clock c.loop-request.trail (g.S.Source.rest c.next_message.new.source) (g.W.Sink.written c.end_with-in-Err-next_message.new.sink) (g.S.Source.faults c.next_message.new.source) (g.W.Sink.faults c.end_with-in-Err-next_message.new.sink) in
     let held = c.loop-request.reader in
     let end = c.in-Err-next_message.end in
-    served_at_end gives layout before now unread (g.W.Sink.written c.end_with-in-Err-next_message.new.sink) c.loop-request.trail held (last_without_request end) c.end_with-in-Err-next_message.result
-    c.loop-request.invariant.is_open (last_without_request-plain end) c.loop-request.invariant.legal
-    (ends_as_reported end held now.unread unread c.in-Err-next_message.ensures.ends (λ e. c.in-Err-next_message.ensures.unfinished (ap Err e)))
+    let fault_is = c.end_with-in-Err-next_message.ensures.read_fault in
+    served_at_end gives layout before now then held (last_without_request end) c.end_with-in-Err-next_message.result
+    c.loop-request.invariant.is_open (last_without_request-plain end) c.loop-request.invariant.legal refl refl
+    c.in-Err-next_message.ensures.reports
+    (ends_as_reported end held now.unread then.unread c.in-Err-next_message.ensures.ends (λ e. c.in-Err-next_message.ensures.unfinished (ap Err e)))
     c.end_with-in-Err-next_message.ensures.ends
+    (record {
+      rises = λ fault. c.in-Err-next_message.ensures.fault (ap Err (fault_is.0 fault));
+      stays = λ none. c.in-Err-next_message.ensures.faults.steady (λ e. none (fault_is.1 (let same : end ≡ reads.ReadFault = cc in same)));
+    })
+    c.end_with-in-Err-next_message.ensures.write_faults

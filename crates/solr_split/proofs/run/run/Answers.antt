@@ -1,5 +1,9 @@
 -- What a script was answered is what its connection was served.
-use Rattle.std.proofs.Common.{◌≡◌, map, Some, None, string_bytes, sym, inl, ◌∙◌}
+use Rattle.std.proofs.Common.{◌≡◌, map, Some, None, string_bytes, sym, inl, ◌∙◌, subst}
+use Rattle.sc_collection.specs.Kept.{Kept}
+use Rattle.sc_collection.specs.Alone.{seen_of}
+use Rattle.sc_session.specs.Served.{IsServed}
+use Rattle.solr_split.specs.Running.{clock_of, state_of}
 use Rattle.solr_split.specs.Arguments.{script_of}
 use Rattle.solr_split.proofs.RunLemmas.{read_status, write_status, status_not_2}
 use Rattle.solr_split.proofs.run.run.Goals as goal
@@ -10,22 +14,37 @@ returns-clause-script g c =
     rw asked (inl (record {
       began = c.in-Ok.memory.0;
       ended = c.serve_script-end.new.desk;
-      stops = c.serve_script-end.new.trail.stops;
+      kept = c.serve_script-end.new.trail;
       end = c.serve_script-end.result;
       shape = c.in-Ok.ensures.layout;
       empty = c.in-Ok.ensures.seen;
       layout = c.serve_script-end.ensures.layout;
-      served = c.serve_script-end.ensures.served;
+      served = subst (λ (k : Kept). IsServed (clock_of c.in-Some.script.clock g.C.Clock.gives) c.in-Ok.memory.0.layout
+          (state_of (seen_of c.in-Ok.memory.0) k (record {
+            clock = c.args.clock.now;
+            unread = g.S.Source.rest c.args.source.now;
+            written = g.W.Sink.written c.args.sink.now;
+            read_faults = g.S.Source.faults c.args.source.now;
+            write_faults = g.W.Sink.faults c.args.sink.now;
+          }))
+          (state_of (seen_of c.serve_script-end.new.desk) c.serve_script-end.new.trail (record {
+            clock = c.serve_script-end.new.clock;
+            unread = g.S.Source.rest c.serve_script-end.new.source;
+            written = g.W.Sink.written c.serve_script-end.new.sink;
+            read_faults = g.S.Source.faults c.serve_script-end.new.source;
+            write_faults = g.W.Sink.faults c.serve_script-end.new.sink;
+          }))
+          c.serve_script-end.result) c.in-Ok.ensures.trail c.serve_script-end.ensures.served;
       status_is = c.status_of.ensures;
     }))
 
 pub returns-clause-read_fault : goal.returns-clause-read_fault
 returns-clause-read_fault g c =
-    rw c.status_of.ensures (read_status c.serve_script-end.result (g.S.Source.faults c.args.source.now) (g.S.Source.faults c.serve_script-end.new.source) c.serve_script-end.ensures.read_fault c.serve_script-end.ensures.no_read_fault)
+    rw c.status_of.ensures (read_status c.serve_script-end.result (g.S.Source.faults c.args.source.now) (g.S.Source.faults c.serve_script-end.new.source) c.serve_script-end.ensures.served.carries.read_faults)
 
 pub returns-clause-write_fault : goal.returns-clause-write_fault
 returns-clause-write_fault g c =
-    rw c.status_of.ensures (write_status c.serve_script-end.result (g.W.Sink.faults c.args.sink.now) (g.W.Sink.faults c.serve_script-end.new.sink) c.serve_script-end.ensures.write_fault c.serve_script-end.ensures.no_write_fault)
+    rw c.status_of.ensures (write_status c.serve_script-end.result (g.W.Sink.faults c.args.sink.now) (g.W.Sink.faults c.serve_script-end.new.sink) c.serve_script-end.ensures.served.carries.write_faults)
 
 pub returns-clause-bad_arguments : goal.returns-clause-bad_arguments
 returns-clause-bad_arguments g c = (

@@ -104,7 +104,7 @@ returns-in-Err-next_message-clause-connection g c =
     (ends_as_reported end held now.unread then.unread c.in-Err-next_message.ensures.ends (λ e. c.in-Err-next_message.ensures.unfinished (ap Err e)))
     c.end_with-in-Err-next_message.ensures.ends
     (record {
-      rises = λ fault. c.in-Err-next_message.ensures.fault (ap Err (fault_is.0 fault));
+      rises = λ fault. c.in-Err-next_message.ensures.faults.cause (ap Err (fault_is.0 fault));
       stays = λ none. c.in-Err-next_message.ensures.faults.steady (λ e. none (fault_is.1 (let same : end ≡ reads.ReadFault = cc in same)));
     })
     c.end_with-in-Err-next_message.ensures.write_faults

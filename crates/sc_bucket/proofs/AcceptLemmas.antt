@@ -1,5 +1,5 @@
 -- A bucket is sound once an order was accepted.
-use Rattle.std.proofs.Common.{◌≡◌, ℕ, ◌+◌, ◌<◌, false, All, Contains, Some, slice_get, List, [], ◌∷◌, ◌++◌, length, map, set, refl, sym, ap, ◌∙◌, subst, arith, length-append}
+use Rattle.std.proofs.Common.{◌≡◌, ℕ, ◌+◌, ◌<◌, ◌<ℤ◌, false, All, Contains, Some, slice_get, List, [], ◌∷◌, ◌++◌, length, map, set, refl, sym, ap, ◌∙◌, subst, arith, length-append}
 use Rattle.std.specs.declared.sync.Arc.{Arc}
 use Rattle.std.specs.declared.alloc.Global.{Global}
 use Rattle.std.specs.Prelude.{IsSome}
@@ -18,11 +18,10 @@ use Rattle.sc_cluster.proofs.StateLemmas.{active_settled}
 use Rattle.sc_replica.specs.Core.{Core, led}
 use Rattle.sc_replica.proofs.CoreLemmas.{spare_after-≥}
 use Rattle.sc_journal.specs.Journal.{writes, write_at, is_settled, unsettled}
-use Rattle.sc_journal.specs.Committed.{committed}
-use Rattle.sc_journal.proofs.CommittedLemmas.{committed-push_other}
+use Rattle.sc_journal.specs.Committed.{committed, last_commit}
+use Rattle.sc_journal.proofs.CommittedLemmas.{committed-push_other, last_commit-push_other}
 use Rattle.sc_journal.specs.Splits.{map_after, open_split, owed}
 use Rattle.sc_journal.specs.Legal.{MayWrite, IsLegal}
-use Rattle.sc_journal.specs.Outcomes.{HasRoom}
 use Rattle.sc_journal.proofs.LegalLemmas.{end_is_open, IsLegal-push, unsettled-push_legal_write, owed-push_legal_write}
 use Rattle.sc_journal.proofs.JournalLemmas.{writes-push_write, write_at-push_end, write_at-append, write_at_within}
 use Rattle.sc_journal.proofs.SettledLemmas.{is_settled-push_other}
@@ -30,8 +29,9 @@ use Rattle.sc_journal.proofs.MapLemmas.{keeps_a_map}
 use Rattle.sc_journal.proofs.SplitLemmas.{LeavesSlices-write, map_after-left, open_split-left}
 use Rattle.sc_bucket.specs.declared.bucket.Bucket.{Bucket}
 use Rattle.sc_bucket.specs.Accepting.{HasMemory, IsPut}
+use Rattle.sc_bucket.specs.Room.{BucketHasRoom}
 use Rattle.sc_bucket.specs.Kept.{Sent, FeedState}
-use Rattle.sc_bucket.specs.Cores.{followers, IsLeaderAt}
+use Rattle.sc_bucket.specs.Cores.{followers, IsLeaderAt, IsCoreWithoutRoom}
 use Rattle.sc_bucket.specs.Flight.{sent_to, is_same_message}
 use Rattle.sc_bucket.specs.Pending.{pending}
 use Rattle.sc_bucket.specs.Sound.{AreActive, HasJournal, IsSent, AreSent, HasSpare, HasSearchers, IsInPhase, IsSound}
@@ -41,6 +41,7 @@ use Rattle.sc_bucket.proofs.SearcherLemmas.{HasSearchers-grown}
 use Rattle.sc_bucket.proofs.PlaceLemmas.{All-set_apart}
 use Rattle.sc_bucket.proofs.FollowerLemmas.{IsFollower, are_followers, followers_apart, IsDistinct-append, sent_apart, sent_later}
 use Rattle.sc_bucket.proofs.LedLemmas.{AreSound, AreSound-led}
+use Rattle.sc_bucket.proofs.InOrderLemmas.{in_order-led}
 
 -- the cores of a sound bucket are sound
 pub cores_are_sound : (b : Bucket) → IsSound b → AreSound b.map b.journal.entries b.flight.messages b.feeds b.replicas
@@ -54,7 +55,7 @@ cores_are_sound b sound = record {
 
 -- its journal is as it has to be once a write was put in that may come next
 HasJournal-put : (old new : Bucket) (cell : Arc Write Global) (at : ℕ) (messages : List Sent) → IsPut old cell at messages new
-    → MayWrite old.journal.entries cell.value → HasRoom old.limit old.first old.journal.entries
+    → MayWrite old.journal.entries cell.value → BucketHasRoom 2 old
     → HasJournal old → HasJournal new
 HasJournal-put old new cell at messages put may has_room journal =
     let longer = old.journal.entries ++ entry.Write cell ∷ [] in
@@ -164,6 +165,7 @@ HasSearchers-put : (old new : Bucket) (cell : Arc Write Global) → new.map ≡ 
     → new.journal.entries ≡ old.journal.entries ++ entry.Write cell ∷ [] → HasSearchers old → HasSearchers new
 HasSearchers-put old new cell same_map same_searchers entries has =
     HasSearchers-grown old new same_map same_searchers
+    (ap last_commit entries ∙ last_commit-push_other old.journal.entries (entry.Write cell) refl)
     (ap committed entries ∙ committed-push_other old.journal.entries (entry.Write cell) refl)
     (λ write there. subst (λ (these : List Write). Contains these write)
     (sym (ap writes entries ∙ writes-push_write old.journal.entries cell))
@@ -174,10 +176,10 @@ HasSearchers-put old new cell same_map same_searchers entries has =
 -- the others
 pub IsSound-put : (old new : Bucket) (cell : Arc Write Global) (at : ℕ) (messages : List Sent) → IsPut old cell at messages new
     → new.spares ≡ old.spares → MayWrite old.journal.entries cell.value
-    → HasRoom old.limit old.first old.journal.entries
+    → BucketHasRoom 2 old
     → HasMemory old at messages → (leader : IsLeaderAt old.map old.replicas cell.value.hash at)
-    → messages ≡ sent_by old cell.value leader.core.core → IsSound old → IsSound new
-IsSound-put old new cell at messages put same_spares may has_room memory leader sent sound =
+    → messages ≡ sent_by old cell.value leader.core.core → leader.core.clock <ℤ cell.value.version → IsSound old → IsSound new
+IsSound-put old new cell at messages put same_spares may has_room memory leader sent above sound =
     let is_map = bucket_has_map old sound.journal in
     let longer = old.journal.entries ++ entry.Write cell ∷ [] in
     let more = old.flight.messages ++ sent_by old cell.value leader.core.core in
@@ -205,10 +207,15 @@ IsSound-put old new cell at messages put same_spares may has_room memory leader 
       held = sound_cores.held;
       in_range = sound_cores.in_range;
       clocks = sound_cores.clocks;
+      in_order = subst (All IsCoreWithoutRoom) (sym exactly)
+          (All-set_apart IsCoreWithoutRoom old.replicas at (led leader.core cell.value)
+          (in_order-led leader.core cell.value above
+          (All-slice_get IsCoreWithoutRoom old.replicas at leader.core sound.in_order leader.found))
+          (λ k other apart found. All-slice_get IsCoreWithoutRoom old.replicas k other sound.in_order found));
       searchers = HasSearchers-put old new cell put.map_is put.searchers_are put.entries sound.searchers;
       prepared = ArePrepared-same old new put.split.phase put.map_is put.searchers_are same_spares sound.prepared;
       messages = AreSent-put old new cell leader.core.core put.entries names flight sound;
-      spares = subst (λ (ms : List Sent). All (HasSpare ms new.feeds) new.replicas) (sym put.flight_is)
+      room = subst (λ (ms : List Sent). All (HasSpare ms new.feeds) new.replicas) (sym put.flight_is)
           (subst (λ (fs : List FeedState). All (HasSpare (old.flight.messages ++ messages) fs) new.replicas)
           (sym put.split.feeds)
           (subst (All (HasSpare (old.flight.messages ++ messages) old.feeds)) (sym exactly)

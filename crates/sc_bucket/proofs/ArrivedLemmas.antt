@@ -10,7 +10,7 @@ use Rattle.sc_replica.specs.Deliveries.{received_all}
 use Rattle.sc_bucket.specs.Kept.{Sent}
 use Rattle.sc_bucket.specs.Cores.{is_core}
 use Rattle.sc_bucket.specs.Flight.{in_flight, is_to, received_by, delivered_all, arrived}
-use Rattle.sc_bucket.specs.Events.{DeliversTo}
+use Rattle.sc_bucket.specs.Events.{DeliversAllTo}
 use Rattle.sc_bucket.specs.declared.bucket.Bucket.{Bucket}
 use Rattle.sc_bucket.proofs.CoreLemmas.{is_core-Decides}
 use Rattle.sc_bucket.proofs.DeliverLemmas.{name-received}
@@ -56,9 +56,9 @@ delivered_all-to name (message ∷ messages) cores =
     by false is after = after cores
 
 -- so the bucket is as it has to be
-pub DeliversTo-all : (old : Bucket) (name : CoreId) (new : Bucket) → DeliversAll old (is_to name) new
-    → DeliversTo old name new
-DeliversTo-all old name new all = record {
+pub DeliversAllTo-all : (old : Bucket) (name : CoreId) (new : Bucket) → DeliversAll old (is_to name) new
+    → DeliversAllTo old name new
+DeliversAllTo-all old name new all = record {
   name = all.name;
   split = all.split;
   map_is = all.map_is;

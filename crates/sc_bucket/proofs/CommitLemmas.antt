@@ -23,23 +23,25 @@ use Rattle.sc_replica.specs.Core.{Core, IsCore}
 use Rattle.sc_journal.specs.Journal.{as_write, writes, last_write, write_at, is_settled, unsettled}
 use Rattle.sc_journal.specs.Splits.{map_after, open_split, owed}
 use Rattle.sc_journal.specs.Legal.{IsLegal}
-use Rattle.sc_journal.specs.Committed.{commits, committed}
+use Rattle.sc_journal.specs.Committed.{commits, committed, last_commit}
 use Rattle.sc_journal.proofs.JournalLemmas.{length-writes, writes-push_other, write_at-append, write_at_within}
-use Rattle.sc_journal.proofs.CommittedLemmas.{committed-push_commit}
+use Rattle.sc_journal.proofs.CommittedLemmas.{committed-push_commit, last_commit-push_commit}
 use Rattle.sc_journal.proofs.SettledLemmas.{unsettled-push_other, is_settled-push_other}
 use Rattle.sc_journal.proofs.SplitLemmas.{map_after-left, open_split-left, owed-push_committed, LeavesSlices-committed}
 use Rattle.sc_journal.proofs.LegalLemmas.{IsLegal-push}
+use Rattle.sc_bucket.specs.Cores.{without_room}
 use Rattle.sc_bucket.specs.Searchers.{rows_of, ShowsCommitted, IsTaken, AreTaken, ArePrepared}
 use Rattle.sc_bucket.specs.Kept.{Sent, FeedState}
 use Rattle.sc_bucket.specs.Flight.{is_same_message}
 use Rattle.sc_bucket.specs.Sound.{AreActive, HasJournal, HasSearchers, AreWritten, Serves, IsSent, HasSpare, IsSound}
-use Rattle.sc_bucket.specs.Events.{without_room, Commits}
+use Rattle.sc_bucket.specs.Events.{Commits}
 use Rattle.sc_bucket.specs.declared.bucket.Bucket.{Bucket}
 use Rattle.sc_bucket.specs.declared.standing.Standing.{Standing}
 use Rattle.sc_bucket.proofs.CoreLemmas.{element_from_map}
 use Rattle.sc_bucket.proofs.SoundLemmas.{IsSent-left, IsSound-left}
 use Rattle.sc_bucket.proofs.TakenLemmas.{Contains-slice_get}
 use Rattle.sc_bucket.proofs.AcceptLemmas.{bucket_has_map}
+use Rattle.sc_bucket.proofs.SearcherLemmas.{IsAt, AreAt-taken}
 
 -- the ids of writes, and how they compare
 abbrev id_of : Write → List ℕ
@@ -167,6 +169,9 @@ HasSearchers-taken old new one sound entries takes = record {
       (λ (searcher : Standing). (slice : Slice) → Contains new.map slice → slice.id ≡ searcher.slice
       → (searcher.range ≡ slice.range) × ShowsCommitted new.journal.entries slice (rows_of searcher))
       show new.searchers takes.taken.taken;
+  place = subst (λ place. All (IsAt place) new.searchers)
+      (sym (ap last_commit entries ∙ last_commit-push_commit old.journal.entries one takes.commits_all))
+      (AreAt-taken old.map old.replicas (length old.journal.entries) new.searchers takes.taken.taken);
 } where
   show : (searcher : Standing) → IsTaken old.map old.replicas (length old.journal.entries) searcher
       → (slice : Slice) → Contains new.map slice → slice.id ≡ searcher.slice
@@ -205,7 +210,7 @@ IsSound-committed old new sound commits parts =
     })
     (subst (λ (these : List Sent). All (HasSpare these new.feeds) new.replicas) (sym commits.messages)
     (subst (λ (feeds : List FeedState). All (HasSpare old.flight.messages feeds) new.replicas) (sym commits.split.feeds)
-    (subst (All (HasSpare old.flight.messages old.feeds)) (sym commits.cores) sound.spares)))
+    (subst (All (HasSpare old.flight.messages old.feeds)) (sym commits.cores) sound.room)))
     (HasSearchers-taken old new one sound commits.entries (record {
       commits_all = refl;
       is_map = bucket_has_map new journal;

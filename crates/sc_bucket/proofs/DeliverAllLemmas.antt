@@ -8,7 +8,7 @@ use Rattle.sc_record.specs.declared.slice.CoreId.{CoreId}
 use Rattle.sc_cluster.proofs.ListLemmas.{filter-all, filter-none}
 use Rattle.sc_bucket.specs.Kept.{Sent}
 use Rattle.sc_bucket.specs.Flight.{delivered_all}
-use Rattle.sc_bucket.specs.Events.{HasSameName, HasSameSplit, Delivers}
+use Rattle.sc_bucket.specs.Events.{HasSameFirstAndLimit, HasSameSplit, Delivers}
 use Rattle.sc_bucket.specs.declared.bucket.Bucket.{Bucket}
 use Rattle.sc_bucket.proofs.FlightLemmas.{split_get}
 
@@ -22,7 +22,7 @@ NoneMeets test messages = All (λ (message : Sent). test message ≡ false) mess
 
 -- all messages that meet the test are delivered
 pub record DeliversAll (old : Bucket) (test : Sent → Bool) (new : Bucket) : Type 0 where
-  pub name : HasSameName old new
+  pub name : HasSameFirstAndLimit old new
   pub split : HasSameSplit old new
   pub map_is : new.map ≡ old.map
   pub entries : new.journal.entries ≡ old.journal.entries

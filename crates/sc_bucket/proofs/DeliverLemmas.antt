@@ -13,7 +13,7 @@ use Rattle.sc_ulog.specs.declared.mode.Mode.TheVariants.{Active, Buffering, Repl
 use Rattle.sc_replica.specs.Core.{Core, fed, buffered, received, received_in}
 use Rattle.sc_bucket.specs.declared.bucket.Bucket.{Bucket}
 use Rattle.sc_bucket.specs.Kept.{Sent, FlightState}
-use Rattle.sc_bucket.specs.Cores.{is_core, AreApart}
+use Rattle.sc_bucket.specs.Cores.{is_core, AreApart, IsCoreWithoutRoom}
 use Rattle.sc_bucket.specs.Flight.{in_flight, received_by, delivered, is_same_message, IsFirstOf}
 use Rattle.sc_bucket.specs.Pending.{to_feed, pending}
 use Rattle.sc_bucket.specs.Sound.{HasJournal, IsSent, AreSent, HasSpare, IsSound}
@@ -24,6 +24,7 @@ use Rattle.sc_bucket.proofs.SearcherLemmas.{HasSearchers-same}
 use Rattle.sc_bucket.proofs.SoundLemmas.{All-slice_get, name_and_mode, AreAlike, AreAlike-map, names-alike, HasCores-alike, AreFeeds-alike, IsInPhase-alike}
 use Rattle.sc_bucket.proofs.FlightLemmas.{IsOneLess, one_less-append, taken-own, taken-other}
 use Rattle.sc_bucket.proofs.DeliveredLemmas.{IsSoundCore, fed_is_sound, buffered_is_sound, AreSame-append, AreSame-moved}
+use Rattle.sc_bucket.proofs.InOrderLemmas.{in_order-received}
 
 -- the bucket with these messages in flight and these cores
 abbrev pub with_cores : Bucket → FlightState → List Core → Bucket
@@ -76,8 +77,8 @@ core_is_sound b k d below sound = record {
   held = sound.held k d below;
   in_range = sound.in_range k d below;
   clock = sound.clocks k d below;
-  cell_room = (sound.spares k d below).cells;
-  buffer_room = (sound.spares k d below).buffer;
+  cell_room = (sound.room k d below).cells;
+  buffer_room = (sound.room k d below).buffer;
 }
 
 -- and it is once it received a write that was in flight to it
@@ -136,6 +137,14 @@ cores_are_sound b at message sound found =
         (λ sent. IsSoundCore b.map b.journal.entries sent (sent ++ core.buffer ++ to_feed b.feeds core.core) core)
         (sym (taken-other b.flight.messages at message core.core found other)) before)
 
+-- each core is in order still
+in_order-delivered : (message : Sent) (cores : List Core) → All IsCoreWithoutRoom cores → All IsCoreWithoutRoom (delivered message cores)
+in_order-delivered message cores are =
+    All-map IsCoreWithoutRoom (received_by message.core message.write) cores
+    (All-weaker IsCoreWithoutRoom (λ core. IsCoreWithoutRoom (received_by message.core message.write core))
+    (λ core is. received_by_cases IsCoreWithoutRoom message.core message.write core
+    (λ own. in_order-received core message.write is) (λ other. is)) cores are)
+
 -- what is true of each element is true of each that is left
 All-remove : {X : Type 0} (P : X → Type 0) (xs : List X) (at : ℕ) → All P xs → All P (remove xs at)
 All-remove P xs at all = All-append P (take at xs) (drop (suc at) xs) (All-take P at xs all) (All-drop P (suc at) xs all)
@@ -192,11 +201,12 @@ IsSound-delivered b at message flight sound found left =
       held = λ k d below. (sound_cores k d below).held;
       in_range = λ k d below. (sound_cores k d below).in_range;
       clocks = λ k d below. (sound_cores k d below).clock;
+      in_order = in_order-delivered message b.replicas sound.in_order;
       searchers = HasSearchers-same b new refl refl refl sound.searchers;
       prepared = sound.prepared;
       messages = AreSent-left b at flight cores (slice_get_within b.flight.messages at message found) left
           (names-alike b.replicas cores alike) sound.messages;
-      spares = λ k d below. record { cells = (sound_cores k d below).cell_room; buffer = (sound_cores k d below).buffer_room };
+      room = λ k d below. record { cells = (sound_cores k d below).cell_room; buffer = (sound_cores k d below).buffer_room };
       cores = HasCores-alike b new refl alike sound.cores;
       feeds = AreFeeds-alike b new refl refl alike sound.feeds;
       phase = IsInPhase-alike b new b.phase refl refl alike sound.phase;
@@ -256,7 +266,7 @@ pub core_has_room : (b : Bucket) (at : ℕ) (message : Sent) (k : ℕ) (core : C
     → slice_get b.flight.messages at ≡ Some message → slice_get b.replicas k ≡ Some core → is_core message.core core.core ≡ true
     → (0 < core.cell_spare) × (0 < core.buffer_spare)
 core_has_room b at message k core sound found there is =
-    let spare = All-slice_get (HasSpare b.flight.messages b.feeds) b.replicas k core sound.spares there in
+    let spare = All-slice_get (HasSpare b.flight.messages b.feeds) b.replicas k core sound.room there in
     let named : core.core ≡ message.core = sym ((is_core-Decides message.core core.core).0 is) in
     let one = taken-own b.flight.messages at message core.core found ((is_core-Decides core.core message.core).1 named) in
     let all = length-pending b.flight.messages b.feeds core in

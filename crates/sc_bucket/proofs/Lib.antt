@@ -1,6 +1,7 @@
 -- Facts on buckets.
 pub mod EntriesLemmas
 pub mod CoreLemmas
+pub mod InOrderLemmas
 pub mod SearcherLemmas
 pub mod SoundLemmas
 pub mod PlaceLemmas

@@ -18,7 +18,7 @@ use Rattle.sc_journal.specs.Journal.{writes, unsettled}
 use Rattle.sc_journal.specs.Splits.{map_after, open_split, owed, is_inactive}
 use Rattle.sc_journal.proofs.LegalLemmas.{IsLegal-none}
 use Rattle.sc_bucket.specs.Kept.{Sent, FeedState}
-use Rattle.sc_bucket.specs.Cores.{core_key, core_keys, keys_of, core_number, is_core, AscendByName, IsCounted, IsNew}
+use Rattle.sc_bucket.specs.Cores.{core_key, core_keys, keys_of, core_number, is_core, AscendByName, IsCounted, IsNew, IsCoreWithoutRoom}
 use Rattle.sc_bucket.specs.Searchers.{AreTaken}
 use Rattle.sc_bucket.specs.Flight.{in_flight, is_same_message}
 use Rattle.sc_bucket.specs.Pending.{to_feed, pending}
@@ -27,6 +27,7 @@ use Rattle.sc_bucket.specs.declared.bucket.Bucket.{Bucket}
 use Rattle.sc_bucket.specs.declared.phase.Phase.TheVariants as phases
 use Rattle.sc_bucket.proofs.CoreLemmas.{have_leaders, keys_among}
 use Rattle.sc_bucket.proofs.SearcherLemmas.{HasSearchers-new}
+use Rattle.sc_bucket.proofs.InOrderLemmas.{in_order-new}
 
 -- where every slice is active, none is inactive
 none_is_inactive : (slices : List Slice) → AreActive slices → count_by is_inactive slices ≡ 0
@@ -250,10 +251,11 @@ IsSound-new b first limit is_map active least most made =
           nothing_there (IsInRange slice) sent b.feeds (get_or b.replicas k d) (made.new k d below) made.messages
           made.feeds_are;
       clocks = λ k d below. inl (made.new k d below).clock;
+      in_order = All-weaker IsNew IsCoreWithoutRoom in_order-new b.replicas made.new;
       searchers = HasSearchers-new b first b.replicas is_map made.map_is made.entries made.new made.searchers;
       prepared = rw made.phase_is made.spares_are;
       messages = none_sent b made.messages;
-      spares = λ k d below.
+      room = λ k d below.
           no_room sent b.feeds (get_or b.replicas k d) (made.new k d below) made.messages made.feeds_are;
       cores = HasCores-new b first limit is_map made;
       feeds = none_fed b made.feeds_are;

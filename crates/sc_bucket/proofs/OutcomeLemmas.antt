@@ -18,7 +18,7 @@ use Rattle.sc_partial.specs.Resolved.{IsRefusalOf}
 use Rattle.sc_partial.specs.declared.fault.PartialFault.{PartialFault}
 use Rattle.sc_partial.specs.declared.fault.PartialFault.TheVariants as partial
 use Rattle.sc_journal.specs.Journal.{write_at, is_settled, last_write, found}
-use Rattle.sc_journal.specs.Outcomes.{accepted, refused, IsMet, IsFitting, HasRoom, IsWriteOf, IsOutcome}
+use Rattle.sc_journal.specs.Outcomes.{accepted, refused, IsMet, IsFitting, IsWriteOf, IsOutcome}
 use Rattle.sc_journal.proofs.JournalLemmas.{write_at-push_end}
 use Rattle.sc_journal.proofs.SettledLemmas.{is_settled-push_other}
 use Rattle.sc_journal.proofs.LegalLemmas.{end_is_open}
@@ -29,7 +29,8 @@ use Rattle.sc_bucket.specs.Kept.{Sent}
 use Rattle.sc_bucket.specs.Accepting.{accept_fault, IsPut}
 use Rattle.sc_bucket.specs.Cores.{follows, followers, IsLeaderAt}
 use Rattle.sc_bucket.specs.Flight.{sent_to}
-use Rattle.sc_bucket.specs.Events.{AreSameCores, IsSameBut, Accepts, outcome_of}
+use Rattle.sc_bucket.specs.Events.{AreSameCores, IsSameButRoom, Accepts, outcome_of}
+use Rattle.sc_bucket.specs.Room.{BucketHasRoom}
 use Rattle.sc_bucket.specs.Sound.{IsSound}
 use Rattle.sc_bucket.proofs.SoundLemmas.{leader_reads, names-same_cores}
 use Rattle.sc_bucket.proofs.SendLemmas.{takes}
@@ -63,7 +64,7 @@ pub memory_outcome : (limit : ℕ) (first : List Slice) (before after : List Ent
 memory_outcome limit first before after order now fault met is = rw is met
 
 -- the followers are the same where the map and the names of the cores are
-pub followers-same_cores : (old roomy : Bucket) (hash : ℤ) (leader : CoreId) → IsSameBut old roomy
+pub followers-same_cores : (old roomy : Bucket) (hash : ℤ) (leader : CoreId) → IsSameButRoom old roomy
     → followers roomy.map roomy.replicas hash leader ≡ followers old.map old.replicas hash leader
 followers-same_cores old roomy hash leader same =
     ap (λ (slices : List Slice). followers slices roomy.replicas hash leader) same.map_is
@@ -72,8 +73,8 @@ followers-same_cores old roomy hash leader same =
 
 -- an order is accepted where its write is put into the bucket, which is as it was but for room, and sent to the others
 pub Accepts-put : (old roomy new : Bucket) (order : Order) (now : ℕ) (version : ℤ) (cell : Arc Write Global) (at : ℕ) (messages : List Sent)
-    → IsSameBut old roomy → IsPut roomy cell at messages new → IsFitting old.journal.entries order
-    → HasRoom old.limit old.first old.journal.entries → IsWriteOf old.journal.entries order now cell.value → version ≡ shown_version cell.value
+    → IsSameButRoom old roomy → IsPut roomy cell at messages new → IsFitting old.journal.entries order
+    → BucketHasRoom 2 old → IsWriteOf old.journal.entries order now cell.value → version ≡ shown_version cell.value
     → (leader : IsLeaderAt old.map old.replicas cell.value.hash at) → cell.value.version ≡ version_after now leader.core.clock
     → messages ≡ sent_by old cell.value leader.core.core → Accepts old order now version new
 Accepts-put old roomy new order now version cell at messages same put fitting room write shown leader clocked sent =
@@ -105,7 +106,7 @@ pub sent_by-share : (b : Bucket) (write share : Write) (at : ℕ) (sent : List S
 sent_by-share b write share at sent same made core found = made core found ∙ ap (λ (w : Write). sent_by b w core.core) same
 
 -- and so they are in the bucket with more room
-pub sent_by-same : (old roomy : Bucket) (write : Write) (at : ℕ) (sent : List Sent) → IsSameBut old roomy → at < length old.replicas
+pub sent_by-same : (old roomy : Bucket) (write : Write) (at : ℕ) (sent : List Sent) → IsSameButRoom old roomy → at < length old.replicas
     → ((core : Core) → slice_get old.replicas at ≡ Some core → sent ≡ sent_by old write core.core)
     → (core : Core) → slice_get roomy.replicas at ≡ Some core → sent ≡ sent_by roomy write core.core
 sent_by-same old roomy write at sent same within made core found =

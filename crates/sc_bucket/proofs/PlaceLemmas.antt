@@ -9,8 +9,8 @@ use Rattle.sc_record.specs.declared.write.Write.{Write}
 use Rattle.sc_record.specs.declared.slice.CoreId.{CoreId}
 use Rattle.sc_cluster.specs.declared.slice.Slice.{Slice}
 use Rattle.sc_replica.specs.Core.{Core, led}
-use Rattle.sc_bucket.specs.Cores.{IsLeaderAt}
-use Rattle.sc_bucket.specs.Events.{without_room, AreSameCores}
+use Rattle.sc_bucket.specs.Cores.{IsLeaderAt, without_room}
+use Rattle.sc_bucket.specs.Events.{AreSameCores}
 
 -- there is an element at each place of a list
 pub some_at : {X : Type 0} (xs : List X) (k : ℕ) → k < length xs → (x : X) × (slice_get xs k ≡ Some x)

@@ -18,7 +18,7 @@ use Rattle.sc_bucket.specs.Kept.{JournalState, PlacesState, Sent, FlightState, F
 use Rattle.sc_bucket.specs.Cores.{is_core}
 use Rattle.sc_bucket.specs.Flight.{sent_of, in_flight}
 use Rattle.sc_bucket.specs.Pending.{to_feed, pending}
-use Rattle.sc_bucket.specs.Events.{HasSameName, IsSameBut}
+use Rattle.sc_bucket.specs.Events.{HasSameFirstAndLimit, IsSameButRoom}
 use Rattle.sc_bucket.specs.Accepting.{IsRoomier, HasMore, HasMoreAt, HasMemory}
 use Rattle.sc_bucket.specs.Sound.{AreActive, HasJournal, HasSpare, IsSound}
 use Rattle.sc_bucket.proofs.CoreLemmas.{is_core-Decides}
@@ -28,7 +28,7 @@ use Rattle.sc_bucket.proofs.PendingLemmas.{goes_to, in_flight-append, length-in_
 use Rattle.sc_bucket.proofs.RoomierLemmas.{same-roomier, spares-roomier}
 
 -- a bucket's journal is sound, apart from its cores
-pub HasJournal-same : (old new : Bucket) → HasSameName old new → new.map ≡ old.map → new.journal.entries ≡ old.journal.entries
+pub HasJournal-same : (old new : Bucket) → HasSameFirstAndLimit old new → new.map ≡ old.map → new.journal.entries ≡ old.journal.entries
     → new.unsettled.places ≡ old.unsettled.places → new.owed ≡ old.owed → new.owed ≤ new.journal.room
     → HasJournal old → HasJournal new
 HasJournal-same old new name map_is entries places owed_is room journal = record {
@@ -46,7 +46,7 @@ HasJournal-same old new name map_is entries places owed_is room journal = record
 }
 
 -- a bucket in which nothing changed but room is sound
-pub IsSound-same : (old new : Bucket) → IsSameBut old new → new.unsettled.places ≡ old.unsettled.places → new.owed ≡ old.owed
+pub IsSound-same : (old new : Bucket) → IsSameButRoom old new → new.unsettled.places ≡ old.unsettled.places → new.owed ≡ old.owed
     → new.owed ≤ new.journal.room → new.spares ≡ old.spares → All (HasSpare new.flight.messages new.feeds) new.replicas
     → IsSound old → IsSound new
 IsSound-same old new same places owed_is room same_spares spares sound =
@@ -69,9 +69,9 @@ pub record HasMoreRoom (b : Bucket) (journal : JournalState) (unsettled : Places
   pub messages : flight.messages ≡ b.flight.messages
   pub cores_are : AllZip IsRoomier b.replicas cores
 
-pub IsSameBut-with_parts : (b : Bucket) (journal : JournalState) (unsettled : PlacesState) (flight : FlightState) (cores : List Core)
-    → HasMoreRoom b journal unsettled flight cores → IsSameBut b (with_parts b journal unsettled flight cores)
-IsSameBut-with_parts b journal unsettled flight cores more = record {
+pub IsSameButRoom-with_parts : (b : Bucket) (journal : JournalState) (unsettled : PlacesState) (flight : FlightState) (cores : List Core)
+    → HasMoreRoom b journal unsettled flight cores → IsSameButRoom b (with_parts b journal unsettled flight cores)
+IsSameButRoom-with_parts b journal unsettled flight cores more = record {
   name = record { first = refl; limit = refl };
   split = record { phase = refl; feeds = refl };
   map_is = refl;
@@ -86,12 +86,12 @@ pub spares-with_parts : (b : Bucket) (journal : JournalState) (unsettled : Place
     → HasMoreRoom b journal unsettled flight cores → IsSound b → All (HasSpare flight.messages b.feeds) cores
 spares-with_parts b journal unsettled flight cores more sound =
     subst (λ (messages : List Sent). All (HasSpare messages b.feeds) cores) (sym more.messages)
-    (spares-roomier b.flight.messages b.feeds b.replicas cores more.cores_are sound.spares)
+    (spares-roomier b.flight.messages b.feeds b.replicas cores more.cores_are sound.room)
 
 pub IsSound-with_parts : (b : Bucket) (journal : JournalState) (unsettled : PlacesState) (flight : FlightState) (cores : List Core)
     → HasMoreRoom b journal unsettled flight cores → IsSound b → IsSound (with_parts b journal unsettled flight cores)
 IsSound-with_parts b journal unsettled flight cores more sound =
-    IsSound-same b (with_parts b journal unsettled flight cores) (IsSameBut-with_parts b journal unsettled flight cores more) more.places refl
+    IsSound-same b (with_parts b journal unsettled flight cores) (IsSameButRoom-with_parts b journal unsettled flight cores more) more.places refl
     (omega (arith, sound.journal.room, more.room)) refl
     (spares-with_parts b journal unsettled flight cores more sound) sound
 

@@ -1,8 +1,9 @@
 -- Searchers show what was committed as long as nothing more is committed; and those of a new bucket show nothing.
-use Rattle.std.proofs.Common.{◌≡◌, ◌∙◌, List, [], map, refl, sym, ap, subst, All, Contains, arith}
+use Rattle.std.proofs.Common.{ℕ, ◌≡◌, ◌∙◌, List, [], map, refl, sym, ap, subst, All, Contains, arith}
 use Rattle.std.specs.List.Sorted.{IsStrictlySortedBy}
 use Rattle.std.proofs.lemmas.List.Elements.{All-nil, All-weaker, All-contains}
 use Rattle.std.proofs.lemmas.Option.{slice_get_within, get_or_from_slice_get}
+use Rattle.std.specs.Arc.{arc_value}
 use Rattle.sc_record.specs.declared.write.Write.{Write}
 use Rattle.sc_record.specs.declared.entry.Entry.{Entry}
 use Rattle.sc_snapshot.specs.Rows.{SnapshotState, AreRows}
@@ -11,7 +12,7 @@ use Rattle.sc_cluster.specs.Map.{IsMap}
 use Rattle.sc_cluster.proofs.LeaderLemmas.{same_from_id}
 use Rattle.sc_replica.specs.Core.{Core}
 use Rattle.sc_journal.specs.Journal.{writes, last_write}
-use Rattle.sc_journal.specs.Committed.{committed}
+use Rattle.sc_journal.specs.Committed.{committed, last_commit}
 use Rattle.sc_bucket.specs.Cores.{core_key, IsNew}
 use Rattle.sc_bucket.specs.Searchers.{rows_of, AreOfEachSlice, ShowsCommitted, IsTaken, AreTaken, AreLed}
 use Rattle.sc_bucket.specs.Sound.{HasSearchers}
@@ -36,16 +37,30 @@ abbrev Show : List Slice → List Entry → Standing → Type 0
 Show slices journal searcher = (slice : Slice) → Contains slices slice → slice.id ≡ searcher.slice
     → (searcher.range ≡ slice.range) × ShowsCommitted journal slice (rows_of searcher)
 
+-- the searcher was taken at this place of the journal
+abbrev pub IsAt : ℕ → Standing → Type 0
+IsAt place searcher = (arc_value searcher.snapshot).place ≡ place
+
+-- those that were taken there are
+pub AreAt-taken : (slices : List Slice) (cores : List Core) (place : ℕ) (searchers : List Standing)
+    → All (IsTaken slices cores place) searchers → All (IsAt place) searchers
+AreAt-taken slices cores place searchers taken =
+    All-weaker (IsTaken slices cores place) (IsAt place)
+    (λ searcher is. ap (λ (snapshot : SnapshotState). snapshot.place) is.snapshot_is) searchers taken
+
 -- a bucket has its searchers still, where the map and the searchers stay, and the journal gets no entry that commits
 pub HasSearchers-grown : (old new : Bucket) → new.map ≡ old.map → new.searchers ≡ old.searchers
+    → last_commit new.journal.entries ≡ last_commit old.journal.entries
     → committed new.journal.entries ≡ committed old.journal.entries → KeepsWrites old.journal.entries new.journal.entries
     → HasSearchers old → HasSearchers new
-HasSearchers-grown old new same_map same_searchers same_committed kept has = record {
+HasSearchers-grown old new same_map same_searchers same_place same_committed kept has = record {
   each_slice = subst (λ slices. AreOfEachSlice slices new.searchers) (sym same_map)
       (subst (AreOfEachSlice old.map) (sym same_searchers) has.each_slice);
   show = subst (λ slices. All (Show slices new.journal.entries) new.searchers) (sym same_map)
       (subst (All (Show old.map new.journal.entries)) (sym same_searchers)
       (All-weaker (Show old.map old.journal.entries) (Show old.map new.journal.entries) still old.searchers has.show));
+  place = subst (λ place. All (IsAt place) new.searchers) (sym same_place)
+      (subst (All (IsAt (last_commit old.journal.entries))) (sym same_searchers) has.place);
 } where
   still : (searcher : Standing) → Show old.map old.journal.entries searcher → Show old.map new.journal.entries searcher
   still searcher shows slice there same =
@@ -56,7 +71,7 @@ HasSearchers-grown old new same_map same_searchers same_committed kept has = rec
 pub HasSearchers-same : (old new : Bucket) → new.map ≡ old.map → new.searchers ≡ old.searchers
     → new.journal.entries ≡ old.journal.entries → HasSearchers old → HasSearchers new
 HasSearchers-same old new same_map same_searchers same_entries has =
-    HasSearchers-grown old new same_map same_searchers (ap committed same_entries)
+    HasSearchers-grown old new same_map same_searchers (ap last_commit same_entries) (ap committed same_entries)
     (λ write there. subst (λ (entries : List Entry). Contains (writes entries) write) (sym same_entries) there) has
 
 -- each slice of a map has a core that leads it, where there is a core of each leader's name
@@ -83,6 +98,7 @@ HasSearchers-new b first cores is_map same_map empty new taken = record {
   show = subst (λ slices. All (Show slices b.journal.entries) b.searchers) (sym same_map)
       (subst (λ journal. All (Show first journal) b.searchers) (sym empty)
       (All-weaker (IsTaken first cores 0) (Show first []) shows b.searchers taken.taken));
+  place = subst (λ place. All (IsAt place) b.searchers) (sym (ap last_commit empty)) (AreAt-taken first cores 0 b.searchers taken.taken);
 } where
   shows : (searcher : Standing) → IsTaken first cores 0 searcher → Show first [] searcher
   shows searcher is slice there same =

@@ -10,18 +10,19 @@ use Rattle.sc_record.specs.declared.entry.Entry.{Entry}
 use Rattle.sc_record.specs.declared.entry.Entry.TheVariants as entry
 use Rattle.sc_cluster.specs.Map.{IsMap}
 use Rattle.sc_journal.specs.Journal.{write_at, is_settled, unsettled, writes}
-use Rattle.sc_journal.specs.Committed.{committed}
-use Rattle.sc_journal.proofs.CommittedLemmas.{committed-push_other}
+use Rattle.sc_journal.specs.Committed.{committed, last_commit}
+use Rattle.sc_journal.proofs.CommittedLemmas.{committed-push_other, last_commit-push_other}
 use Rattle.sc_journal.specs.Splits.{map_after, open_split, owed}
 use Rattle.sc_journal.specs.Legal.{IsLegal}
 use Rattle.sc_journal.proofs.JournalLemmas.{writes-push_other, write_at-append, write_at_within}
 use Rattle.sc_journal.proofs.SettledLemmas.{unsettled_is, unsettled_from, unsettled-push_settled, is_settled-push}
 use Rattle.sc_journal.proofs.SplitLemmas.{map_after-left, open_split-left, owed-push_settled, LeavesSlices-settled}
 use Rattle.sc_journal.proofs.LegalLemmas.{IsLegal-push}
+use Rattle.sc_bucket.specs.Cores.{without_room}
 use Rattle.sc_bucket.specs.Kept.{Sent, FlightState}
 use Rattle.sc_bucket.specs.Flight.{is_of_write, is_same_message}
 use Rattle.sc_bucket.specs.Sound.{AreActive, HasJournal, IsSent, HasSpare, IsSound}
-use Rattle.sc_bucket.specs.Events.{without_room, DeliversFirst, Settles, Notes}
+use Rattle.sc_bucket.specs.Events.{DeliversFirst, Settles, Notes}
 use Rattle.sc_bucket.specs.declared.bucket.Bucket.{Bucket}
 use Rattle.sc_bucket.proofs.SearcherLemmas.{HasSearchers-grown}
 use Rattle.sc_bucket.proofs.SoundLemmas.{IsSent-left, ArePrepared-same, IsSound-left}
@@ -123,8 +124,9 @@ IsSound-settled old place new sound written still delivered noted parts =
     (record { each = subst (All (IsSent new)) (sym messages) each; once = subst (IsDistinct is_same_message) (sym messages) sound.messages.once })
     (subst (λ these. All (HasSpare these new.feeds) new.replicas) (sym messages)
     (subst (λ feeds. All (HasSpare old.flight.messages feeds) new.replicas) (sym noted.split.feeds)
-    (subst (All (HasSpare old.flight.messages old.feeds)) (sym noted.cores) sound.spares)))
+    (subst (All (HasSpare old.flight.messages old.feeds)) (sym noted.cores) sound.room)))
     (HasSearchers-grown old new noted.map_is noted.searchers_are
+    (ap last_commit noted.entries ∙ last_commit-push_other old.journal.entries one refl)
     (ap committed noted.entries ∙ committed-push_other old.journal.entries one refl)
     (λ write there. subst (λ (these : List Write). Contains these write)
     (sym (ap writes noted.entries ∙ writes-push_other old.journal.entries one refl)) there)

@@ -20,16 +20,16 @@ use Rattle.sc_cluster.proofs.ListLemmas.{Contains-map}
 use Rattle.sc_cluster.proofs.PairLemmas.{Contains-from_map}
 use Rattle.sc_ulog.specs.declared.mode.Mode.{Mode}
 use Rattle.sc_ulog.specs.declared.mode.Mode.TheVariants.{Active}
-use Rattle.sc_replica.specs.Core.{Core}
+use Rattle.sc_replica.specs.Core.{Core, IsCore}
 use Rattle.sc_journal.specs.Journal.{writes, write_at, is_settled, last_of, last_write}
 use Rattle.sc_journal.specs.Splits.{open_split}
 use Rattle.sc_bucket.specs.Kept.{Sent, FeedState}
-use Rattle.sc_bucket.specs.Cores.{core_key, core_keys, keys_of, is_core, is_attached, IsLeaderAt}
+use Rattle.sc_bucket.specs.Cores.{core_key, core_keys, keys_of, is_core, is_attached, IsLeaderAt, without_room}
 use Rattle.sc_bucket.specs.Searchers.{ArePrepared}
 use Rattle.sc_bucket.specs.Flight.{is_same_message}
 use Rattle.sc_bucket.specs.Pending.{pending}
 use Rattle.sc_bucket.specs.Sound.{HasJournal, OfEachCore, HasLastWrites, Serves, AreInRange, IsSent, AreSent, HasSpare, HasSearchers, HasCores, IsFeed, AreFeeds, IsIdle, IsOpen, IsInPhase, IsSound}
-use Rattle.sc_bucket.specs.Events.{without_room, AreSameCores, HasSameSplit}
+use Rattle.sc_bucket.specs.Events.{AreSameCores, HasSameSplit}
 use Rattle.sc_bucket.specs.declared.bucket.Bucket.{Bucket}
 use Rattle.sc_bucket.specs.declared.phase.Phase.{Phase}
 use Rattle.sc_bucket.specs.declared.phase.Phase.TheVariants as phases
@@ -324,10 +324,11 @@ IsSound-left old new sound same journal same_map same_cores same_writes same_spl
       clocks = all_left (λ _ these _ _. IsClockBy these) old.map new.map all (writes new.journal.entries) messages
           new.flight.messages feeds new.feeds new.replicas same_map same_writes same_messages same.feeds
           (All-same_cores (IsClockBy all) old.replicas new.replicas same_cores sound.clocks);
+      in_order = All-same_cores IsCore old.replicas new.replicas same_cores sound.in_order;
       searchers = searchers;
       prepared = prepared;
       messages = sent;
-      spares = spares;
+      room = spares;
       cores = HasCores-alike old new same_map alike sound.cores;
       feeds = AreFeeds-alike old new same_map same.feeds alike sound.feeds;
       phase = subst (IsInPhase new) (sym same.phase)

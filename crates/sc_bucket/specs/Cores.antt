@@ -7,7 +7,7 @@ use Rattle.sc_record.specs.declared.slice.CoreId.{CoreId}
 use Rattle.sc_cluster.specs.declared.slice.Slice.{Slice}
 use Rattle.sc_cluster.specs.Map.{Leads}
 use Rattle.sc_ulog.specs.declared.mode.Mode.TheVariants.{Active}
-use Rattle.sc_replica.specs.Core.{Core}
+use Rattle.sc_replica.specs.Core.{Core, IsCore}
 use Rattle.sc_journal.specs.Splits.{is_inactive}
 
 -- the name of a core: its slice and its replica
@@ -97,3 +97,12 @@ with_room n core = record core {
   cell_spare = max core.cell_spare n;
   buffer_spare = max core.buffer_spare n;
 }
+
+-- a core without its room
+abbrev pub without_room : Core → Core
+without_room core = record core { cell_spare = 0; buffer_spare = 0 }
+
+-- what is true of every core, whatever room it has: its ids ascend, no cell is newer than its clock, and its buffer is empty where it
+-- is active
+abbrev pub IsCoreWithoutRoom : Core → Type 0
+IsCoreWithoutRoom core = IsCore (without_room core)

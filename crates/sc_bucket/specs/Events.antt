@@ -10,27 +10,23 @@ use Rattle.sc_record.specs.declared.order.Order.{Order}
 use Rattle.sc_record.specs.declared.entry.Entry.TheVariants as entry
 use Rattle.sc_replica.specs.Core.{Core, led}
 use Rattle.sc_journal.specs.Journal.{write_at, is_settled}
-use Rattle.sc_journal.specs.Committed.{HasRoomToCommit}
-use Rattle.sc_journal.specs.Outcomes.{Outcome, accepted, conflict, partial, log_full, out_of_memory, IsFitting, HasRoom, IsWriteOf}
+use Rattle.sc_journal.specs.Outcomes.{Outcome, accepted, conflict, partial, log_full, out_of_memory, IsFitting, IsWriteOf}
 use Rattle.sc_bucket.specs.Kept.{Sent}
-use Rattle.sc_bucket.specs.Cores.{followers, IsLeaderAt}
+use Rattle.sc_bucket.specs.Cores.{followers, IsLeaderAt, without_room}
 use Rattle.sc_bucket.specs.Searchers.{AreTaken}
+use Rattle.sc_bucket.specs.Room.{BucketHasRoom}
 use Rattle.sc_bucket.specs.Flight.{is_of_write, is_to, sent_to, delivered, delivered_all, arrived, IsFirstOf}
 use Rattle.sc_bucket.specs.declared.bucket.Bucket.{Bucket}
 use Rattle.sc_bucket.specs.declared.accept.Accepted.{Accepted}
 use Rattle.sc_bucket.specs.declared.accept.AcceptFault.{AcceptFault}
 use Rattle.sc_bucket.specs.declared.accept.AcceptFault.TheVariants as faults
 
--- a core without its room
-abbrev pub without_room : Core → Core
-without_room core = record core { cell_spare = 0; buffer_spare = 0 }
-
 -- the cores are the same but for their room
 abbrev pub AreSameCores : List Core → List Core → Type 0
 AreSameCores old new = map without_room new ≡ map without_room old
 
 -- what no event changes: the first map and the limit
-pub record HasSameName (old new : Bucket) : Type 0 where
+pub record HasSameFirstAndLimit (old new : Bucket) : Type 0 where
   pub first : new.first ≡ old.first
   pub limit : new.limit ≡ old.limit
 
@@ -40,8 +36,8 @@ pub record HasSameSplit (old new : Bucket) : Type 0 where
   pub feeds : new.feeds ≡ old.feeds
 
 -- nothing was changed but room
-pub record IsSameBut (old new : Bucket) : Type 0 where
-  pub name : HasSameName old new
+pub record IsSameButRoom (old new : Bucket) : Type 0 where
+  pub name : HasSameFirstAndLimit old new
   pub split : HasSameSplit old new
   pub map_is : new.map ≡ old.map
   pub entries : new.journal.entries ≡ old.journal.entries
@@ -52,11 +48,11 @@ pub record IsSameBut (old new : Bucket) : Type 0 where
 -- An order is accepted at a timestamp: its write comes to the end of the journal, and the leader of its hash leads it, with the
 -- version that comes after the timestamp's and after that leader's clock; and it is sent to each other core that takes it.
 pub record Accepts (old : Bucket) (order : Order) (now : ℕ) (version : ℤ) (new : Bucket) : Type 0 where
-  pub name : HasSameName old new
+  pub name : HasSameFirstAndLimit old new
   pub split : HasSameSplit old new
   pub map_is : new.map ≡ old.map
   pub fitting : IsFitting old.journal.entries order
-  pub room : HasRoom old.limit old.first old.journal.entries
+  pub room : BucketHasRoom 2 old
   pub cell : Arc Write Global
   pub write : IsWriteOf old.journal.entries order now cell.value
   pub at : ℕ
@@ -71,7 +67,7 @@ pub record Accepts (old : Bucket) (order : Order) (now : ℕ) (version : ℤ) (n
 
 -- the message at this place of the flight is delivered: it leaves the flight, and its core receives the write
 pub record Delivers (old : Bucket) (at : ℕ) (message : Sent) (new : Bucket) : Type 0 where
-  pub name : HasSameName old new
+  pub name : HasSameFirstAndLimit old new
   pub split : HasSameSplit old new
   pub map_is : new.map ≡ old.map
   pub entries : new.journal.entries ≡ old.journal.entries
@@ -89,8 +85,8 @@ pub record DeliversFirst (old : Bucket) (place : ℕ) (core : CoreId) (new : Buc
   pub delivers : Delivers old at message new
 
 -- all that is in flight to the core of this name is delivered, in the order of sending
-pub record DeliversTo (old : Bucket) (core : CoreId) (new : Bucket) : Type 0 where
-  pub name : HasSameName old new
+pub record DeliversAllTo (old : Bucket) (core : CoreId) (new : Bucket) : Type 0 where
+  pub name : HasSameFirstAndLimit old new
   pub split : HasSameSplit old new
   pub map_is : new.map ≡ old.map
   pub entries : new.journal.entries ≡ old.journal.entries
@@ -100,7 +96,7 @@ pub record DeliversTo (old : Bucket) (core : CoreId) (new : Bucket) : Type 0 whe
 
 -- the write at the place is settled: its messages in flight are delivered, and its entry comes to the end of the journal
 pub record Settles (old : Bucket) (place : ℕ) (new : Bucket) : Type 0 where
-  pub name : HasSameName old new
+  pub name : HasSameFirstAndLimit old new
   pub split : HasSameSplit old new
   pub map_is : new.map ≡ old.map
   pub entries : new.journal.entries ≡ old.journal.entries ++ entry.Settled place ∷ []
@@ -110,7 +106,7 @@ pub record Settles (old : Bucket) (place : ℕ) (new : Bucket) : Type 0 where
 
 -- the entry that settles the write at the place comes to the end of the journal
 pub record Notes (old : Bucket) (place : ℕ) (new : Bucket) : Type 0 where
-  pub name : HasSameName old new
+  pub name : HasSameFirstAndLimit old new
   pub split : HasSameSplit old new
   pub map_is : new.map ≡ old.map
   pub entries : new.journal.entries ≡ old.journal.entries ++ entry.Settled place ∷ []
@@ -121,10 +117,10 @@ pub record Notes (old : Bucket) (place : ℕ) (new : Bucket) : Type 0 where
 -- all is committed: each active slice has a searcher of its leader's cells as they are, and the entry that says so comes to the
 -- end of the journal
 pub record Commits (old new : Bucket) : Type 0 where
-  pub name : HasSameName old new
+  pub name : HasSameFirstAndLimit old new
   pub split : HasSameSplit old new
   pub map_is : new.map ≡ old.map
-  pub room : HasRoomToCommit old.limit old.first old.journal.entries
+  pub room : BucketHasRoom 1 old
   pub entries : new.journal.entries ≡ old.journal.entries ++ entry.Committed ∷ []
   pub messages : new.flight.messages ≡ old.flight.messages
   pub cores : new.replicas ≡ old.replicas
@@ -132,7 +128,7 @@ pub record Commits (old new : Bucket) : Type 0 where
 
 -- one event of a bucket, or none
 pub data IsStep (old new : Bucket) : Type 0 where
-  stays : IsSameBut old new → IsStep old new
+  stays : IsSameButRoom old new → IsStep old new
   accepts : {order : Order} {now : ℕ} {version : ℤ} → Accepts old order now version new → IsStep old new
   delivers : {at : ℕ} {message : Sent} → Delivers old at message new → IsStep old new
   settles : {place : ℕ} → IsSome (write_at old.journal.entries place) → is_settled old.journal.entries place ≡ false

@@ -26,9 +26,11 @@ pub record FlightState : Type 0 where
   pub messages : List Sent
   pub room : ℕ
 
--- a feed: the core that it feeds and that core's range, the rows of the snapshot that it feeds from, and the next one to look at
+-- a feed: the core that it feeds and that core's range; the snapshot that it feeds from, by how many entries the journal had and its
+-- rows; and the next row to look at
 pub record FeedState : Type 0 where
   pub core : CoreId
   pub range : Range
+  pub place : ℕ
   pub rows : List Write
   pub next : ℕ

@@ -6,5 +6,6 @@ pub mod Searchers
 pub mod Flight
 pub mod Pending
 pub mod Sound
+pub mod Room
 pub mod Events
 pub mod Accepting

@@ -5,6 +5,7 @@ use Rattle.sc_hash.specs.declared.range.Range.{Range}
 use Rattle.sc_hash.specs.Bounds.{bounds, contains}
 use Rattle.sc_record.specs.declared.slice.CoreId.{CoreId}
 use Rattle.sc_record.specs.declared.write.Write.{Write}
+use Rattle.sc_snapshot.specs.Rows.{SnapshotState}
 use Rattle.sc_replica.specs.Core.{Core}
 use Rattle.sc_bucket.specs.Kept.{Sent, FeedState}
 use Rattle.sc_bucket.specs.Cores.{is_core}
@@ -13,6 +14,11 @@ use Rattle.sc_bucket.specs.Flight.{in_flight}
 -- the write's hash is in the range
 abbrev pub is_within : Range → Write → Bool
 is_within range write = contains write.hash (bounds range)
+
+-- a feed of the core, whose range this is, from the first row of the snapshot on
+abbrev pub new_feed : CoreId → Range → SnapshotState → FeedState
+new_feed core range snapshot =
+    record { core = core; range = range; place = snapshot.place; rows = snapshot.rows; next = 0 }
 
 -- the feed is that of the core of this name
 abbrev pub is_feed_of : CoreId → FeedState → Bool

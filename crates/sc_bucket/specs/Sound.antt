@@ -1,6 +1,7 @@
 -- What is true of a bucket before and after each of its events.
 use Rattle.std.specs.Prelude.{◌≡◌, ◌≤◌, ◌⊎◌, ℕ, ◌+◌, ◌^◌, Some, None, List, [], ◌++◌, length, map, filter, not, true, false, IsTrue, All, Contains}
 use Rattle.std.specs.List.{IsDistinct}
+use Rattle.std.specs.Arc.{arc_value}
 use Rattle.sc_record.specs.Writes.{write_of}
 use Rattle.sc_record.specs.declared.slice.SliceId.{SliceId}
 use Rattle.sc_record.specs.declared.write.Write.{Write}
@@ -18,8 +19,9 @@ use Rattle.sc_journal.specs.Journal.{writes, write_at, last_write, is_settled, u
 use Rattle.sc_journal.specs.Splits.{map_after, open_split, owed}
 use Rattle.sc_journal.specs.Legal.{IsLegal}
 use Rattle.sc_journal.specs.Outcomes.{IsClock}
+use Rattle.sc_journal.specs.Committed.{last_commit}
 use Rattle.sc_bucket.specs.Kept.{Sent, FeedState}
-use Rattle.sc_bucket.specs.Cores.{core_key, core_keys, keys_of, is_attached, AscendByName, IsCounted, is_core}
+use Rattle.sc_bucket.specs.Cores.{core_key, core_keys, keys_of, is_attached, AscendByName, IsCounted, is_core, IsCoreWithoutRoom}
 use Rattle.sc_bucket.specs.Searchers.{rows_of, AreOfEachSlice, ShowsCommitted, ArePrepared}
 use Rattle.sc_bucket.specs.Flight.{in_flight, is_same_message}
 use Rattle.sc_bucket.specs.Pending.{pending}
@@ -80,12 +82,13 @@ IsInRange slice write = IsWithin slice.range.min slice.range.max write.hash
 abbrev pub AreInRange : List Sent → List FeedState → Slice → Core → Type 0
 AreInRange messages feeds slice core = All (IsInRange slice) core.cells × All (IsInRange slice) (pending messages feeds core)
 
--- Each active slice has a searcher, in the order of the map, and no other has one. It has the slice's range, and shows what was
--- committed there.
+-- Each active slice has a searcher, in the order of the map, and no other has one. It has the slice's range, shows what was
+-- committed there, and was taken at the last entry that commits; the first ones at the journal's begin.
 pub record HasSearchers (b : Bucket) : Type 0 where
   pub each_slice : AreOfEachSlice b.map b.searchers
   pub show : All (λ (searcher : Standing). (slice : Slice) → Contains b.map slice → slice.id ≡ searcher.slice
       → (searcher.range ≡ slice.range) × ShowsCommitted b.journal.entries slice (rows_of searcher)) b.searchers
+  pub place : All (λ (searcher : Standing). (arc_value searcher.snapshot).place ≡ last_commit b.journal.entries) b.searchers
 
 -- a message in flight is of a write of the journal that is not settled, and to a core that is there
 pub record IsSent (b : Bucket) (message : Sent) : Type 0 where
@@ -161,10 +164,11 @@ pub record IsSound (b : Bucket) : Type 0 where
   pub held : OfEachCore b (HasOrAwaits b.journal.entries b.flight.messages b.feeds)
   pub in_range : OfEachCore b (AreInRange b.flight.messages b.feeds)
   pub clocks : All (λ (core : Core). IsClock b.journal.entries core.clock) b.replicas
+  pub in_order : All IsCoreWithoutRoom b.replicas
   pub searchers : HasSearchers b
   pub prepared : ArePrepared b.phase b.map b.searchers b.spares
   pub messages : AreSent b
-  pub spares : All (HasSpare b.flight.messages b.feeds) b.replicas
+  pub room : All (HasSpare b.flight.messages b.feeds) b.replicas
   pub cores : HasCores b
   pub feeds : AreFeeds b
   pub phase : IsInPhase b b.phase

@@ -8,12 +8,13 @@ ghost use Rattle.sc_router.specs.Route.{route_hash};
 ghost use Rattle.sc_replica.specs.Core.{Core};
 ghost use Rattle.sc_partial.specs.Resolved.{IsRefusalOf, fields_of};
 ghost use Rattle.sc_journal.specs.Legal.{HasTerms, MayWrite};
-ghost use Rattle.sc_journal.specs.Outcomes.{Makes, refused, HasRoom, IsWriteOf, IsFitting, IsOutcome, live_fields};
+ghost use Rattle.sc_journal.specs.Outcomes.{Makes, refused, IsWriteOf, IsFitting, IsOutcome, live_fields};
 ghost use Rattle.sc_bucket.specs.Cores.{is_core, is_attached, has_hash, AscendByName, follows, followers, IsLeaderAt};
 ghost use Rattle.sc_bucket.specs.Kept.{FeedState};
 ghost use Rattle.sc_bucket.specs.Flight.{sent_of, sent_to};
+ghost use Rattle.sc_bucket.specs.Room.{BucketHasRoom};
 ghost use Rattle.sc_bucket.specs.Sound.{IsSound};
-ghost use Rattle.sc_bucket.specs.Events.{Accepts, IsSameBut, outcome_of};
+ghost use Rattle.sc_bucket.specs.Events.{Accepts, IsSameButRoom, outcome_of};
 ghost use Rattle.sc_bucket.specs.Accepting.{IsRoomier, HasMore, HasMoreAt, HasMemory, IsPut};
 
 use crate::bucket::Bucket;
@@ -93,7 +94,7 @@ impl Bucket {
         ensures sound { IsSound self.new }
         ensures accepted { IfOk result (λ accepted. Accepts self.old order.now now accepted.version self.new) }
         ensures place { IfOk result (λ accepted. accepted.place ≡ length self.old.journal.entries) }
-        ensures refused { OnErr result (IsSameBut self.old self.new) }
+        ensures refused { OnErr result (IsSameButRoom self.old self.new) }
         ensures outcome { IsOutcome self.old.limit self.old.first self.old.journal.entries order.now now (outcome_of result) self.new.journal.entries }
     {
         let hash = route_hash(order.id.as_str());
@@ -124,7 +125,7 @@ impl Bucket {
         requires leader { IsLeaderAt self.now.map self.now.replicas hash leader }
         requires within { leader < length self.now.replicas }
         ensures fitting { OnOk result (IsFitting self.now.journal.entries order.now) }
-        ensures room { OnOk result (HasRoom self.now.limit self.now.first self.now.journal.entries) }
+        ensures room { OnOk result (BucketHasRoom 2 self.now) }
         ensures made { IfOk result (IsWriteOf self.now.journal.entries order.now now) }
         ensures next { IfOk result (MayWrite self.now.journal.entries) }
         ensures hash { IfOk result (λ write. write.hash ≡ hash) }
@@ -208,7 +209,7 @@ impl Bucket {
         requires others { (core : Core) → slice_get self.old.replicas leader ≡ Some core
             → All (λ name. is_core core.core name ≡ false) (map (λ (message : Message). message.core) messages.now) }
         ensures sound { IsSound self.new }
-        ensures same { IsSameBut self.old self.new }
+        ensures same { IsSameButRoom self.old self.new }
         ensures memory { OnOk result (HasMemory self.new leader (map sent_of messages.now)) }
     {
         self.journal.reserve(self.owed as usize + 2)?;
@@ -266,7 +267,7 @@ impl Bucket {
         requires leader { IsLeaderAt self.old.map self.old.replicas (arc_value entry).hash leader }
         requires shares { arc_value cell ≡ arc_value entry }
         requires next { MayWrite self.old.journal.entries (arc_value entry) }
-        requires room { HasRoom self.old.limit self.old.first self.old.journal.entries }
+        requires room { BucketHasRoom 2 self.old }
         requires above { (core : Core) → slice_get self.old.replicas leader ≡ Some core → core.clock <ℤ (arc_value entry).version }
         requires sent { (core : Core) → slice_get self.old.replicas leader ≡ Some core
             → map sent_of messages.items ≡ sent_to (length self.old.journal.entries) (arc_value entry)

@@ -3,13 +3,12 @@ ghost use Rattle.sc_snapshot.specs.Rows.{AreRows};
 ghost use Rattle.sc_cluster.specs.declared.slice.State.TheVariants as states;
 ghost use Rattle.sc_cluster.specs.declared.slice.Slice.{Slice};
 ghost use Rattle.sc_replica.specs.Core.{Core, IsCore};
-ghost use Rattle.sc_journal.specs.Splits.{owed};
-ghost use Rattle.sc_journal.specs.Committed.{HasRoomToCommit};
 ghost use Rattle.sc_bucket.specs.Cores.{IsLeaderOf};
+ghost use Rattle.sc_bucket.specs.Room.{BucketHasRoom, BucketIsFull};
 ghost use Rattle.sc_bucket.specs.Sound.{IsSound};
 ghost use Rattle.sc_bucket.specs.declared.standing.Standing.{Standing};
 ghost use Rattle.sc_bucket.specs.Searchers.{AreLed, AreTaken, IsTaken, IsSearched, ArePrepared};
-ghost use Rattle.sc_bucket.specs.Events.{IsSameBut, Commits};
+ghost use Rattle.sc_bucket.specs.Events.{IsSameButRoom, Commits};
 
 use crate::bucket::Bucket;
 use crate::phase::Phase;
@@ -52,9 +51,8 @@ impl Bucket {
         requires sound { IsSound self.old }
         ensures sound { IsSound self.new }
         ensures committed { OnOk result (Commits self.old self.new) }
-        ensures refused { OnErr result (IsSameBut self.old self.new) }
-        ensures full { (result ≡ Err CommitFault.LogFull)
-            ↔ (self.old.limit < length self.old.journal.entries + owed self.old.first self.old.journal.entries + 1) }
+        ensures refused { OnErr result (IsSameButRoom self.old self.new) }
+        ensures full { (result ≡ Err CommitFault.LogFull) ↔ BucketIsFull 1 self.old }
     {
         let place = self.entries();
         if self.limit < place + self.owed + 1 {
@@ -71,7 +69,7 @@ impl Bucket {
     fn put_commit(&mut self, searchers: List<Standing>, spares: Option<List<Standing>>)
         requires sound { IsSound self.old }
         requires memory { self.old.owed < self.old.journal.room }
-        requires room { HasRoomToCommit self.old.limit self.old.first self.old.journal.entries }
+        requires room { BucketHasRoom 1 self.old }
         requires taken { AreTaken self.old.map self.old.replicas (length self.old.journal.entries) searchers }
         requires prepared { ArePrepared self.old.phase self.old.map searchers spares }
         ensures sound { IsSound self.new }

@@ -1,7 +1,7 @@
 ghost use Rattle.std.specs.Prelude.{◌≡◌, ◌≢◌, ◌<◌, ◌≤◌, length, slice_get, Some, MatchOption, All};
 ghost use Rattle.sc_bucket.specs.Kept.{Sent};
 ghost use Rattle.sc_bucket.specs.Sound.{IsSound};
-ghost use Rattle.sc_bucket.specs.Events.{Delivers, DeliversFirst, DeliversTo};
+ghost use Rattle.sc_bucket.specs.Events.{Delivers, DeliversFirst, DeliversAllTo};
 
 use crate::bucket::Bucket;
 use sc_record::CoreId;
@@ -35,10 +35,10 @@ impl Bucket {
     }
 
     /// Delivers all that is in flight to this core, in the order of sending. It takes no memory.
-    pub fn deliver_to(&mut self, core: CoreId)
+    pub fn deliver_all_to(&mut self, core: CoreId)
         requires sound { IsSound self.old }
         ensures sound { IsSound self.new }
-        ensures delivered { DeliversTo self.old core self.new }
+        ensures delivered { DeliversAllTo self.old core self.new }
     {
         while let Some(at) = self.flight.first_to(core) {
             self.deliver_at(at);

@@ -2,7 +2,7 @@ ghost use Rattle.std.specs.Prelude.{◌≡◌, ◌<◌, ◌≤◌, ◌+◌, ◌-
 ghost use Rattle.std.specs.Option.{option_map};
 ghost use Rattle.std.specs.Arc.{arc_value};
 ghost use Rattle.sc_record.specs.declared.write.Write.{Write};
-ghost use Rattle.sc_bucket.specs.Pending.{is_within, left_of};
+ghost use Rattle.sc_bucket.specs.Pending.{is_within, left_of, new_feed};
 
 use sc_hash::Range;
 use sc_record::{Cell, CoreId};
@@ -34,7 +34,13 @@ impl Model for Feed {
 
     ghost Value = { FeedState };
 
-    ghost view = { λ a. record { core = a.core; range = a.range; rows = (arc_value a.snapshot).rows; next = a.next } };
+    ghost view = { λ a. record {
+      core = a.core;
+      range = a.range;
+      place = (arc_value a.snapshot).place;
+      rows = (arc_value a.snapshot).rows;
+      next = a.next;
+    } };
 
     ghost invariant = { λ a. (map arc_value a.shares.items ≡ filter (is_within a.range) (drop a.next (arc_value a.snapshot).rows))
         × (a.next ≤ length (arc_value a.snapshot).rows) × AreRows (arc_value a.snapshot).rows };
@@ -48,7 +54,7 @@ impl Feed {
         range: Range,
         snapshot: Arc<Snapshot>,
     ) -> Result<Feed, AllocError>
-        ensures { IfOk result (λ feed. feed ≡ record { core = core; range = range; rows = (arc_value snapshot).rows; next = 0 }) }
+        ensures { IfOk result (λ feed. feed ≡ new_feed core range (arc_value snapshot)) }
     {
         let mut shares = VecDeque::new(alloc);
         for at in 0..snapshot.rows() {

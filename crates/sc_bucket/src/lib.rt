@@ -35,7 +35,7 @@ pub use message::Message;
 pub use phase::Phase;
 pub use replicas::Replicas;
 pub use spares::hand_on;
-pub use standing::{Searcher, Standing};
+pub use standing::{Searcher, Standing, searcher_for};
 pub use unsettled::Unsettled;
 
 #[cfg(test)]

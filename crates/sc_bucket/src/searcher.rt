@@ -1,12 +1,10 @@
-ghost use Rattle.std.specs.Prelude.{◌≡◌, ◌<◌, Contains, map, IfOk, MatchOption, drop};
-ghost use Rattle.sc_bucket.specs.declared.standing.Standing.{Standing};
+ghost use Rattle.std.specs.Prelude.{IfOk, MatchOption, drop};
 ghost use Rattle.sc_bucket.specs.Sound.{IsSound};
 ghost use Rattle.sc_bucket.specs.Searchers.{NoneIsActive, IsFirstSearcher};
 
 use crate::bucket::Bucket;
-use crate::standing::{Searcher, Standing};
+use crate::standing::{Searcher, searcher_for};
 use sc_cluster::State;
-use sc_record::SliceId;
 use std::alloc::AllocError;
 use std::sync::Arc;
 
@@ -21,7 +19,7 @@ impl Bucket {
         for at in from..self.map.len() {
             let slice = self.map.get(at).unwrap();
             if slice.state == State::Active {
-                let standing = self.standing(slice.id);
+                let standing = searcher_for(&self.searchers, slice.id);
                 return Ok(Some(Searcher {
                     next: at + 1,
                     range: standing.range,
@@ -30,17 +28,5 @@ impl Bucket {
             }
         }
         Ok(None)
-    }
-
-    // The searcher of the slice of this id, which has one.
-    fn standing(&self, slice: SliceId) -> &Standing
-        requires { Contains (map (λ (searcher : Standing). searcher.slice) self.now.searchers) slice }
-        ensures there { Contains self.now.searchers result.now }
-        ensures of_slice { result.now.slice ≡ slice }
-    {
-        self.searchers
-            .iter()
-            .find(|standing| standing.slice == slice)
-            .unwrap()
     }
 }

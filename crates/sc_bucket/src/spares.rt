@@ -6,7 +6,7 @@ ghost use Rattle.sc_cluster.specs.Slices.{forming};
 ghost use Rattle.sc_bucket.specs.declared.standing.Standing.{Standing};
 ghost use Rattle.sc_bucket.specs.Searchers.{StandingState, standing_of, cut_to, AreHandedOn};
 
-use crate::standing::Standing;
+use crate::standing::{Standing, searcher_for};
 use sc_cluster::{ClusterMap, Slice};
 use sc_record::{List, SliceId};
 use std::alloc::{AllocError, Global};
@@ -25,25 +25,9 @@ pub fn hand_on(
 {
     let mut handed = Vec::new(alloc);
     push_others(&mut handed, parent, searchers.as_slice())?;
-    push_subs(
-        &mut handed,
-        slices,
-        searcher_for(searchers.as_slice(), parent),
-    )?;
+    push_subs(&mut handed, slices, searcher_for(searchers, parent))?;
     handed.shrink_to_fit();
     Ok(List::from_vec(handed))
-}
-
-// The searcher of the slice, which has one.
-fn searcher_for(searchers: &[Standing], slice: SliceId) -> &Standing
-    requires { Contains (map (λ (searcher : Standing). searcher.slice) searchers.now) slice }
-    ensures there { Contains searchers.now result.now }
-    ensures of_slice { result.now.slice ≡ slice }
-{
-    searchers
-        .iter()
-        .find(|searcher| searcher.slice == slice)
-        .unwrap()
 }
 
 // Puts a share of each searcher but the parent's at the end.

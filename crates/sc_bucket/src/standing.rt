@@ -1,5 +1,7 @@
+ghost use Rattle.std.specs.Prelude.{◌≡◌, Contains, map};
+
 use sc_hash::Range;
-use sc_record::SliceId;
+use sc_record::{List, SliceId};
 use sc_snapshot::Snapshot;
 use std::sync::Arc;
 
@@ -17,4 +19,16 @@ pub struct Searcher {
     pub next: usize,
     pub range: Range,
     pub snapshot: Arc<Snapshot>,
+}
+
+/// The searcher of the slice, which has one.
+pub fn searcher_for(searchers: &List<Standing>, slice: SliceId) -> &Standing
+    requires { Contains (map (λ (searcher : Standing). searcher.slice) searchers.now) slice }
+    ensures there { Contains searchers.now result.now }
+    ensures of_slice { result.now.slice ≡ slice }
+{
+    searchers
+        .iter()
+        .find(|searcher| searcher.slice == slice)
+        .unwrap()
 }

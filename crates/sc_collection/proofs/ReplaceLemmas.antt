@@ -17,7 +17,7 @@ use Rattle.sc_bucket.specs.declared.commit.CommitFault.{CommitFault}
 use Rattle.sc_bucket.specs.declared.bucket.Bucket.{Bucket}
 use Rattle.sc_bucket.specs.Kept.{Sent}
 use Rattle.sc_bucket.specs.Sound.{IsSound}
-use Rattle.sc_bucket.specs.Events.{IsStep, IsSameBut, HasSameName, Accepts, Delivers, Settles, Commits}
+use Rattle.sc_bucket.specs.Events.{IsStep, IsSameButRoom, HasSameFirstAndLimit, Accepts, Delivers, Settles, Commits}
 use Rattle.sc_collection.specs.Desks.{Held, IsBucketOf, MayReplace}
 
 -- the ids of the writes belong to the bucket of this number
@@ -33,7 +33,7 @@ AreOf-push buckets number (first ∷ earlier) write are is = (are.0, AreOf-push 
 module _ (layout : Layout) (held : Held) (given : Bucket)
     (is : IsBucketOf layout held.number held.bucket) (sound : IsSound given) where
   -- the same bucket, by its writes
-  same_bucket : HasSameName held.bucket given → AreOf layout.buckets held.number (writes given.journal.entries)
+  same_bucket : HasSameFirstAndLimit held.bucket given → AreOf layout.buckets held.number (writes given.journal.entries)
       → IsBucketOf layout held.number given
   same_bucket name ids = record { first = name.first ∙ is.first; limit = name.limit ∙ is.limit; ids = ids }
 
@@ -42,7 +42,7 @@ module _ (layout : Layout) (held : Held) (given : Bucket)
   same_ids same = subst (λ (journal : List Entry). AreOf layout.buckets held.number (writes journal)) (sym same) is.ids
 
   -- nothing was done
-  pub unchanged_may_replace : IsSameBut held.bucket given → MayReplace layout held given
+  pub unchanged_may_replace : IsSameButRoom held.bucket given → MayReplace layout held given
   unchanged_may_replace same = record {
     sound = sound;
     is_of = same_bucket same.name (same_ids same.entries);
@@ -51,7 +51,7 @@ module _ (layout : Layout) (held : Held) (given : Bucket)
 
   -- it is the same bucket
   pub same_may_replace : given ≡ held.bucket → MayReplace layout held given
-  same_may_replace same = unchanged_may_replace (subst (IsSameBut held.bucket) (sym same) (record {
+  same_may_replace same = unchanged_may_replace (subst (IsSameButRoom held.bucket) (sym same) (record {
     name = record { first = refl; limit = refl };
     map_is = refl;
     entries = refl;
@@ -93,7 +93,7 @@ module _ (layout : Layout) (held : Held) (given : Bucket)
   pub answered_may_replace : (order : Order) (now : ℕ) (answer : Result Accepted AcceptFault)
       → bucket_of order.id layout.buckets ≡ held.number
       → IfOk answer (λ accepted. Accepts held.bucket order now accepted.version given)
-      → OnErr answer (IsSameBut held.bucket given)
+      → OnErr answer (IsSameButRoom held.bucket given)
       → MayReplace layout held given
   answered_may_replace order now (Ok answer) own accepted refused =
       accepted_may_replace order now answer.version own accepted
@@ -129,6 +129,6 @@ module _ (layout : Layout) (held : Held) (given : Bucket)
 
   -- it was committed, or could not be
   pub commit_may_replace : (answer : Result (Unit {0}) CommitFault) → OnOk answer (Commits held.bucket given)
-      → OnErr answer (IsSameBut held.bucket given) → MayReplace layout held given
+      → OnErr answer (IsSameButRoom held.bucket given) → MayReplace layout held given
   commit_may_replace (Ok done) committed refused = committed_may_replace committed
   commit_may_replace (Err fault) committed refused = unchanged_may_replace refused

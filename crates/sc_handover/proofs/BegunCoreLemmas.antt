@@ -39,10 +39,11 @@ use Rattle.sc_bucket.proofs.WriteLemmas.{Contains-find}
 use Rattle.sc_cluster.proofs.IdLemmas.{id_of, greatest_id-bounds}
 use Rattle.sc_handover.proofs.KeptLemmas.{slice_of_key}
 use Rattle.sc_handover.proofs.EachCoreLemmas.{IsSoundWith}
-use Rattle.sc_handover.specs.Made.{first_core, first_feed, range_of}
+use Rattle.sc_handover.specs.Made.{first_core, first_feed, range_of, cells_now}
 use Rattle.sc_handover.proofs.PlanLemmas.{sub_above, was_there, is_begun, sub_within}
 use Rattle.sc_handover.proofs.SameWritesLemmas.{last_write-same, same_writes_is_sound}
 use Rattle.sc_handover.proofs.MadeLemmas.{IsMade}
+use Rattle.sc_snapshot.specs.Rows.{SnapshotState}
 
 -- cores of two slices have two names
 of_other_slice : (one other : CoreId) → one.slice.0 ≢ other.slice.0 → is_core one other ≡ false
@@ -76,12 +77,12 @@ abbrev pub longer : Bucket → Entry → List Entry
 longer old one = old.journal.entries ++ one ∷ []
 
 -- a core that was there is sound: nothing more is pending for it
-pub old_is_sound : (old : Bucket) (parent : SliceId) (subs : List SubSlice) (rows : List Write) (one : Entry)
+pub old_is_sound : (old : Bucket) (parent : SliceId) (subs : List SubSlice) (snapshot : SnapshotState) (one : Entry)
     (core : Core)
     → IsPlan old.map parent subs → old.feeds ≡ [] → as_write one ≡ None → core.core.slice.0 ≤ greatest_id old.map
     → IsSoundIn old old.flight.messages core
-    → IsSoundWith (begun_map old subs) (longer old one) old.flight.messages (map (first_feed rows) subs) core
-old_is_sound old parent subs rows one core plan unfed no_write low sound =
+    → IsSoundWith (begun_map old subs) (longer old one) old.flight.messages (map (first_feed snapshot) subs) core
+old_is_sound old parent subs snapshot one core plan unfed no_write low sound =
     subst (λ (left : List Write). IsSoundCore (begun_map old subs) (longer old one) sent (sent ++ core.buffer ++ left) core) (sym none)
     (same_writes_is_sound old.map (begun_map old subs) old.journal.entries (longer old one) sent
     (pending old.flight.messages old.feeds core) core (writes-push_other old.journal.entries one no_write)
@@ -91,16 +92,16 @@ old_is_sound old parent subs rows one core plan unfed no_write low sound =
     sent : List Write
     sent = in_flight old.flight.messages core.core
 
-    apart : (sub : SubSlice) → Contains subs sub → is_feed_of core.core (first_feed rows sub) ≡ false
+    apart : (sub : SubSlice) → Contains subs sub → is_feed_of core.core (first_feed snapshot sub) ≡ false
     apart sub there =
         let above = sub_above old.map parent subs sub plan there in
         of_other_slice core.core (first_core sub) (omega (arith, above, low))
 
-    none : to_feed (map (first_feed rows) subs) core.core ≡ to_feed old.feeds core.core
+    none : to_feed (map (first_feed snapshot) subs) core.core ≡ to_feed old.feeds core.core
     none =
-        to_feed-none (map (first_feed rows) subs) core.core
-        (All-map (λ (feed : FeedState). is_feed_of core.core feed ≡ false) (first_feed rows) subs
-        (All-weaker (Contains subs) (λ (sub : SubSlice). is_feed_of core.core (first_feed rows sub) ≡ false) apart subs
+        to_feed-none (map (first_feed snapshot) subs) core.core
+        (All-map (λ (feed : FeedState). is_feed_of core.core feed ≡ false) (first_feed snapshot) subs
+        (All-weaker (Contains subs) (λ (sub : SubSlice). is_feed_of core.core (first_feed snapshot sub) ≡ false) apart subs
         (All-contains_itself subs)))
         ∙ sym (ap (λ (feeds : List FeedState). to_feed feeds core.core) unfed)
 
@@ -123,18 +124,18 @@ none_to_new old name sound above =
 -- the leader of a sub is sound as it is made: what it has to hold it is still to be fed
 pub made_is_sound : (old : Bucket) (parent : SliceId) (subs : List SubSlice) (leader : Core) (one : Entry) (core : Core)
     → IsSound old → IsPlan old.map parent subs → IsMap (begun_map old subs) → as_write one ≡ None
-    → Contains old.replicas leader → IsLeaderOf parent leader → IsMade leader.cells subs core
-    → IsSoundWith (begun_map old subs) (longer old one) old.flight.messages (map (first_feed leader.cells) subs) core
+    → Contains old.replicas leader → IsLeaderOf parent leader → IsMade (cells_now old leader) subs core
+    → IsSoundWith (begun_map old subs) (longer old one) old.flight.messages (map (first_feed (cells_now old leader)) subs) core
 made_is_sound old parent subs leader one core sound plan is_map no_write leader_there leads made =
     subst (λ (sent : List Write). IsSoundCore (begun_map old subs) (longer old one) sent (pending old.flight.messages feeds core) core)
     (sym unsent)
     (subst (λ (these : List Write). IsSoundCore (begun_map old subs) (longer old one) [] these core) (sym pending_is) fresh)
   where
     feeds : List FeedState
-    feeds = map (first_feed leader.cells) subs
+    feeds = map (first_feed (cells_now old leader)) subs
 
     left : List Write
-    left = left_of (first_feed leader.cells made.sub)
+    left = left_of (first_feed (cells_now old leader) made.sub)
 
     named : core.core ≡ first_core made.sub
     named = ap (λ (c : Core). c.core) made.core_is

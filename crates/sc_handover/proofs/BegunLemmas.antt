@@ -12,10 +12,9 @@ use Rattle.sc_cluster.specs.Changes.{Change}
 use Rattle.sc_cluster.proofs.MapLemmas.{change_is_map}
 use Rattle.sc_replica.specs.Core.{Core}
 use Rattle.sc_bucket.specs.Kept.{FeedState}
-use Rattle.sc_bucket.specs.Cores.{IsLeaderOf}
+use Rattle.sc_bucket.specs.Cores.{IsLeaderOf, without_room, IsCoreWithoutRoom}
 use Rattle.sc_bucket.specs.Searchers.{ArePrepared}
 use Rattle.sc_bucket.specs.Sound.{HasJournal, IsIdle, IsInPhase, IsSound}
-use Rattle.sc_bucket.specs.Events.{without_room}
 use Rattle.sc_bucket.specs.declared.bucket.Bucket.{Bucket}
 use Rattle.sc_bucket.specs.declared.phase.Phase.TheVariants as phases
 use Rattle.sc_bucket.proofs.AcceptLemmas.{bucket_has_map}
@@ -23,11 +22,11 @@ use Rattle.sc_bucket.proofs.CommitLemmas.{HasSearchers-taken}
 use Rattle.sc_bucket.proofs.DeliverLemmas.{IsSoundIn, core_is_sound}
 use Rattle.sc_handover.proofs.SentLemmas.{AreSent-more}
 use Rattle.sc_handover.specs.Conditions.{CanBegin}
-use Rattle.sc_handover.specs.Made.{first_feed, IsRoomyFor}
+use Rattle.sc_handover.specs.Made.{first_feed, IsRoomyFor, first_core, cells_now}
 use Rattle.sc_handover.specs.Events.{Begins}
 use Rattle.sc_handover.proofs.EachCoreLemmas.{IsSoundWith, each_with, IsSound-each}
 use Rattle.sc_handover.proofs.NoFeedLemmas.{no_feeds}
-use Rattle.sc_handover.proofs.MadeLemmas.{made_core, IsMade, All-made}
+use Rattle.sc_handover.proofs.MadeLemmas.{made_core, IsMade, All-made, in_order-made}
 use Rattle.sc_handover.proofs.BegunJournalLemmas.{active-begun, HasJournal-begun, IsOpen-begun}
 use Rattle.sc_handover.proofs.BegunCoreLemmas.{begun_map, longer, core_below, old_is_sound, made_is_sound}
 use Rattle.sc_handover.proofs.BegunPartsLemmas.{HasCores-begun, AreFeeds-begun}
@@ -46,29 +45,34 @@ pub record BeginsParts (old : Bucket) (parent : SliceId) (subs : List SubSlice) 
 -- each core is sound
 pub cores_are_sound : (old : Bucket) (parent : SliceId) (subs : List SubSlice) (leader : Core) (made : List Core)
     → IsSound old → CanBegin old parent subs → IsIdle old → Contains old.replicas leader
-    → IsLeaderOf parent leader → IsMap (begun_map old subs) → All (IsMade leader.cells subs) made
+    → IsLeaderOf parent leader → IsMap (begun_map old subs) → All (IsMade (cells_now old leader) subs) made
     → All (IsSoundWith (begun_map old subs) (longer old (entry.Begun parent subs)) old.flight.messages
-    (map (first_feed leader.cells) subs)) (old.replicas ++ made)
+    (map (first_feed (cells_now old leader)) subs)) (old.replicas ++ made)
 cores_are_sound old parent subs leader made sound can idle there leads is_map each =
     All-append IsNow old.replicas made
-    (λ k d below. old_is_sound old parent subs leader.cells one (get_or old.replicas k d) can.1
+    (λ k d below. old_is_sound old parent subs (cells_now old leader) one (get_or old.replicas k d) can.1
     (no_feeds old idle sound.feeds.each) refl
     (core_below old (get_or old.replicas k d) sound.cores (Contains-get_or old.replicas k d below))
     (core_is_sound old k d below sound))
-    (All-weaker (IsMade leader.cells subs) IsNow
+    (All-weaker (IsMade (cells_now old leader) subs) IsNow
     (λ core is. made_is_sound old parent subs leader one core sound can.1 is_map refl there leads is) made each)
   where
     one : Entry
     one = entry.Begun parent subs
 
     IsNow : Core → Type 0
-    IsNow = IsSoundWith (begun_map old subs) (longer old one) old.flight.messages (map (first_feed leader.cells) subs)
+    IsNow = IsSoundWith (begun_map old subs) (longer old one) old.flight.messages (map (first_feed (cells_now old leader)) subs)
 
 -- so the bucket is sound
 pub IsSound-begun : (old new : Bucket) (parent : SliceId) (subs : List SubSlice) (made : List Core) → IsSound old
     → CanBegin old parent subs → Begins old parent subs new → BeginsParts old parent subs made new → IsSound new
 IsSound-begun old new parent subs made sound can begins parts =
-    IsSound-each new each journal
+    IsSound-each new each
+    (subst (All IsCoreWithoutRoom) (sym parts.replicas_are)
+    (All-append IsCoreWithoutRoom old.replicas made sound.in_order
+    (All-weaker (IsMade (cells_now old begins.leader) subs) IsCoreWithoutRoom
+    (λ core is. in_order-made (first_core is.sub) core is.core_is) made made_for)))
+    journal
     (HasSearchers-taken old new one sound begins.entries (record {
       commits_all = refl;
       is_map = bucket_has_map new journal;
@@ -77,9 +81,9 @@ IsSound-begun old new parent subs made sound can begins parts =
     }))
     (subst (λ phase. ArePrepared phase new.map new.searchers new.spares) (sym begins.phase_is) parts.prepared)
     (AreSent-more old new one made sound.messages begins.entries (λ _. refl) parts.replicas_are begins.messages)
-    (HasCores-begun old new parent subs begins.leader.cells made sound.cores can.1 is_map begins.map_is
+    (HasCores-begun old new parent subs (cells_now old begins.leader) made sound.cores can.1 is_map begins.map_is
     parts.replicas_are parts.made_are made_for)
-    (AreFeeds-begun new old.map parent subs begins.leader.cells old.replicas made can.1 begins.map_is
+    (AreFeeds-begun new old.map parent subs (cells_now old begins.leader) old.replicas made can.1 begins.map_is
     parts.replicas_are begins.feeds_are parts.made_are)
     (subst (IsInPhase new) (sym begins.phase_is) (IsOpen-begun old new parent subs sound.journal idle can.1 begins))
   where
@@ -96,15 +100,15 @@ IsSound-begun old new parent subs made sound can begins parts =
     is_map : IsMap (begun_map old subs)
     is_map = change_is_map old.map (Change.Begun parent subs) (bucket_has_map old sound.journal) can.1
 
-    made_for : All (IsMade begins.leader.cells subs) made
+    made_for : All (IsMade (cells_now old begins.leader) subs) made
     made_for =
-        All-made old.map parent subs begins.leader.cells made can.1 parts.made_are
+        All-made old.map parent subs (cells_now old begins.leader) made can.1 parts.made_are
         (subst (λ (feeds : List FeedState). AllZip IsRoomyFor feeds made) begins.feeds_are parts.roomy)
 
     each : All (IsSoundIn new new.flight.messages) new.replicas
     each =
         each_with new (begun_map old subs) (longer old one) old.flight.messages
-        (map (first_feed begins.leader.cells) subs) (old.replicas ++ made) begins.map_is begins.entries begins.messages
+        (map (first_feed (cells_now old begins.leader)) subs) (old.replicas ++ made) begins.map_is begins.entries begins.messages
         begins.feeds_are parts.replicas_are
         (cores_are_sound old parent subs begins.leader made sound can idle begins.leader_there begins.leader_is is_map
         made_for)

@@ -20,9 +20,8 @@ use Rattle.sc_cluster.proofs.PairLemmas.{Contains-from_map}
 use Rattle.sc_ulog.specs.declared.mode.Mode.TheVariants.{Active}
 use Rattle.sc_replica.specs.Core.{Core}
 use Rattle.sc_bucket.specs.Kept.{FeedState}
-use Rattle.sc_bucket.specs.Cores.{core_key, core_keys, keys_of, core_number, is_core, IsCounted}
+use Rattle.sc_bucket.specs.Cores.{core_key, core_keys, keys_of, core_number, is_core, IsCounted, without_room}
 use Rattle.sc_bucket.specs.Sound.{HasCores, IsFeed, AreFeeds}
-use Rattle.sc_bucket.specs.Events.{without_room}
 use Rattle.sc_bucket.specs.declared.bucket.Bucket.{Bucket}
 use Rattle.sc_bucket.proofs.CoreLemmas.{keys_among}
 use Rattle.sc_bucket.proofs.FeedLemmas.{fed_core}
@@ -30,6 +29,7 @@ use Rattle.sc_handover.specs.Made.{first_feed}
 use Rattle.sc_handover.proofs.PlanLemmas.{leader_number, leaders_rise, sub_above, was_there, is_begun}
 use Rattle.sc_handover.proofs.MadeLemmas.{made_core, IsMade, map-made, feeds_apart, first_key}
 use Rattle.sc_handover.proofs.BegunCoreLemmas.{core_below}
+use Rattle.sc_snapshot.specs.Rows.{SnapshotState}
 
 -- the number of a core's name
 abbrev number_of : Core → ℕ
@@ -60,13 +60,13 @@ ascend-begun old parent subs made has plan same =
     (AreBelow-between (map number_of old.replicas) (map leader_number subs) most low high))
 
 -- the cores are those that have to be there
-pub HasCores-begun : (old new : Bucket) (parent : SliceId) (subs : List SubSlice) (rows : List Write) (made : List Core)
+pub HasCores-begun : (old new : Bucket) (parent : SliceId) (subs : List SubSlice) (snapshot : SnapshotState) (made : List Core)
     → HasCores old → IsPlan old.map parent subs → IsMap (old.map ++ map begun_slice subs)
     → new.map ≡ old.map ++ map begun_slice subs → new.replicas ≡ old.replicas ++ made
-    → map without_room made ≡ map made_core subs → All (IsMade rows subs) made → HasCores new
-HasCores-begun old new parent subs rows made has plan is_map map_is replicas_are same each = record {
+    → map without_room made ≡ map made_core subs → All (IsMade snapshot subs) made → HasCores new
+HasCores-begun old new parent subs snapshot made has plan is_map map_is replicas_are same each = record {
   counted = subst (All IsCounted) (sym replicas_are)
-      (All-append IsCounted old.replicas made has.counted (All-weaker (IsMade rows subs) IsCounted counted made each));
+      (All-append IsCounted old.replicas made has.counted (All-weaker (IsMade snapshot subs) IsCounted counted made each));
   ascend = subst (λ (cores : List Core). IsStrictlyIncreasing (map number_of cores)) (sym replicas_are)
       (ascend-begun old parent subs made has plan same);
   of_map = subst (All (Contains (core_keys new.map))) (sym keys_are)
@@ -96,7 +96,7 @@ HasCores-begun old new parent subs rows made has plan is_map map_is replicas_are
       (All-append (IsActiveOf others) old.replicas made
       (All-weaker (Contains old.replicas) (IsActiveOf others) still_active old.replicas
       (All-contains_itself old.replicas))
-      (All-weaker (IsMade rows subs) (IsActiveOf others) no_matter made each)));
+      (All-weaker (IsMade snapshot subs) (IsActiveOf others) no_matter made each)));
 } where
   others : List Slice
   others = old.map ++ map begun_slice subs
@@ -122,7 +122,7 @@ HasCores-begun old new parent subs rows made has plan is_map map_is replicas_are
       ap (map core_key) replicas_are ∙ map-append core_key old.replicas made
       ∙ ap (λ (rest : List (ℕ × ℕ)). old_keys ++ rest) (map-made core_key subs made same)
 
-  counted : (core : Core) → IsMade rows subs core → IsCounted core
+  counted : (core : Core) → IsMade snapshot subs core → IsCounted core
   counted core is =
       subst (λ (name : CoreId). name.replica < 2 ^ 8) (sym (ap (λ (c : Core). c.core) is.core_is)) (omega arith)
 
@@ -149,7 +149,7 @@ HasCores-begun old new parent subs rows made has plan is_map map_is replicas_are
       All-contains (IsActiveOf old.map) old.replicas core has.active inside slice
       (was_there old.map parent subs slice plan low there) named settled
 
-  no_matter : (core : Core) → IsMade rows subs core → IsActiveOf others core
+  no_matter : (core : Core) → IsMade snapshot subs core → IsActiveOf others core
   no_matter core is slice there named settled =
       let begun : begun_slice is.sub ≡ slice =
       is_begun old.map subs is.sub slice is_map is.there there
@@ -158,19 +158,19 @@ HasCores-begun old new parent subs rows made has plan is_map map_is replicas_are
       absurd (cc)
 
 -- so are the feeds
-pub AreFeeds-begun : (new : Bucket) (slices : List Slice) (parent : SliceId) (subs : List SubSlice) (rows : List Write)
+pub AreFeeds-begun : (new : Bucket) (slices : List Slice) (parent : SliceId) (subs : List SubSlice) (snapshot : SnapshotState)
     (cores made : List Core) → IsPlan slices parent subs → new.map ≡ slices ++ map begun_slice subs
-    → new.replicas ≡ cores ++ made → new.feeds ≡ map (first_feed rows) subs
+    → new.replicas ≡ cores ++ made → new.feeds ≡ map (first_feed snapshot) subs
     → map without_room made ≡ map made_core subs → AreFeeds new
-AreFeeds-begun new slices parent subs rows cores made plan map_is replicas_are feeds_are same = record {
+AreFeeds-begun new slices parent subs snapshot cores made plan map_is replicas_are feeds_are same = record {
   each = subst (All (IsFeed new)) (sym feeds_are)
-      (All-map (IsFeed new) (first_feed rows) subs
-      (All-weaker (Contains subs) (λ (sub : SubSlice). IsFeed new (first_feed rows sub)) each subs
+      (All-map (IsFeed new) (first_feed snapshot) subs
+      (All-weaker (Contains subs) (λ (sub : SubSlice). IsFeed new (first_feed snapshot sub)) each subs
       (All-contains_itself subs)));
   once = subst (λ (feeds : List FeedState). IsDistinct is_core (map fed_core feeds)) (sym feeds_are)
-      (feeds_apart slices parent subs rows plan);
+      (feeds_apart slices parent subs snapshot plan);
 } where
-  each : (sub : SubSlice) → Contains subs sub → IsFeed new (first_feed rows sub)
+  each : (sub : SubSlice) → Contains subs sub → IsFeed new (first_feed snapshot sub)
   each sub there =
       let as_made : Contains (map without_room made) (made_core sub) =
       subst (λ (these : List Core). Contains these (made_core sub)) (sym same)

@@ -11,7 +11,7 @@ use Rattle.sc_cluster.specs.Slices.{is_forming}
 use Rattle.sc_ulog.specs.declared.mode.Mode.TheVariants.{Active}
 use Rattle.sc_replica.specs.Core.{Core}
 use Rattle.sc_bucket.specs.Kept.{Sent, FeedState}
-use Rattle.sc_bucket.specs.Cores.{is_core}
+use Rattle.sc_bucket.specs.Cores.{is_core, IsCoreWithoutRoom}
 use Rattle.sc_bucket.specs.Flight.{in_flight}
 use Rattle.sc_bucket.specs.Pending.{to_feed}
 use Rattle.sc_bucket.specs.Sound.{HasCores, OfEachCore, IsSent, AreSent, IsFeed, AreFeeds, AreLedActively, IsInPhase, IsSound}
@@ -91,13 +91,13 @@ IsFeed-with_fed b feeds cores feed next is stays within = record {
 -- It is sound where each core is, each name that was there still is, and the cores, the feeds and the phase are as they
 -- have to be.
 pub IsSound-with_fed : (b : Bucket) (feeds : List FeedState) (cores : List Core) → IsSound b
-    → All (IsSoundIn (with_fed b feeds cores) b.flight.messages) cores
+    → All (IsSoundIn (with_fed b feeds cores) b.flight.messages) cores → All IsCoreWithoutRoom cores
     → ((name : CoreId) → Contains (map name_of b.replicas) name → Contains (map name_of cores) name)
     → HasCores (with_fed b feeds cores) → AreFeeds (with_fed b feeds cores)
     → IsInPhase (with_fed b feeds cores) b.phase → IsSound (with_fed b feeds cores)
-IsSound-with_fed b feeds cores sound each still has are phase =
+IsSound-with_fed b feeds cores sound each in_order still has are phase =
     let new : Bucket = with_fed b feeds cores in
-    IsSound-each new each
+    IsSound-each new each in_order
     (HasJournal-same b new (record { first = refl; limit = refl }) refl refl refl refl sound.journal.room sound.journal)
     (HasSearchers-same b new refl refl refl sound.searchers) sound.prepared
     (AreSent-with_fed b feeds cores still sound.messages) has are phase
@@ -114,14 +114,15 @@ same_phase b feeds cores (phases.Recovering parent) led is =
 -- It is sound where each core is, the cores have the same names and are active where they have to be, and the feeds
 -- are as they have to be.
 IsSound-changed : (b : Bucket) (feeds : List FeedState) (cores : List Core) → IsSound b
-    → All (IsSoundIn (with_fed b feeds cores) b.flight.messages) cores → map name_of cores ≡ map name_of b.replicas
+    → All (IsSoundIn (with_fed b feeds cores) b.flight.messages) cores → All IsCoreWithoutRoom cores
+    → map name_of cores ≡ map name_of b.replicas
     → OfEachCore (with_fed b feeds cores)
     (λ (slice : Slice) (core : Core). is_forming slice ≡ false → core.mode ≡ Active)
     → (AreLedActively b → AreLedActively (with_fed b feeds cores)) → AreFeeds (with_fed b feeds cores)
     → IsSound (with_fed b feeds cores)
-IsSound-changed b feeds cores sound each names active led are =
+IsSound-changed b feeds cores sound each in_order names active led are =
     let new : Bucket = with_fed b feeds cores in
-    IsSound-with_fed b feeds cores sound each
+    IsSound-with_fed b feeds cores sound each in_order
     (λ name. subst (λ (those : List CoreId). Contains those name) (sym names))
     (HasCores-named b new refl names active sound.cores) are (same_phase b feeds cores b.phase led sound.phase)
 
@@ -140,7 +141,7 @@ IsSound-other_feeds b feeds sound same are =
     IsSound-changed b feeds b.replicas sound
     (λ k d below. still_sound b feeds b.replicas (get_or b.replicas k d) (same (get_or b.replicas k d).core)
     (core_is_sound b k d below sound))
-    refl sound.cores.active (λ led. led) are
+    sound.in_order refl sound.cores.active (λ led. led) are
 
 -- what is said of each core and its slice is said of each once the core at a place was changed, where it is said of
 -- that one
@@ -166,20 +167,23 @@ apart_from b at k core other sound there is differ =
     ((is_core-Decides other.core core.core).0 same)))
 
 -- It is sound where the core at a place was changed, and perhaps the feeds: that core has its name, is active where
--- it was, and is sound with what is pending for it now; each other is still to be fed the same; and the feeds are as
+-- it was, is in order if it was, and is sound with what is pending for it now; each other is still to be fed the same; and the feeds are as
 -- they have to be.
 pub IsSound-core_changed : (b : Bucket) (feeds : List FeedState) (at : ℕ) (core new : Core) → IsSound b
     → slice_get b.replicas at ≡ Some core → new.core ≡ core.core → (core.mode ≡ Active → new.mode ≡ Active)
-    → IsSoundIn (with_fed b feeds (set b.replicas at new)) b.flight.messages new
+    → (IsCoreWithoutRoom core → IsCoreWithoutRoom new) → IsSoundIn (with_fed b feeds (set b.replicas at new)) b.flight.messages new
     → ((name : CoreId) → is_core name core.core ≡ false → to_feed feeds name ≡ to_feed b.feeds name)
     → AreFeeds (with_fed b feeds (set b.replicas at new)) → IsSound (with_fed b feeds (set b.replicas at new))
-IsSound-core_changed b feeds at core new sound there named still own others are =
+IsSound-core_changed b feeds at core new sound there named still in_order own others are =
     let cores : List Core = set b.replicas at new in
     IsSound-changed b feeds cores sound
     (All-set_apart (IsSoundIn (with_fed b feeds cores) b.flight.messages) b.replicas at new own
     (λ k other differ is. still_sound b feeds cores other
     (others other.core (apart_from b at k core other sound there is differ))
     (core_in b other sound (Contains-slice_get b.replicas k other is))))
+    (All-set_apart IsCoreWithoutRoom b.replicas at new
+    (in_order (All-slice_get IsCoreWithoutRoom b.replicas at core sound.in_order there))
+    (λ k other differ is. All-slice_get IsCoreWithoutRoom b.replicas k other sound.in_order is))
     (map-set_same name_of b.replicas at new core
     (named ∙ ap name_of (sym (get_or_from_slice_get b.replicas at core core there))))
     (changed_of_each (λ slice one. is_forming slice ≡ false → one.mode ≡ Active) b feeds at core new there named

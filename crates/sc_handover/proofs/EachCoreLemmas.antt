@@ -11,6 +11,7 @@ use Rattle.sc_bucket.specs.Sound.{HasJournal, HasSearchers, AreSent, HasCores, A
 use Rattle.sc_bucket.specs.declared.bucket.Bucket.{Bucket}
 use Rattle.sc_bucket.proofs.DeliveredLemmas.{IsSoundCore}
 use Rattle.sc_bucket.proofs.DeliverLemmas.{IsSoundIn, core_is_sound}
+use Rattle.sc_bucket.specs.Cores.{IsCoreWithoutRoom}
 
 -- a core of a sound bucket is sound
 pub core_in : (b : Bucket) (core : Core) → IsSound b → Contains b.replicas core → IsSoundIn b b.flight.messages core
@@ -33,22 +34,23 @@ each_with b slices journal messages feeds cores same_map same_entries same_messa
     (subst (λ these. All (IsSoundWith slices journal messages these) b.replicas) (sym same_feeds)
     (subst (All (IsSoundWith slices journal messages feeds)) (sym same_cores) each))))
 
--- The bucket is sound where each core is, and the journal, the searchers, those that a switch leaves, the messages, the
+-- The bucket is sound where each core is and is in order, and the journal, the searchers, those that a switch leaves, the messages, the
 -- names of the cores, the feeds and the phase are as they have to be.
-pub IsSound-each : (b : Bucket) → All (IsSoundIn b b.flight.messages) b.replicas → HasJournal b → HasSearchers b
+pub IsSound-each : (b : Bucket) → All (IsSoundIn b b.flight.messages) b.replicas → All IsCoreWithoutRoom b.replicas → HasJournal b → HasSearchers b
     → ArePrepared b.phase b.map b.searchers b.spares → AreSent b → HasCores b → AreFeeds b → IsInPhase b b.phase
     → IsSound b
-IsSound-each b each journal searchers prepared messages cores feeds phase = record {
+IsSound-each b each in_order journal searchers prepared messages cores feeds phase = record {
   journal = journal;
   leaders = λ k d below. (each k d below).serves;
   written = λ k d below. (each k d below).written;
   held = λ k d below. (each k d below).held;
   in_range = λ k d below. (each k d below).in_range;
   clocks = λ k d below. (each k d below).clock;
+  in_order = in_order;
   searchers = searchers;
   prepared = prepared;
   messages = messages;
-  spares = λ k d below. record { cells = (each k d below).cell_room; buffer = (each k d below).buffer_room };
+  room = λ k d below. record { cells = (each k d below).cell_room; buffer = (each k d below).buffer_room };
   cores = cores;
   feeds = feeds;
   phase = phase;

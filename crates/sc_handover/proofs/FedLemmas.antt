@@ -24,6 +24,7 @@ use Rattle.sc_bucket.proofs.PlaceLemmas.{All-set_apart, slice_get-set}
 use Rattle.sc_bucket.proofs.SoundLemmas.{All-slice_get, name_and_mode, AreAlike, AreAlike-set, IsFeed-alike}
 use Rattle.sc_bucket.proofs.DeliveredLemmas.{IsSoundCore, fed_all_is_sound}
 use Rattle.sc_bucket.proofs.TakenLemmas.{Contains-slice_get}
+use Rattle.sc_bucket.proofs.InOrderLemmas.{in_order-fed_all}
 use Rattle.sc_handover.proofs.EachCoreLemmas.{core_in}
 use Rattle.sc_handover.specs.Feeding.{IsFedAt, next_of, after_rows}
 use Rattle.sc_handover.proofs.ChangedLemmas.{with_fed, IsFeed-with_fed, IsSoundIn-parts, IsSound-core_changed, IsSound-other_feeds}
@@ -155,7 +156,7 @@ pub IsSound-fed : (b : Bucket) (feed_at core_at n : ℕ) (feed : FeedState) (cor
     (set b.replicas core_at (fed_all core (next_of n feed))))
 IsSound-fed b feed_at core_at n feed core sound is within =
     IsSound-core_changed b feeds core_at core after sound is.core_found (name-fed_all core these)
-    (λ active. mode-fed_all core these ∙ active)
+    (λ active. mode-fed_all core these ∙ active) (in_order-fed_all core these)
     (IsSoundIn-parts b feeds cores after core.core core.buffer (left_of new) (name-fed_all core these)
     (buffer-fed_all core these) still
     (fed_all_is_sound b.first b.map b.journal.entries sent (sent ++ core.buffer) these

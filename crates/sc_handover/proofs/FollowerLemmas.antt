@@ -1,5 +1,5 @@
 -- The leader of a sub is found, and has the last writes; so what a further replica is fed is all that it has to have.
-use Rattle.std.proofs.Common.{◌≡◌, ℕ, ◌<◌, ◌^◌, true, false, List, map, slice_get, Option, Some, Bor, Result, Ok, Err, All, Contains, sym, ap, ◌∙◌, subst}
+use Rattle.std.proofs.Common.{◌≡◌, ℕ, ◌<◌, ◌^◌, true, false, List, length, map, slice_get, Option, Some, Bor, Result, Ok, Err, All, Contains, sym, ap, ◌∙◌, subst}
 use Rattle.std.specs.Prelude.{IfOk, IsSome}
 use Rattle.std.proofs.lemmas.List.Elements.{All-contains}
 use Rattle.sc_hash.specs.declared.range.Range.{Range}
@@ -11,21 +11,22 @@ use Rattle.sc_cluster.proofs.LeaderLemmas.{same_from_id}
 use Rattle.sc_ulog.specs.declared.mode.Mode.TheVariants.{Active}
 use Rattle.sc_replica.specs.Core.{Core}
 use Rattle.sc_bucket.specs.Kept.{Sent, FeedState}
-use Rattle.sc_bucket.specs.Cores.{core_key, IsLeaderOf}
+use Rattle.sc_bucket.specs.Cores.{core_key, IsLeaderOf, without_room}
 use Rattle.sc_bucket.specs.Flight.{is_to}
 use Rattle.sc_bucket.specs.Sound.{HasLastWrites, IsSound}
-use Rattle.sc_bucket.specs.Events.{without_room}
 use Rattle.sc_bucket.specs.declared.bucket.Bucket.{Bucket}
 use Rattle.sc_bucket.proofs.AcceptLemmas.{bucket_has_map}
 use Rattle.sc_bucket.proofs.CoreLemmas.{IsCoreFound, leader_is_found}
 use Rattle.sc_bucket.proofs.TakenLemmas.{found_leads}
+use Rattle.sc_bucket.specs.Pending.{new_feed}
 use Rattle.sc_handover.specs.Conditions.{CanGrow}
-use Rattle.sc_handover.specs.Made.{leader_of, empty_core, IsRoomyFor}
+use Rattle.sc_handover.specs.Made.{leader_of, empty_core, IsRoomyFor, cells_now}
 use Rattle.sc_handover.specs.Parts.{IsQuiet, IsMade}
 use Rattle.sc_handover.proofs.LastWriteLemmas.{last_where_settled}
 use Rattle.sc_handover.proofs.SubLemmas.{attached_where_forming, IsSliceFound}
 use Rattle.sc_handover.proofs.SettleSubsLemmas.{in_flight-no_message}
 use Rattle.sc_handover.proofs.SwitchedMapLemmas.{split_is_open}
+use Rattle.sc_snapshot.specs.Rows.{SnapshotState}
 
 -- the leader of the sub is found
 pub sub_leader_is_found : (b : Bucket) (name leader : CoreId) (sub : Slice) (found : Option ℕ) → IsSound b → CanGrow b name sub
@@ -63,29 +64,33 @@ found_sub b name sub found slice sound can is found_slice =
     let here = subst (IsSliceFound b.map name) found_slice is in
     same_from_id b.map slice.now sub (bucket_has_map b sound.journal) here.0 can.there (here.1 ∙ can.of_sub)
 
+-- a snapshot of the core's cells, taken when the journal has as many entries as now
+pub taken_now : (b : Bucket) (core : Core) (snapshot : SnapshotState) (place : ℕ) (rows : List Write)
+    → snapshot ≡ record { place = place; rows = rows } → place ≡ length b.journal.entries → rows ≡ core.cells
+    → snapshot ≡ cells_now b core
+taken_now b core snapshot place rows is at all =
+    is ∙ ap (λ (n : ℕ). record { place = n; rows = rows }) at
+    ∙ ap (λ (these : List Write). record { place = length b.journal.entries; rows = these }) all
+
 -- what is known of the leader from which a core is fed
-pub record FeedsFrom (b : Bucket) (name : CoreId) (range : Range) (rows : List Write) (sub : Slice) : Type 0 where
+pub record FeedsFrom (b : Bucket) (name : CoreId) (range : Range) (snapshot : SnapshotState) (sub : Slice) : Type 0 where
   pub counted : name.replica < 2 ^ 8
   pub leader : Core
   pub leader_there : Contains b.replicas leader
   pub leader_is : IsLeaderOf sub.id leader
   pub last : HasLastWrites b.journal.entries sub leader
-  pub rows_are : rows ≡ leader.cells
+  pub snapshot_is : snapshot ≡ cells_now b leader
   pub range_is : range ≡ sub.range
 
--- a feed as it is made
-abbrev made_feed : CoreId → Range → List Write → FeedState
-made_feed name range rows = record { core = name; range = range; rows = rows; next = 0 }
-
 -- so the core and its feed are made as they have to be
-pub IsMade-fed : {F : Type 0} (result : Result (Core × FeedState) F) (b : Bucket) (name : CoreId) (range : Range) (rows : List Write)
+pub IsMade-fed : {F : Type 0} (result : Result (Core × FeedState) F) (b : Bucket) (name : CoreId) (range : Range) (snapshot : SnapshotState)
     → IfOk result (λ made. without_room made.0 ≡ empty_core name)
-    → IfOk result (λ made. made.1 ≡ made_feed name range rows)
+    → IfOk result (λ made. made.1 ≡ new_feed name range snapshot)
     → IfOk result (λ made. IsRoomyFor made.1 made.0)
-    → ((sub : Slice) → CanGrow b name sub → FeedsFrom b name range rows sub)
+    → ((sub : Slice) → CanGrow b name sub → FeedsFrom b name range snapshot sub)
     → IfOk result (λ made. (sub : Slice) → CanGrow b name sub → IsMade b name sub made.0 made.1)
-IsMade-fed (Err refused) b name range rows core feed roomy from = tt
-IsMade-fed (Ok made) b name range rows core feed roomy from = λ sub can.
+IsMade-fed (Err refused) b name range snapshot core feed roomy from = tt
+IsMade-fed (Ok made) b name range snapshot core feed roomy from = λ sub can.
     let is = from sub can in
     record {
       core_is = core;
@@ -94,6 +99,6 @@ IsMade-fed (Ok made) b name range rows core feed roomy from = λ sub can.
       leader_there = is.leader_there;
       leader_is = is.leader_is;
       last = is.last;
-      feed_is = feed ∙ ap (λ (r : Range). made_feed name r rows) is.range_is ∙ ap (made_feed name sub.range) is.rows_are;
+      feed_is = feed ∙ ap (λ (r : Range). new_feed name r snapshot) is.range_is ∙ ap (new_feed name sub.range) is.snapshot_is;
       roomy = roomy;
     }

@@ -1,17 +1,19 @@
 -- What is in flight to a sub's leader is delivered, and then a further replica joins.
-use Rattle.std.proofs.Common.{◌≡◌, false, nat_eq, List, [], ◌∷◌, ◌++◌, map, filter, not, All, Contains, sym, ap, ◌∙◌, subst}
+use Rattle.std.proofs.Common.{◌≡◌, false, nat_eq, List, [], ◌∷◌, ◌++◌, length, map, filter, not, All, Contains, sym, ap, ◌∙◌, subst}
 use Rattle.std.proofs.lemmas.Bool.Decides.{Decides-and, Decides-eqb}
 use Rattle.sc_record.specs.declared.slice.SliceId.{SliceId}
 use Rattle.sc_record.specs.declared.slice.CoreId.{CoreId}
+use Rattle.sc_record.specs.declared.entry.Entry.{Entry}
 use Rattle.sc_cluster.specs.declared.slice.Slice.{Slice}
 use Rattle.sc_replica.specs.Core.{Core}
 use Rattle.sc_bucket.specs.Kept.{Sent, FlightState, FeedState}
-use Rattle.sc_bucket.specs.Cores.{is_core, put_by_name}
+use Rattle.sc_bucket.specs.Cores.{is_core, put_by_name, without_room}
 use Rattle.sc_bucket.specs.Flight.{is_to, arrived}
-use Rattle.sc_bucket.specs.Events.{without_room, DeliversTo}
+use Rattle.sc_bucket.specs.Events.{DeliversAllTo}
 use Rattle.sc_bucket.specs.declared.bucket.Bucket.{Bucket}
 use Rattle.sc_bucket.proofs.CoreLemmas.{name_of, is_core-Decides}
 use Rattle.sc_bucket.proofs.SoundLemmas.{AreAlike, names-alike, All-alike}
+use Rattle.sc_bucket.specs.Pending.{new_feed}
 use Rattle.sc_handover.specs.Conditions.{CanGrow}
 use Rattle.sc_handover.specs.Made.{empty_core}
 use Rattle.sc_handover.specs.Events.{Grows}
@@ -19,13 +21,13 @@ use Rattle.sc_handover.specs.Parts.{IsMade, Joins}
 use Rattle.sc_handover.proofs.SettleSubsLemmas.{AreAlike-arrived, none_left}
 
 -- nothing is in flight to the leader then
-pub none_to_leader : (old new : Bucket) (leader : CoreId) → DeliversTo old leader new
+pub none_to_leader : (old new : Bucket) (leader : CoreId) → DeliversAllTo old leader new
     → All (λ (message : Sent). is_to leader message ≡ false) new.flight.messages
 none_to_leader old new leader all =
     subst (All (λ (message : Sent). is_to leader message ≡ false)) (sym all.messages) (none_left leader old.flight.messages)
 
 -- and the replica may join still
-pub CanGrow-delivered : (old new : Bucket) (leader name : CoreId) (sub : Slice) → DeliversTo old leader new → CanGrow old name sub
+pub CanGrow-delivered : (old new : Bucket) (leader name : CoreId) (sub : Slice) → DeliversAllTo old leader new → CanGrow old name sub
     → CanGrow new name sub
 CanGrow-delivered old new leader name sub all can = record {
   parent = can.parent;
@@ -51,7 +53,7 @@ same_leader one other slice first other_first =
 
 -- so the bucket grows
 pub Grows-joined : (old mid new : Bucket) (leader name : CoreId) (sub : Slice) (core : Core) (feed : FeedState)
-    → DeliversTo old leader mid → leader.slice ≡ name.slice → leader.replica ≡ 1 → CanGrow old name sub
+    → DeliversAllTo old leader mid → leader.slice ≡ name.slice → leader.replica ≡ 1 → CanGrow old name sub
     → IsMade mid name sub core feed → Joins mid core.core feed new → Grows old name sub new
 Grows-joined old mid new leader name sub core feed all slice first can made joins = record {
   kept = record { first = joins.kept.first ∙ all.name.first; limit = joins.kept.limit ∙ all.name.limit };
@@ -68,7 +70,9 @@ Grows-joined old mid new leader name sub core feed all slice first can made join
       ∙ ap (λ (n : CoreId). map without_room (put_by_name (empty_core n) mid.replicas)) (ap (λ (c : Core). c.core) made.core_is)
       ∙ ap (λ (these : List Core). map without_room (put_by_name (empty_core name) these)) cores;
   feeds_are = joins.feeds_are ∙ ap (λ (feeds : List FeedState). feeds ++ feed ∷ []) all.split.feeds
-      ∙ ap (λ (f : FeedState). old.feeds ++ f ∷ []) made.feed_is;
+      ∙ ap (λ (f : FeedState). old.feeds ++ f ∷ []) made.feed_is
+      ∙ ap (λ (entries : List Entry). old.feeds
+      ++ new_feed name sub.range (record { place = length entries; rows = made.leader.cells }) ∷ []) all.entries;
 } where
   named : leader ≡ made.leader.core
   named = same_leader leader made.leader.core (slice ∙ can.of_sub ∙ sym made.leader_is.0) first made.leader_is.1

@@ -3,7 +3,7 @@ use Rattle.std.proofs.Common.{◌≡◌, ℤ, Bool, true, false, not, cond, eqb,
 use Rattle.std.specs.Prelude.{nat_eq, IfSome}
 use Rattle.std.proofs.lemmas.Bool.Decides.{not_from_Decides}
 use Rattle.std.proofs.lemmas.List.{length-map, get_or-map, map-append}
-use Rattle.std.proofs.lemmas.List.Elements.{All-append, All-contains, All-contains_itself, All-head, All-map, All-tail, All-weaker, filter-append, filter_passes}
+use Rattle.std.proofs.lemmas.List.Elements.{All-append, All-contains, All-contains_itself, All-filter, All-head, All-map, All-tail, All-weaker, filter-append, filter_passes}
 use Rattle.std.proofs.lemmas.Simd.{map-map}
 use Rattle.std.proofs.lemmas.Bool.{not-true}
 use Rattle.sc_hash.specs.declared.range.Range.{Range}
@@ -24,8 +24,8 @@ use Rattle.sc_cluster.proofs.ListLemmas.{Contains-map, Contains-from_filter, fil
 use Rattle.sc_cluster.proofs.PairLemmas.{Contains-from_map}
 use Rattle.sc_cluster.proofs.StateLemmas.{is_settled, is_other, is_active-switched, switched_keeps}
 use Rattle.sc_journal.specs.Journal.{writes, last_write}
-use Rattle.sc_journal.specs.Committed.{committed}
-use Rattle.sc_journal.proofs.CommittedLemmas.{committed-push_other}
+use Rattle.sc_journal.specs.Committed.{committed, last_commit}
+use Rattle.sc_journal.proofs.CommittedLemmas.{committed-push_other, last_commit-push_other}
 use Rattle.sc_journal.proofs.JournalLemmas.{writes-push_other}
 use Rattle.sc_bucket.specs.Searchers.{AreOfEachSlice, ShowsCommitted, StandingState, standing_of, cut_to, AreHandedOn, ArePrepared}
 use Rattle.sc_bucket.specs.Sound.{HasSearchers, IsOpen, IsSound}
@@ -33,6 +33,7 @@ use Rattle.sc_bucket.specs.declared.bucket.Bucket.{Bucket}
 use Rattle.sc_bucket.specs.declared.phase.Phase.TheVariants as phases
 use Rattle.sc_bucket.specs.declared.standing.Standing.{Standing}
 use Rattle.sc_bucket.proofs.AcceptLemmas.{bucket_has_map}
+use Rattle.sc_bucket.proofs.SearcherLemmas.{IsAt}
 use Rattle.sc_handover.proofs.NotedLemmas.{is_settled-active}
 use Rattle.sc_handover.specs.Parts.{PutsSwitch}
 
@@ -205,7 +206,24 @@ HasSearchers-switched old new parent sound split puts = record {
       (All-from_map (ShowsIn after_switch longer) standing_of new.searchers
       (subst (All (ShowsIn after_switch longer)) (sym puts.searchers_are.handed)
       (All-append (ShowsIn after_switch longer) others cut others_show cut_show))));
+  place = subst (λ place. All (IsAt place) new.searchers) (sym same_place)
+      (All-from_map IsTakenAt standing_of new.searchers
+      (subst (All IsTakenAt) (sym puts.searchers_are.handed)
+      (All-append IsTakenAt others cut
+      (All-filter (λ (other : StandingState). not (nat_eq other.slice.0 parent.0)) IsTakenAt (map standing_of old.searchers) old_places)
+      (All-map IsTakenAt (λ (sub : Slice). cut_to sub (standing_of puts.searchers_are.searcher)) (forming old.map)
+      (λ k d below. All-contains (IsAt (last_commit old.journal.entries)) old.searchers puts.searchers_are.searcher
+      sound.searchers.place puts.searchers_are.there)))));
 } where
+  IsTakenAt : StandingState → Type 0
+  IsTakenAt searcher = searcher.snapshot.place ≡ last_commit old.journal.entries
+
+  old_places : All IsTakenAt (map standing_of old.searchers)
+  old_places = All-map IsTakenAt standing_of old.searchers sound.searchers.place
+
+  same_place : last_commit new.journal.entries ≡ last_commit old.journal.entries
+  same_place = ap last_commit puts.entries ∙ last_commit-push_other old.journal.entries (entry.Switched parent) refl
+
   after_switch : List Slice
   after_switch = map (switched_slice parent) old.map
 

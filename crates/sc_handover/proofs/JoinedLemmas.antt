@@ -20,11 +20,10 @@ use Rattle.sc_ulog.specs.declared.mode.Mode.TheVariants.{Active}
 use Rattle.sc_replica.specs.Core.{Core}
 use Rattle.sc_journal.specs.Journal.{writes}
 use Rattle.sc_bucket.specs.Kept.{Sent, FeedState}
-use Rattle.sc_bucket.specs.Cores.{core_key, core_keys, keys_of, is_core, core_number, IsCounted, put_by_name}
+use Rattle.sc_bucket.specs.Cores.{core_key, core_keys, keys_of, is_core, core_number, IsCounted, put_by_name, without_room, IsCoreWithoutRoom}
 use Rattle.sc_bucket.specs.Flight.{in_flight, is_to}
 use Rattle.sc_bucket.specs.Pending.{is_within, is_feed_of, left_of, to_feed, pending}
 use Rattle.sc_bucket.specs.Sound.{HasLastWrites, IsInRange, IsSent, HasCores, IsFeed, AreFeeds, IsInPhase, IsSound}
-use Rattle.sc_bucket.specs.Events.{without_room}
 use Rattle.sc_bucket.specs.declared.bucket.Bucket.{Bucket}
 use Rattle.sc_bucket.proofs.AcceptLemmas.{bucket_has_map}
 use Rattle.sc_bucket.proofs.CoreLemmas.{name_of, is_core-Decides, keys_among, element_from_map}
@@ -43,6 +42,7 @@ use Rattle.sc_handover.proofs.SettleSubsLemmas.{in_flight-no_message}
 use Rattle.sc_handover.proofs.SwitchedMapLemmas.{split_is_open}
 use Rattle.sc_handover.proofs.HandedOnLemmas.{All-from_map}
 use Rattle.sc_handover.proofs.PutLemmas.{All-put, Contains-put_own, Contains-put, Contains-map_put, AscendByName-put, other_number}
+use Rattle.sc_handover.proofs.MadeLemmas.{in_order-made}
 
 -- the bucket with the core and its feed
 abbrev pub joined : Bucket → Core → FeedState → Bucket
@@ -337,6 +337,7 @@ IsSound-joined b name sub core feed may =
     (All-weaker (Contains b.replicas) (IsSoundFed b (b.feeds ++ feed ∷ []))
     (λ other there. other_is_sound b name sub core feed other may there) b.replicas (All-contains_itself b.replicas)) in
     IsSound-with_fed b (b.feeds ++ feed ∷ []) (put_by_name core b.replicas) may.sound cores
+    (All-put IsCoreWithoutRoom core b.replicas (in_order-made name core may.made.core_is) may.sound.in_order)
     (λ other. Contains-map_put name_of core b.replicas other) (HasCores-joined b name sub core feed may)
     (AreFeeds-joined b name sub core feed may) (phase-joined b name sub core feed may)
 

@@ -1,7 +1,7 @@
 -- A bucket is sound once slices left its map, with their cores, their feeds and the messages to them.
 use Rattle.std.proofs.Common.{◌≡◌, ◌⊎◌, ◌∙◌, ℕ, pos, Bool, true, false, List, [], ◌∷◌, ◌++◌, map, filter, None, All, Contains, refl, sym, ap, subst}
 use Rattle.std.specs.List.{IsDistinct}
-use Rattle.std.proofs.lemmas.List.Elements.{All-contains, All-weaker}
+use Rattle.std.proofs.lemmas.List.Elements.{All-contains, All-filter, All-weaker}
 use Rattle.std.proofs.lemmas.List.Kept.{AllPairs-filter}
 use Rattle.std.proofs.lemmas.Map.Keys.{apart_from_distinct, IsDistinct-from_apart}
 use Rattle.sc_record.specs.Writes.{is_of}
@@ -16,13 +16,13 @@ use Rattle.sc_cluster.proofs.ListLemmas.{filter-filter, none_from_filter, Contai
 use Rattle.sc_cluster.proofs.PairLemmas.{Contains-from_map}
 use Rattle.sc_replica.specs.Core.{Core}
 use Rattle.sc_journal.specs.Journal.{as_write, writes, last_of, last_write}
-use Rattle.sc_journal.specs.Committed.{commits, committed}
+use Rattle.sc_journal.specs.Committed.{commits, committed, last_commit}
 use Rattle.sc_journal.specs.Splits.{open_split}
-use Rattle.sc_journal.proofs.CommittedLemmas.{committed-push_other}
+use Rattle.sc_journal.proofs.CommittedLemmas.{committed-push_other, last_commit-push_other}
 use Rattle.sc_journal.proofs.JournalLemmas.{writes-push_other}
 use Rattle.sc_journal.proofs.SettledLemmas.{SettlesNothing}
 use Rattle.sc_bucket.specs.Kept.{Sent, FeedState}
-use Rattle.sc_bucket.specs.Cores.{is_of_one}
+use Rattle.sc_bucket.specs.Cores.{is_of_one, IsCoreWithoutRoom}
 use Rattle.sc_bucket.specs.Flight.{in_flight, is_to, is_same_message}
 use Rattle.sc_bucket.specs.Pending.{is_feed_of, to_feed, pending}
 use Rattle.sc_bucket.specs.Searchers.{ShowsCommitted, rows_of, ArePrepared}
@@ -180,12 +180,14 @@ HasSearchers-kept : (old : Bucket) (one : Entry) (new : Bucket) → LeavesOut ol
     → HasSearchers new
 HasSearchers-kept old one new leaves has =
     HasSearchers-grown (record old { map = new.map }) new refl leaves.searchers_are
+    (ap last_commit leaves.entries ∙ last_commit-push_other old.journal.entries one leaves.no_commit)
     (ap committed leaves.entries ∙ committed-push_other old.journal.entries one leaves.no_commit)
     (λ write there. subst (λ (these : List Write). Contains these write) (sym (same_writes old one new leaves)) there)
     (record {
       each_slice = has.each_slice ∙ ap (map (λ (slice : Slice). slice.id)) (sym leaves.same_active);
       show = All-weaker (Show old.map) (Show new.map)
           (λ searcher shows slice there. shows slice (leaves.some slice there)) old.searchers has.show;
+      place = has.place;
     })
   where
     Show : List Slice → Standing → Type 0
@@ -196,7 +198,9 @@ HasSearchers-kept old one new leaves has =
 IsSound-left_out : (old : Bucket) (one : Entry) (new : Bucket) → IsSound old → HasJournal new
     → LeavesOut old one new → IsSound new
 IsSound-left_out old one new sound journal leaves =
-    IsSound-each new (cores_are_sound old one new sound leaves) journal
+    IsSound-each new (cores_are_sound old one new sound leaves)
+    (subst (All IsCoreWithoutRoom) (sym leaves.cores) (All-filter (is_kept new.map) IsCoreWithoutRoom old.replicas sound.in_order))
+    journal
     (HasSearchers-kept old one new leaves sound.searchers)
     (subst (λ phase. ArePrepared phase new.map new.searchers new.spares) (sym leaves.phase_is) leaves.spares_are)
     (AreSent-kept old one new leaves sound.messages)

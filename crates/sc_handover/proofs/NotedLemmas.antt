@@ -14,7 +14,7 @@ use Rattle.sc_journal.proofs.SettledLemmas.{SettlesNothing}
 use Rattle.sc_bucket.specs.Kept.{Sent, JournalState, PlacesState}
 use Rattle.sc_bucket.specs.Cores.{is_of_one}
 use Rattle.sc_bucket.specs.Sound.{HasJournal}
-use Rattle.sc_bucket.specs.Events.{HasSameName}
+use Rattle.sc_bucket.specs.Events.{HasSameFirstAndLimit}
 use Rattle.sc_bucket.specs.declared.bucket.Bucket.{Bucket}
 use Rattle.sc_handover.specs.Events.{LosesSlices}
 use Rattle.sc_handover.proofs.PushedLemmas.{HasJournal-pushed}
@@ -49,7 +49,7 @@ pub record TakesOut (old : Bucket) (one : Entry) (change : Change) (less : ℕ) 
 
 -- as the calls leave it, where the entries are owed and one has its room
 pub TakesOut-called : (old new : Bucket) (one : Entry) (change : Change) (less : ℕ)
-    → (less ≤ old.owed) × (1 ≤ old.journal.room) → HasSameName old new → new.map ≡ after old.map change
+    → (less ≤ old.owed) × (1 ≤ old.journal.room) → HasSameFirstAndLimit old new → new.map ≡ after old.map change
     → new.replicas ≡ filter (is_kept new.map) old.replicas
     → new.flight.messages ≡ filter (λ (message : Sent). is_of_one new.map message.core) old.flight.messages
     → new.journal ≡ record { entries = old.journal.entries ++ one ∷ []; room = old.journal.room - 1 }

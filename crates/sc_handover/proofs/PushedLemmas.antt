@@ -11,12 +11,12 @@ use Rattle.sc_journal.proofs.LegalLemmas.{IsLegal-push}
 use Rattle.sc_journal.proofs.SettledLemmas.{SettlesNothing, unsettled-push_other}
 use Rattle.sc_journal.proofs.SplitLemmas.{map_after-push}
 use Rattle.sc_bucket.specs.Sound.{AreActive, HasJournal}
-use Rattle.sc_bucket.specs.Events.{HasSameName}
+use Rattle.sc_bucket.specs.Events.{HasSameFirstAndLimit}
 use Rattle.sc_bucket.specs.declared.bucket.Bucket.{Bucket}
 
 -- The journal got the entry, the map changed so, what is owed is counted, and that and the entry have their room.
 pub record IsPushed (old : Bucket) (one : Entry) (change : Change) (new : Bucket) : Type 0 where
-  pub name : HasSameName old new
+  pub name : HasSameFirstAndLimit old new
   pub entries : new.journal.entries ≡ old.journal.entries ++ one ∷ []
   pub map_is : new.map ≡ after old.map change
   pub unsettled_are : new.unsettled.places ≡ old.unsettled.places

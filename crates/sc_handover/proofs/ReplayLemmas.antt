@@ -21,6 +21,8 @@ use Rattle.sc_bucket.proofs.SoundLemmas.{All-slice_get}
 use Rattle.sc_bucket.proofs.TakenLemmas.{Contains-slice_get}
 use Rattle.sc_bucket.proofs.DeliveredLemmas.{IsSoundCore, fed_all_is_sound, other_log_is_sound}
 use Rattle.sc_bucket.proofs.DeliverLemmas.{IsSoundIn, place_of_core, named_at}
+use Rattle.sc_bucket.specs.Cores.{IsCoreWithoutRoom}
+use Rattle.sc_bucket.proofs.InOrderLemmas.{in_order-replaying, in_order-replayed}
 use Rattle.sc_handover.specs.Conditions.{IsInMode, IsUnfed, CanStartReplay, CanReplay}
 use Rattle.sc_handover.specs.Events.{ChangesCore, StartsReplay, ReplaysPiece}
 use Rattle.sc_handover.proofs.ChangedLemmas.{with_fed, IsFeed-with_fed, IsSoundIn-parts, IsSound-core_changed}
@@ -107,11 +109,11 @@ AreFeeds-unfed b at core new are there unfed = record {
 -- a core that has no feed and isn't active was changed
 IsSound-unfed : (b : Bucket) (at : ℕ) (core new : Core) → IsSound b → slice_get b.replicas at ≡ Some core
     → IsUnfed b core.core
-    → core.mode ≢ Active → new.core ≡ core.core
+    → core.mode ≢ Active → new.core ≡ core.core → (IsCoreWithoutRoom core → IsCoreWithoutRoom new)
     → IsSoundIn (with_fed b b.feeds (set b.replicas at new)) b.flight.messages new
     → IsSound (with_fed b b.feeds (set b.replicas at new))
-IsSound-unfed b at core new sound there unfed passive named own =
-    IsSound-core_changed b b.feeds at core new sound there named (λ active. absurd (passive active)) own
+IsSound-unfed b at core new sound there unfed passive named in_order own =
+    IsSound-core_changed b b.feeds at core new sound there named (λ active. absurd (passive active)) in_order own
     (λ name apart. refl)
     (AreFeeds-unfed b at core new sound.feeds there unfed)
 
@@ -120,7 +122,7 @@ IsSound-replaying : (b : Bucket) (at : ℕ) (core : Core) → IsSound b → slic
     → core.mode ≡ Buffering → IsUnfed b core.core
     → IsSound (with_fed b b.feeds (set b.replicas at (replaying core)))
 IsSound-replaying b at core sound there buffers unfed =
-    IsSound-unfed b at core (replaying core) sound there unfed passive refl
+    IsSound-unfed b at core (replaying core) sound there unfed passive refl (in_order-replaying core)
     (other_log_is_sound b.map b.journal.entries (in_flight b.flight.messages core.core)
     (in_flight b.flight.messages core.core ++ core.buffer ++ to_feed b.feeds core.core) core Replaying core.buffer
     (λ active. absurd (passive active))
@@ -143,7 +145,7 @@ IsSound-started b name cores sound can starts =
 pub room_to_replay : (b : Bucket) (at : ℕ) (core : Core) → IsSound b → slice_get b.replicas at ≡ Some core
     → length core.buffer ≤ core.cell_spare
 room_to_replay b at core sound there =
-    let spare = All-slice_get (HasSpare b.flight.messages b.feeds) b.replicas at core sound.spares there in
+    let spare = All-slice_get (HasSpare b.flight.messages b.feeds) b.replicas at core sound.room there in
     omega (arith, spare.cells, length-pending b.flight.messages b.feeds core)
 
 -- it is sound where a core that replays replays a piece
@@ -152,7 +154,7 @@ IsSound-replayed : (b : Bucket) (at : ℕ) (core : Core) → IsSound b → slice
 IsSound-replayed b at core sound there replays =
     IsSound-unfed b at core (replayed core) sound there
     (unfed_replaying b core sound (Contains-slice_get b.replicas at core there) replays)
-    passive (name-fed_all core these)
+    passive (name-fed_all core these) (in_order-replayed core)
     (IsSoundIn-parts b b.feeds (set b.replicas at (replayed core)) (replayed core) core.core left fed
     (name-fed_all core these) refl refl
     (other_log_is_sound b.map b.journal.entries sent (sent ++ left ++ fed) (fed_all core these) (mode_left left) left

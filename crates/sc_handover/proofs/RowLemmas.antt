@@ -46,7 +46,7 @@ looked-none feed row there looked =
 pub room_to_feed : (b : Bucket) (feed_at core_at : ℕ) (feed : FeedState) (core : Core) (write : Write) → IsSound b
     → IsFedAt b feed_at core_at feed core → next_of 1 feed ≡ write ∷ [] → 0 < core.cell_spare
 room_to_feed b feed_at core_at feed core write sound is one =
-    let spare = All-slice_get (HasSpare b.flight.messages b.feeds) b.replicas core_at core sound.spares is.core_found
+    let spare = All-slice_get (HasSpare b.flight.messages b.feeds) b.replicas core_at core sound.room is.core_found
     in
     let left = ap length (to_feed-at b feed_at core_at feed core sound is ∙ left-next 1 feed
     ∙ ap (λ writes. writes ++ left_of (after_rows 1 feed)) one) in

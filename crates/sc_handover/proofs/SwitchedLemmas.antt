@@ -22,7 +22,7 @@ use Rattle.sc_journal.specs.Splits.{open_split}
 use Rattle.sc_journal.proofs.JournalLemmas.{last_write-push_other, writes-push_other}
 use Rattle.sc_journal.proofs.SplitLemmas.{open_split-push}
 use Rattle.sc_bucket.specs.Kept.{FlightState}
-use Rattle.sc_bucket.specs.Cores.{core_key, core_keys, keys_of, is_attached, AscendByName, IsCounted}
+use Rattle.sc_bucket.specs.Cores.{core_key, core_keys, keys_of, is_attached, AscendByName, IsCounted, IsCoreWithoutRoom}
 use Rattle.sc_bucket.specs.Pending.{pending}
 use Rattle.sc_bucket.specs.Searchers.{ArePrepared}
 use Rattle.sc_bucket.specs.Sound.{HasLastWrites, HasCores, IsInPhase, IsSound}
@@ -205,7 +205,8 @@ IsSound-switched old new parent ready puts parts =
     (puts.feeds_are ∙ sym (none_is_fed old parent ready.sound ready.can)) puts.cores
     (All-weaker (Contains old.replicas) (IsSoundWith slices (longer old parent) old.flight.messages old.feeds)
     (λ core. core-switched old parent core ready) old.replicas (All-contains_itself old.replicas)) in
-    IsSound-each new cores (HasJournal-switched old new parent ready.sound.journal split puts parts)
+    IsSound-each new cores (subst (All IsCoreWithoutRoom) (sym puts.cores) ready.sound.in_order)
+    (HasJournal-switched old new parent ready.sound.journal split puts parts)
     (HasSearchers-switched old new parent ready.sound split puts)
     (subst (λ phase. ArePrepared phase new.map new.searchers new.spares) (sym puts.phase_is) parts.spares_are)
     (AreSent-more old new (entry.Switched parent) [] ready.sound.messages puts.entries (λ _. refl)

@@ -11,27 +11,25 @@ use Rattle.sc_cluster.specs.Slices.{forming}
 use Rattle.sc_cluster.specs.Changes.{Change, after}
 use Rattle.sc_replica.specs.Core.{Core, fed_all, replayed}
 use Rattle.sc_replica.specs.Deliveries.{replaying}
-use Rattle.sc_journal.specs.Splits.{owed}
 use Rattle.sc_bucket.specs.Kept.{Sent, FeedState}
 use Rattle.sc_bucket.specs.Cores.{IsLeaderOf, is_of_one, put_by_name}
 use Rattle.sc_bucket.specs.Flight.{is_to, arrived}
 use Rattle.sc_bucket.specs.Searchers.{AreTaken, AreHandedOn}
+use Rattle.sc_bucket.specs.Room.{BucketHasRoom}
 use Rattle.sc_bucket.specs.Sound.{HasLastWrites}
-use Rattle.sc_bucket.specs.Events.{AreSameCores, HasSameName}
+use Rattle.sc_bucket.specs.Events.{AreSameCores, HasSameFirstAndLimit}
 use Rattle.sc_bucket.specs.declared.bucket.Bucket.{Bucket}
 use Rattle.sc_bucket.specs.declared.phase.Phase.{Phase}
 use Rattle.sc_bucket.specs.declared.phase.Phase.TheVariants as phases
-use Rattle.sc_handover.specs.Made.{first_core, empty_core, first_feed, feed_limit, piece_of, moved_on, settled_sub}
-
--- the journal has room for the entry that begins a split and for the two that it owes, beside those that it owes already
-abbrev pub HasRoomToBegin : ℕ → List Slice → List Entry → Type 0
-HasRoomToBegin limit first journal = length journal + owed first journal + 3 ≤ limit
+use Rattle.sc_bucket.specs.Pending.{new_feed}
+use Rattle.sc_handover.specs.Made.{first_core, empty_core, cells_now, first_feed, feed_limit, piece_of, moved_on, settled_sub}
 
 -- A split begins, which commits: each active slice has a searcher of its leader's cells as they are. The subs join the map, each with
--- its leader, which buffers what comes and has no cells, and is fed from the parent's cells as they are.
+-- its leader, which buffers what comes and has no cells, and is fed from the parent's cells as they are. The journal has room for the
+-- entry that says so and for the two that it owes then.
 pub record Begins (old : Bucket) (parent : SliceId) (subs : List SubSlice) (new : Bucket) : Type 0 where
-  pub name : HasSameName old new
-  pub room : HasRoomToBegin old.limit old.first old.journal.entries
+  pub name : HasSameFirstAndLimit old new
+  pub room : BucketHasRoom 3 old
   pub map_is : new.map ≡ after old.map (Change.Begun parent subs)
   pub entries : new.journal.entries ≡ old.journal.entries ++ entry.Begun parent subs ∷ []
   pub phase_is : new.phase ≡ phases.Building parent
@@ -40,12 +38,12 @@ pub record Begins (old : Bucket) (parent : SliceId) (subs : List SubSlice) (new 
   pub leader : Core
   pub leader_there : Contains old.replicas leader
   pub leader_is : IsLeaderOf parent leader
-  pub feeds_are : new.feeds ≡ map (first_feed leader.cells) subs
+  pub feeds_are : new.feeds ≡ map (first_feed (cells_now old leader)) subs
   pub searchers_are : AreTaken old.map old.replicas (length old.journal.entries) new.searchers
 
 -- nothing was changed but cores and feeds
 pub record HasSameRest (old new : Bucket) : Type 0 where
-  pub name : HasSameName old new
+  pub name : HasSameFirstAndLimit old new
   pub map_is : new.map ≡ old.map
   pub entries : new.journal.entries ≡ old.journal.entries
   pub phase_is : new.phase ≡ old.phase
@@ -88,7 +86,7 @@ pub record ReplaysPiece (old : Bucket) (name : CoreId) (is_done : Bool) (new : B
 
 -- the leaders of the subs are made
 pub record GetsReady (old : Bucket) (parent : SliceId) (new : Bucket) : Type 0 where
-  pub name : HasSameName old new
+  pub name : HasSameFirstAndLimit old new
   pub map_is : new.map ≡ old.map
   pub entries : new.journal.entries ≡ old.journal.entries
   pub phase_is : new.phase ≡ phases.Recovering parent
@@ -100,7 +98,7 @@ pub record GetsReady (old : Bucket) (parent : SliceId) (new : Bucket) : Type 0 w
 -- A further replica of a sub joins: what is in flight to the sub's leader is delivered, and the new core buffers what comes, has no
 -- cells, and is fed from the leader's cells as they are then.
 pub record Grows (old : Bucket) (name : CoreId) (sub : Slice) (new : Bucket) : Type 0 where
-  pub kept : HasSameName old new
+  pub kept : HasSameFirstAndLimit old new
   pub map_is : new.map ≡ old.map
   pub entries : new.journal.entries ≡ old.journal.entries
   pub phase_is : new.phase ≡ old.phase
@@ -110,12 +108,12 @@ pub record Grows (old : Bucket) (name : CoreId) (sub : Slice) (new : Bucket) : T
   pub leader_is : IsLeaderOf sub.id leader
   pub messages : new.flight.messages ≡ filter (λ (message : Sent). not (is_to leader.core message)) old.flight.messages
   pub cores : AreSameCores (put_by_name (empty_core name) (map (arrived old.flight.messages leader.core) old.replicas)) new.replicas
-  pub feeds_are : new.feeds ≡ old.feeds ++ record { core = name; range = sub.range; rows = leader.cells; next = 0 } ∷ []
+  pub feeds_are : new.feeds ≡ old.feeds ++ new_feed name sub.range (cells_now old leader) ∷ []
 
 -- The split is switched: what is in flight to the subs' cores is delivered, the subs take the parent's place, and each has the parent's
 -- searcher, cut to its range. No cell changes but by those messages.
 pub record Switches (old : Bucket) (parent : SliceId) (new : Bucket) : Type 0 where
-  pub name : HasSameName old new
+  pub name : HasSameFirstAndLimit old new
   pub map_is : new.map ≡ after old.map (Change.Switched parent)
   pub entries : new.journal.entries ≡ old.journal.entries ++ entry.Switched parent ∷ []
   pub phase_is : new.phase ≡ phases.Idle
@@ -132,7 +130,7 @@ HaveLastWrites b subs = (sub : Slice) (core : Core) → Contains subs sub → Co
 -- Slices leave the map by this change, with their cores and the messages to them, and the journal gets this entry. The phase and the
 -- feeds are these then, and all else is as it was.
 pub record LosesSlices (old : Bucket) (change : Change) (one : Entry) (phase : Phase) (feeds : List FeedState) (new : Bucket) : Type 0 where
-  pub name : HasSameName old new
+  pub name : HasSameFirstAndLimit old new
   pub map_is : new.map ≡ after old.map change
   pub entries : new.journal.entries ≡ old.journal.entries ++ one ∷ []
   pub phase_is : new.phase ≡ phase

@@ -9,25 +9,26 @@ use Rattle.sc_cluster.specs.Changes.{Change, after}
 use Rattle.sc_ulog.specs.LogState.{IsEmptyWhereActive}
 use Rattle.sc_replica.specs.Core.{Core}
 use Rattle.sc_bucket.specs.Kept.{Sent, FeedState}
-use Rattle.sc_bucket.specs.Cores.{IsCounted, IsLeaderOf, is_of_one, put_by_name}
+use Rattle.sc_bucket.specs.Cores.{IsCounted, IsLeaderOf, is_of_one, put_by_name, without_room}
 use Rattle.sc_bucket.specs.Searchers.{AreHandedOn}
 use Rattle.sc_bucket.specs.Sound.{HasLastWrites}
-use Rattle.sc_bucket.specs.Events.{without_room, AreSameCores, HasSameName, HasSameSplit}
+use Rattle.sc_bucket.specs.Events.{AreSameCores, HasSameFirstAndLimit, HasSameSplit}
 use Rattle.sc_bucket.specs.declared.bucket.Bucket.{Bucket}
 use Rattle.sc_bucket.specs.declared.phase.Phase.TheVariants as phases
-use Rattle.sc_handover.specs.Made.{empty_core, settled_sub, IsRoomyFor}
+use Rattle.sc_bucket.specs.Pending.{new_feed}
+use Rattle.sc_handover.specs.Made.{empty_core, cells_now, settled_sub, IsRoomyFor}
 
 -- the core is of a slice that a split is making
 abbrev pub is_of_sub : List Slice → CoreId → Bool
 is_of_sub slices core = is_of_one (forming slices) core
 
--- the core of which this is said keeps nothing in its buffer where it is active
+-- an active core has an empty buffer
 abbrev pub IsQuiet : Core → Type 0
 IsQuiet core = IsEmptyWhereActive core.mode core.buffer
 
 -- all that is in flight to the cores of the subs is delivered
 pub record DeliversToSubs (old new : Bucket) : Type 0 where
-  pub name : HasSameName old new
+  pub name : HasSameFirstAndLimit old new
   pub split : HasSameSplit old new
   pub map_is : new.map ≡ old.map
   pub entries : new.journal.entries ≡ old.journal.entries
@@ -41,7 +42,7 @@ NoneIsToASub b = All (λ (message : Sent). is_of_sub b.map message.core ≡ fals
 
 -- the subs are put in the place of their parent, once nothing is in flight to their cores
 pub record PutsSwitch (old : Bucket) (parent : SliceId) (new : Bucket) : Type 0 where
-  pub name : HasSameName old new
+  pub name : HasSameFirstAndLimit old new
   pub map_is : new.map ≡ after old.map (Change.Switched parent)
   pub entries : new.journal.entries ≡ old.journal.entries ++ entry.Switched parent ∷ []
   pub phase_is : new.phase ≡ phases.Idle
@@ -59,12 +60,12 @@ pub record IsMade (b : Bucket) (name : CoreId) (sub : Slice) (core : Core) (feed
   pub leader_there : Contains b.replicas leader
   pub leader_is : IsLeaderOf sub.id leader
   pub last : HasLastWrites b.journal.entries sub leader
-  pub feed_is : feed ≡ record { core = name; range = sub.range; rows = leader.cells; next = 0 }
+  pub feed_is : feed ≡ new_feed name sub.range (cells_now b leader)
   pub roomy : IsRoomyFor feed core
 
 -- the core and its feed join: it stands in its place among the others, and its feed comes last
 pub record Joins (old : Bucket) (name : CoreId) (feed : FeedState) (new : Bucket) : Type 0 where
-  pub kept : HasSameName old new
+  pub kept : HasSameFirstAndLimit old new
   pub map_is : new.map ≡ old.map
   pub entries : new.journal.entries ≡ old.journal.entries
   pub phase_is : new.phase ≡ old.phase

@@ -6,8 +6,8 @@ ghost use Rattle.sc_handover.specs.Events.{Aborts};
 use sc_bucket::{Bucket, Phase};
 use sc_record::{Entry, SliceId};
 
-/// Gives the split up: its subs leave the map, with their cores, their feeds and the messages to them, and the parent is as if there
-/// had been none. What was accepted meanwhile stays. It takes no memory.
+/// Gives the split up: its subs leave the map, with their cores, their feeds and the messages to them, and the parent goes on
+/// alone. What was accepted and what was committed meanwhile stays, and so does the commit that began the split. It takes no memory.
 pub fn abort(bucket: &mut Bucket)
     requires sound { IsSound bucket.old }
     requires can { (parent : SliceId) × CanAbort bucket.old parent }
@@ -15,7 +15,7 @@ pub fn abort(bucket: &mut Bucket)
     ensures aborted { (parent : SliceId) → CanAbort bucket.old parent → Aborts bucket.old parent bucket.new }
 {
     match bucket.phase {
-        Phase::Idle => {}
+        Phase::Idle => unreachable!(),
         Phase::Building { parent } | Phase::Recovering { parent } => give_up(bucket, parent),
     }
 }

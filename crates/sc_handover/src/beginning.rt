@@ -1,19 +1,18 @@
 ghost use Rattle.std.specs.Prelude.{◌≡◌, ◌<◌, ◌≤◌, ◌+◌, ◌↔◌, Err, [], ◌∷◌, ◌++◌, length, map, Contains, IfOk, OnOk, OnErr};
 ghost use Rattle.std.specs.List.{AllZip};
 ghost use Rattle.std.specs.Arc.{arc_value};
-ghost use Rattle.sc_cluster.specs.Changes.{Change, after};
-ghost use Rattle.sc_journal.specs.Splits.{owed};
-ghost use Rattle.sc_replica.specs.Core.{Core};
-ghost use Rattle.sc_bucket.specs.Cores.{IsLeaderOf};
-ghost use Rattle.sc_bucket.specs.Searchers.{AreTaken, AreHandedOn};
+ghost use Rattle.sc_bucket.specs.Cores.{without_room};
 ghost use Rattle.sc_bucket.specs.declared.standing.Standing.{Standing};
+ghost use Rattle.sc_bucket.specs.Room.{BucketHasRoom, BucketIsFull};
+ghost use Rattle.sc_bucket.specs.Pending.{new_feed};
 ghost use Rattle.sc_bucket.specs.Sound.{IsSound};
-ghost use Rattle.sc_bucket.specs.Events.{IsSameBut, without_room};
+ghost use Rattle.sc_bucket.specs.Events.{IsSameButRoom};
 ghost use Rattle.sc_handover.specs.Conditions.{CanBegin};
 ghost use Rattle.sc_handover.specs.Made.{first_core, range_of, empty_core, first_feed, IsRoomyFor};
-ghost use Rattle.sc_handover.specs.Events.{Begins, HasRoomToBegin};
+ghost use Rattle.sc_handover.specs.Events.{Begins};
+ghost use Rattle.sc_handover.specs.Preparing.{IsPreparedFor};
 
-use sc_bucket::{Bucket, Feed, Feeds, Phase, Standing, hand_on, searchers_at};
+use sc_bucket::{Bucket, Feed, Feeds, Phase, Standing, hand_on, searcher_for, searchers_at};
 use sc_cluster::{ClusterMap, SplitPlan};
 use sc_hash::Range;
 use sc_record::{CloneIn, CoreId, Entry, List, SliceId, SubSlice};
@@ -52,60 +51,78 @@ pub fn begin(alloc: Global, bucket: &mut Bucket, plan: &SplitPlan) -> Result<(),
     requires can { CanBegin bucket.old plan.now.parent plan.now.subs }
     ensures sound { IsSound bucket.new }
     ensures begun { OnOk result (Begins bucket.old plan.now.parent plan.now.subs bucket.new) }
-    ensures refused { OnErr result (IsSameBut bucket.old bucket.new) }
-    ensures full { (result ≡ Err BeginFault.LogFull)
-        ↔ (bucket.old.limit < length bucket.old.journal.entries + owed bucket.old.first bucket.old.journal.entries + 3) }
+    ensures refused { OnErr result (IsSameButRoom bucket.old bucket.new) }
+    ensures full { (result ≡ Err BeginFault.LogFull) ↔ BucketIsFull 3 bucket.old }
 {
-    let place = bucket.entries();
-    if bucket.limit < place + bucket.owed + 3 {
+    if bucket.limit < bucket.entries() + bucket.owed + 3 {
         return Err(BeginFault::LogFull);
     }
-    let searchers = searchers_at(alloc, &bucket.map, &bucket.replicas, place)?;
+    bucket.journal.reserve(bucket.owed as usize + 3)?;
+    let beginning = prepare(alloc, bucket, plan)?;
+    put_begun(bucket, plan.parent, beginning)?;
+    Ok(())
+}
+
+// What a split begins with.
+#[derive(Drop)]
+struct Beginning {
+    subs: List<SubSlice>,
+    // the map with the subs
+    slices: ClusterMap,
+    // the leaders of the subs, and what they are fed from
+    cores: Vec<Replica>,
+    feeds: Vec<Feed>,
+    // the searchers, and those that the switch leaves
+    searchers: List<Standing>,
+    spares: List<Standing>,
+}
+
+// Makes what the split of the plan begins with. The bucket is only read.
+fn prepare(alloc: Global, bucket: &Bucket, plan: &SplitPlan) -> Result<Beginning, AllocError>
+    requires sound { IsSound bucket.now }
+    requires can { CanBegin bucket.now plan.now.parent plan.now.subs }
+    ensures subs { IfOk result (λ beginning. beginning.subs ≡ plan.now.subs) }
+    ensures prepared { IfOk result (IsPreparedFor bucket.now plan.now.parent) }
+{
+    let searchers = searchers_at(alloc, &bucket.map, &bucket.replicas, bucket.entries())?;
     let snapshot = snapshot_of(&searchers, plan.parent)?;
-    let made = made(alloc, plan.subs.as_slice(), &snapshot)?;
+    let (cores, feeds) = made(alloc, plan.subs.as_slice(), &snapshot)?;
     let mut slices = bucket.map.clone_in(alloc)?;
     slices.begin(plan)?;
     let spares = hand_on(alloc, &slices, plan.parent, &searchers)?;
     let subs = plan.subs.clone_in(alloc)?;
-    bucket.journal.reserve(bucket.owed as usize + 3)?;
-    put_begun(bucket, plan.parent, subs, slices, made, searchers, spares)?;
-    Ok(())
+    Ok(Beginning {
+        subs,
+        slices,
+        cores,
+        feeds,
+        searchers,
+        spares,
+    })
 }
 
 // Puts the entry that begins the split into the journal, with all that was made for it. After an error the bucket is as it was: memory
 // was refused.
-fn put_begun(
-    bucket: &mut Bucket,
-    parent: SliceId,
-    subs: List<SubSlice>,
-    slices: ClusterMap,
-    made: (Vec<Replica>, Vec<Feed>),
-    searchers: List<Standing>,
-    spares: List<Standing>,
-) -> Result<(), AllocError>
+fn put_begun(bucket: &mut Bucket, parent: SliceId, beginning: Beginning) -> Result<(), AllocError>
     requires sound { IsSound bucket.old }
-    requires can { CanBegin bucket.old parent subs }
+    requires can { CanBegin bucket.old parent beginning.subs }
     requires memory { bucket.old.owed + 3 ≤ bucket.old.journal.room }
-    requires room { HasRoomToBegin bucket.old.limit bucket.old.first bucket.old.journal.entries }
-    requires slices { slices ≡ after bucket.old.map (Change.Begun parent subs) }
-    requires cores { map without_room made.0.items ≡ map (λ sub. empty_core (first_core sub)) subs }
-    requires feeds { (leader : Core) × Contains bucket.old.replicas leader × IsLeaderOf parent leader
-        × (made.1.items ≡ map (first_feed leader.cells) subs) }
-    requires roomy { AllZip IsRoomyFor made.1.items made.0.items }
-    requires taken { AreTaken bucket.old.map bucket.old.replicas (length bucket.old.journal.entries) searchers }
-    requires prepared { AreHandedOn slices parent searchers spares }
+    requires room { BucketHasRoom 3 bucket.old }
+    requires prepared { IsPreparedFor bucket.old parent beginning }
     ensures sound { IsSound bucket.new }
-    ensures begun { OnOk result (Begins bucket.old parent subs bucket.new) }
+    ensures begun { OnOk result (Begins bucket.old parent beginning.subs bucket.new) }
     ensures refused { OnErr result (bucket.new ≡ bucket.old) }
 {
-    let (cores, feeds) = made;
-    bucket.replicas.append(cores)?;
-    bucket.map = slices;
-    bucket.feeds = Feeds::from_vec(feeds);
-    bucket.searchers = searchers;
-    bucket.spares = Some(spares);
+    bucket.replicas.append(beginning.cores)?;
+    bucket.map = beginning.slices;
+    bucket.feeds = Feeds::from_vec(beginning.feeds);
+    bucket.searchers = beginning.searchers;
+    bucket.spares = Some(beginning.spares);
     bucket.phase = Phase::Building { parent };
-    bucket.journal.append(Entry::Begun { parent, subs });
+    bucket.journal.append(Entry::Begun {
+        parent,
+        subs: beginning.subs,
+    });
     bucket.owed += 2;
     Ok(())
 }
@@ -116,12 +133,7 @@ fn snapshot_of(searchers: &List<Standing>, slice: SliceId) -> Result<Arc<Snapsho
     ensures { IfOk result (λ snapshot. (searcher : Standing) × Contains searchers.now searcher × (searcher.slice ≡ slice)
         × (arc_value snapshot ≡ arc_value searcher.snapshot)) }
 {
-    let standing = searchers
-        .as_slice()
-        .iter()
-        .find(|standing| standing.slice == slice)
-        .unwrap();
-    Arc::try_clone(&standing.snapshot)
+    Arc::try_clone(&searcher_for(searchers, slice).snapshot)
 }
 
 // The leaders of the subs, each with room for all that it is to be fed, and their feeds.
@@ -131,7 +143,7 @@ fn made(
     snapshot: &Arc<Snapshot>,
 ) -> Result<(Vec<Replica>, Vec<Feed>), AllocError>
     ensures cores { IfOk result (λ made. map without_room made.0.items ≡ map (λ sub. empty_core (first_core sub)) subs.now) }
-    ensures feeds { IfOk result (λ made. made.1.items ≡ map (first_feed (arc_value snapshot.now).rows) subs.now) }
+    ensures feeds { IfOk result (λ made. made.1.items ≡ map (first_feed (arc_value snapshot.now)) subs.now) }
     ensures roomy { IfOk result (λ made. AllZip IsRoomyFor made.1.items made.0.items) }
 {
     let mut cores = Vec::new(alloc);
@@ -151,7 +163,7 @@ fn core_of(
     snapshot: &Arc<Snapshot>,
 ) -> Result<(Replica, Feed), AllocError>
     ensures core { IfOk result (λ made. without_room made.0 ≡ empty_core (first_core sub.now)) }
-    ensures feed { IfOk result (λ made. made.1 ≡ first_feed (arc_value snapshot.now).rows sub.now) }
+    ensures feed { IfOk result (λ made. made.1 ≡ first_feed (arc_value snapshot.now) sub.now) }
     ensures roomy { IfOk result (λ made. IsRoomyFor made.1 made.0) }
 {
     empty_fed(
@@ -190,7 +202,7 @@ pub(crate) fn empty_fed(
     snapshot: Arc<Snapshot>,
 ) -> Result<(Replica, Feed), AllocError>
     ensures core { IfOk result (λ made. without_room made.0 ≡ empty_core name) }
-    ensures feed { IfOk result (λ made. made.1 ≡ record { core = name; range = range; rows = (arc_value snapshot).rows; next = 0 }) }
+    ensures feed { IfOk result (λ made. made.1 ≡ new_feed name range (arc_value snapshot)) }
     ensures roomy { IfOk result (λ made. IsRoomyFor made.1 made.0) }
 {
     let feed = Feed::new(alloc, name, range, snapshot)?;

@@ -4,7 +4,7 @@ ghost use Rattle.sc_cluster.specs.declared.slice.Slice.{Slice};
 ghost use Rattle.sc_bucket.specs.Kept.{Sent};
 ghost use Rattle.sc_bucket.specs.Flight.{is_to};
 ghost use Rattle.sc_bucket.specs.Sound.{IsSound};
-ghost use Rattle.sc_bucket.specs.Events.{DeliversTo};
+ghost use Rattle.sc_bucket.specs.Events.{DeliversAllTo};
 ghost use Rattle.sc_handover.specs.Conditions.{CanGrow};
 ghost use Rattle.sc_handover.specs.Made.{leader_of};
 ghost use Rattle.sc_handover.specs.Events.{Grows};
@@ -26,13 +26,13 @@ pub fn grow(alloc: Global, bucket: &mut Bucket, core: CoreId) -> Result<(), Allo
     requires can { (sub : Slice) × CanGrow bucket.old core sub }
     ensures sound { IsSound bucket.new }
     ensures grown { OnOk result ((sub : Slice) → CanGrow bucket.old core sub → Grows bucket.old core sub bucket.new) }
-    ensures refused { OnErr result (DeliversTo bucket.old (leader_of core.slice) bucket.new) }
+    ensures refused { OnErr result (DeliversAllTo bucket.old (leader_of core.slice) bucket.new) }
 {
     let leader = CoreId {
         slice: core.slice,
         replica: 1,
     };
-    bucket.deliver_to(leader);
+    bucket.deliver_all_to(leader);
     let (replica, feed) = follower(alloc, bucket, leader, core)?;
     join(bucket, replica, feed)
 }

@@ -12,8 +12,8 @@ mod beginning;
 
 // The cores of the subs are made.
 mod feed;
+mod getting_ready;
 mod growing;
-mod recovering;
 mod replay;
 
 // A split ends, and what it left is taken away.
@@ -25,7 +25,7 @@ pub use aborting::abort;
 pub use beginning::{BeginFault, begin};
 pub use drop::drop_shard;
 pub use feed::{FEED_LIMIT, feed_piece};
+pub use getting_ready::ready;
 pub use growing::grow;
-pub use recovering::ready;
 pub use replay::{replay_piece, start_replay};
 pub use switching::switch;

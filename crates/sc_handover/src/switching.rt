@@ -4,7 +4,7 @@ ghost use Rattle.sc_cluster.specs.Slices.{forming};
 ghost use Rattle.sc_cluster.specs.Changes.{Change, after};
 ghost use Rattle.sc_replica.specs.Core.{Core};
 ghost use Rattle.sc_bucket.specs.Sound.{IsSound};
-ghost use Rattle.sc_bucket.specs.Events.{DeliversTo};
+ghost use Rattle.sc_bucket.specs.Events.{DeliversAllTo};
 ghost use Rattle.sc_handover.specs.Conditions.{CanSwitch};
 ghost use Rattle.sc_handover.specs.Events.{Switches, HaveLastWrites};
 ghost use Rattle.sc_handover.specs.Parts.{is_of_sub, IsQuiet, DeliversToSubs, NoneIsToASub, PutsSwitch};
@@ -21,10 +21,11 @@ pub fn switch(bucket: &mut Bucket)
     ensures switched { (parent : SliceId) → CanSwitch bucket.old parent → Switches bucket.old parent bucket.new }
     ensures last { HaveLastWrites bucket.new (forming bucket.old.map) }
 {
-    if let Phase::Recovering { parent } = bucket.phase {
-        deliver_to_subs(bucket);
-        put_switch(bucket, parent);
-    }
+    let Phase::Recovering { parent } = bucket.phase else {
+        unreachable!()
+    };
+    deliver_to_subs(bucket);
+    put_switch(bucket, parent);
 }
 
 // Delivers what is in flight to the cores of the subs.
@@ -46,14 +47,14 @@ fn deliver_to_sub(bucket: &mut Bucket, at: usize)
     requires within { at < length bucket.old.replicas }
     ensures sound { IsSound bucket.new }
     ensures of_sub { (core : Core) → slice_get bucket.old.replicas at ≡ Some core → is_of_sub bucket.old.map core.core ≡ true
-        → DeliversTo bucket.old core.core bucket.new }
+        → DeliversAllTo bucket.old core.core bucket.new }
     ensures other { (core : Core) → slice_get bucket.old.replicas at ≡ Some core → is_of_sub bucket.old.map core.core ≡ false
         → bucket.new ≡ bucket.old }
     ensures quiet { (core : Core) → slice_get bucket.old.replicas at ≡ Some core → IsQuiet core }
 {
     let core = bucket.replicas.get(at).core();
     if is_of_sub(bucket, core) {
-        bucket.deliver_to(core);
+        bucket.deliver_all_to(core);
     }
 }
 

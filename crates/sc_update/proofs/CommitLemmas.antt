@@ -19,21 +19,21 @@ use Rattle.sc_journal.proofs.GoesOnLemmas.{take-prefix, Keeps-none, Keeps-then, 
 use Rattle.sc_bucket.specs.declared.bucket.Bucket.{Bucket}
 use Rattle.sc_bucket.specs.declared.commit.CommitFault.{CommitFault}
 use Rattle.sc_bucket.specs.declared.commit.CommitFault.TheVariants as faults
-use Rattle.sc_bucket.specs.Events.{Commits, IsSameBut}
+use Rattle.sc_bucket.specs.Events.{Commits, IsSameButRoom}
 use Rattle.sc_collection.specs.Desks.{Held, IsBucketOf, SeesGiven}
 use Rattle.sc_collection.proofs.StopLemmas.{stop_at, stop_is, GoesOn-held}
 use Rattle.sc_update.specs.Steps.{CommitsAll, CommitsOne, commit_outcome}
 use Rattle.sc_update.proofs.OrderLemmas.{entry-later}
 
 -- the entries that a commit adds: one where it is done
-committed-entries : {T : Type 0} (old new : Bucket) (answer : Result T CommitFault) → OnOk answer (Commits old new) → OnErr answer (IsSameBut old new)
+committed-entries : {T : Type 0} (old new : Bucket) (answer : Result T CommitFault) → OnOk answer (Commits old new) → OnErr answer (IsSameButRoom old new)
     → (more : List Entry) × (new.journal.entries ≡ old.journal.entries ++ more) × (length more ≡ cond (is_ok answer) 1 0)
 committed-entries old new (Ok done) commits same = (entry.Committed ∷ [], commits.entries, refl)
 committed-entries old new (Err fault) commits same = ([], same.entries ∙ sym (append-nil old.journal.entries), refl)
 
 -- what a commit came to at its stop, by what is seen later
 commit-outcome : {T : Type 0} (layout : Layout) (old new : Seen) (held : Held) (given : Bucket) (answer : Result T CommitFault)
-    → IsBucketOf layout held.number held.bucket → OnOk answer (Commits held.bucket given) → OnErr answer (IsSameBut held.bucket given)
+    → IsBucketOf layout held.number held.bucket → OnOk answer (Commits held.bucket given) → OnErr answer (IsSameButRoom held.bucket given)
     → (answer ≡ Err faults.LogFull → IsFullFor 1 held.bucket.limit held.bucket.first held.bucket.journal.entries)
     → SeesGiven held given old new → (later : Seen) → SeesMore new later
     → IsCommitOutcome layout later (stop_at held.number held.bucket.journal.entries (is_ok answer)) (commit_outcome (result_err answer))
@@ -47,7 +47,7 @@ commit-outcome {T} layout old new held given answer of commits same full sees la
   begins : IsPrefix given.journal.entries after
   begins = subst (λ (entries : List Entry). IsPrefix entries after) sees.journal (more.journals held.number)
 
-  by : (one : Result T CommitFault) → OnOk one (Commits held.bucket given) → OnErr one (IsSameBut held.bucket given)
+  by : (one : Result T CommitFault) → OnOk one (Commits held.bucket given) → OnErr one (IsSameButRoom held.bucket given)
       → (one ≡ Err faults.LogFull → IsFullFor 1 held.bucket.limit held.bucket.first journal)
       → IsCommitOutcome layout later (stop_at held.number journal (is_ok one)) (commit_outcome (result_err one))
   by (Ok done) committed stays none = (
@@ -68,7 +68,7 @@ commit-outcome {T} layout old new held given answer of commits same full sees la
 -- one hold in which a bucket is committed
 pub commits-one : {T : Type 0} (layout : Layout) (old new : View) (held : Held) (given : Bucket) (answer : Result T CommitFault) (place : ℕ) (made : Bool) (fault : Option CommitFault)
     → held.number < layout.buckets → IsBucketOf layout held.number held.bucket → IsPrefix (old.seen.journals held.number) held.bucket.journal.entries
-    → OnOk answer (Commits held.bucket given) → OnErr answer (IsSameBut held.bucket given)
+    → OnOk answer (Commits held.bucket given) → OnErr answer (IsSameButRoom held.bucket given)
     → (answer ≡ Err faults.LogFull → IsFullFor 1 held.bucket.limit held.bucket.first held.bucket.journal.entries)
     → SeesGiven held given old.seen new.seen → place ≡ length held.bucket.journal.entries → made ≡ is_ok answer → fault ≡ result_err answer
     → new.stops ≡ old.stops ++ record { lock = held.number; place = place; made = made } ∷ []

@@ -21,7 +21,7 @@ use Rattle.sc_bucket.specs.declared.bucket.Bucket.{Bucket}
 use Rattle.sc_bucket.specs.declared.accept.Accepted.{Accepted}
 use Rattle.sc_bucket.specs.declared.accept.AcceptFault.{AcceptFault}
 use Rattle.sc_bucket.specs.Sound.{IsSound}
-use Rattle.sc_bucket.specs.Events.{Accepts, IsSameBut, outcome_of}
+use Rattle.sc_bucket.specs.Events.{Accepts, IsSameButRoom, outcome_of}
 use Rattle.sc_collection.specs.Desks.{Held, IsBucketOf, MayReplace, SeesGiven}
 use Rattle.sc_journal.specs.Seen.{SeesMore}
 use Rattle.sc_update.specs.Steps.{Tries, SettlesWhere}
@@ -63,7 +63,7 @@ outcome-later limit first before order now out_of_memory after later begins is =
 
 -- the entries that an order adds: its write where it is accepted
 pub accepted-entries : (old new : Bucket) (order : Order) (now : ℕ) (answer : Result Accepted AcceptFault)
-    → IfOk answer (λ accepted. Accepts old order now accepted.version new) → OnErr answer (IsSameBut old new)
+    → IfOk answer (λ accepted. Accepts old order now accepted.version new) → OnErr answer (IsSameButRoom old new)
     → (more : List Entry) × (new.journal.entries ≡ old.journal.entries ++ more) × (length more ≡ cond (is_ok answer) 1 0)
 accepted-entries old new order now (Ok got) accepts same = (entry.Write accepts.cell ∷ [], accepts.entries, refl)
 accepted-entries old new order now (Err fault) accepts same = ([], same.entries ∙ sym (append-nil old.journal.entries), refl)
@@ -71,7 +71,7 @@ accepted-entries old new order now (Err fault) accepts same = ([], same.entries 
 -- and an order is answered at that stop
 pub tries : (layout : Layout) (old new : Seen) (held : Held) (given : Bucket) (order : Order) (now : ℕ) (answer : Result Accepted AcceptFault)
     → IsBucketOf layout held.number held.bucket → held.number ≡ bucket_of order.id layout.buckets
-    → IfOk answer (λ accepted. Accepts held.bucket order now accepted.version given) → OnErr answer (IsSameBut held.bucket given)
+    → IfOk answer (λ accepted. Accepts held.bucket order now accepted.version given) → OnErr answer (IsSameButRoom held.bucket given)
     → IsOutcome held.bucket.limit held.bucket.first held.bucket.journal.entries order now (outcome_of answer) given.journal.entries
     → SeesGiven held given old new
     → Tries layout new order now (stop_at held.number held.bucket.journal.entries (is_ok answer)) answer

@@ -15,7 +15,7 @@ use Rattle.sc_journal.specs.Journal.{writes, writes_of, last_write}
 use Rattle.sc_journal.specs.Splits.{is_inactive_state}
 use Rattle.sc_journal.proofs.JournalLemmas.{id_from_is_of, last_write_none}
 use Rattle.sc_journal.proofs.LegalLemmas.{legal_hash}
-use Rattle.sc_bucket.specs.Cores.{is_attached}
+use Rattle.sc_bucket.specs.Cores.{is_attached, IsCoreWithoutRoom}
 use Rattle.sc_bucket.specs.Pending.{pending}
 use Rattle.sc_bucket.specs.Sound.{Serves, HasLastWrites, AreWritten, HasOrAwaits, AreInRange, IsInRange, IsSound}
 use Rattle.sc_bucket.specs.declared.bucket.Bucket.{Bucket}
@@ -88,8 +88,10 @@ has_last_writes b slice core sound of active nothing id within = by (last_write 
   by None is = no_cell (write_of core.cells id) refl is ∙ sym is
 
 pub followers_catch_up : FollowersCatchUp
-followers_catch_up b slice leader follower sound there active leader_there leader_core leads follower_there follower_core follows nothing =
-    same-cells follower.cells leader.cells follower_core.ascends leader_core.ascends
+followers_catch_up b slice leader follower sound there active leader_there leads follower_there follows nothing =
+    same-cells follower.cells leader.cells
+    (All-contains IsCoreWithoutRoom b.replicas follower sound.in_order follower_there).ascends
+    (All-contains IsCoreWithoutRoom b.replicas leader sound.in_order leader_there).ascends
     (λ id. by id (write_of follower.cells id) (write_of leader.cells id) refl refl)
   where
     of_leader : IsOfSlice b slice leader

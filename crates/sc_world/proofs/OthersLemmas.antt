@@ -19,8 +19,8 @@ use Rattle.sc_ulog.specs.declared.mode.Mode.TheVariants.{Active, Buffering, Repl
 use Rattle.sc_replica.specs.Core.{Core, fed_all, received, replay_limit, replayed}
 use Rattle.sc_replica.specs.Deliveries.{received_all, replaying}
 use Rattle.sc_bucket.specs.Kept.{Sent, FeedState}
-use Rattle.sc_bucket.specs.Cores.{core_number, is_core, is_of_one, put_by_name}
-use Rattle.sc_bucket.specs.Events.{without_room, AreSameCores}
+use Rattle.sc_bucket.specs.Cores.{core_number, is_core, is_of_one, put_by_name, without_room}
+use Rattle.sc_bucket.specs.Events.{AreSameCores}
 use Rattle.sc_bucket.specs.Flight.{in_flight, arrived}
 use Rattle.sc_bucket.specs.Searchers.{StandingState, standing_of, cut_to}
 use Rattle.sc_bucket.specs.Sound.{IsFeed, IsSound}

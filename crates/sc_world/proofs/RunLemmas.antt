@@ -8,7 +8,7 @@ use Rattle.sc_record.specs.declared.write.Write.{Write}
 use Rattle.sc_record.specs.declared.entry.Entry.{Entry}
 use Rattle.sc_journal.specs.Journal.{as_write, writes, writes_of, last_of}
 use Rattle.sc_journal.proofs.JournalLemmas.{writes-push_write, writes-push_other}
-use Rattle.sc_bucket.specs.Events.{IsSameBut}
+use Rattle.sc_bucket.specs.Events.{IsSameButRoom}
 use Rattle.sc_bucket.specs.declared.bucket.Bucket.{Bucket}
 use Rattle.sc_world.specs.declared.event.Event.{Event}
 use Rattle.sc_world.specs.declared.event.Event.TheVariants as events
@@ -59,7 +59,7 @@ Adds-done old events.Abort added new (none, (parent, can, is)) = Adds-other old 
 Adds-done old (events.Drop slice) added new (none, is) = Adds-other old new added _ refl none is.entries
 
 -- an event that is refused leaves the bucket as it was
-pub same_if_refused : (old : Bucket) (event : Event) (new : Bucket) → IsRefused old event new → IsSameBut old new
+pub same_if_refused : (old : Bucket) (event : Event) (new : Bucket) → IsRefused old event new → IsSameButRoom old new
 same_if_refused old (events.Accept order now) new (outcome, is, answered, same) = same
 same_if_refused old (events.DeliverNth k) new refused = absurd refused
 same_if_refused old (events.Deliver place) new refused = absurd refused

@@ -10,7 +10,7 @@ use Rattle.sc_cluster.specs.declared.slice.Slice.{Slice}
 use Rattle.sc_journal.specs.Journal.{writes}
 use Rattle.sc_journal.specs.Outcomes.{conflict, partial, log_full, IsOutcome}
 use Rattle.sc_bucket.specs.Kept.{Sent}
-use Rattle.sc_bucket.specs.Events.{IsSameBut, Accepts, Delivers, DeliversFirst, outcome_of}
+use Rattle.sc_bucket.specs.Events.{IsSameButRoom, Accepts, Delivers, DeliversFirst, outcome_of}
 use Rattle.sc_bucket.specs.declared.bucket.Bucket.{Bucket}
 use Rattle.sc_bucket.specs.declared.accept.Accepted.{Accepted}
 use Rattle.sc_bucket.specs.declared.accept.AcceptFault.{AcceptFault}
@@ -27,7 +27,7 @@ use Rattle.sc_world.proofs.RunLemmas.{Runs-push, Adds-run, Adds-run_out}
 
 -- an order that is answered, but that memory ran out
 pub accept_step : (old new : Bucket) (order : Order) (now : ℕ) (answered : Result Accepted AcceptFault) → is_out_of_memory answered ≡ false
-    → IfOk answered (λ accepted. Accepts old order now accepted.version new) → OnErr answered (IsSameBut old new)
+    → IfOk answered (λ accepted. Accepts old order now accepted.version new) → OnErr answered (IsSameButRoom old new)
     → IsOutcome old.limit old.first old.journal.entries order now (outcome_of answered) new.journal.entries
     → IsStepped old (events.Accept order now) new
 accept_step old new order now (Ok accepted) in_memory is same outcome = (is.cell.value ∷ [], inl (accepted.version, is, refl))
@@ -40,7 +40,7 @@ accept_step old new order now (Err faults.Memory) in_memory is same outcome = ab
 
 -- or that it did
 pub accept_out : (old new : Bucket) (order : Order) (now : ℕ) (answered : Result Accepted AcceptFault) → is_out_of_memory answered ≡ true
-    → OnErr answered (IsSameBut old new)
+    → OnErr answered (IsSameButRoom old new)
     → IsOutcome old.limit old.first old.journal.entries order now (outcome_of answered) new.journal.entries
     → IsOutOfMemory old (events.Accept order now) new
 accept_out old new order now (Ok accepted) out same outcome = absurd (false≢true out)

@@ -6,7 +6,7 @@ use Rattle.sc_record.specs.declared.write.Write.{Write}
 use Rattle.sc_cluster.specs.declared.plan.SplitPlan.{SplitPlan}
 use Rattle.sc_cluster.specs.declared.slice.State.TheVariants as states
 use Rattle.sc_cluster.specs.declared.slice.Slice.{Slice}
-use Rattle.sc_replica.specs.Core.{Core, IsCore}
+use Rattle.sc_replica.specs.Core.{Core}
 use Rattle.sc_journal.specs.Journal.{writes_of, last_of, last_write}
 use Rattle.sc_bucket.specs.Cores.{IsLeaderOf}
 use Rattle.sc_bucket.specs.Pending.{pending}
@@ -56,6 +56,6 @@ LeavesNothing = (old begun last new : Bucket) (plan : SplitPlan) (between : List
 -- A follower of an active slice, and so of a sub once its split was switched, has the cells of its leader once nothing is pending for it.
 abbrev pub FollowersCatchUp : Type 0
 FollowersCatchUp = (b : Bucket) (slice : Slice) (leader follower : Core) → IsSound b → Contains b.map slice → slice.state ≡ states.Active
-    → Contains b.replicas leader → IsCore leader → IsLeaderOf slice.id leader
-    → Contains b.replicas follower → IsCore follower → follower.core.slice ≡ slice.id → pending b.flight.messages b.feeds follower ≡ []
+    → Contains b.replicas leader → IsLeaderOf slice.id leader
+    → Contains b.replicas follower → follower.core.slice ≡ slice.id → pending b.flight.messages b.feeds follower ≡ []
     → follower.cells ≡ leader.cells

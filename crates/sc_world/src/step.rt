@@ -38,7 +38,7 @@ pub(crate) fn step(alloc: Global, bucket: &mut Bucket, event: &Event) -> Result<
             bucket.settle(*place);
             Ok(())
         }
-        Event::Commit => commit_all(alloc, bucket),
+        Event::Commit => commit_bucket(alloc, bucket),
         Event::Begin { plan } => begin_split(alloc, bucket, plan),
         Event::Feed { core } => {
             let _is_done = feed_piece(bucket, *core);
@@ -99,7 +99,7 @@ fn is_out_of_memory(answered: &Result<Accepted, AcceptFault>) -> bool
 }
 
 // Commits, or refuses to where the journal is full.
-fn commit_all(alloc: Global, bucket: &mut Bucket) -> Result<(), AllocError>
+fn commit_bucket(alloc: Global, bucket: &mut Bucket) -> Result<(), AllocError>
     requires { IsSound bucket.old }
     ensures sound { IsSound bucket.new }
     ensures stepped { OnOk result (IsStepped bucket.old events.Commit bucket.new) }

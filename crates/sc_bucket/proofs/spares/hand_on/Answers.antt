@@ -1,5 +1,5 @@
 -- Those of the subs come after those of the other slices.
-use Rattle.std.proofs.Common.{◌∙◌, ◌++◌, Contains, List, map, filter, subst, ap}
+use Rattle.std.proofs.Common.{◌∙◌, ◌++◌, List, map, filter, ap}
 use Rattle.sc_cluster.specs.declared.slice.Slice.{Slice}
 use Rattle.sc_cluster.specs.Slices.{forming}
 use Rattle.sc_bucket.specs.Searchers.{StandingState, standing_of, cut_to}
@@ -13,7 +13,7 @@ returns c =
     let cut : Slice → StandingState = λ (sub : Slice). cut_to sub (standing_of searcher) in
     record {
       searcher = searcher;
-      there = subst (λ (searchers : List Standing). Contains searchers searcher) c.as_slice-2.ensures c.searcher_for.ensures.there;
+      there = c.searcher_for.ensures.there;
       of_parent = c.searcher_for.ensures.of_slice;
       handed = ap (map standing_of) (c.from_vec.ensures ∙ c.shrink_to_fit.ensures.items)
           ∙ c.in_ok-push_subs.ensures

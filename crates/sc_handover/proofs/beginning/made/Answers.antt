@@ -4,8 +4,8 @@ use Rattle.std.specs.List.{AllZip}
 use Rattle.std.specs.Arc.{arc_value}
 use Rattle.std.proofs.lemmas.List.{map-append, map_more}
 use Rattle.sc_replica.specs.Core.{Core}
+use Rattle.sc_bucket.specs.Cores.{without_room}
 use Rattle.sc_bucket.specs.Kept.{FeedState}
-use Rattle.sc_bucket.specs.Events.{without_room}
 use Rattle.sc_handover.specs.Made.{first_feed, IsRoomyFor}
 use Rattle.sc_handover.proofs.MadeLemmas.{made_core}
 use Rattle.sc_handover.proofs.beginning.made.Goals as goal
@@ -23,7 +23,7 @@ loop-sub-preserved c =
     let at = c.loop-sub.sub-index in
     let subs = c.args.subs.now in
     let below : at < length subs = omega arith in
-    let rows = (arc_value c.args.snapshot.now).rows in
+    let snapshot = arc_value c.args.snapshot.now in
     let here : get_or subs at c.sub-item.result ≡ c.sub-item.result = sym c.sub-item.is in
     record {
       cores = ap (map without_room) c.in_ok-push.ensures.items
@@ -34,9 +34,9 @@ loop-sub-preserved c =
           ∙ sym (map_more made_core subs at c.sub-item.result below);
       feeds = c.in_ok-push-2.ensures.items
           ∙ ap (λ (feeds : List FeedState). feeds ++ c.in_ok-core.feed ∷ []) c.loop-sub.invariant.feeds
-          ∙ ap (λ (feed : FeedState). map (first_feed rows) (take at subs) ++ feed ∷ [])
-          (c.in_ok-core.ensures.feed ∙ ap (first_feed rows) (sym here))
-          ∙ sym (map_more (first_feed rows) subs at c.sub-item.result below);
+          ∙ ap (λ (feed : FeedState). map (first_feed snapshot) (take at subs) ++ feed ∷ [])
+          (c.in_ok-core.ensures.feed ∙ ap (first_feed snapshot) (sym here))
+          ∙ sym (map_more (first_feed snapshot) subs at c.sub-item.result below);
       roomy = subst (λ (feeds : List FeedState). AllZip IsRoomyFor feeds c.push.new.self.items)
           (sym c.in_ok-push-2.ensures.items)
           (subst (AllZip IsRoomyFor (c.loop-sub.feeds.items ++ c.in_ok-core.feed ∷ [])) (sym c.in_ok-push.ensures.items)

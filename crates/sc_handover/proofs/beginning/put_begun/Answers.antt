@@ -17,36 +17,36 @@ returns-in_err-append-clause-sound c =
 
 pub returns-clause-begun : goal.returns-clause-begun
 returns-clause-begun c =
-    let (leader, there, is, feeds) = c.requires.feeds in
+    let prepared = c.requires.prepared in
     let cores = c.args.bucket.now.replicas in
     record {
       name = record { first = refl; limit = refl };
       room = c.requires.room;
-      map_is = c.requires.slices;
+      map_is = prepared.slices_are;
       entries = ap (λ (journal : JournalState). journal.entries) c.append-2.ensures;
       phase_is = refl;
       messages = refl;
       cores = subst (AreSameCores _) (sym c.in_ok-append.ensures.ok)
-          (AreSameCores-made cores c.args.made.0.items c.args.subs c.requires.cores);
-      leader = leader;
-      leader_there = there;
-      leader_is = is;
-      feeds_are = c.from_vec.ensures ∙ feeds;
-      searchers_are = c.requires.taken;
+          (AreSameCores-made cores c.args.beginning.cores.items c.args.beginning.subs prepared.cores_are);
+      leader = prepared.leader;
+      leader_there = prepared.leader_there;
+      leader_is = prepared.leader_is;
+      feeds_are = c.from_vec.ensures ∙ prepared.feeds_are;
+      searchers_are = prepared.taken;
     }
 
 pub returns-clause-sound : goal.returns-clause-sound
 returns-clause-sound c =
     let left = ap (λ (journal : JournalState). journal.room) c.append-2.ensures in
-    IsSound-begun c.args.bucket.now _ c.args.parent c.args.subs c.args.made.0.items c.requires.sound c.requires.can
+    IsSound-begun c.args.bucket.now _ c.args.parent c.args.beginning.subs c.args.beginning.cores.items c.requires.sound c.requires.can
     (returns-clause-begun c)
     (record {
       unsettled_are = refl;
       owed_is = refl;
       room = omega (arith, left, c.requires.memory);
       replicas_are = c.in_ok-append.ensures.ok;
-      made_are = c.requires.cores;
-      roomy = subst (λ (feeds : List FeedState). AllZip IsRoomyFor feeds c.args.made.0.items) (sym c.from_vec.ensures)
-          c.requires.roomy;
-      prepared = (c.requires.prepared, refl);
+      made_are = c.requires.prepared.cores_are;
+      roomy = subst (λ (feeds : List FeedState). AllZip IsRoomyFor feeds c.args.beginning.cores.items) (sym c.from_vec.ensures)
+          c.requires.prepared.roomy;
+      prepared = (c.requires.prepared.handed, refl);
     })

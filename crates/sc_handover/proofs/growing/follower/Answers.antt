@@ -3,13 +3,13 @@ use Rattle.std.proofs.Common.{◌∙◌, sym, ap, subst, arith}
 use Rattle.std.proofs.lemmas.List.Elements.{All-contains}
 use Rattle.std.proofs.lemmas.Option.{slice_get_within}
 use Rattle.sc_cluster.specs.declared.slice.Slice.{Slice}
-use Rattle.sc_snapshot.specs.Rows.{SnapshotState, AreRows}
+use Rattle.sc_snapshot.specs.Rows.{AreRows}
 use Rattle.sc_replica.specs.Cells.{CellsState}
 use Rattle.sc_replica.specs.Core.{Core, IsCore}
 use Rattle.sc_bucket.proofs.CommitLemmas.{AreRows-sound}
 use Rattle.sc_bucket.proofs.CoreLemmas.{is_core-Decides}
 use Rattle.sc_bucket.proofs.DeliverLemmas.{place_of_core, named_at}
-use Rattle.sc_handover.proofs.FollowerLemmas.{sub_leader_is_found, sub_leader_is, sub_leader_has_last, found_sub, IsMade-fed}
+use Rattle.sc_handover.proofs.FollowerLemmas.{sub_leader_is_found, sub_leader_is, sub_leader_has_last, found_sub, taken_now, IsMade-fed}
 use Rattle.sc_handover.proofs.growing.follower.Goals as goal
 
 pub unwrap-at-requires : goal.unwrap-at-requires
@@ -49,7 +49,7 @@ returns c =
       leader_is = leads.1;
       last = sub_leader_has_last b name c.args.leader sub core c.requires.sound can c.requires.leads leads.0 leads.1
           (sym ((is_core-Decides c.args.leader core.core).0 named)) c.cells.ensures.core.active c.requires.delivered;
-      rows_are = ap (λ (snapshot : SnapshotState). snapshot.rows) (c.in_ok-new.ensures.ok ∙ c.from_list-snapshot.ensures)
-          ∙ c.in_ok-rows.ensures.cells ∙ ap (λ (cells : CellsState). cells.writes) c.cells.ensures.value;
+      snapshot_is = taken_now b core _ _ _ (c.in_ok-new.ensures.ok ∙ c.from_list-snapshot.ensures) c.entries.ensures.count
+          (c.in_ok-rows.ensures.cells ∙ ap (λ (cells : CellsState). cells.writes) c.cells.ensures.value);
       range_is = ap (λ (slice : Slice). slice.range) (found_sub b name sub c.by_id.result c.unwrap.result c.requires.sound can c.by_id.ensures.slice c.unwrap.ensures);
     })

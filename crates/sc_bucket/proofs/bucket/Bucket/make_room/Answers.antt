@@ -9,11 +9,11 @@ use Rattle.sc_bucket.specs.declared.message.Message.{Message}
 use Rattle.sc_bucket.specs.Cores.{is_core}
 use Rattle.sc_bucket.specs.Flight.{sent_of}
 use Rattle.sc_bucket.specs.Sound.{IsSound}
-use Rattle.sc_bucket.specs.Events.{IsSameBut}
+use Rattle.sc_bucket.specs.Events.{IsSameButRoom}
 use Rattle.sc_bucket.specs.Accepting.{HasMemory}
 use Rattle.sc_bucket.proofs.PlaceLemmas.{some_at, same_core_at}
 use Rattle.sc_bucket.proofs.RoomierLemmas.{roomier-itself, same-roomier}
-use Rattle.sc_bucket.proofs.RoomLemmas.{HasMoreRoom, with_parts, spares-with_parts, IsSameBut-with_parts, IsSound-with_parts, memory-reserved}
+use Rattle.sc_bucket.proofs.RoomLemmas.{HasMoreRoom, with_parts, spares-with_parts, IsSameButRoom-with_parts, IsSound-with_parts, memory-reserved}
 use Rattle.sc_bucket.proofs.bucket.Bucket.make_room.Goals as goal
 
 entries_of : (old new : JournalState) (n : ℕ) → new ≡ record old { room = max old.room n } → new.entries ≡ old.entries
@@ -80,8 +80,8 @@ returns-clause-same c =
       messages = messages_of _ _ _ c.in_ok-reserve-3.ensures.ok;
       cores_are = c.reserve_in_cores.ensures.cores;
     } in
-    subst (IsSameBut c.args.self.now) (sym c.reserve_in_cores.ensures.rest)
-    (IsSameBut-with_parts c.args.self.now c.reserve.new.self c.reserve-2.new.self c.reserve-3.new.self c.reserve_in_cores.new.self.replicas more)
+    subst (IsSameButRoom c.args.self.now) (sym c.reserve_in_cores.ensures.rest)
+    (IsSameButRoom-with_parts c.args.self.now c.reserve.new.self c.reserve-2.new.self c.reserve-3.new.self c.reserve_in_cores.new.self.replicas more)
 
 pub returns-clause-memory : goal.returns-clause-memory
 returns-clause-memory c =

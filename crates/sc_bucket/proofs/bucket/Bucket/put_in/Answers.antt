@@ -54,4 +54,5 @@ returns-clause-sound c =
     (ap (λ (f : FlightState). f.messages) c.append-3.ensures) c.lead.ensures in
     IsSound-put c.args.self.now (with_write c.args.self.now c.append-2.new.self c.append.new.self c.append-3.new.self c.lead.new.self)
     c.args.entry c.args.leader messages put refl c.requires.next c.requires.room c.requires.memory c.requires.leader
-    (c.requires.sent c.requires.leader.core c.requires.leader.found) c.requires.sound
+    (c.requires.sent c.requires.leader.core c.requires.leader.found)
+    (c.requires.above c.requires.leader.core c.requires.leader.found) c.requires.sound

@@ -9,8 +9,8 @@ use Rattle.sc_bucket.specs.declared.standing.Standing.{Standing}
 use Rattle.sc_bucket.proofs.TakenLemmas.{Contains-slice_get, active_from_test, inactive_from_test, has_searcher, NoneIsActive-more, NoneIsActive-all}
 use Rattle.sc_bucket.proofs.bucket.Bucket.searcher.Goals as goal
 
-pub standing-standing-requires : goal.standing-standing-requires
-standing-standing-requires c =
+pub searcher_for-standing-requires : goal.searcher_for-standing-requires
+searcher_for-standing-requires c =
     let b = c.args.self.now in
     let slice = c.unwrap-slice.result.now in
     let there = sym c.get.ensures.slice ∙ ap option_copied c.unwrap-slice.ensures in
@@ -21,12 +21,12 @@ pub returns-then-eq : goal.returns-then-eq
 returns-then-eq c =
     let b = c.args.self.now in
     let slice = c.unwrap-slice.result.now in
-    let searcher = c.standing-standing.result.now in
+    let searcher = c.searcher_for-standing.result.now in
     let there = sym c.get.ensures.slice ∙ ap option_copied c.unwrap-slice.ensures in
-    let of_slice = c.standing-standing.ensures.of_slice in
+    let of_slice = c.searcher_for-standing.ensures.of_slice in
     let shown = All-contains (λ (s : Standing). (one : Slice) → Contains b.map one → one.id ≡ s.slice
     → (s.range ≡ one.range) × ShowsCommitted b.journal.entries one (rows_of s))
-    b.searchers searcher c.requires.searchers.show c.standing-standing.ensures.there slice
+    b.searchers searcher c.requires.searchers.show c.searcher_for-standing.ensures.there slice
     (Contains-slice_get b.map c.loop-at.at slice there) (sym of_slice) in
     record {
       at = c.loop-at.at;
@@ -37,7 +37,7 @@ returns-then-eq c =
       first = c.loop-at.invariant;
       next_is = refl;
       searcher = searcher;
-      kept = c.standing-standing.ensures.there;
+      kept = c.searcher_for-standing.ensures.there;
       of_slice = of_slice;
       snapshot_is = c.in_ok-try_clone.ensures;
       range_is = shown.0;

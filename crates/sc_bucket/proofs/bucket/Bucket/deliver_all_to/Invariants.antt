@@ -4,7 +4,7 @@ use Rattle.sc_bucket.specs.declared.bucket.Bucket.{Bucket}
 use Rattle.sc_bucket.specs.Flight.{is_to}
 use Rattle.sc_bucket.specs.Sound.{IsSound}
 use Rattle.sc_bucket.proofs.DeliverAllLemmas.{DeliversAll}
-use Rattle.sc_bucket.proofs.bucket.Bucket.deliver_to.Given as goal
+use Rattle.sc_bucket.proofs.bucket.Bucket.deliver_all_to.Given as goal
 
 abbrev pub invariant-loop-at : goal.invariant-loop-at
 invariant-loop-at l = record {

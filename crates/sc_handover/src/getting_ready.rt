@@ -13,7 +13,8 @@ pub fn ready(bucket: &mut Bucket)
     ensures sound { IsSound bucket.new }
     ensures ready { (parent : SliceId) → CanBeReady bucket.old parent → GetsReady bucket.old parent bucket.new }
 {
-    if let Phase::Building { parent } = bucket.phase {
-        bucket.phase = Phase::Recovering { parent };
-    }
+    let Phase::Building { parent } = bucket.phase else {
+        unreachable!()
+    };
+    bucket.phase = Phase::Recovering { parent };
 }

@@ -1,9 +1,9 @@
 -- Each turn delivers the first message to the core, until none is in flight.
 use Rattle.std.proofs.lemmas.Option.{slice_get_within}
 use Rattle.sc_bucket.specs.Flight.{is_to}
-use Rattle.sc_bucket.proofs.ArrivedLemmas.{DeliversTo-all}
+use Rattle.sc_bucket.proofs.ArrivedLemmas.{DeliversAllTo-all}
 use Rattle.sc_bucket.proofs.DeliverAllLemmas.{DeliversAll-none, DeliversAll-found, fewer_in_flight}
-use Rattle.sc_bucket.proofs.bucket.Bucket.deliver_to.Goals as goal
+use Rattle.sc_bucket.proofs.bucket.Bucket.deliver_all_to.Goals as goal
 
 pub loop-at-init : goal.loop-at-init
 loop-at-init c = record { sound = c.requires.sound; rest = λ new all. all }
@@ -34,5 +34,5 @@ returns-clause-sound c = c.loop-at.invariant.sound
 
 pub returns-clause-delivered : goal.returns-clause-delivered
 returns-clause-delivered c =
-    DeliversTo-all c.args.self.now c.args.core c.loop-at.self
+    DeliversAllTo-all c.args.self.now c.args.core c.loop-at.self
     (c.loop-at.invariant.rest c.loop-at.self (DeliversAll-none c.loop-at.self (is_to c.args.core) c.in_default.ensures))

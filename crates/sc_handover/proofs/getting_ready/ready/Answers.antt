@@ -9,7 +9,7 @@ use Rattle.sc_bucket.specs.declared.phase.Phase.TheVariants as phases
 use Rattle.sc_bucket.proofs.RoomLemmas.{HasJournal-same}
 use Rattle.sc_bucket.proofs.SearcherLemmas.{HasSearchers-same}
 use Rattle.sc_bucket.proofs.SoundLemmas.{HasCores-alike, AreFeeds-alike, IsOpen-same, AreSent-same}
-use Rattle.sc_handover.proofs.recovering.ready.Goals as goal
+use Rattle.sc_handover.proofs.getting_ready.ready.Goals as goal
 
 -- the bucket in another phase
 abbrev in_phase : Bucket → Phase → Bucket
@@ -27,15 +27,16 @@ IsSound-ready b parent sound is led =
       held = sound.held;
       in_range = sound.in_range;
       clocks = sound.clocks;
+      in_order = sound.in_order;
       searchers = HasSearchers-same b new refl refl refl sound.searchers;
       prepared = subst (λ phase. ArePrepared phase b.map b.searchers b.spares) is sound.prepared;
       messages = AreSent-same b new refl refl refl sound.messages;
-      spares = sound.spares;
+      room = sound.room;
       cores = HasCores-alike b new refl refl sound.cores;
       feeds = AreFeeds-alike b new refl refl refl sound.feeds;
       phase = (IsOpen-same b new parent refl refl (subst (IsInPhase b) is sound.phase), led);
     }
 
-pub returns-in-Building-clause-sound : goal.returns-in-Building-clause-sound
-returns-in-Building-clause-sound c =
+pub returns-clause-sound : goal.returns-clause-sound
+returns-clause-sound c =
     IsSound-ready c.args.bucket.now c.in-Building.parent c.requires.sound c.in-Building.is c.requires.can.1.1

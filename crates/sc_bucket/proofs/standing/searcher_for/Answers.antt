@@ -4,7 +4,7 @@ use Rattle.std.proofs.lemmas.Iterator.{first_from_find, YieldsList-from_slice}
 use borrow.Author.Tests.{tests}
 use Rattle.sc_bucket.specs.declared.standing.Standing.{Standing}
 use Rattle.sc_bucket.proofs.TakenLemmas.{standing_is_found, standing_found_is}
-use Rattle.sc_bucket.proofs.spares.searcher_for.Goals as goal
+use Rattle.sc_bucket.proofs.standing.searcher_for.Goals as goal
 
 pub unwrap-requires : goal.unwrap-requires
 unwrap-requires c =

@@ -38,5 +38,7 @@ pub use spares::hand_on;
 pub use standing::{Searcher, Standing, searcher_for};
 pub use unsettled::Unsettled;
 
-#[cfg(test)]
-mod tests;
+// What an entry takes in a journal, besides what it shares or what a split notes.
+const _: () = prove!(size_of::<entries::Mark>() == 1);
+
+const _: () = prove!(size_of::<sc_record::Cell>() == 8);

@@ -19,6 +19,3 @@ pub use desk::Desk;
 pub use sc_journal::Stop;
 pub use shape::Shape;
 pub use trail::{ROOM, Trail};
-
-#[cfg(test)]
-mod tests;

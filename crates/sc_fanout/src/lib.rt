@@ -26,6 +26,3 @@ pub use laws::{pages_are_determined, searches_are_determined, searches_find_what
 pub use pages::page;
 pub use searching::search;
 pub use shown::Page;
-
-#[cfg(test)]
-mod tests;

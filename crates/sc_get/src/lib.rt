@@ -9,6 +9,3 @@ mod one;
 
 pub use many::get_many;
 pub use one::get_one;
-
-#[cfg(test)]
-mod tests;

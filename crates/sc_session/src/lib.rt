@@ -21,6 +21,3 @@ mod end;
 
 pub use connection::serve;
 pub use end::End;
-
-#[cfg(test)]
-mod tests;

@@ -17,6 +17,3 @@ mod shown;
 
 pub use batch::update;
 pub use end::{BatchEnd, BatchFault};
-
-#[cfg(test)]
-mod tests;

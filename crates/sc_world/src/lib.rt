@@ -23,6 +23,3 @@ pub use laws::{
     splits_leave_others_alone,
 };
 pub use run::run_events;
-
-#[cfg(test)]
-mod tests;

@@ -1,0 +1,80 @@
+ghost use Rattle.std.specs.Prelude.{IfOk};
+ghost use Rattle.sc_bucket.specs.Sound.{IsSound};
+
+use crate::words::{number, word};
+use sc_bucket::{Accepted, Bucket};
+use sc_cluster::ClusterMap;
+use sc_record::{Id, List, Order};
+use sc_world::{Event, can, run_events};
+use std::alloc::{AllocError, Global};
+
+/// A new bucket, by the line `bucket SHARDS REPLICAS LIMIT`, on one node.
+pub fn new_bucket(alloc: Global, words: &[&str]) -> Result<Bucket, AllocError>
+    ensures { IfOk result IsSound }
+{
+    let shards = number(words, 1).clamp(1, 256) as u32;
+    let replicas = number(words, 2).clamp(1, 4) as u8;
+    let limit = number(words, 3).clamp(16, 16_777_216);
+    let map = ClusterMap::new(alloc, shards, replicas, 1)?;
+    Bucket::new(alloc, &map, limit)
+}
+
+/// Has the event come where its condition holds, and tells what it answers.
+pub fn come(alloc: Global, bucket: &mut Bucket, event: Event) -> Result<String, AllocError>
+    requires { IsSound bucket.old }
+    ensures { IsSound bucket.new }
+{
+    if !can(bucket, &event) {
+        return String::from_str(alloc, "passed over");
+    }
+    match &event {
+        Event::Accept { order, now } => return accept(alloc, bucket, order, *now),
+        Event::DeliverNth { k } => {
+            let core = bucket.deliver_nth(*k);
+            return format!(in alloc; "{core:?}");
+        }
+        Event::Deliver { place } => {
+            let core = bucket.deliver(*place);
+            return format!(in alloc; "{core:?}");
+        }
+        Event::Commit => return commit(alloc, bucket),
+        _ => {}
+    }
+    let mut events = List::new(alloc);
+    events.push(event)?;
+    run_events(alloc, bucket, &events)?;
+    String::from_str(alloc, "done")
+}
+
+fn accept(alloc: Global, bucket: &mut Bucket, order: &Order, now: u64) -> Result<String, AllocError>
+    requires { IsSound bucket.old }
+    ensures { IsSound bucket.new }
+{
+    match bucket.accept(alloc, order, now) {
+        Ok(Accepted { version, place }) => format!(in alloc; "{version} at {place}"),
+        Err(fault) => format!(in alloc; "{fault}"),
+    }
+}
+
+fn commit(alloc: Global, bucket: &mut Bucket) -> Result<String, AllocError>
+    requires { IsSound bucket.old }
+    ensures { IsSound bucket.new }
+{
+    match bucket.commit(alloc) {
+        Ok(()) => String::from_str(alloc, "done"),
+        Err(fault) => format!(in alloc; "{fault}"),
+    }
+}
+
+/// The version of an id's last write, as it is shown, by the line `read ID`.
+pub fn read(alloc: Global, bucket: &Bucket, words: &[&str]) -> Result<String, AllocError>
+    requires { IsSound bucket.now }
+{
+    let Ok(id) = Id::new(alloc, word(words, 1)) else {
+        return Err(AllocError);
+    };
+    match bucket.read(&id) {
+        Some(cell) => format!(in alloc; "{}", cell.shown()),
+        None => String::from_str(alloc, "none"),
+    }
+}

@@ -1,0 +1,93 @@
+ghost use Rattle.std.specs.Prelude.{◌≡◌, None, IfOk};
+ghost use Rattle.sc_bucket.specs.Sound.{IsSound};
+
+use crate::bucket::{come, new_bucket, read};
+use crate::connection::{exchange, new_collection};
+use crate::event::event_of;
+use crate::state::state_of;
+use crate::words::{number, word};
+use sc_bucket::Bucket;
+use sc_collection::Alone;
+use sc_hash::murmur3;
+use std::alloc::{AllocError, Global};
+
+/// What the lines are about.
+#[derive(Drop)]
+pub struct Stage {
+    pub bucket: Bucket,
+    pub desk: Alone,
+    /// The timestamp of requests, in milliseconds.
+    pub now: u64,
+}
+
+impl Stage {
+    pub fn new(alloc: Global) -> Result<Stage, AllocError>
+        ensures sound { IfOk result (λ stage. IsSound stage.bucket) }
+        ensures nothing_out { IfOk result (λ stage. stage.desk.out ≡ None) }
+    {
+        Ok(Stage {
+            bucket: new_bucket(alloc, &[])?,
+            desk: new_collection(alloc, &[])?,
+            now: 1000,
+        })
+    }
+}
+
+/// What is written for a line.
+pub fn answer(alloc: Global, stage: &mut Stage, line: &str) -> Result<String, AllocError>
+    requires sound { IsSound stage.old.bucket }
+    requires nothing_out { stage.old.desk.out ≡ None }
+    ensures sound { IsSound stage.new.bucket }
+    ensures nothing_out { stage.new.desk.out ≡ None }
+{
+    if line.is_empty() || line.starts_with('#') {
+        return String::from_str(alloc, line);
+    }
+    let words = line.split(' ').collect::<Vec<&str>>(alloc)?;
+    match word(&words, 0) {
+        "bucket" => {
+            stage.bucket = new_bucket(alloc, &words)?;
+            String::from_str(alloc, "done")
+        }
+        "collection" => {
+            stage.desk = new_collection(alloc, &words)?;
+            String::from_str(alloc, "done")
+        }
+        "clock" => {
+            stage.now = number(&words, 1);
+            String::from_str(alloc, "done")
+        }
+        "GET" | "POST" | "DELETE" => exchange(alloc, &mut stage.desk, stage.now, line),
+        _ => about_bucket(alloc, &mut stage.bucket, &words),
+    }
+}
+
+/// What is written for a line about the bucket: what an event answers, or by `read ID` the id's version, by `show` all that the bucket shows,
+/// and by `sum` a checksum of that.
+fn about_bucket(alloc: Global, bucket: &mut Bucket, words: &[&str]) -> Result<String, AllocError>
+    requires { IsSound bucket.old }
+    ensures { IsSound bucket.new }
+{
+    match word(words, 0) {
+        "read" => read(alloc, bucket, words),
+        "show" => state_of(alloc, bucket),
+        "sum" => {
+            let state = state_of(alloc, bucket)?;
+            format!(in alloc; "{:08x}", checksum(state.as_str()))
+        }
+        _ => match event_of(alloc, bucket, words)? {
+            Some(event) => come(alloc, bucket, event),
+            None => String::from_str(alloc, "no such line"),
+        },
+    }
+}
+
+/// The hash of a state; 0 for one too long to have any.
+fn checksum(state: &str) -> u32 {
+    let bytes = state.as_bytes();
+    if bytes.len() < 4_294_967_296 {
+        murmur3(bytes, 0)
+    } else {
+        0
+    }
+}

@@ -1,0 +1,24 @@
+use sc_record::{CoreId, SliceId};
+
+/// The word at this place of a line; empty where there is none.
+pub fn word<'a>(words: &[&'a str], at: usize) -> &'a str {
+    words.get(at).copied().unwrap_or("")
+}
+
+/// The number at this place of a line; 0 where there is none.
+pub fn number(words: &[&str], at: usize) -> u64 {
+    word(words, at).parse().unwrap_or(0)
+}
+
+/// The number with a sign at this place of a line; 0 where there is none.
+pub fn signed(words: &[&str], at: usize) -> i64 {
+    word(words, at).parse().unwrap_or(0)
+}
+
+/// The core whose slice and replica the first words after the event's name are.
+pub fn core(words: &[&str]) -> CoreId {
+    CoreId {
+        slice: SliceId(word(words, 1).parse().unwrap_or(0)),
+        replica: word(words, 2).parse().unwrap_or(1).max(1),
+    }
+}

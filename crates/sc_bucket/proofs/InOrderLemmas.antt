@@ -10,7 +10,7 @@ use Rattle.sc_ulog.specs.LogState.{IsEmptyWhereActive}
 use Rattle.sc_replica.specs.Core.{Core, IsCore, led, fed, received, received_in, fed_all, replay_limit, replayed, mode_left}
 use Rattle.sc_replica.specs.Deliveries.{replaying}
 use Rattle.sc_replica.proofs.CoreLemmas.{IsCore-led, IsCore-fed, IsCore-received}
-use Rattle.sc_bucket.specs.Cores.{IsNew, without_room, IsCoreWithoutRoom}
+use Rattle.sc_bucket.specs.Cores.{IsNewCore, without_room, IsCoreWithoutRoom}
 
 -- so it is of each core
 in_order-of : (core : Core) → IsCore core → IsCoreWithoutRoom core
@@ -37,7 +37,7 @@ in_order-empty core no_cells no_buffer no_clock = record {
 }
 
 -- as one that was made
-pub in_order-new : (core : Core) → IsNew core → IsCoreWithoutRoom core
+pub in_order-new : (core : Core) → IsNewCore core → IsCoreWithoutRoom core
 in_order-new core new = in_order-empty core new.cells new.buffer new.clock
 
 -- and it stays so as the core leads a write that comes after its clock

@@ -18,7 +18,7 @@ use Rattle.sc_journal.specs.Journal.{writes, unsettled}
 use Rattle.sc_journal.specs.Splits.{map_after, open_split, owed, is_inactive}
 use Rattle.sc_journal.proofs.LegalLemmas.{IsLegal-none}
 use Rattle.sc_bucket.specs.Kept.{Sent, FeedState}
-use Rattle.sc_bucket.specs.Cores.{core_key, core_keys, keys_of, core_number, is_core, AscendByName, IsCounted, IsNew, IsCoreWithoutRoom}
+use Rattle.sc_bucket.specs.Cores.{core_key, core_keys, core_keys, core_number, is_core, CoresAscend, IsCounted, IsNewCore, IsCoreWithoutRoom}
 use Rattle.sc_bucket.specs.Searchers.{AreTaken}
 use Rattle.sc_bucket.specs.Flight.{in_flight, is_same_message}
 use Rattle.sc_bucket.specs.Pending.{to_feed, pending}
@@ -55,7 +55,7 @@ pub record IsMade (b : Bucket) (first : List Slice) (limit : ℕ) : Type 0 where
   pub limit_is : b.limit ≡ limit
   pub keys : map core_key b.replicas ≡ core_keys first
   pub messages : b.flight.messages ≡ []
-  pub new : All IsNew b.replicas
+  pub new : All IsNewCore b.replicas
   pub counted : All IsCounted b.replicas
   pub searchers : AreTaken first b.replicas 0 b.searchers
   pub phase_is : b.phase ≡ phases.Idle
@@ -87,11 +87,11 @@ HasJournal-new b first limit is_map active least most made =
     }
 
 -- a core without cells has the last writes of an empty journal
-serves_nothing : (slice : Slice) (core : Core) → IsNew core → Serves [] slice core
+serves_nothing : (slice : Slice) (core : Core) → IsNewCore core → Serves [] slice core
 serves_nothing slice core new active leader = (new.active, λ id within. ap (λ cells. write_of cells id) new.cells)
 
 -- nothing is pending for it
-pending_nothing : (messages : List Sent) (feeds : List FeedState) (core : Core) → IsNew core → messages ≡ []
+pending_nothing : (messages : List Sent) (feeds : List FeedState) (core : Core) → IsNewCore core → messages ≡ []
     → feeds ≡ [] → pending messages feeds core ≡ []
 pending_nothing messages feeds core new unsent unfed =
     ap (λ sent. in_flight sent core.core ++ core.buffer ++ to_feed feeds core.core) unsent
@@ -99,7 +99,7 @@ pending_nothing messages feeds core new unsent unfed =
     ∙ ap (λ (buffer : List Write). buffer ++ []) new.buffer
 
 -- so what is said of each cell of a core and of each write that is pending for it is true
-nothing_there : (P : Write → Type 0) (messages : List Sent) (feeds : List FeedState) (core : Core) → IsNew core
+nothing_there : (P : Write → Type 0) (messages : List Sent) (feeds : List FeedState) (core : Core) → IsNewCore core
     → messages ≡ [] → feeds ≡ [] → All P core.cells × All P (pending messages feeds core)
 nothing_there P messages feeds core new unsent unfed = (
   subst (All P) (sym new.cells) (All-nil P),
@@ -112,7 +112,7 @@ no_last : (messages : List Sent) (feeds : List FeedState) (slice : Slice) (core 
 no_last messages feeds slice core attached id write within is = absurd (none-some write is)
 
 -- no room is needed
-no_room : (messages : List Sent) (feeds : List FeedState) (core : Core) → IsNew core → messages ≡ [] → feeds ≡ []
+no_room : (messages : List Sent) (feeds : List FeedState) (core : Core) → IsNewCore core → messages ≡ [] → feeds ≡ []
     → HasSpare messages feeds core
 no_room messages feeds core new unsent unfed =
     let sent : length (in_flight messages core.core) ≡ 0 = ap (λ these. length (in_flight these core.core)) unsent in
@@ -149,7 +149,7 @@ abbrev ComesBefore : ℕ × ℕ → ℕ × ℕ → Type 0
 ComesBefore one other = number_of one < number_of other
 
 -- the names of a slice's cores ascend
-ascend_in_slice : (slice : Slice) → AllPairs ComesBefore (keys_of slice)
+ascend_in_slice : (slice : Slice) → AllPairs ComesBefore (core_keys slice)
 ascend_in_slice slice =
     AllPairs-map ComesBefore (λ (replica : ℕ). (slice.id.0, replica)) (range_with_len 1 slice.replicas)
     (λ i j d before within.
@@ -163,10 +163,10 @@ key_of_slice : (slices : List Slice) (key : ℕ × ℕ) → Contains (core_keys 
     → (slice : Slice) × Contains slices slice × (key.0 ≡ slice.id.0)
 key_of_slice [] key (k, below, is) = absurd (omega arith)
 key_of_slice (slice ∷ slices) key there =
-    by (key_of_slice slices key) (Contains-append_cases (keys_of slice) (core_keys slices) key there)
+    by (key_of_slice slices key) (Contains-append_cases (core_keys slice) (core_keys slices) key there)
   where
     by : (Contains (core_keys slices) key → (one : Slice) × Contains slices one × (key.0 ≡ one.id.0))
-        → Contains (keys_of slice) key ⊎ Contains (core_keys slices) key
+        → Contains (core_keys slice) key ⊎ Contains (core_keys slices) key
         → (one : Slice) × Contains (slice ∷ slices) one × (key.0 ≡ one.id.0)
     by rest (inl here) =
         let (replica, inside, is) = Contains-from_map (λ (replica : ℕ). (slice.id.0, replica)) (range_with_len 1 slice.replicas) key here in
@@ -182,10 +182,10 @@ keys_ascend [] rise counted = λ i j d before within. absurd (omega arith)
 keys_ascend (slice ∷ slices) rise counted =
     let IsFew : ℕ × ℕ → Type 0 = λ key. key.1 < 2 ^ 8 in
     let rest : All IsFew (core_keys slices) = All-weaker (Contains (core_keys slices)) IsFew
-    (λ key inside. All-contains IsFew (keys_of slice ++ core_keys slices) key counted
-    (Contains-append_right (keys_of slice) (core_keys slices) key inside))
+    (λ key inside. All-contains IsFew (core_keys slice ++ core_keys slices) key counted
+    (Contains-append_right (core_keys slice) (core_keys slices) key inside))
     (core_keys slices) (All-contains_itself (core_keys slices)) in
-    AllPairs-append ComesBefore (keys_of slice) (core_keys slices) (ascend_in_slice slice)
+    AllPairs-append ComesBefore (core_keys slice) (core_keys slices) (ascend_in_slice slice)
     (keys_ascend slices (λ i j d before within. rise (suc i) (suc j) d (omega arith) (omega arith)) rest)
     (λ one other of_slice later.
     let (replica, inside, is) =
@@ -194,13 +194,13 @@ keys_ascend (slice ∷ slices) rise counted =
     let less = rise 0 (suc k) after (omega arith) (omega arith) in
     let first : slice.id.0 ≡ one.0 = ap (λ (key : ℕ × ℕ). key.0) is in
     let there : (get_or slices k after).id.0 ≡ after.id.0 = ap (λ (s : Slice). s.id.0) at in
-    let few : one.1 < 2 ^ 8 = All-contains IsFew (keys_of slice ++ core_keys slices) one counted
-    (Contains-append_left (keys_of slice) (core_keys slices) one of_slice) in
+    let few : one.1 < 2 ^ 8 = All-contains IsFew (core_keys slice ++ core_keys slices) one counted
+    (Contains-append_left (core_keys slice) (core_keys slices) one of_slice) in
     omega (arith, less, first, named, there, few))
 
 -- so the cores ascend that have the names of a map
 pub AscendByName-from_keys : (slices : List Slice) (cores : List Core) → IsMap slices
-    → map core_key cores ≡ core_keys slices → All IsCounted cores → AscendByName cores
+    → map core_key cores ≡ core_keys slices → All IsCounted cores → CoresAscend cores
 AscendByName-from_keys slices cores is_map keys counted k within =
     let numbers : List ℕ = map number_of (core_keys slices) in
     let same : map (λ (core : Core). core_number core.core) cores ≡ numbers =
@@ -225,11 +225,11 @@ HasCores-new b first limit is_map made =
       of_map = subst (All (Contains (core_keys b.map))) (sym keys) (All-contains_itself (core_keys b.map));
       leaders = have_leaders b.map b.replicas keys;
       whole = All-weaker (Contains b.map)
-          (λ (slice : Slice). is_forming slice ≡ false → All (Contains (map core_key b.replicas)) (keys_of slice))
-          (λ slice there whole. All-weaker (Contains (keys_of slice)) (Contains (map core_key b.replicas))
+          (λ (slice : Slice). is_forming slice ≡ false → All (Contains (map core_key b.replicas)) (core_keys slice))
+          (λ slice there whole. All-weaker (Contains (core_keys slice)) (Contains (map core_key b.replicas))
           (λ key inside. subst (λ (names : List (ℕ × ℕ)). Contains names key) (sym keys)
           (keys_among b.map slice key there inside))
-          (keys_of slice) (All-contains_itself (keys_of slice)))
+          (core_keys slice) (All-contains_itself (core_keys slice)))
           b.map (All-contains_itself b.map);
       active = λ k d below slice there same whole. (made.new k d below).active;
     }
@@ -251,7 +251,7 @@ IsSound-new b first limit is_map active least most made =
           nothing_there (IsInRange slice) sent b.feeds (get_or b.replicas k d) (made.new k d below) made.messages
           made.feeds_are;
       clocks = λ k d below. inl (made.new k d below).clock;
-      in_order = All-weaker IsNew IsCoreWithoutRoom in_order-new b.replicas made.new;
+      in_order = All-weaker IsNewCore IsCoreWithoutRoom in_order-new b.replicas made.new;
       searchers = HasSearchers-new b first b.replicas is_map made.map_is made.entries made.new made.searchers;
       prepared = rw made.phase_is made.spares_are;
       messages = none_sent b made.messages;

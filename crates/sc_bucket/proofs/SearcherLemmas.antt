@@ -13,7 +13,7 @@ use Rattle.sc_cluster.proofs.LeaderLemmas.{same_from_id}
 use Rattle.sc_replica.specs.Core.{Core}
 use Rattle.sc_journal.specs.Journal.{writes, last_write}
 use Rattle.sc_journal.specs.Committed.{committed, last_commit}
-use Rattle.sc_bucket.specs.Cores.{core_key, IsNew}
+use Rattle.sc_bucket.specs.Cores.{core_key, IsNewCore}
 use Rattle.sc_bucket.specs.Searchers.{rows_of, AreOfEachSlice, ShowsCommitted, IsTaken, AreTaken, AreLed}
 use Rattle.sc_bucket.specs.Sound.{HasSearchers}
 use Rattle.sc_bucket.specs.declared.bucket.Bucket.{Bucket}
@@ -84,15 +84,15 @@ AreLed-from_keys slices cores leaders slice there active =
     (core, (k, slice_get_within cores k core at, get_or_from_slice_get cores k core core at), IsLeaderOf-from_key slice.id core is)
 
 -- no cells may be rows
-pub AreRows-new : (cores : List Core) → All IsNew cores → All (λ (core : Core). AreRows core.cells) cores
+pub AreRows-new : (cores : List Core) → All IsNewCore cores → All (λ (core : Core). AreRows core.cells) cores
 unfolding IsStrictlySortedBy
-AreRows-new cores new = All-weaker IsNew (λ (core : Core). AreRows core.cells) none cores new where
-  none : (core : Core) → IsNew core → AreRows core.cells
+AreRows-new cores new = All-weaker IsNewCore (λ (core : Core). AreRows core.cells) none cores new where
+  none : (core : Core) → IsNewCore core → AreRows core.cells
   none core is = subst AreRows (sym is.cells) (record { ascend = tt; bounded = omega arith })
 
 -- the searchers of new cores show nothing, as nothing was committed
 pub HasSearchers-new : (b : Bucket) (first : List Slice) (cores : List Core) → IsMap first → b.map ≡ first → b.journal.entries ≡ []
-    → All IsNew cores → AreTaken first cores 0 b.searchers → HasSearchers b
+    → All IsNewCore cores → AreTaken first cores 0 b.searchers → HasSearchers b
 HasSearchers-new b first cores is_map same_map empty new taken = record {
   each_slice = subst (λ slices. AreOfEachSlice slices b.searchers) (sym same_map) taken.each_slice;
   show = subst (λ slices. All (Show slices b.journal.entries) b.searchers) (sym same_map)
@@ -104,7 +104,7 @@ HasSearchers-new b first cores is_map same_map empty new taken = record {
   shows searcher is slice there same =
       let alike : is.slice ≡ slice = same_from_id first is.slice slice is_map is.there there (sym is.slice_is ∙ sym same) in
       let (k, below, core_is) = is.core_there in
-      let none : is.core.cells ≡ [] = (subst IsNew core_is (new k is.core below)).cells in
+      let none : is.core.cells ≡ [] = (subst IsNewCore core_is (new k is.core below)).cells in
       let rows : rows_of searcher ≡ [] = ap (λ (snapshot : SnapshotState). snapshot.rows) is.snapshot_is ∙ none in (
         is.range_is ∙ ap (λ (s : Slice). s.range) alike,
         subst (ShowsCommitted [] slice) (sym rows) (record {

@@ -16,7 +16,7 @@ use Rattle.sc_cluster.specs.Changes.{IsSplit}
 use Rattle.sc_cluster.proofs.ListLemmas.{Contains-map, Contains-filter}
 use Rattle.sc_replica.specs.Core.{Core}
 use Rattle.sc_bucket.specs.Cores.{IsLeaderOf}
-use Rattle.sc_bucket.specs.Searchers.{AreOfEachSlice, NoneIsActive, IsSearched}
+use Rattle.sc_bucket.specs.Searchers.{AreOfEachSlice, NoneIsActive, HasParentSearcher}
 use Rattle.sc_bucket.specs.Sound.{IsInPhase}
 use Rattle.sc_bucket.specs.declared.bucket.Bucket.{Bucket}
 use Rattle.sc_bucket.specs.declared.phase.Phase.{Phase}
@@ -123,14 +123,14 @@ has_searcher slices searchers slice each there active =
 
 -- so where a split is open its parent has one
 pub IsSearched-in_phase : (b : Bucket) (phase : Phase) (searchers : List Standing) → IsInPhase b phase
-    → AreOfEachSlice b.map searchers → IsSearched phase searchers
+    → AreOfEachSlice b.map searchers → HasParentSearcher phase searchers
 IsSearched-in_phase b phase searchers in_phase each = by phase in_phase where
   of_parent : (parent : SliceId) → IsSplit b.map parent → Contains (map slice_of searchers) parent
   of_parent parent (slice, same, splitting) =
       subst (Contains (map slice_of searchers)) same
       (has_searcher b.map searchers slice each splitting.there splitting.active)
 
-  by : (one : Phase) → IsInPhase b one → IsSearched one searchers
+  by : (one : Phase) → IsInPhase b one → HasParentSearcher one searchers
   by phases.Idle idle = tt
   by (phases.Building parent) is = of_parent parent is.split
   by (phases.Recovering parent) is = of_parent parent is.0.split

@@ -15,12 +15,12 @@ abbrev pub core_key : Core → ℕ × ℕ
 core_key core = (core.core.slice.0, core.core.replica)
 
 -- the names of the cores of a slice: its replicas, from 1
-abbrev pub keys_of : Slice → List (ℕ × ℕ)
-keys_of slice = map (λ (replica : ℕ). (slice.id.0, replica)) (range_with_len 1 slice.replicas)
+abbrev pub core_keys : Slice → List (ℕ × ℕ)
+core_keys slice = map (λ (replica : ℕ). (slice.id.0, replica)) (range_with_len 1 slice.replicas)
 
 -- the names of the cores of a map: slice after slice, replica after replica
 abbrev pub core_keys : List Slice → List (ℕ × ℕ)
-core_keys slices = flat_map keys_of slices
+core_keys slices = flat_map core_keys slices
 
 -- the two names are those of one core
 abbrev pub is_core : CoreId → CoreId → Bool
@@ -31,8 +31,8 @@ abbrev pub core_number : CoreId → ℕ
 core_number core = core.slice.0 * 256 + core.replica
 
 -- the cores ascend by their names, so that each stands once
-abbrev pub AscendByName : List Core → Type 0
-AscendByName cores = IsStrictlyIncreasing (map (λ (core : Core). core_number core.core) cores)
+abbrev pub CoresAscend : List Core → Type 0
+CoresAscend cores = IsStrictlyIncreasing (map (λ (core : Core). core_number core.core) cores)
 
 -- the cores with one more, before the first whose name comes later
 abbrev pub put_by_name : Core → List Core → List Core
@@ -85,7 +85,7 @@ abbrev pub IsCounted : Core → Type 0
 IsCounted core = core.core.replica < 2 ^ 8
 
 -- the core was made and nothing came to it yet
-pub record IsNew (core : Core) : Type 0 where
+pub record IsNewCore (core : Core) : Type 0 where
   pub cells : core.cells ≡ []
   pub buffer : core.buffer ≡ []
   pub active : core.mode ≡ Active

@@ -102,10 +102,10 @@ pub record AreHandedOn (slices : List Slice) (parent : SliceId) (old new : List 
       ++ map (λ (sub : Slice). cut_to sub (standing_of searcher)) (forming slices)
 
 -- where a split is open its parent has a searcher
-abbrev pub IsSearched : Phase → List Standing → Type 0
-IsSearched phases.Idle searchers = ⊤
-IsSearched (phases.Building parent) searchers = Contains (map (λ (searcher : Standing). searcher.slice) searchers) parent
-IsSearched (phases.Recovering parent) searchers = Contains (map (λ (searcher : Standing). searcher.slice) searchers) parent
+abbrev pub HasParentSearcher : Phase → List Standing → Type 0
+HasParentSearcher phases.Idle searchers = ⊤
+HasParentSearcher (phases.Building parent) searchers = Contains (map (λ (searcher : Standing). searcher.slice) searchers) parent
+HasParentSearcher (phases.Recovering parent) searchers = Contains (map (λ (searcher : Standing). searcher.slice) searchers) parent
 
 -- the searchers that a switch leaves are ready, where a split is open
 abbrev pub ArePrepared : Phase → List Slice → List Standing → Option (List Standing) → Type 0

@@ -9,7 +9,7 @@ ghost use Rattle.sc_replica.specs.Core.{Core};
 ghost use Rattle.sc_partial.specs.Resolved.{IsRefusalOf, fields_of};
 ghost use Rattle.sc_journal.specs.Legal.{HasTerms, MayWrite};
 ghost use Rattle.sc_journal.specs.Outcomes.{Makes, refused, IsWriteOf, IsFitting, IsOutcome, live_fields};
-ghost use Rattle.sc_bucket.specs.Cores.{is_core, is_attached, has_hash, AscendByName, follows, followers, IsLeaderAt};
+ghost use Rattle.sc_bucket.specs.Cores.{is_core, is_attached, has_hash, CoresAscend, follows, followers, IsLeaderAt};
 ghost use Rattle.sc_bucket.specs.Kept.{FeedState};
 ghost use Rattle.sc_bucket.specs.Flight.{sent_of, sent_to};
 ghost use Rattle.sc_bucket.specs.Room.{BucketHasRoom};
@@ -222,7 +222,7 @@ impl Bucket {
     // for it.
     fn reserve_in_cores(&mut self, leader: usize, messages: &[Message]) -> Result<(), AllocError>
         requires within { leader < length self.old.replicas }
-        requires ascend { AscendByName self.old.replicas }
+        requires ascend { CoresAscend self.old.replicas }
         requires feeds { IsDistinct is_core (map (λ (feed : FeedState). feed.core) self.old.feeds) }
         requires there { All (Contains (map (λ (core : Core). core.core) self.old.replicas)) (map (λ (message : Message). message.core) messages.now) }
         ensures rest { self.new ≡ record self.old { replicas = self.new.replicas } }

@@ -7,7 +7,7 @@ ghost use Rattle.sc_bucket.specs.Cores.{IsLeaderOf};
 ghost use Rattle.sc_bucket.specs.Room.{BucketHasRoom, BucketIsFull};
 ghost use Rattle.sc_bucket.specs.Sound.{IsSound};
 ghost use Rattle.sc_bucket.specs.declared.standing.Standing.{Standing};
-ghost use Rattle.sc_bucket.specs.Searchers.{AreLed, AreTaken, IsTaken, IsSearched, ArePrepared};
+ghost use Rattle.sc_bucket.specs.Searchers.{AreLed, AreTaken, IsTaken, HasParentSearcher, ArePrepared};
 ghost use Rattle.sc_bucket.specs.Events.{IsSameButRoom, Commits};
 
 use crate::bucket::Bucket;
@@ -110,7 +110,7 @@ fn spares_at(
     slices: &ClusterMap,
     searchers: &List<Standing>,
 ) -> Result<Option<List<Standing>>, AllocError>
-    requires { IsSearched phase searchers.now }
+    requires { HasParentSearcher phase searchers.now }
     ensures { IfOk result (ArePrepared phase slices.now searchers.now) }
 {
     match phase {

@@ -3,7 +3,7 @@ ghost use Rattle.std.specs.Arc.{arc_value};
 ghost use Rattle.std.specs.List.{insert};
 ghost use Rattle.sc_replica.specs.Core.{Core, led, received, fed, replayed};
 ghost use Rattle.sc_replica.specs.Deliveries.{replaying};
-ghost use Rattle.sc_bucket.specs.Cores.{core_key, core_keys, keys_of, core_number, put_by_name, is_of_one, is_core, IsCounted, IsNew, with_room};
+ghost use Rattle.sc_bucket.specs.Cores.{core_key, core_keys, core_keys, core_number, put_by_name, is_of_one, is_core, IsCounted, IsNewCore, with_room};
 
 use sc_cluster::{ClusterMap, Slice};
 use sc_record::{Cell, CoreId};
@@ -31,7 +31,7 @@ impl Replicas {
     /// The cores of a map's slices, each replica of each slice in order, without cells. An error means out of memory.
     pub fn new(alloc: Global, slices: &ClusterMap) -> Result<Replicas, AllocError>
         ensures keys { IfOk result (λ cores. map core_key cores ≡ core_keys slices.now) }
-        ensures new { IfOk result (All IsNew) }
+        ensures new { IfOk result (All IsNewCore) }
         ensures counted { IfOk result (All IsCounted) }
     {
         let mut replicas = Vec::new(alloc);
@@ -191,8 +191,8 @@ fn push_replicas(
     replicas: &mut Vec<Replica>,
     slice: &Slice,
 ) -> Result<(), AllocError>
-    ensures keys { OnOk result (map core_key replicas.new.items ≡ map core_key replicas.old.items ++ keys_of slice.now) }
-    ensures new { All IsNew replicas.old.items → All IsNew replicas.new.items }
+    ensures keys { OnOk result (map core_key replicas.new.items ≡ map core_key replicas.old.items ++ core_keys slice.now) }
+    ensures new { All IsNewCore replicas.old.items → All IsNewCore replicas.new.items }
     ensures counted { All IsCounted replicas.old.items → All IsCounted replicas.new.items }
 {
     for below in 0..slice.replicas {

@@ -58,7 +58,7 @@ pub record IsKept (layout : Layout) (number : ℕ) (bucket : Bucket) : Type 0 wh
   pub is_of : IsBucketOf layout number bucket
 
 -- the slot has a bucket that began with this map and this limit, and whose journal is empty
-pub record IsNew (first : List Slice) (limit : ℕ) (slot : Option Bucket) : Type 0 where
+pub record IsNewSlot (first : List Slice) (limit : ℕ) (slot : Option Bucket) : Type 0 where
   pub bucket : Bucket
   pub there : slot ≡ Some bucket
   pub sound : IsSound bucket
@@ -69,7 +69,7 @@ pub record IsNew (first : List Slice) (limit : ℕ) (slot : Option Bucket) : Typ
 -- each slot has a bucket that began with this map and this limit, and whose journal is empty
 abbrev pub AreNew : List Slice → ℕ → List (Option Bucket) → Type 0
 AreNew first limit slots =
-    (number : ℕ) (slot : Option Bucket) → slice_get slots number ≡ Some slot → IsNew first limit slot
+    (number : ℕ) (slot : Option Bucket) → slice_get slots number ≡ Some slot → IsNewSlot first limit slot
 
 -- what is out is the bucket of the empty slot
 pub record IsOut (desk : AloneState) (held : Held) : Type 0 where

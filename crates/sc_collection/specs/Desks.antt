@@ -44,6 +44,6 @@ pub record SeesGiven (held : Held) (given : Bucket) (old new : Seen) : Type 0 wh
   pub others_own : (lock : ℕ) → lock ≢ held.number → new.own lock ≡ old.own lock
 
 -- a desk is at rest: none of its buckets is out, and what was seen is legal
-pub record IsAtRest (layout : Layout) (out : Option Held) (seen : Seen) : Type 0 where
+pub record IsDeskAtRest (layout : Layout) (out : Option Held) (seen : Seen) : Type 0 where
   pub nothing_out : out ≡ None
   pub legal : AreLegal layout seen

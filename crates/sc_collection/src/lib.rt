@@ -3,6 +3,12 @@
 //!
 //! The layers above use the clauses of `Desk` alone, whichever desk it is: what a desk hands out is sound, and its journal
 //! extends what was seen of it. `Alone` keeps all buckets in a plain list, for one thread.
+//!
+//! Proved: `Alone` keeps the clauses of `Desk`: what it hands out is sound, the bucket that was asked for, and extends what
+//! was seen; each shape gives its layout; a `Trail` has the stops that it was given, in order, and a count of requests, and
+//! is full exactly at the limits of a connection.
+//!
+//! Tested alone: collections of several buckets, through `serve`.
 #![tactic(auto)]
 
 // What is kept of a connection.

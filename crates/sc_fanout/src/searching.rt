@@ -7,7 +7,7 @@ ghost use Rattle.sc_snapshot.specs.Rows.{AreRows};
 ghost use Rattle.sc_bucket.specs.Sound.{IsSound};
 ghost use Rattle.sc_bucket.specs.declared.standing.Searcher.{Searcher};
 ghost use Rattle.sc_journal.specs.Moments.{view_of};
-ghost use Rattle.sc_collection.specs.Desks.{IsAtRest};
+ghost use Rattle.sc_collection.specs.Desks.{IsDeskAtRest};
 ghost use Rattle.sc_collection.specs.declared.trail.TheConstants.{ROOM};
 ghost use Rattle.sc_fanout.specs.Searches.{SearchesBuckets};
 ghost use Rattle.sc_fanout.specs.Steps.{asks_for, is_asked, rows_in, found_in, AreOfSlices, AreAsked, LooksAtOne};
@@ -35,7 +35,7 @@ pub fn search<D: Desk>(
     requires room { length trail.old.stops + (D.layout desk.old).buckets ≤ ROOM }
     ensures searched { SearchesBuckets (D.layout desk.old) (view_of (D.seen desk.old) trail.old.stops) (view_of (D.seen desk.new) trail.new.stops) ask.now result }
     ensures layout { D.layout desk.new ≡ D.layout desk.old }
-    ensures rest { IsAtRest (D.layout desk.new) (D.out desk.new) (D.seen desk.new) }
+    ensures rest { IsDeskAtRest (D.layout desk.new) (D.out desk.new) (D.seen desk.new) }
     ensures requests { trail.new.requests ≡ trail.old.requests }
 {
     let mut lists = Vec::new(alloc);
@@ -60,7 +60,7 @@ fn take_searchers<D: Desk>(
     ensures looks { LooksAtOne (D.layout desk.old) (view_of (D.seen desk.old) trail.old.stops) (view_of (D.seen desk.new) trail.new.stops) b
         (λ journal. IfOk result (λ searchers. AreAsked (D.layout desk.old) b journal route.now searchers.items)) }
     ensures layout { D.layout desk.new ≡ D.layout desk.old }
-    ensures rest { IsAtRest (D.layout desk.new) (D.out desk.new) (D.seen desk.new) }
+    ensures rest { IsDeskAtRest (D.layout desk.new) (D.out desk.new) (D.seen desk.new) }
     ensures stops { length trail.new.stops ≡ length trail.old.stops + 1 }
     ensures requests { trail.new.requests ≡ trail.old.requests }
 {

@@ -2,6 +2,11 @@
 //!
 //! It depends on the clauses of any `Desk`. The layers above use those of `get_one` and `get_many`: what is found of an id is its
 //! last write in the journal of its bucket at one stop.
+//!
+//! Proved: `get_one` and `get_many` over any desk: of each id the last write in its bucket's journal at a stop, if it is live
+//! (`IsGot`, `AreGot`).
+//!
+//! Tested alone: ids that are live, deleted and absent, over two buckets.
 #![tactic(auto)]
 
 mod many;

@@ -1,6 +1,6 @@
 ghost use Rattle.std.specs.Prelude.{◌≡◌, ◌+◌, ◌≤◌, length};
 ghost use Rattle.sc_journal.specs.Moments.{view_of};
-ghost use Rattle.sc_collection.specs.Desks.{IsAtRest};
+ghost use Rattle.sc_collection.specs.Desks.{IsDeskAtRest};
 ghost use Rattle.sc_collection.specs.declared.trail.TheConstants.{ROOM};
 ghost use Rattle.sc_get.specs.Got.{AreGot};
 
@@ -17,12 +17,12 @@ pub fn get_many<D: Desk>(
     trail: &mut Trail,
     ids: &List<Id>,
 ) -> Result<List<Cell>, AllocError>
-    requires rest { IsAtRest (D.layout desk.old) (D.out desk.old) (D.seen desk.old) }
+    requires rest { IsDeskAtRest (D.layout desk.old) (D.out desk.old) (D.seen desk.old) }
     requires few { length ids.now ≤ 4096 }
     requires room { length trail.old.stops + length ids.now ≤ ROOM }
     ensures got { AreGot (D.layout desk.old) (view_of (D.seen desk.old) trail.old.stops) (view_of (D.seen desk.new) trail.new.stops) ids.now result }
     ensures layout { D.layout desk.new ≡ D.layout desk.old }
-    ensures rest { IsAtRest (D.layout desk.new) (D.out desk.new) (D.seen desk.new) }
+    ensures rest { IsDeskAtRest (D.layout desk.new) (D.out desk.new) (D.seen desk.new) }
     ensures requests { trail.new.requests ≡ trail.old.requests }
 {
     let mut found = Vec::with_capacity(alloc, ids.len())?;

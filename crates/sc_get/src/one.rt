@@ -2,7 +2,7 @@ ghost use Rattle.std.specs.Prelude.{◌≡◌, ◌<◌, ◌+◌, None, IfOk, len
 ghost use Rattle.std.specs.Option.{option_map};
 ghost use Rattle.std.specs.Arc.{arc_value};
 ghost use Rattle.sc_journal.specs.Moments.{view_of};
-ghost use Rattle.sc_collection.specs.Desks.{IsAtRest};
+ghost use Rattle.sc_collection.specs.Desks.{IsDeskAtRest};
 ghost use Rattle.sc_collection.specs.declared.trail.TheConstants.{ROOM};
 ghost use Rattle.sc_get.specs.Got.{IsGot, live};
 
@@ -22,7 +22,7 @@ pub fn get_one<D: Desk>(
     requires room { length trail.old.stops < ROOM }
     ensures got { IsGot (D.layout desk.old) (view_of (D.seen desk.old) trail.old.stops) (view_of (D.seen desk.new) trail.new.stops) id.now result }
     ensures layout { D.layout desk.new ≡ D.layout desk.old }
-    ensures rest { IsAtRest (D.layout desk.new) (D.out desk.new) (D.seen desk.new) }
+    ensures rest { IsDeskAtRest (D.layout desk.new) (D.out desk.new) (D.seen desk.new) }
     ensures stops { length trail.new.stops ≡ length trail.old.stops + 1 }
     ensures requests { trail.new.requests ≡ trail.old.requests }
 {

@@ -14,7 +14,7 @@ use Rattle.sc_replica.specs.Core.{Core}
 use Rattle.sc_journal.specs.Journal.{writes, writes_of, last_write}
 use Rattle.sc_journal.proofs.JournalLemmas.{last_write_none}
 use Rattle.sc_bucket.specs.Kept.{Sent, FeedState}
-use Rattle.sc_bucket.specs.Cores.{core_key, core_number, is_core, is_attached, AscendByName}
+use Rattle.sc_bucket.specs.Cores.{core_key, core_number, is_core, is_attached, CoresAscend}
 use Rattle.sc_bucket.specs.Flight.{in_flight}
 use Rattle.sc_bucket.specs.Pending.{is_feed_of, to_feed, pending}
 use Rattle.sc_bucket.specs.Sound.{HasLastWrites, IsFeed, IsSound}
@@ -54,7 +54,7 @@ last_from_nothing slices journal sent pending core slice sound nothing there nam
       cases (inr (k, below, here)) = absurd (omega (arith, ap length nothing))
 
 -- cores of the same name are one
-pub same_from_key : (cores : List Core) (one other : Core) → AscendByName cores → Contains cores one → Contains cores other
+pub same_from_key : (cores : List Core) (one other : Core) → CoresAscend cores → Contains cores one → Contains cores other
     → core_key one ≡ core_key other → one ≡ other
 same_from_key cores one other ascend there other_there same =
     same_from_rising_key (λ (core : Core). core_number core.core) cores one other ascend there other_there

@@ -9,7 +9,7 @@ use Rattle.sc_cluster.proofs.StateLemmas.{is_settled, active_settled}
 use Rattle.sc_journal.specs.Journal.{as_write}
 use Rattle.sc_journal.specs.Committed.{commits}
 use Rattle.sc_journal.specs.Legal.{MayFollow}
-use Rattle.sc_journal.specs.Splits.{change_of, open_split, owed}
+use Rattle.sc_journal.specs.Splits.{map_change_of, open_split, owed}
 use Rattle.sc_journal.proofs.SettledLemmas.{SettlesNothing}
 use Rattle.sc_bucket.specs.Kept.{Sent, JournalState, PlacesState}
 use Rattle.sc_bucket.specs.Cores.{is_of_one}
@@ -28,7 +28,7 @@ is_settled-active slice active = ap not (active_settled slice (active_from_test 
 -- many entries less are owed. By the change slices leave the map, every active one stays, and no split is open then.
 pub record MayTakeOut (old : Bucket) (one : Entry) (change : Change) (less : ℕ) : Type 0 where
   pub may : MayFollow old.first old.journal.entries one
-  pub change_is : change_of one ≡ Some change
+  pub change_is : map_change_of one ≡ Some change
   pub no_write : as_write one ≡ None
   pub no_commit : commits one ≡ false
   pub settles_nothing : SettlesNothing one

@@ -6,7 +6,7 @@ use Rattle.sc_cluster.specs.Map.{IsMap}
 use Rattle.sc_cluster.specs.Changes.{Change, after}
 use Rattle.sc_journal.specs.Journal.{as_write, unsettled}
 use Rattle.sc_journal.specs.Legal.{MayFollow, IsLegal}
-use Rattle.sc_journal.specs.Splits.{change_of, map_after, owed}
+use Rattle.sc_journal.specs.Splits.{map_change_of, map_after, owed}
 use Rattle.sc_journal.proofs.LegalLemmas.{IsLegal-push}
 use Rattle.sc_journal.proofs.SettledLemmas.{SettlesNothing, unsettled-push_other}
 use Rattle.sc_journal.proofs.SplitLemmas.{map_after-push}
@@ -25,7 +25,7 @@ pub record IsPushed (old : Bucket) (one : Entry) (change : Change) (new : Bucket
   pub within : length old.journal.entries + 1 + new.owed ≤ old.limit
 
 pub HasJournal-pushed : (old new : Bucket) (one : Entry) (change : Change) → HasJournal old
-    → MayFollow old.first old.journal.entries one → change_of one ≡ Some change → as_write one ≡ None
+    → MayFollow old.first old.journal.entries one → map_change_of one ≡ Some change → as_write one ≡ None
     → SettlesNothing one → IsPushed old one change new → HasJournal new
 HasJournal-pushed old new one change journal may change_is no_write none pushed =
     let legal : IsLegal old.first (old.journal.entries ++ one ∷ []) =

@@ -9,7 +9,7 @@ use Rattle.sc_cluster.proofs.ListLemmas.{Contains-map}
 use Rattle.sc_cluster.proofs.OrderLemmas.{IsStrictlyIncreasing-append}
 use Rattle.sc_cluster.proofs.PairLemmas.{Contains-from_map}
 use Rattle.sc_replica.specs.Core.{Core}
-use Rattle.sc_bucket.specs.Cores.{is_core, core_number, AscendByName, IsCounted, put_by_name}
+use Rattle.sc_bucket.specs.Cores.{is_core, core_number, CoresAscend, IsCounted, put_by_name}
 
 -- what is true of the core and of each of the others is true of each then
 pub All-put : (P : Core → Type 0) (core : Core) (cores : List Core) → P core → All P cores → All P (put_by_name core cores)
@@ -73,8 +73,8 @@ abbrev number : Core → ℕ
 number core = core_number core.core
 
 -- the cores ascend by their names still, where none has the core's number
-pub AscendByName-put : (core : Core) (cores : List Core) → AscendByName cores
-    → All (λ (other : Core). core_number other.core ≢ core_number core.core) cores → AscendByName (put_by_name core cores)
+pub AscendByName-put : (core : Core) (cores : List Core) → CoresAscend cores
+    → All (λ (other : Core). core_number other.core ≢ core_number core.core) cores → CoresAscend (put_by_name core cores)
 AscendByName-put core [] ascend apart = λ k short. absurd (omega arith)
 AscendByName-put core (other ∷ cores) ascend apart =
     by (nat_lt (number core) (number other)) refl
@@ -95,8 +95,8 @@ AscendByName-put core (other ∷ cores) ascend apart =
         λ less. let both : true ≡ false = sym (lt-ltb (number core) (number other) less) ∙ fails in cc in
         omega (arith, differ, no)
 
-    by : (b : Bool) → nat_lt (number core) (number other) ≡ b → AscendByName (put_by_name core cores)
-        → AscendByName (cond b (core ∷ other ∷ cores) (other ∷ put_by_name core cores))
+    by : (b : Bool) → nat_lt (number core) (number other) ≡ b → CoresAscend (put_by_name core cores)
+        → CoresAscend (cond b (core ∷ other ∷ cores) (other ∷ put_by_name core cores))
     by true is rest =
         let less : number core < number other = ltb-true (number core) (number other) is in
         up-cons (number core) (number other ∷ map number cores)

@@ -5,6 +5,15 @@
 //! Each call is one event. It asks for `IsSound` and its own condition in `specs/Conditions`, keeps `IsSound`, and changes what its
 //! definition in `specs/Events` says and nothing else. Only `begin` and `grow` take memory. It depends on `sc_bucket`, and does no
 //! input and no output.
+//!
+//! Proved: the nine events of a split, each with its condition in `specs/Conditions` and its change in `specs/Events`, keep
+//! `IsSound`: `begin`, with its full log both ways, changes nothing but room if it is refused; `feed_piece` looks at 64 rows
+//! at most and `replay_piece` applies 64 writes at most, of one core; `grow`, refused, has delivered messages and no more;
+//! `switch` leaves every core of each sub with the last write of each id of its range (clause `last`); `abort` leaves the
+//! parent's cores and searchers as they were, and `drop_shard` those of all other slices (`sc_world`'s
+//! `splits_leave_others_alone` says so of all nine). None adds, moves or takes away a write (`entries`).
+//!
+//! Neither: speed; that only `begin` and `grow` take memory shows in their signatures.
 #![tactic(auto)]
 
 // A split begins.

@@ -8,9 +8,9 @@ use Rattle.sc_cluster.specs.Slices.{forming}
 use Rattle.sc_cluster.specs.Map.{IsMap}
 use Rattle.sc_cluster.specs.Changes.{Change, after, IsSplit}
 use Rattle.sc_cluster.proofs.MapLemmas.{change_is_map, begun_is_split, switched_is_idle, failed_is_idle, dropped_is_idle}
-use Rattle.sc_journal.specs.Splits.{change_of, map_after, split_after, open_split}
+use Rattle.sc_journal.specs.Splits.{map_change_of, map_after, split_after, open_split}
 use Rattle.sc_journal.specs.Legal.{MayFollow, IsLegal}
-use Rattle.sc_journal.specs.Laws.{KeepsAMap}
+use Rattle.sc_journal.specs.Laws.{JournalsKeepAMap}
 use Rattle.sc_journal.proofs.SplitLemmas.{map_after-push, map_after-left, open_split-push, open_split-left, LeavesSlices, LeavesSlices-write, LeavesSlices-settled, LeavesSlices-committed}
 use Rattle.sc_journal.proofs.LegalLemmas.{legal_induction}
 
@@ -22,7 +22,7 @@ pub record FitsSplit (slices : List Slice) (split : Option SliceId) : Type 0 whe
 
 -- so they do after an entry that changes the map
 fits_change : (first : List Slice) (journal : List Entry) (one : Entry) (change : Change) (split : Option SliceId)
-    → change_of one ≡ Some change → split_after (open_split journal) one ≡ split
+    → map_change_of one ≡ Some change → split_after (open_split journal) one ≡ split
     → FitsSplit (after (map_after first journal) change) split
     → FitsSplit (map_after first (journal ++ one ∷ [])) (open_split (journal ++ one ∷ []))
 fits_change first journal one change split is ends fits =
@@ -94,7 +94,7 @@ legal_fits first journal is_map idle legal =
     legal_induction first (λ j. FitsSplit (map_after first j) (open_split j)) (fits_idle first is_map idle)
     (fits_push first) journal legal
 
-pub keeps_a_map : KeepsAMap
+pub keeps_a_map : JournalsKeepAMap
 keeps_a_map first journal is_map idle legal =
     let fits = legal_fits first journal is_map idle legal in
     (fits.is_map, fits.idle, fits.splitting)

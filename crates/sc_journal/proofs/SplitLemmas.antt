@@ -11,7 +11,7 @@ use Rattle.sc_cluster.specs.declared.slice.Slice.{Slice}
 use Rattle.sc_cluster.specs.Changes.{Change, after}
 use Rattle.sc_cluster.specs.Histories.{after_all}
 use Rattle.sc_journal.specs.Journal.{write_at, is_settled, unsettled}
-use Rattle.sc_journal.specs.Splits.{change_of, map_after, split_after, open_split, is_inactive, owed_by_split, owed}
+use Rattle.sc_journal.specs.Splits.{map_change_of, map_after, split_after, open_split, is_inactive, owed_by_split, owed}
 use Rattle.sc_journal.proofs.SettledLemmas.{unsettled-push_write, length-unsettled-push_settled, unsettled-push_other}
 
 -- changes one after another
@@ -24,19 +24,19 @@ after_all-append slices (change ∷ changes) more = after_all-append (after slic
 pub map_after-append : (first : List Slice) (journal more : List Entry)
     → map_after first (journal ++ more) ≡ map_after (map_after first journal) more
 map_after-append first journal more =
-    ap (after_all first) (filter_map-append change_of journal more)
-    ∙ after_all-append first (filter_map change_of journal) (filter_map change_of more)
+    ap (after_all first) (filter_map-append map_change_of journal more)
+    ∙ after_all-append first (filter_map map_change_of journal) (filter_map map_change_of more)
 
 -- an entry that changes the map does so at the end
 pub map_after-push : (first : List Slice) (journal : List Entry) (one : Entry) (change : Change)
-    → change_of one ≡ Some change → map_after first (journal ++ one ∷ []) ≡ after (map_after first journal) change
+    → map_change_of one ≡ Some change → map_after first (journal ++ one ∷ []) ≡ after (map_after first journal) change
 map_after-push first journal one change is =
     map_after-append first journal (one ∷ [])
     ∙ ap (λ (c : Option Change). after_all (map_after first journal) (cons_option c [])) is
 
 -- one that doesn't leaves it
 pub map_after-push_other : (first : List Slice) (journal : List Entry) (one : Entry)
-    → change_of one ≡ None → map_after first (journal ++ one ∷ []) ≡ map_after first journal
+    → map_change_of one ≡ None → map_after first (journal ++ one ∷ []) ≡ map_after first journal
 map_after-push_other first journal one none =
     map_after-append first journal (one ∷ [])
     ∙ ap (λ (c : Option Change). after_all (map_after first journal) (cons_option c [])) none
@@ -52,7 +52,7 @@ owed_by_slices first journal = owed_by_split (open_split journal) + count_by is_
 
 -- the entry changes no slice, and neither begins nor ends a split
 pub record LeavesSlices (one : Entry) : Type 0 where
-  pub no_change : change_of one ≡ None
+  pub no_change : map_change_of one ≡ None
   pub no_split : (split : Option SliceId) → split_after split one ≡ split
 
 -- writes, entries that settle them and commits are such

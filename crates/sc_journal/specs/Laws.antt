@@ -86,8 +86,8 @@ ComesToRest = (first : List Slice) (journal : List Entry) → IsLegal first jour
 
 -- the slices after a legal journal are those of a cluster, and those that are being made are the subs of the slice whose
 -- split is open
-abbrev pub KeepsAMap : Type 0
-KeepsAMap = (first : List Slice) (journal : List Entry) → IsMap first → forming first ≡ [] → IsLegal first journal
+abbrev pub JournalsKeepAMap : Type 0
+JournalsKeepAMap = (first : List Slice) (journal : List Entry) → IsMap first → forming first ≡ [] → IsLegal first journal
     → IsMap (map_after first journal)
     × (open_split journal ≡ None → forming (map_after first journal) ≡ [])
     × ((parent : SliceId) → open_split journal ≡ Some parent → IsSplit (map_after first journal) parent)

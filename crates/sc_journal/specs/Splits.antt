@@ -11,16 +11,16 @@ use Rattle.sc_cluster.specs.Histories.{after_all}
 use Rattle.sc_journal.specs.Journal.{unsettled}
 
 -- how an entry changes the bucket's map of slices, if it does
-abbrev pub change_of : Entry → Option Change
-change_of (entry.Begun parent subs) = Some (Change.Begun parent subs)
-change_of (entry.Switched parent) = Some (Change.Switched parent)
-change_of (entry.Failed parent) = Some (Change.Failed parent)
-change_of (entry.Dropped slice) = Some (Change.Dropped slice)
-change_of _ = None
+abbrev pub map_change_of : Entry → Option Change
+map_change_of (entry.Begun parent subs) = Some (Change.Begun parent subs)
+map_change_of (entry.Switched parent) = Some (Change.Switched parent)
+map_change_of (entry.Failed parent) = Some (Change.Failed parent)
+map_change_of (entry.Dropped slice) = Some (Change.Dropped slice)
+map_change_of _ = None
 
 -- the map after a journal, from the first map on
 abbrev pub map_after : List Slice → List Entry → List Slice
-map_after first journal = after_all first (filter_map change_of journal)
+map_after first journal = after_all first (filter_map map_change_of journal)
 
 -- the slice that is being split after an entry, if there is one; the other is the one before it
 abbrev pub split_after : Option SliceId → Entry → Option SliceId

@@ -1,6 +1,6 @@
 //! Laws of journals, above their definitions.
 
-ghost use Rattle.sc_journal.specs.Laws.{GrowsByWhatMayFollow, HasLegalPrefixes, AscendsInVersions, OwesOneForAWrite, OwesOneLessSettled, OwesTwoForASplit, OwesTwoLessFailed, OwesOneLessSwitched, OwesOneLessDropped, OwesNothingAtRest, ComesToRest, KeepsAMap};
+ghost use Rattle.sc_journal.specs.Laws.{GrowsByWhatMayFollow, HasLegalPrefixes, AscendsInVersions, OwesOneForAWrite, OwesOneLessSettled, OwesTwoForASplit, OwesTwoLessFailed, OwesOneLessSwitched, OwesOneLessDropped, OwesNothingAtRest, ComesToRest, JournalsKeepAMap};
 
 /// Whatever a bucket's journal gets, each entry where it may follow.
 pub fn journals_stay_legal()
@@ -27,5 +27,5 @@ pub fn journals_come_to_rest()
 
 /// What a legal journal makes of the slices.
 pub fn journals_keep_a_map()
-    ensures { KeepsAMap }
+    ensures { JournalsKeepAMap }
 {}

@@ -56,8 +56,8 @@ abbrev pub select_reply : (found start : ℕ) → List Write → Reply
 select_reply found start docs = record { status = 200; body = select_text found start docs }
 
 -- why the orders of an update ended at this answer, where an outcome refuses its order
-abbrev pub refusal_of : OrderAnswer → Option refusals.Refusal
-refusal_of answer = by_outcome answer.order answer.outcome
+abbrev pub refusal_of_order : OrderAnswer → Option refusals.Refusal
+refusal_of_order answer = by_outcome answer.order answer.outcome
   where
     by_outcome : Order → Outcome → Option refusals.Refusal
     by_outcome order (accepted version) = None
@@ -89,7 +89,7 @@ abbrev pub update_answer : Bool → List OrderAnswer → UpdateEnd → Answer
 update_answer versions answers (finished committed_now) = replied (update_reply versions answers)
 update_answer versions answers (finished commit_full) = refusal_answer versions answers (Some refusals.log_full)
 update_answer versions answers (finished commit_out_of_memory) = ran_out
-update_answer versions answers (updates.refused last) = refusal_answer versions answers (refusal_of last)
+update_answer versions answers (updates.refused last) = refusal_answer versions answers (refusal_of_order last)
 update_answer versions answers updates.ran_out = ran_out
 
 -- what a request left: the answers to its orders, the commits, the timestamps that were read for it and the stops that were kept

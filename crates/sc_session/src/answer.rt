@@ -6,7 +6,7 @@ ghost use Rattle.sc_model.specs.Replies as replies;
 ghost use Rattle.sc_reply.specs.Bodies as bodies;
 ghost use Rattle.sc_reply.specs.Causes as causes;
 ghost use Rattle.sc_collection.specs.declared.trail.TheConstants.{ROOM};
-ghost use Rattle.sc_collection.specs.Desks.{IsAtRest};
+ghost use Rattle.sc_collection.specs.Desks.{IsDeskAtRest};
 ghost use Rattle.sc_journal.specs.Moments.{moment_of};
 ghost use Rattle.sc_session.specs.Queries.{IsRouteOf};
 ghost use Rattle.sc_session.specs.Asking.{IsWithinLimits, select_of};
@@ -40,13 +40,13 @@ pub(crate) fn answer<D: Desk, C: Clock>(
     trail: &mut Trail,
     request: &Incoming,
 ) -> Result<Reply, AllocError>
-    requires rest { IsAtRest (D.layout desk.old) (D.out desk.old) (D.seen desk.old) }
+    requires rest { IsDeskAtRest (D.layout desk.old) (D.out desk.old) (D.seen desk.old) }
     requires buckets { IsBucketCount (D.layout desk.old).buckets }
     requires room { length trail.old.stops + 2 * 4096 + 256 ≤ ROOM }
     ensures answers { AnswersAsked C.gives (D.layout desk.old) (asking.asked request.now)
         (moment_of (D.seen desk.old) trail.old.stops clock.old) (moment_of (D.seen desk.new) trail.new.stops clock.new) (answer_of result) }
     ensures status { IfOk result (λ reply. IsSome (replies.reason_of reply.status)) }
-    ensures rest { IsAtRest (D.layout desk.new) (D.out desk.new) (D.seen desk.new) }
+    ensures rest { IsDeskAtRest (D.layout desk.new) (D.out desk.new) (D.seen desk.new) }
     ensures layout { D.layout desk.new ≡ D.layout desk.old }
     ensures requests { trail.new.requests ≡ trail.old.requests }
 {
@@ -73,12 +73,12 @@ fn get<D: Desk>(
     trail: &mut Trail,
     id: &Id,
 ) -> Result<Reply, AllocError>
-    requires rest { IsAtRest (D.layout desk.old) (D.out desk.old) (D.seen desk.old) }
+    requires rest { IsDeskAtRest (D.layout desk.old) (D.out desk.old) (D.seen desk.old) }
     requires room { length trail.old.stops + 1 ≤ ROOM }
     ensures answers { AnswersAsked unread (D.layout desk.old) (asking.get id.now)
         (moment_of (D.seen desk.old) trail.old.stops tt) (moment_of (D.seen desk.new) trail.new.stops tt) (answer_of result) }
     ensures status { IfOk result (λ reply. IsSome (replies.reason_of reply.status)) }
-    ensures rest { IsAtRest (D.layout desk.new) (D.out desk.new) (D.seen desk.new) }
+    ensures rest { IsDeskAtRest (D.layout desk.new) (D.out desk.new) (D.seen desk.new) }
     ensures layout { D.layout desk.new ≡ D.layout desk.old }
     ensures requests { trail.new.requests ≡ trail.old.requests }
 {
@@ -93,13 +93,13 @@ fn get_ids<D: Desk>(
     trail: &mut Trail,
     ids: &List<Id>,
 ) -> Result<Reply, AllocError>
-    requires rest { IsAtRest (D.layout desk.old) (D.out desk.old) (D.seen desk.old) }
+    requires rest { IsDeskAtRest (D.layout desk.old) (D.out desk.old) (D.seen desk.old) }
     requires room { length trail.old.stops + length ids.now ≤ ROOM }
     requires few { length ids.now ≤ 4096 }
     ensures answers { AnswersAsked unread (D.layout desk.old) (asking.get_ids ids.now)
         (moment_of (D.seen desk.old) trail.old.stops tt) (moment_of (D.seen desk.new) trail.new.stops tt) (answer_of result) }
     ensures status { IfOk result (λ reply. IsSome (replies.reason_of reply.status)) }
-    ensures rest { IsAtRest (D.layout desk.new) (D.out desk.new) (D.seen desk.new) }
+    ensures rest { IsDeskAtRest (D.layout desk.new) (D.out desk.new) (D.seen desk.new) }
     ensures layout { D.layout desk.new ≡ D.layout desk.old }
     ensures requests { trail.new.requests ≡ trail.old.requests }
 {
@@ -114,14 +114,14 @@ fn select<D: Desk>(
     trail: &mut Trail,
     asked: &Select,
 ) -> Result<Reply, AllocError>
-    requires rest { IsAtRest (D.layout desk.old) (D.out desk.old) (D.seen desk.old) }
+    requires rest { IsDeskAtRest (D.layout desk.old) (D.out desk.old) (D.seen desk.old) }
     requires buckets { IsBucketCount (D.layout desk.old).buckets }
     requires room { length trail.old.stops + 256 ≤ ROOM }
     requires within { IsWithinLimits (asks.Select asked.now) }
     ensures answers { AnswersAsked unread (D.layout desk.old) (asking.select (select_of asked.now))
         (moment_of (D.seen desk.old) trail.old.stops tt) (moment_of (D.seen desk.new) trail.new.stops tt) (answer_of result) }
     ensures status { IfOk result (λ reply. IsSome (replies.reason_of reply.status)) }
-    ensures rest { IsAtRest (D.layout desk.new) (D.out desk.new) (D.seen desk.new) }
+    ensures rest { IsDeskAtRest (D.layout desk.new) (D.out desk.new) (D.seen desk.new) }
     ensures layout { D.layout desk.new ≡ D.layout desk.old }
     ensures requests { trail.new.requests ≡ trail.old.requests }
 {

@@ -2,7 +2,7 @@ ghost use Rattle.std.specs.Prelude.{◌≡◌, ◌≢◌, ◌↔◌, [], false, 
 ghost use Rattle.sc_model.specs.Replies as replies;
 ghost use Rattle.sc_router.specs.Route.{IsBucketCount};
 ghost use Rattle.sc_journal.specs.Moments.{moment_of};
-ghost use Rattle.sc_collection.specs.Desks.{IsAtRest};
+ghost use Rattle.sc_collection.specs.Desks.{IsDeskAtRest};
 ghost use Rattle.sc_collection.specs.Kept.{is_full};
 ghost use Rattle.sc_session.specs.Connection.{end_after, end_of, last_text};
 ghost use Rattle.sc_session.specs.States.{CountsFault};
@@ -79,7 +79,7 @@ fn exchange<D: Desk, C: Clock, W: Sink>(
     trail: &mut Trail,
     request: &Incoming,
 ) -> Option<End>
-    requires rest { IsAtRest (D.layout desk.old) (D.out desk.old) (D.seen desk.old) }
+    requires rest { IsDeskAtRest (D.layout desk.old) (D.out desk.old) (D.seen desk.old) }
     requires buckets { IsBucketCount (D.layout desk.old).buckets }
     requires open { is_full trail.old ≡ false }
     ensures exchange { Exchanges C.gives (D.layout desk.old) request.now
@@ -99,7 +99,7 @@ fn exchange<D: Desk, C: Clock, W: Sink>(
           read_faults = 0;
           write_faults = W.faults sink.new;
         }) result }
-    ensures rest { IsAtRest (D.layout desk.new) (D.out desk.new) (D.seen desk.new) }
+    ensures rest { IsDeskAtRest (D.layout desk.new) (D.out desk.new) (D.seen desk.new) }
     ensures layout { D.layout desk.new ≡ D.layout desk.old }
 {
     let answer = answer(alloc, desk, clock, trail, request);

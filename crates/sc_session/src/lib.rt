@@ -4,6 +4,13 @@
 //! any `Desk`: nothing here knows of cells, slices or locks. The layer above uses the clause `connection` of `serve`: every
 //! answer is that of the journals at the stops that the trail keeps, and the bytes written are the texts of the answers to the
 //! requests that the bytes read are.
+//!
+//! Proved: `serve`: the promise over any desk (`IsServed`), with the cause of each read and write fault, both ways; each
+//! request's meaning (`asked`) and each reply's text.
+//!
+//! Tested alone: a table of requests.
+//!
+//! Neither: that a refused allocation is answered (the contract allows it and no test makes one happen).
 #![tactic(auto)]
 
 // What a request asks for, and the replies.

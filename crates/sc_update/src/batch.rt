@@ -2,7 +2,7 @@ ghost use Rattle.std.specs.Prelude.{◌≡◌, ◌+◌, ◌*◌, ◌≤◌, leng
 ghost use Rattle.sc_journal.specs.Moments.{moment_of};
 ghost use Rattle.sc_journal.specs.Batches.{deletes};
 ghost use Rattle.sc_bucket.specs.Events.{outcome_of};
-ghost use Rattle.sc_collection.specs.Desks.{IsAtRest};
+ghost use Rattle.sc_collection.specs.Desks.{IsDeskAtRest};
 ghost use Rattle.sc_collection.specs.declared.trail.TheConstants.{ROOM};
 ghost use Rattle.sc_update.specs.Updated.{IsUpdated, order_fault, commit_fault};
 ghost use Rattle.sc_update.specs.Steps.{AnswersAll, Takes, commit_outcome, HasRoomToShowOne, ending};
@@ -38,13 +38,13 @@ pub fn update<D: Desk, C: Clock>(
     trail: &mut Trail,
     batch: &Batch,
 ) -> BatchEnd
-    requires rest { IsAtRest (D.layout desk.old) (D.out desk.old) (D.seen desk.old) }
+    requires rest { IsDeskAtRest (D.layout desk.old) (D.out desk.old) (D.seen desk.old) }
     requires orders { length batch.now.orders ≤ 4096 }
     requires room { length trail.old.stops + 2 * length batch.now.orders + (D.layout desk.old).buckets ≤ ROOM }
     ensures updated { IsUpdated C.gives (D.layout desk.old) batch.now
         (moment_of (D.seen desk.old) trail.old.stops clock.old) (moment_of (D.seen desk.new) trail.new.stops clock.new) result }
     ensures layout { D.layout desk.new ≡ D.layout desk.old }
-    ensures rest { IsAtRest (D.layout desk.new) (D.out desk.new) (D.seen desk.new) }
+    ensures rest { IsDeskAtRest (D.layout desk.new) (D.out desk.new) (D.seen desk.new) }
     ensures requests { trail.new.requests ≡ trail.old.requests }
 {
     let mut end = take_orders(alloc, desk, clock, trail, batch);
@@ -73,13 +73,13 @@ fn take_orders<D: Desk, C: Clock>(
     trail: &mut Trail,
     batch: &Batch,
 ) -> BatchEnd
-    requires rest { IsAtRest (D.layout desk.old) (D.out desk.old) (D.seen desk.old) }
+    requires rest { IsDeskAtRest (D.layout desk.old) (D.out desk.old) (D.seen desk.old) }
     requires orders { length batch.now.orders ≤ 4096 }
     requires room { length trail.old.stops + 2 * length batch.now.orders ≤ ROOM }
     ensures answers { AnswersAll C.gives (D.layout desk.old) batch.now
         (moment_of (D.seen desk.old) trail.old.stops clock.old) (moment_of (D.seen desk.new) trail.new.stops clock.new) result }
     ensures layout { D.layout desk.new ≡ D.layout desk.old }
-    ensures rest { IsAtRest (D.layout desk.new) (D.out desk.new) (D.seen desk.new) }
+    ensures rest { IsDeskAtRest (D.layout desk.new) (D.out desk.new) (D.seen desk.new) }
     ensures stops { length trail.new.stops ≤ length trail.old.stops + 2 * length batch.now.orders }
     ensures requests { trail.new.requests ≡ trail.old.requests }
 {
@@ -107,14 +107,14 @@ fn take_order<D: Desk, C: Clock>(
     order: &Order,
     flags: Flags,
 ) -> Option<AcceptFault>
-    requires rest { IsAtRest (D.layout desk.old) (D.out desk.old) (D.seen desk.old) }
+    requires rest { IsDeskAtRest (D.layout desk.old) (D.out desk.old) (D.seen desk.old) }
     requires room { length trail.old.stops + 2 ≤ ROOM }
     requires shows { flags.versions ≡ true → HasRoomToShowOne (deletes order.now.change) shown.old }
     ensures takes { Takes C.gives (D.layout desk.old) flags order.now
         (record { moment = moment_of (D.seen desk.old) trail.old.stops clock.old; shown = shown.old; ended = None })
         (record { moment = moment_of (D.seen desk.new) trail.new.stops clock.new; shown = shown.new; ended = result }) }
     ensures layout { D.layout desk.new ≡ D.layout desk.old }
-    ensures rest { IsAtRest (D.layout desk.new) (D.out desk.new) (D.seen desk.new) }
+    ensures rest { IsDeskAtRest (D.layout desk.new) (D.out desk.new) (D.seen desk.new) }
     ensures stops { length trail.new.stops ≤ length trail.old.stops + 2 }
     ensures requests { trail.new.requests ≡ trail.old.requests }
 {

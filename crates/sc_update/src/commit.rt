@@ -1,5 +1,5 @@
 ghost use Rattle.std.specs.Prelude.{◌≡◌, ◌+◌, ◌<◌, ◌≤◌, None, length};
-ghost use Rattle.sc_collection.specs.Desks.{IsAtRest};
+ghost use Rattle.sc_collection.specs.Desks.{IsDeskAtRest};
 ghost use Rattle.sc_collection.specs.declared.trail.TheConstants.{ROOM};
 ghost use Rattle.sc_journal.specs.Moments.{view_of};
 ghost use Rattle.sc_journal.specs.Committed.{worse};
@@ -20,7 +20,7 @@ pub(crate) fn commit_all<D: Desk>(
     ensures committed { CommitsAll (D.layout desk.old) (D.layout desk.old).buckets
         (view_of (D.seen desk.old) trail.old.stops) (view_of (D.seen desk.new) trail.new.stops) result }
     ensures layout { D.layout desk.new ≡ D.layout desk.old }
-    ensures rest { IsAtRest (D.layout desk.new) (D.out desk.new) (D.seen desk.new) }
+    ensures rest { IsDeskAtRest (D.layout desk.new) (D.out desk.new) (D.seen desk.new) }
     ensures requests { trail.new.requests ≡ trail.old.requests }
 {
     let mut worst = None;
@@ -37,7 +37,7 @@ fn commit_at<D: Desk>(alloc: Global, desk: &mut D, trail: &mut Trail, b: u32) ->
     requires room { length trail.old.stops < ROOM }
     ensures committed { CommitsOne (D.layout desk.old) (view_of (D.seen desk.old) trail.old.stops) (view_of (D.seen desk.new) trail.new.stops) b result }
     ensures layout { D.layout desk.new ≡ D.layout desk.old }
-    ensures rest { IsAtRest (D.layout desk.new) (D.out desk.new) (D.seen desk.new) }
+    ensures rest { IsDeskAtRest (D.layout desk.new) (D.out desk.new) (D.seen desk.new) }
     ensures stops { length trail.new.stops ≡ length trail.old.stops + 1 }
     ensures requests { trail.new.requests ≡ trail.old.requests }
 {

@@ -4,6 +4,15 @@
 //! It depends on the clauses of any `Desk` and any `Clock`. The layers above use the clause `updated` of `update`: each order
 //! is answered as the journal of its bucket has it at the order's stop, and each commit as that of its bucket has it at the
 //! commit's.
+//!
+//! Proved: `update` over any desk: each order of a batch is answered as the journal of its bucket has it at the order's stops
+//! (`IsUpdated`), up to the first that is refused, or past conflicts if asked; the lists of what was accepted; then, if that
+//! is asked for and nothing stopped the orders, every bucket is committed in order, each at its stop, and what comes of it is
+//! reported (`UpdateEnd`). None of a write is in flight once it is settled (`Bucket::settle`).
+//!
+//! Tested alone: the worked batches; that the holds which deliver are no stops; a commit of two buckets.
+//!
+//! Neither: that each message of a write has a hold of its own, up to seven, holds by construction.
 #![tactic(auto)]
 
 // What an update came to.

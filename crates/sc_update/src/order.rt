@@ -5,7 +5,7 @@ ghost use Rattle.sc_journal.specs.Moments.{view_of, moment_of, Keeps};
 ghost use Rattle.sc_bucket.specs.Sound.{IsSound};
 ghost use Rattle.sc_bucket.specs.Events.{outcome_of};
 ghost use Rattle.sc_collection.specs.declared.trail.TheConstants.{ROOM};
-ghost use Rattle.sc_collection.specs.Desks.{IsAtRest};
+ghost use Rattle.sc_collection.specs.Desks.{IsDeskAtRest};
 ghost use Rattle.sc_update.specs.Steps.{MakeNoEntry, Holds, HoldsWhereIdle, Tries, SettlesFirst, SettlesWhere, CarriesOut};
 
 use sc_bucket::{AcceptFault, Accepted, Bucket};
@@ -35,7 +35,7 @@ fn accept_at<D: Desk>(
     ensures keeps { Keeps (D.layout desk.old) (view_of (D.seen desk.old) trail.old.stops) (view_of (D.seen desk.new) trail.new.stops) (result.0 ∷ []) }
     ensures tried { Tries (D.layout desk.old) (D.seen desk.new) order.now now result.0 result.1 }
     ensures layout { D.layout desk.new ≡ D.layout desk.old }
-    ensures rest { IsAtRest (D.layout desk.new) (D.out desk.new) (D.seen desk.new) }
+    ensures rest { IsDeskAtRest (D.layout desk.new) (D.out desk.new) (D.seen desk.new) }
     ensures requests { trail.new.requests ≡ trail.old.requests }
 {
     let mut bucket = desk.hold(b);
@@ -101,7 +101,7 @@ fn settle_at<D: Desk>(desk: &mut D, trail: &mut Trail, first: Stop)
     requires room { length trail.old.stops < ROOM }
     ensures settles { SettlesFirst (D.layout desk.old) (view_of (D.seen desk.old) trail.old.stops) (view_of (D.seen desk.new) trail.new.stops) first }
     ensures layout { D.layout desk.new ≡ D.layout desk.old }
-    ensures rest { IsAtRest (D.layout desk.new) (D.out desk.new) (D.seen desk.new) }
+    ensures rest { IsDeskAtRest (D.layout desk.new) (D.out desk.new) (D.seen desk.new) }
     ensures requests { trail.new.requests ≡ trail.old.requests }
 {
     let mut bucket = hold_delivered(desk, first.lock, first.place);
@@ -142,7 +142,7 @@ pub(crate) fn carry_out<D: Desk, C: Clock>(
     ensures carried { CarriesOut C.gives (D.layout desk.old) order.now
         (moment_of (D.seen desk.old) trail.old.stops clock.old) (moment_of (D.seen desk.new) trail.new.stops clock.new) (outcome_of result) }
     ensures layout { D.layout desk.new ≡ D.layout desk.old }
-    ensures rest { IsAtRest (D.layout desk.new) (D.out desk.new) (D.seen desk.new) }
+    ensures rest { IsDeskAtRest (D.layout desk.new) (D.out desk.new) (D.seen desk.new) }
     ensures stops { length trail.new.stops ≤ length trail.old.stops + 2 }
     ensures requests { trail.new.requests ≡ trail.old.requests }
 {

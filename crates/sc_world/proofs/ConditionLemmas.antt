@@ -25,7 +25,7 @@ use Rattle.sc_ulog.specs.contracts.mode.Mode as modes
 use Rattle.sc_ulog.specs.declared.mode.Mode.TheVariants.{Active, Buffering, Replaying}
 use Rattle.sc_replica.specs.Core.{Core}
 use Rattle.sc_bucket.specs.Kept.{FeedState}
-use Rattle.sc_bucket.specs.Cores.{core_key, keys_of, is_core, core_number, AscendByName}
+use Rattle.sc_bucket.specs.Cores.{core_key, core_keys, is_core, core_number, CoresAscend}
 use Rattle.sc_bucket.specs.Pending.{is_feed_of}
 use Rattle.sc_bucket.specs.Sound.{HasJournal, HasCores, AreLedActively}
 use Rattle.sc_bucket.specs.declared.bucket.Bucket.{Bucket}
@@ -83,13 +83,13 @@ unfed_from_found b core (Some at) (feed, there, passes) =
 
 -- ---- modes
 -- two cores of one number are one
-pub same_from_number : (cores : List Core) (one other : Core) → AscendByName cores → Contains cores one → Contains cores other
+pub same_from_number : (cores : List Core) (one other : Core) → CoresAscend cores → Contains cores one → Contains cores other
     → core_number one.core ≡ core_number other.core → one ≡ other
 same_from_number cores one other ascend here there same =
     same_from_rising_key (λ (core : Core). core_number core.core) cores one other ascend here there same
 
 -- the core that is found is in the mode where the core of the name is
-pub in_mode_where_found : (b : Bucket) (name : CoreId) (mode : Mode) (at : ℕ) (core : Core) (test : Bool) → AscendByName b.replicas
+pub in_mode_where_found : (b : Bucket) (name : CoreId) (mode : Mode) (at : ℕ) (core : Core) (test : Bool) → CoresAscend b.replicas
     → IsCoreFound b.replicas name (Some at) → slice_get b.replicas at ≡ Some core → IsTrue test ↔ (core.mode ≡ mode)
     → IsTrue test ↔ IsInMode b name mode
 in_mode_where_found b name mode at core test ascend (found, found_there, passes) there says =
@@ -169,19 +169,19 @@ active-next b slice below so_far one =
 
 -- all are
 pub all_keys : (b : Bucket) (slice : Slice) (below : ℕ) → below ≤ slice.replicas → slice.replicas ≤ below
-    → All (IsThereActive b) (keys_to slice below) → IsTrue true ↔ All (IsThereActive b) (keys_of slice)
+    → All (IsThereActive b) (keys_to slice below) → IsTrue true ↔ All (IsThereActive b) (core_keys slice)
 all_keys b slice below most least all =
     let every : below ≡ slice.replicas = omega arith in
     (λ is. subst (λ n. All (IsThereActive b) (keys_to slice n)) every all, λ whole. refl)
 
 -- one isn't
 pub not_of_all_keys : (b : Bucket) (slice : Slice) (below : ℕ) (test : Bool) → below < slice.replicas
-    → IsTrue test ↔ IsThereActive b (slice.id.0, below + 1) → test ≡ false → IsTrue false ↔ All (IsThereActive b) (keys_of slice)
+    → IsTrue test ↔ IsThereActive b (slice.id.0, below + 1) → test ≡ false → IsTrue false ↔ All (IsThereActive b) (core_keys slice)
 not_of_all_keys b slice below test within says fails =
-    let key : Contains (keys_of slice) (slice.id.0, below + 1) =
+    let key : Contains (core_keys slice) (slice.id.0, below + 1) =
     Contains-map (λ (replica : ℕ). (slice.id.0, replica)) (range_with_len 1 slice.replicas) (below + 1)
     (below, omega (arith, length-range_with_len 1 slice.replicas), get_or-range_with_len 1 slice.replicas below (below + 1) within ∙ omega arith) in
-    (λ is. false_is_not is, λ all. sym fails ∙ says.1 (All-contains (IsThereActive b) (keys_of slice) (slice.id.0, below + 1) all key))
+    (λ is. false_is_not is, λ all. sym fails ∙ says.1 (All-contains (IsThereActive b) (core_keys slice) (slice.id.0, below + 1) all key))
 
 -- ---- equal states
 pub mode_test : (one other : Mode) → IsTrue (sameb modes.the_type one other) ↔ (one ≡ other)

@@ -25,7 +25,7 @@ use Rattle.sc_bucket.specs.declared.phase.Phase.TheVariants as phases
 use Rattle.sc_handover.specs.Conditions.{split_of}
 use Rattle.sc_world.specs.declared.event.Event.{Event}
 use Rattle.sc_world.specs.declared.event.Event.TheVariants as events
-use Rattle.sc_world.specs.Steps.{Can, IsDone, IsRefused, IsOutOfMemory}
+use Rattle.sc_world.specs.Steps.{Can, IsDone, IsRefused, FindsNoMemory}
 use Rattle.sc_world.specs.Runs.{IsPassed, Runs, RunsOut}
 use Rattle.sc_world.specs.Rests.{is_closing, BringToRest, BucketsComeToRest}
 
@@ -148,7 +148,7 @@ never_refused old (events.Grow core) new close refused = refused
 never_refused old events.Switch new close refused = refused
 
 -- nor does memory run out at it
-never_out : (old : Bucket) (event : Event) (new : Bucket) → is_closing event ≡ true → IsOutOfMemory old event new → ⊥
+never_out : (old : Bucket) (event : Event) (new : Bucket) → is_closing event ≡ true → FindsNoMemory old event new → ⊥
 never_out old (events.Settle place) new close out = out
 never_out old events.Abort new close out = out
 never_out old (events.Drop slice) new close out = out

@@ -12,7 +12,7 @@ use Rattle.sc_bucket.specs.Events.{IsSameButRoom}
 use Rattle.sc_bucket.specs.declared.bucket.Bucket.{Bucket}
 use Rattle.sc_world.specs.declared.event.Event.{Event}
 use Rattle.sc_world.specs.declared.event.Event.TheVariants as events
-use Rattle.sc_world.specs.Steps.{IsDone, IsRefused, IsOutOfMemory}
+use Rattle.sc_world.specs.Steps.{IsDone, IsRefused, FindsNoMemory}
 use Rattle.sc_world.specs.Runs.{IsPassed, Runs, RunsOut}
 use Rattle.sc_world.specs.Laws.{orders, KeepsTheTable, StaysWithoutOrders}
 
@@ -83,7 +83,7 @@ Adds-passed old event added new (inr (can, inr (none, refused))) =
     Adds-same old new added none (same_if_refused old event new refused).entries
 
 -- where memory runs out at an event it adds none
-pub Adds-out_of_memory : (old : Bucket) (event : Event) (new : Bucket) → IsOutOfMemory old event new → Adds old [] new
+pub Adds-out_of_memory : (old : Bucket) (event : Event) (new : Bucket) → FindsNoMemory old event new → Adds old [] new
 Adds-out_of_memory old (events.Accept order now) new (met, same) = Adds-same old new [] refl same.entries
 Adds-out_of_memory old (events.DeliverNth k) new out = absurd out
 Adds-out_of_memory old (events.Deliver place) new out = absurd out

@@ -20,13 +20,13 @@ use Rattle.sc_handover.specs.Conditions.{CanGrow}
 use Rattle.sc_handover.specs.Events.{Grows}
 use Rattle.sc_world.specs.declared.event.Event.{Event}
 use Rattle.sc_world.specs.declared.event.Event.TheVariants as events
-use Rattle.sc_world.specs.Steps.{Can, IsOutOfMemory}
+use Rattle.sc_world.specs.Steps.{Can, FindsNoMemory}
 use Rattle.sc_world.specs.Runs.{IsPassed, IsStepped, Runs, RunsOut}
-use Rattle.sc_world.specs.Checks.{is_out_of_memory}
+use Rattle.sc_world.specs.Checks.{lacks_memory}
 use Rattle.sc_world.proofs.RunLemmas.{Runs-push, Adds-run, Adds-run_out}
 
 -- an order that is answered, but that memory ran out
-pub accept_step : (old new : Bucket) (order : Order) (now : ℕ) (answered : Result Accepted AcceptFault) → is_out_of_memory answered ≡ false
+pub accept_step : (old new : Bucket) (order : Order) (now : ℕ) (answered : Result Accepted AcceptFault) → lacks_memory answered ≡ false
     → IfOk answered (λ accepted. Accepts old order now accepted.version new) → OnErr answered (IsSameButRoom old new)
     → IsOutcome old.limit old.first old.journal.entries order now (outcome_of answered) new.journal.entries
     → IsStepped old (events.Accept order now) new
@@ -39,10 +39,10 @@ accept_step old new order now (Err faults.LogFull) in_memory is same outcome = (
 accept_step old new order now (Err faults.Memory) in_memory is same outcome = absurd (false≢true (sym in_memory))
 
 -- or that it did
-pub accept_out : (old new : Bucket) (order : Order) (now : ℕ) (answered : Result Accepted AcceptFault) → is_out_of_memory answered ≡ true
+pub accept_out : (old new : Bucket) (order : Order) (now : ℕ) (answered : Result Accepted AcceptFault) → lacks_memory answered ≡ true
     → OnErr answered (IsSameButRoom old new)
     → IsOutcome old.limit old.first old.journal.entries order now (outcome_of answered) new.journal.entries
-    → IsOutOfMemory old (events.Accept order now) new
+    → FindsNoMemory old (events.Accept order now) new
 accept_out old new order now (Ok accepted) out same outcome = absurd (false≢true out)
 accept_out old new order now (Err (faults.Conflict found)) out same outcome = absurd (false≢true out)
 accept_out old new order now (Err (faults.Partial name)) out same outcome = absurd (false≢true out)
@@ -93,7 +93,7 @@ ran_all old run at new whole (added, runs) =
 
 -- or memory ran out at one
 pub ran_out_at : (old : Bucket) (run : List Event) (at : ℕ) (event : Event) (between new : Bucket) → slice_get run at ≡ Some event
-    → HasRun old (take at run) between → Can between event → IsOutOfMemory between event new
+    → HasRun old (take at run) between → Can between event → FindsNoMemory between event new
     → (added : List Write) × RunsOut old run added new × (writes new.journal.entries ≡ writes old.journal.entries ++ added)
 ran_out_at old run at event between new there (added, runs) can out = (added, ran, Adds-run_out old run added new ran) where
   rest : drop at run ≡ event ∷ drop (at + 1) run

@@ -3,7 +3,7 @@ use Rattle.std.specs.Prelude.{◌≡◌, ◌⊎◌, List, [], ◌∷◌, ◌++�
 use Rattle.sc_record.specs.declared.write.Write.{Write}
 use Rattle.sc_bucket.specs.declared.bucket.Bucket.{Bucket}
 use Rattle.sc_world.specs.declared.event.Event.{Event}
-use Rattle.sc_world.specs.Steps.{Can, IsDone, IsRefused, IsOutOfMemory}
+use Rattle.sc_world.specs.Steps.{Can, IsDone, IsRefused, FindsNoMemory}
 
 -- the event came: it was done, or refused, and some writes were added
 abbrev pub IsStepped : Bucket → Event → Bucket → Type 0
@@ -31,4 +31,4 @@ pub record RunsOut (old : Bucket) (events : List Event) (added : List Write) (ne
   pub between : Bucket
   pub runs : Runs old before added between
   pub can : Can between event
-  pub out : IsOutOfMemory between event new
+  pub out : FindsNoMemory between event new

@@ -79,9 +79,9 @@ IsRefused old (events.Begin plan) new = IsSameButRoom old new × BucketIsFull 3 
 IsRefused old _ new = ⊥
 
 -- memory ran out at the event: the bucket is as it was, but that what was in flight to a follower's leader was delivered
-abbrev pub IsOutOfMemory : Bucket → Event → Bucket → Type 0
-IsOutOfMemory old (events.Accept order now) new = IsMet old.journal.entries order × IsSameButRoom old new
-IsOutOfMemory old events.Commit new = IsSameButRoom old new
-IsOutOfMemory old (events.Begin plan) new = IsSameButRoom old new
-IsOutOfMemory old (events.Grow core) new = DeliversAllTo old (leader_of core.slice) new
-IsOutOfMemory old _ new = ⊥
+abbrev pub FindsNoMemory : Bucket → Event → Bucket → Type 0
+FindsNoMemory old (events.Accept order now) new = IsMet old.journal.entries order × IsSameButRoom old new
+FindsNoMemory old events.Commit new = IsSameButRoom old new
+FindsNoMemory old (events.Begin plan) new = IsSameButRoom old new
+FindsNoMemory old (events.Grow core) new = DeliversAllTo old (leader_of core.slice) new
+FindsNoMemory old _ new = ⊥

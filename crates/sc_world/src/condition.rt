@@ -2,7 +2,7 @@ ghost use Rattle.std.specs.Prelude.{◌≡◌, ◌↔◌, ◌<◌, true, false, 
 ghost use Rattle.sc_record.specs.declared.slice.SliceId.{SliceId};
 ghost use Rattle.sc_cluster.specs.declared.slice.Slice.{Slice};
 ghost use Rattle.sc_cluster.specs.Changes.{IsInactive};
-ghost use Rattle.sc_bucket.specs.Cores.{AscendByName, keys_of};
+ghost use Rattle.sc_bucket.specs.Cores.{CoresAscend, core_keys};
 ghost use Rattle.sc_bucket.specs.Sound.{HasCores, AreLedActively, IsSound};
 ghost use Rattle.sc_handover.specs.Conditions.{IsInMode, IsUnfed, IsThereActive, CanFeed};
 ghost use Rattle.sc_world.specs.Steps.{Can};
@@ -47,7 +47,7 @@ fn has_feed(bucket: &Bucket, core: CoreId) -> bool
 
 // The core is there, in this mode.
 fn is_in_mode(bucket: &Bucket, core: CoreId, mode: Mode) -> bool
-    requires { AscendByName bucket.now.replicas }
+    requires { CoresAscend bucket.now.replicas }
     ensures { IsTrue result ↔ IsInMode bucket.now core mode }
 {
     match bucket.replicas.position(core) {
@@ -84,7 +84,7 @@ fn are_led_actively(bucket: &Bucket) -> bool
 
 // Where a split is making the slice its leader is there, and active.
 fn is_led_actively(bucket: &Bucket, slice: &Slice) -> bool
-    requires { AscendByName bucket.now.replicas }
+    requires { CoresAscend bucket.now.replicas }
     ensures { IsTrue result ↔ IsLedActively bucket.now slice.now }
 {
     !slice.state.is_forming() || is_replica_active(bucket, slice.id, 1)
@@ -92,7 +92,7 @@ fn is_led_actively(bucket: &Bucket, slice: &Slice) -> bool
 
 // This replica of the slice is there, and active.
 fn is_replica_active(bucket: &Bucket, slice: SliceId, replica: u8) -> bool
-    requires names { AscendByName bucket.now.replicas }
+    requires names { CoresAscend bucket.now.replicas }
     requires counted { 0 < replica }
     ensures { IsTrue result ↔ IsThereActive bucket.now (slice.0, replica) }
 {
@@ -118,7 +118,7 @@ fn may_join(slice: &Slice, replica: u8) -> bool
 
 // Every replica of every slice that a split is making is there, and active.
 fn are_whole(bucket: &Bucket) -> bool
-    requires { AscendByName bucket.now.replicas }
+    requires { CoresAscend bucket.now.replicas }
     ensures { IsTrue result ↔ All (IsWhole bucket.now) bucket.now.map }
 {
     for at in 0..bucket.map.len() {
@@ -132,7 +132,7 @@ fn are_whole(bucket: &Bucket) -> bool
 
 // Where a split is making the slice each of its replicas is there, and active.
 fn is_whole(bucket: &Bucket, slice: &Slice) -> bool
-    requires { AscendByName bucket.now.replicas }
+    requires { CoresAscend bucket.now.replicas }
     ensures { IsTrue result ↔ IsWhole bucket.now slice.now }
 {
     !slice.state.is_forming() || has_all(bucket, slice)
@@ -140,8 +140,8 @@ fn is_whole(bucket: &Bucket, slice: &Slice) -> bool
 
 // Every replica of the slice is there, and active.
 fn has_all(bucket: &Bucket, slice: &Slice) -> bool
-    requires { AscendByName bucket.now.replicas }
-    ensures { IsTrue result ↔ All (IsThereActive bucket.now) (keys_of slice.now) }
+    requires { CoresAscend bucket.now.replicas }
+    ensures { IsTrue result ↔ All (IsThereActive bucket.now) (core_keys slice.now) }
 {
     for below in 0..slice.replicas {
         if !is_replica_active(bucket, slice.id, below + 1) {

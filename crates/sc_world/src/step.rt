@@ -2,9 +2,9 @@ ghost use Rattle.std.specs.Prelude.{◌≡◌, OnOk, OnErr};
 ghost use Rattle.sc_bucket.specs.Sound.{IsSound};
 ghost use Rattle.sc_handover.specs.Conditions.{CanBegin};
 ghost use Rattle.sc_world.specs.declared.event.Event.TheVariants as events;
-ghost use Rattle.sc_world.specs.Steps.{Can, IsOutOfMemory};
+ghost use Rattle.sc_world.specs.Steps.{Can, FindsNoMemory};
 ghost use Rattle.sc_world.specs.Runs.{IsStepped};
-ghost use Rattle.sc_world.specs.Checks.{is_out_of_memory};
+ghost use Rattle.sc_world.specs.Checks.{lacks_memory};
 
 use crate::event::Event;
 use sc_bucket::{AcceptFault, Accepted, Bucket, CommitFault};
@@ -22,7 +22,7 @@ pub(crate) fn step(alloc: Global, bucket: &mut Bucket, event: &Event) -> Result<
     requires can { Can bucket.old event.now }
     ensures sound { IsSound bucket.new }
     ensures stepped { OnOk result (IsStepped bucket.old event.now bucket.new) }
-    ensures out { OnErr result (IsOutOfMemory bucket.old event.now bucket.new) }
+    ensures out { OnErr result (FindsNoMemory bucket.old event.now bucket.new) }
 {
     match event {
         Event::Accept { order, now } => accept_order(alloc, bucket, order, *now),
@@ -82,7 +82,7 @@ fn accept_order(
     requires { IsSound bucket.old }
     ensures sound { IsSound bucket.new }
     ensures stepped { OnOk result (IsStepped bucket.old (events.Accept order.now now) bucket.new) }
-    ensures out { OnErr result (IsOutOfMemory bucket.old (events.Accept order.now now) bucket.new) }
+    ensures out { OnErr result (FindsNoMemory bucket.old (events.Accept order.now now) bucket.new) }
 {
     let answered = bucket.accept(alloc, order, now);
     if is_out_of_memory(&answered) {
@@ -93,7 +93,7 @@ fn accept_order(
 
 // Memory ran out.
 fn is_out_of_memory(answered: &Result<Accepted, AcceptFault>) -> bool
-    ensures { result ≡ is_out_of_memory answered.now }
+    ensures { result ≡ lacks_memory answered.now }
 {
     matches!(answered, Err(AcceptFault::Memory))
 }
@@ -103,7 +103,7 @@ fn commit_bucket(alloc: Global, bucket: &mut Bucket) -> Result<(), AllocError>
     requires { IsSound bucket.old }
     ensures sound { IsSound bucket.new }
     ensures stepped { OnOk result (IsStepped bucket.old events.Commit bucket.new) }
-    ensures out { OnErr result (IsOutOfMemory bucket.old events.Commit bucket.new) }
+    ensures out { OnErr result (FindsNoMemory bucket.old events.Commit bucket.new) }
 {
     match bucket.commit(alloc) {
         Err(CommitFault::Memory) => Err(AllocError),
@@ -117,7 +117,7 @@ fn begin_split(alloc: Global, bucket: &mut Bucket, plan: &SplitPlan) -> Result<(
     requires can { CanBegin bucket.old plan.now.parent plan.now.subs }
     ensures sound { IsSound bucket.new }
     ensures stepped { OnOk result (IsStepped bucket.old (events.Begin plan.now) bucket.new) }
-    ensures out { OnErr result (IsOutOfMemory bucket.old (events.Begin plan.now) bucket.new) }
+    ensures out { OnErr result (FindsNoMemory bucket.old (events.Begin plan.now) bucket.new) }
 {
     match begin(alloc, bucket, plan) {
         Ok(()) => Ok(()),

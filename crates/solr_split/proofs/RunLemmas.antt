@@ -9,7 +9,7 @@ use Rattle.sc_session.specs.States.{ConnectionState, CountsFault}
 use Rattle.sc_session.specs.Served.{IsServed}
 use Rattle.sc_session.specs.declared.end.End.{End}
 use Rattle.sc_session.specs.declared.end.End.TheVariants as ends
-use Rattle.solr_split.specs.Running.{clock_of, status_of}
+use Rattle.solr_split.specs.Running.{clock_of, exit_status}
 
 -- the timestamps of a fixed clock are those of a script that names one
 pub fixed_timestamps : {C : Type 0} (gives : C → ℕ → C → Type 0) (timestamp : ℕ) (clock : C) (timestamps : List ℕ) (old new : Fixed) → old.moment ≡ timestamp
@@ -57,7 +57,7 @@ steady : (old new : ℕ) → new ≡ old → old < new → ⊥
 steady old new e l = omega arith
 
 -- the status says that the source failed, or the sink, exactly where its count rose
-pub read_status : (end : End) (old new : ℕ) → CountsFault (end ≡ ends.ReadFault) old new → (status_of end ≡ 4) ↔ (old < new)
+pub read_status : (end : End) (old new : ℕ) → CountsFault (end ≡ ends.ReadFault) old new → (exit_status end ≡ 4) ↔ (old < new)
 read_status ends.Done old new counts = (λ e. absurd (omega arith), λ l. absurd (steady old new (counts.stays (λ e. absurd (cc))) l))
 read_status ends.Closed old new counts = (λ e. absurd (omega arith), λ l. absurd (steady old new (counts.stays (λ e. absurd (cc))) l))
 read_status ends.Limit old new counts = (λ e. absurd (omega arith), λ l. absurd (steady old new (counts.stays (λ e. absurd (cc))) l))
@@ -68,7 +68,7 @@ read_status ends.ReadFault old new counts = (λ e. counts.rises refl, λ l. refl
 read_status ends.WriteFault old new counts = (λ e. absurd (omega arith), λ l. absurd (steady old new (counts.stays (λ e. absurd (cc))) l))
 read_status ends.Memory old new counts = (λ e. absurd (omega arith), λ l. absurd (steady old new (counts.stays (λ e. absurd (cc))) l))
 
-pub write_status : (end : End) (old new : ℕ) → CountsFault (end ≡ ends.WriteFault) old new → (status_of end ≡ 5) ↔ (old < new)
+pub write_status : (end : End) (old new : ℕ) → CountsFault (end ≡ ends.WriteFault) old new → (exit_status end ≡ 5) ↔ (old < new)
 write_status ends.Done old new counts = (λ e. absurd (omega arith), λ l. absurd (steady old new (counts.stays (λ e. absurd (cc))) l))
 write_status ends.Closed old new counts = (λ e. absurd (omega arith), λ l. absurd (steady old new (counts.stays (λ e. absurd (cc))) l))
 write_status ends.Limit old new counts = (λ e. absurd (omega arith), λ l. absurd (steady old new (counts.stays (λ e. absurd (cc))) l))
@@ -80,7 +80,7 @@ write_status ends.WriteFault old new counts = (λ e. counts.rises refl, λ l. re
 write_status ends.Memory old new counts = (λ e. absurd (omega arith), λ l. absurd (steady old new (counts.stays (λ e. absurd (cc))) l))
 
 -- no connection ends with the status of bad arguments
-pub status_not_2 : (end : End) → status_of end ≡ 2 → ⊥
+pub status_not_2 : (end : End) → exit_status end ≡ 2 → ⊥
 status_not_2 ends.Done e = absurd (omega arith)
 status_not_2 ends.Closed e = absurd (omega arith)
 status_not_2 ends.Limit e = absurd (omega arith)

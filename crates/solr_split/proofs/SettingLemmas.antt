@@ -5,7 +5,7 @@ use Rattle.std.proofs.lemmas.List.{take_all, drop_all}
 use Rattle.std.specs.Prelude.{is_some}
 use Rattle.std.specs.Option.{option_copied}
 use Rattle.std.specs.Str.{bytes_eq}
-use Rattle.solr_split.specs.Arguments.{Setting, is_equals_sign, is_number, parts, settings, option_names, value_of, are_options}
+use Rattle.solr_split.specs.Arguments.{Setting, is_equals_sign, is_number, parts, settings, option_names, option_value, are_options}
 
 any_at : (word : List ℕ) → position_or_len is_equals_sign word < length word → list_any is_equals_sign word ≡ true
 any_at [] h = absurd (omega arith)
@@ -41,8 +41,8 @@ last_of_four true false c d h k l = absurd (cc)
 last_of_four false b c d h k l = absurd (cc)
 
 -- after a good option the ones after it decide
-pub after_option : (name value : List ℕ) (given : List Setting) → list_any (bytes_eq name) option_names ≡ true → is_number value ≡ true → is_some (value_of name given) ≡ false → are_options ((name, value) ∷ given) ≡ are_options given
-after_option name value given known number absent = last_of_four (list_any (bytes_eq name) option_names) (is_number value) (is_some (value_of name given)) (are_options given) known number absent
+pub after_option : (name value : List ℕ) (given : List Setting) → list_any (bytes_eq name) option_names ≡ true → is_number value ≡ true → is_some (option_value name given) ≡ false → are_options ((name, value) ∷ given) ≡ are_options given
+after_option name value given known number absent = last_of_four (list_any (bytes_eq name) option_names) (is_number value) (is_some (option_value name given)) (are_options given) known number absent
 
 pub number_there : (there : Bool) (n : ℕ) (number : Option ℕ) → number ≡ cond there (Some n) None → is_some number ≡ true → there ≡ true
 number_there true n number e h = refl

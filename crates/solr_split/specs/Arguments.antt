@@ -31,20 +31,20 @@ abbrev pub is_number : List ℕ → Bool
 is_number text = nat_lt 0 (length text) && nat_le (length text) 20 && list_all is_ascii_digit text && nat_lt (digits_value 10 text) (2 ^ 64)
 
 -- the number of a text; 0 where it is none
-abbrev pub number_of : List ℕ → ℕ
-number_of text = if is_number text then digits_value 10 text else 0
+abbrev pub number_written : List ℕ → ℕ
+number_written text = if is_number text then digits_value 10 text else 0
 
 -- the options that there are
 abbrev pub option_names : List (List ℕ)
 option_names = codes "--nodes" ∷ codes "--shards" ∷ codes "--replicas" ∷ codes "--buckets" ∷ codes "--log-limit" ∷ codes "--clock" ∷ []
 
 -- the value that an option is given
-abbrev pub value_of : List ℕ → List Setting → Option (List ℕ)
-value_of name given = option_map (λ (setting : Setting). setting.1) (find (λ (setting : Setting). bytes_eq setting.0 name) given)
+abbrev pub option_value : List ℕ → List Setting → Option (List ℕ)
+option_value name given = option_map (λ (setting : Setting). setting.1) (find (λ (setting : Setting). bytes_eq setting.0 name) given)
 
 -- the number that an option is given
 abbrev pub number_given : List ℕ → List Setting → Option ℕ
-number_given name given = option_map number_of (value_of name given)
+number_given name given = option_map number_written (option_value name given)
 
 -- the number that an option is given, or its default
 abbrev pub number_or : ℕ → List ℕ → List Setting → ℕ
@@ -53,7 +53,7 @@ number_or default name given = unwrap_or (number_given name given) default
 -- each is an option with a number for its value, and is given at most once
 abbrev pub are_options : List Setting → Bool
 are_options [] = true
-are_options ((name, value) ∷ given) = list_any (bytes_eq name) option_names && is_number value && not (is_some (value_of name given)) && are_options given
+are_options ((name, value) ∷ given) = list_any (bytes_eq name) option_names && is_number value && not (is_some (option_value name given)) && are_options given
 
 -- the shape that options ask for: by default one node, one shard with one replica, and 64 buckets, whose journals have at most 1048576 entries
 abbrev pub shape_of : List Setting → Shape
@@ -66,8 +66,8 @@ shape_of given = record {
 }
 
 -- the number is in the range
-abbrev pub is_within : ℕ → ℕ → ℕ → Bool
-is_within least most number = nat_le least number && nat_le number most
+abbrev pub is_in_option_range : ℕ → ℕ → ℕ → Bool
+is_in_option_range least most number = nat_le least number && nat_le number most
 
 -- a power of two from 1 to 256
 abbrev pub is_bucket_count : ℕ → Bool
@@ -75,7 +75,7 @@ is_bucket_count number = list_any (λ count. number == count) (1 ∷ 2 ∷ 4 ∷
 
 -- each number of the shape is one that its option may have
 abbrev pub is_shape : Shape → Bool
-is_shape shape = is_within 1 16 shape.nodes && is_within 1 64 shape.shards && is_within 1 4 shape.replicas && is_bucket_count shape.buckets && is_within 16 16777216 shape.log_limit
+is_shape shape = is_in_option_range 1 16 shape.nodes && is_in_option_range 1 64 shape.shards && is_in_option_range 1 4 shape.replicas && is_bucket_count shape.buckets && is_in_option_range 16 16777216 shape.log_limit
 
 -- what options ask for; a clock may stand still at any timestamp
 abbrev pub script_by : List Setting → Option Script

@@ -12,16 +12,16 @@ use Rattle.sc_session.specs.Served.{IsServed}
 use Rattle.solr_split.specs.declared.arguments.Script.{Script}
 
 -- the exit status by how the connection ended
-abbrev pub status_of : End → ℕ
-status_of ends.Done = 0
-status_of ends.Closed = 0
-status_of ends.Limit = 0
-status_of ends.Cut = 3
-status_of ends.BadHead = 3
-status_of ends.TooLarge = 3
-status_of ends.ReadFault = 4
-status_of ends.WriteFault = 5
-status_of ends.Memory = 6
+abbrev pub exit_status : End → ℕ
+exit_status ends.Done = 0
+exit_status ends.Closed = 0
+exit_status ends.Limit = 0
+exit_status ends.Cut = 3
+exit_status ends.BadHead = 3
+exit_status ends.TooLarge = 3
+exit_status ends.ReadFault = 4
+exit_status ends.WriteFault = 5
+exit_status ends.Memory = 6
 
 -- the clock of a script: the one that was handed in, or one that stands still and leaves that as it was
 abbrev pub clock_of : {C : Type 0} → Option ℕ → (C → ℕ → C → Type 0) → C → ℕ → C → Type 0
@@ -63,7 +63,7 @@ pub record RunsScript {C : Type 0} (script : Script) (gives : C → ℕ → C �
   pub empty : SeesNothing (seen_of began)
   pub layout : ended.layout ≡ began.layout
   pub served : IsServed (clock_of script.clock gives) began.layout (state_of (seen_of began) none_kept before) (state_of (seen_of ended) kept after) end
-  pub status_is : status ≡ status_of end
+  pub status_is : status ≡ exit_status end
 
 -- a script was run; or memory ran out before it began, and all was left as it was
 abbrev pub Runs : {C : Type 0} → Script → (C → ℕ → C → Type 0) → (before after : Outside C) → (untouched : Type 0) → ℕ → Type 0

@@ -64,7 +64,7 @@ fn shape_of(options: &[String]) -> Option<Shape>
 
 /// The number, where it is in the range.
 fn within(number: u64, least: u32, most: u32) -> Option<u32>
-    ensures { result ≡ (if asked.is_within least most number then Some number else None) }
+    ensures { result ≡ (if asked.is_in_option_range least most number then Some number else None) }
 {
     if u64::from(least) <= number && number <= u64::from(most) {
         Some(number as u32)
@@ -105,7 +105,7 @@ fn number_given(options: &[String], name: &str) -> Option<u64>
 
 /// The value that an option is given first.
 fn value_of<'a>(options: &'a [String], name: &str) -> Option<&'a str>
-    ensures { option_copied result ≡ asked.value_of name.now (asked.settings (map string_bytes options.now)) }
+    ensures { option_copied result ≡ asked.option_value name.now (asked.settings (map string_bytes options.now)) }
 {
     let mut rest = options;
     while let Some((found, value, after)) = next_option(rest) {

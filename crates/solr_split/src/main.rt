@@ -4,6 +4,16 @@
 //! those that it reads, and its status. `main` hands it the machine's streams and clock, and says to a
 //! person what a status other than 0 means. It depends on `sc_session`, whose `serve` it calls, and on `sc_collection`, whose
 //! `Alone` keeps the collection.
+//!
+//! Proved: `run`: the status for all arguments and faults, and the bytes if source and sink report theirs, by the promise of
+//! `sc_session`.
+//!
+//! Tested alone: that `run` does not say "out of memory" while there is memory; the shipped program's own bytes and status,
+//! by the stored run, which sends a document of over 200,000 bytes through standard input and output and ends with status 3;
+//! the texts of the usage and of the line for each status.
+//!
+//! Neither: that these lines reach standard error, and that `main` hands over standard input and output and the machine's
+//! clock.
 #![tactic(auto)]
 
 mod arguments;

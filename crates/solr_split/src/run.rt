@@ -2,7 +2,7 @@ ghost use Rattle.std.specs.Prelude.{◌≡◌, ◌<◌, ◌↔◌, map, IfOk, If
 ghost use Rattle.sc_session.specs.Served.{IsServed};
 ghost use Rattle.sc_collection.specs.Alone.{seen_of};
 ghost use Rattle.sc_collection.specs.Shapes.{IsShape, HasShape, SeesNothing};
-ghost use Rattle.solr_split.specs.Running.{Runs, clock_of, state_of, none_kept, status_of};
+ghost use Rattle.solr_split.specs.Running.{Runs, clock_of, state_of, none_kept, exit_status};
 ghost use Rattle.solr_split.specs.Arguments.{script_of};
 
 use crate::arguments::script_of;
@@ -93,7 +93,7 @@ fn memory_of(alloc: Global, shape: &Shape) -> Result<(Alone, Trail), AllocError>
 
 /// The exit status by how the connection ended.
 fn status_of(end: End) -> u8
-    ensures { result ≡ status_of end }
+    ensures { result ≡ exit_status end }
 {
     match end {
         End::Done | End::Closed | End::Limit => 0,

@@ -3,14 +3,14 @@ use Rattle.std.proofs.Common.{◌∙◌, All, map, sym, ap, subst, arith}
 use Rattle.std.proofs.lemmas.Int.{ints}
 use Rattle.std.proofs.lemmas.List.Elements.{All-push}
 use Rattle.sc_replica.specs.Core.{Core}
-use Rattle.sc_bucket.specs.Cores.{core_key, IsCounted, IsNew}
+use Rattle.sc_bucket.specs.Cores.{core_key, IsCounted, IsNewCore}
 use Rattle.sc_bucket.proofs.CoreLemmas.{keys_more}
 use Rattle.sc_bucket.proofs.replicas.push_replicas.Goals as goal
 
 pub loop-below-preserved : goal.loop-below-preserved
 loop-below-preserved c =
     let core = c.new.result in
-    let is_new : IsNew core = record {
+    let is_new : IsNewCore core = record {
       cells = ap (λ (core : Core). core.cells) c.new.ensures.value;
       buffer = ap (λ (core : Core). core.buffer) c.new.ensures.value;
       active = ap (λ (core : Core). core.mode) c.new.ensures.value;
@@ -23,8 +23,8 @@ loop-below-preserved c =
       keys = ap (map core_key) c.in_ok-push.ensures.items
           ∙ keys_more c.args.slice.now.id.0 c.loop-below.below (map core_key c.args.replicas.now.items) c.loop-below.replicas.items core
           c.loop-below.invariant.keys (ap core_key c.new.ensures.value);
-      new = λ all. subst (All IsNew) (sym c.in_ok-push.ensures.items)
-          (All-push IsNew c.loop-below.replicas.items core (c.loop-below.invariant.new all) is_new);
+      new = λ all. subst (All IsNewCore) (sym c.in_ok-push.ensures.items)
+          (All-push IsNewCore c.loop-below.replicas.items core (c.loop-below.invariant.new all) is_new);
       counted = λ all. subst (All IsCounted) (sym c.in_ok-push.ensures.items)
           (All-push IsCounted c.loop-below.replicas.items core (c.loop-below.invariant.counted all) counted);
     }

@@ -3,15 +3,15 @@ use Rattle.std.proofs.Common.{◌+◌, ◌∙◌, ℕ, Option, Some, length, ref
 use Rattle.std.proofs.lemmas.List.{length_push}
 use Rattle.sc_bucket.specs.declared.bucket.Bucket.{Bucket}
 use Rattle.sc_cluster.proofs.ItemLemmas.{each_push}
-use Rattle.sc_collection.specs.Alone.{IsNew}
+use Rattle.sc_collection.specs.Alone.{IsNewSlot}
 use Rattle.sc_collection.proofs.alone.new_slots.Goals as goal
 
 pub loop-b-preserved : goal.loop-b-preserved
 loop-b-preserved c =
     let made = c.in_ok-new.ensures in
     let bucket : Bucket = c.in_ok-new.field-0 in
-    let IsNext = λ (_ : ℕ) (slot : Option Bucket). IsNew c.args.first.now c.args.limit slot in
-    let new : IsNew c.args.first.now c.args.limit (Some bucket) = record {
+    let IsNext = λ (_ : ℕ) (slot : Option Bucket). IsNewSlot c.args.first.now c.args.limit slot in
+    let new : IsNewSlot c.args.first.now c.args.limit (Some bucket) = record {
       bucket = bucket;
       there = refl;
       sound = made.sound;

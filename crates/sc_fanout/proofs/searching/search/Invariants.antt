@@ -2,7 +2,7 @@
 use Rattle.std.proofs.Common.{◌≡◌, ◌+◌, length, map}
 use Rattle.std.specs.Arc.{arc_value}
 use Rattle.sc_journal.specs.Moments.{view_of}
-use Rattle.sc_collection.specs.Desks.{IsAtRest}
+use Rattle.sc_collection.specs.Desks.{IsDeskAtRest}
 use Rattle.sc_fanout.proofs.SearchLemmas.{FoundSoFar}
 use Rattle.sc_fanout.proofs.searching.search.Given as goal
 
@@ -11,7 +11,7 @@ invariant-loop-b g l = record {
   far : FoundSoFar (g.D.Desk.layout l.fn.desk) (view_of (g.D.Desk.seen l.fn.desk) l.fn.trail.stops) (view_of (g.D.Desk.seen l.desk) l.trail.stops)
       l.ask l.b (map (map arc_value) l.lists.items);
   layout : g.D.Desk.layout l.desk ≡ g.D.Desk.layout l.fn.desk;
-  rest : IsAtRest (g.D.Desk.layout l.desk) (g.D.Desk.out l.desk) (g.D.Desk.seen l.desk);
+  rest : IsDeskAtRest (g.D.Desk.layout l.desk) (g.D.Desk.out l.desk) (g.D.Desk.seen l.desk);
   stops : length l.trail.stops ≡ length l.fn.trail.stops + l.b;
   requests : l.trail.requests ≡ l.fn.trail.requests;
 }

@@ -4,7 +4,7 @@ use Rattle.solr_split.specs.Arguments as asked
 use Rattle.solr_split.proofs.arguments.value_of.Given as goal
 
 abbrev pub invariant-loop-found : goal.invariant-loop-found
-invariant-loop-found l = asked.value_of l.name (asked.settings (map string_bytes l.options)) ≡ asked.value_of l.name (asked.settings (map string_bytes l.rest))
+invariant-loop-found l = asked.option_value l.name (asked.settings (map string_bytes l.options)) ≡ asked.option_value l.name (asked.settings (map string_bytes l.rest))
 
 abbrev pub decreases-loop-found : goal.decreases-loop-found
 decreases-loop-found l = length l.rest

@@ -20,7 +20,7 @@ use Rattle.sc_cluster.specs.Map.{Leads}
 use Rattle.sc_cluster.proofs.ListLemmas.{Contains-map}
 use Rattle.sc_cluster.proofs.PairLemmas.{AllPairs-from_map}
 use Rattle.sc_replica.specs.Core.{Core}
-use Rattle.sc_bucket.specs.Cores.{core_key, core_keys, core_keys, is_core, core_number, CoresAscend, AreApart, IsLeaderOf, IsLeaderAt}
+use Rattle.sc_bucket.specs.Cores.{core_key, core_keys, slice_keys, is_core, core_number, CoresAscend, AreApart, IsLeaderOf, IsLeaderAt}
 use Rattle.sc_bucket.proofs.PlaceLemmas.{some_at}
 use mathlib.Core.HLevel.{is_prop→PathP}
 use native.Mathlib.Bridge.{le_prop}
@@ -109,19 +109,19 @@ IsLeaderOf-from_key slice core same =
     (ap (λ (key : ℕ × ℕ). record { 0 = key.0 }) same, ap (λ (key : ℕ × ℕ). key.1) same)
 
 -- the names of a slice's cores begin with that of its leader
-leader_of_slice : (slice : Slice) → Contains (core_keys slice) (slice.id.0, 1)
+leader_of_slice : (slice : Slice) → Contains (slice_keys slice) (slice.id.0, 1)
 leader_of_slice slice =
     Contains-map (λ (replica : ℕ). (slice.id.0, replica)) (range_with_len 1 slice.replicas) 1
     (0, omega (arith, length-range_with_len 1 slice.replicas, slice.replicated), get_or-range_with_len 1 slice.replicas 0 1 slice.replicated)
 
 -- a slice's names are among those of the map
 pub keys_among : (slices : List Slice) (slice : Slice) (key : ℕ × ℕ) → Contains slices slice
-    → Contains (core_keys slice) key → Contains (core_keys slices) key
+    → Contains (slice_keys slice) key → Contains (core_keys slices) key
 keys_among [] slice key (k, below, is) there = absurd (omega arith)
 keys_among (first ∷ slices) slice key (zero, below, is) there =
-    Contains-append_left (core_keys first) (core_keys slices) key (subst (λ (s : Slice). Contains (core_keys s) key) (sym is) there)
+    Contains-append_left (slice_keys first) (core_keys slices) key (subst (λ (s : Slice). Contains (slice_keys s) key) (sym is) there)
 keys_among (first ∷ slices) slice key (suc k, below, is) there =
-    Contains-append_right (core_keys first) (core_keys slices) key (keys_among slices slice key (k, omega arith, is) there)
+    Contains-append_right (slice_keys first) (core_keys slices) key (keys_among slices slice key (k, omega arith, is) there)
 
 -- where every slice has all its cores, there is a core of each leader's name
 has_leader : (slices : List Slice) (cores : List Core) (slice : Slice) → map core_key cores ≡ core_keys slices
@@ -210,10 +210,10 @@ IsLeaderAt-within slices cores hash at leader = slice_get_within cores at leader
 
 -- the names of the first slices' cores, and those of the next
 pub keys-push : (slices : List Slice) (at : ℕ) (slice : Slice) → slice_get slices at ≡ Some slice
-    → core_keys (take at slices) ++ core_keys slice ≡ core_keys (take (at + 1) slices)
+    → core_keys (take at slices) ++ slice_keys slice ≡ core_keys (take (at + 1) slices)
 keys-push slices at slice there =
-    ap (λ keys. core_keys (take at slices) ++ keys) (sym (append-nil (core_keys slice)))
-    ∙ sym (flat_map-append core_keys (take at slices) (slice ∷ []))
+    ap (λ keys. core_keys (take at slices) ++ keys) (sym (append-nil (slice_keys slice)))
+    ∙ sym (flat_map-append slice_keys (take at slices) (slice ∷ []))
     ∙ ap core_keys (sym (take_more slices at slice (slice_get_within slices at slice there)
     ∙ ap (λ (s : Slice). take at slices ++ s ∷ []) (get_or_from_slice_get slices at slice slice there)))
 

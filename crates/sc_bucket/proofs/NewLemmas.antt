@@ -18,7 +18,7 @@ use Rattle.sc_journal.specs.Journal.{writes, unsettled}
 use Rattle.sc_journal.specs.Splits.{map_after, open_split, owed, is_inactive}
 use Rattle.sc_journal.proofs.LegalLemmas.{IsLegal-none}
 use Rattle.sc_bucket.specs.Kept.{Sent, FeedState}
-use Rattle.sc_bucket.specs.Cores.{core_key, core_keys, core_keys, core_number, is_core, CoresAscend, IsCounted, IsNewCore, IsCoreWithoutRoom}
+use Rattle.sc_bucket.specs.Cores.{core_key, core_keys, slice_keys, core_number, is_core, CoresAscend, IsCounted, IsNewCore, IsCoreWithoutRoom}
 use Rattle.sc_bucket.specs.Searchers.{AreTaken}
 use Rattle.sc_bucket.specs.Flight.{in_flight, is_same_message}
 use Rattle.sc_bucket.specs.Pending.{to_feed, pending}
@@ -149,7 +149,7 @@ abbrev ComesBefore : ℕ × ℕ → ℕ × ℕ → Type 0
 ComesBefore one other = number_of one < number_of other
 
 -- the names of a slice's cores ascend
-ascend_in_slice : (slice : Slice) → AllPairs ComesBefore (core_keys slice)
+ascend_in_slice : (slice : Slice) → AllPairs ComesBefore (slice_keys slice)
 ascend_in_slice slice =
     AllPairs-map ComesBefore (λ (replica : ℕ). (slice.id.0, replica)) (range_with_len 1 slice.replicas)
     (λ i j d before within.
@@ -163,10 +163,10 @@ key_of_slice : (slices : List Slice) (key : ℕ × ℕ) → Contains (core_keys 
     → (slice : Slice) × Contains slices slice × (key.0 ≡ slice.id.0)
 key_of_slice [] key (k, below, is) = absurd (omega arith)
 key_of_slice (slice ∷ slices) key there =
-    by (key_of_slice slices key) (Contains-append_cases (core_keys slice) (core_keys slices) key there)
+    by (key_of_slice slices key) (Contains-append_cases (slice_keys slice) (core_keys slices) key there)
   where
     by : (Contains (core_keys slices) key → (one : Slice) × Contains slices one × (key.0 ≡ one.id.0))
-        → Contains (core_keys slice) key ⊎ Contains (core_keys slices) key
+        → Contains (slice_keys slice) key ⊎ Contains (core_keys slices) key
         → (one : Slice) × Contains (slice ∷ slices) one × (key.0 ≡ one.id.0)
     by rest (inl here) =
         let (replica, inside, is) = Contains-from_map (λ (replica : ℕ). (slice.id.0, replica)) (range_with_len 1 slice.replicas) key here in
@@ -182,10 +182,10 @@ keys_ascend [] rise counted = λ i j d before within. absurd (omega arith)
 keys_ascend (slice ∷ slices) rise counted =
     let IsFew : ℕ × ℕ → Type 0 = λ key. key.1 < 2 ^ 8 in
     let rest : All IsFew (core_keys slices) = All-weaker (Contains (core_keys slices)) IsFew
-    (λ key inside. All-contains IsFew (core_keys slice ++ core_keys slices) key counted
-    (Contains-append_right (core_keys slice) (core_keys slices) key inside))
+    (λ key inside. All-contains IsFew (slice_keys slice ++ core_keys slices) key counted
+    (Contains-append_right (slice_keys slice) (core_keys slices) key inside))
     (core_keys slices) (All-contains_itself (core_keys slices)) in
-    AllPairs-append ComesBefore (core_keys slice) (core_keys slices) (ascend_in_slice slice)
+    AllPairs-append ComesBefore (slice_keys slice) (core_keys slices) (ascend_in_slice slice)
     (keys_ascend slices (λ i j d before within. rise (suc i) (suc j) d (omega arith) (omega arith)) rest)
     (λ one other of_slice later.
     let (replica, inside, is) =
@@ -194,8 +194,8 @@ keys_ascend (slice ∷ slices) rise counted =
     let less = rise 0 (suc k) after (omega arith) (omega arith) in
     let first : slice.id.0 ≡ one.0 = ap (λ (key : ℕ × ℕ). key.0) is in
     let there : (get_or slices k after).id.0 ≡ after.id.0 = ap (λ (s : Slice). s.id.0) at in
-    let few : one.1 < 2 ^ 8 = All-contains IsFew (core_keys slice ++ core_keys slices) one counted
-    (Contains-append_left (core_keys slice) (core_keys slices) one of_slice) in
+    let few : one.1 < 2 ^ 8 = All-contains IsFew (slice_keys slice ++ core_keys slices) one counted
+    (Contains-append_left (slice_keys slice) (core_keys slices) one of_slice) in
     omega (arith, less, first, named, there, few))
 
 -- so the cores ascend that have the names of a map
@@ -225,11 +225,11 @@ HasCores-new b first limit is_map made =
       of_map = subst (All (Contains (core_keys b.map))) (sym keys) (All-contains_itself (core_keys b.map));
       leaders = have_leaders b.map b.replicas keys;
       whole = All-weaker (Contains b.map)
-          (λ (slice : Slice). is_forming slice ≡ false → All (Contains (map core_key b.replicas)) (core_keys slice))
-          (λ slice there whole. All-weaker (Contains (core_keys slice)) (Contains (map core_key b.replicas))
+          (λ (slice : Slice). is_forming slice ≡ false → All (Contains (map core_key b.replicas)) (slice_keys slice))
+          (λ slice there whole. All-weaker (Contains (slice_keys slice)) (Contains (map core_key b.replicas))
           (λ key inside. subst (λ (names : List (ℕ × ℕ)). Contains names key) (sym keys)
           (keys_among b.map slice key there inside))
-          (core_keys slice) (All-contains_itself (core_keys slice)))
+          (slice_keys slice) (All-contains_itself (slice_keys slice)))
           b.map (All-contains_itself b.map);
       active = λ k d below slice there same whole. (made.new k d below).active;
     }

@@ -24,7 +24,7 @@ use Rattle.sc_replica.specs.Core.{Core, IsCore}
 use Rattle.sc_journal.specs.Journal.{writes, write_at, is_settled, last_of, last_write}
 use Rattle.sc_journal.specs.Splits.{open_split}
 use Rattle.sc_bucket.specs.Kept.{Sent, FeedState}
-use Rattle.sc_bucket.specs.Cores.{core_key, core_keys, core_keys, is_core, is_attached, IsLeaderAt, without_room}
+use Rattle.sc_bucket.specs.Cores.{core_key, core_keys, slice_keys, is_core, is_attached, IsLeaderAt, without_room}
 use Rattle.sc_bucket.specs.Searchers.{ArePrepared}
 use Rattle.sc_bucket.specs.Flight.{is_same_message}
 use Rattle.sc_bucket.specs.Pending.{pending}
@@ -156,7 +156,7 @@ all_left P old_map new_map old_writes new_writes old_messages new_messages old_f
 
 -- each replica of the slice is there, where no split is making it
 abbrev IsWhole : List (ℕ × ℕ) → Slice → Type 0
-IsWhole keys slice = is_forming slice ≡ false → All (Contains keys) (core_keys slice)
+IsWhole keys slice = is_forming slice ≡ false → All (Contains keys) (slice_keys slice)
 
 -- The cores are those that have to be there, where they have the same names and the map stays, and those of slices
 -- that no split is making are active.

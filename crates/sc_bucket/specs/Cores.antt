@@ -15,12 +15,12 @@ abbrev pub core_key : Core → ℕ × ℕ
 core_key core = (core.core.slice.0, core.core.replica)
 
 -- the names of the cores of a slice: its replicas, from 1
-abbrev pub core_keys : Slice → List (ℕ × ℕ)
-core_keys slice = map (λ (replica : ℕ). (slice.id.0, replica)) (range_with_len 1 slice.replicas)
+abbrev pub slice_keys : Slice → List (ℕ × ℕ)
+slice_keys slice = map (λ (replica : ℕ). (slice.id.0, replica)) (range_with_len 1 slice.replicas)
 
 -- the names of the cores of a map: slice after slice, replica after replica
 abbrev pub core_keys : List Slice → List (ℕ × ℕ)
-core_keys slices = flat_map core_keys slices
+core_keys slices = flat_map slice_keys slices
 
 -- the two names are those of one core
 abbrev pub is_core : CoreId → CoreId → Bool

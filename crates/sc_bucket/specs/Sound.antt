@@ -21,7 +21,7 @@ use Rattle.sc_journal.specs.Legal.{IsLegal}
 use Rattle.sc_journal.specs.Outcomes.{IsClock}
 use Rattle.sc_journal.specs.Committed.{last_commit}
 use Rattle.sc_bucket.specs.Kept.{Sent, FeedState}
-use Rattle.sc_bucket.specs.Cores.{core_key, core_keys, core_keys, is_attached, CoresAscend, IsCounted, is_core, IsCoreWithoutRoom}
+use Rattle.sc_bucket.specs.Cores.{core_key, core_keys, slice_keys, is_attached, CoresAscend, IsCounted, is_core, IsCoreWithoutRoom}
 use Rattle.sc_bucket.specs.Searchers.{rows_of, AreOfEachSlice, ShowsCommitted, ArePrepared}
 use Rattle.sc_bucket.specs.Flight.{in_flight, is_same_message}
 use Rattle.sc_bucket.specs.Pending.{pending}
@@ -113,7 +113,7 @@ pub record HasCores (b : Bucket) : Type 0 where
   pub ascend : CoresAscend b.replicas
   pub of_map : All (Contains (core_keys b.map)) (map core_key b.replicas)
   pub leaders : All (λ (slice : Slice). Contains (map core_key b.replicas) (slice.id.0, 1)) b.map
-  pub whole : All (λ (slice : Slice). is_forming slice ≡ false → All (Contains (map core_key b.replicas)) (core_keys slice)) b.map
+  pub whole : All (λ (slice : Slice). is_forming slice ≡ false → All (Contains (map core_key b.replicas)) (slice_keys slice)) b.map
   pub active : OfEachCore b (λ (slice : Slice) (core : Core). is_forming slice ≡ false → core.mode ≡ Active)
 
 -- A feed is of a core that buffers what comes, of a slice that a split is making, and has that slice's range.

@@ -3,7 +3,7 @@ ghost use Rattle.std.specs.Arc.{arc_value};
 ghost use Rattle.std.specs.List.{insert};
 ghost use Rattle.sc_replica.specs.Core.{Core, led, received, fed, replayed};
 ghost use Rattle.sc_replica.specs.Deliveries.{replaying};
-ghost use Rattle.sc_bucket.specs.Cores.{core_key, core_keys, core_keys, core_number, put_by_name, is_of_one, is_core, IsCounted, IsNewCore, with_room};
+ghost use Rattle.sc_bucket.specs.Cores.{core_key, core_keys, slice_keys, core_number, put_by_name, is_of_one, is_core, IsCounted, IsNewCore, with_room};
 
 use sc_cluster::{ClusterMap, Slice};
 use sc_record::{Cell, CoreId};
@@ -191,7 +191,7 @@ fn push_replicas(
     replicas: &mut Vec<Replica>,
     slice: &Slice,
 ) -> Result<(), AllocError>
-    ensures keys { OnOk result (map core_key replicas.new.items ≡ map core_key replicas.old.items ++ core_keys slice.now) }
+    ensures keys { OnOk result (map core_key replicas.new.items ≡ map core_key replicas.old.items ++ slice_keys slice.now) }
     ensures new { All IsNewCore replicas.old.items → All IsNewCore replicas.new.items }
     ensures counted { All IsCounted replicas.old.items → All IsCounted replicas.new.items }
 {

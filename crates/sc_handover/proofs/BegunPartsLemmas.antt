@@ -20,7 +20,7 @@ use Rattle.sc_cluster.proofs.PairLemmas.{Contains-from_map}
 use Rattle.sc_ulog.specs.declared.mode.Mode.TheVariants.{Active}
 use Rattle.sc_replica.specs.Core.{Core}
 use Rattle.sc_bucket.specs.Kept.{FeedState}
-use Rattle.sc_bucket.specs.Cores.{core_key, core_keys, core_keys, core_number, is_core, IsCounted, without_room}
+use Rattle.sc_bucket.specs.Cores.{core_key, core_keys, slice_keys, core_number, is_core, IsCounted, without_room}
 use Rattle.sc_bucket.specs.Sound.{HasCores, IsFeed, AreFeeds}
 use Rattle.sc_bucket.specs.declared.bucket.Bucket.{Bucket}
 use Rattle.sc_bucket.proofs.CoreLemmas.{keys_among}
@@ -111,7 +111,7 @@ HasCores-begun old new parent subs snapshot made has plan is_map map_is replicas
   new_keys = map key_of subs
 
   IsWhole : List (ℕ × ℕ) → Slice → Type 0
-  IsWhole keys slice = is_forming slice ≡ false → All (Contains keys) (core_keys slice)
+  IsWhole keys slice = is_forming slice ≡ false → All (Contains keys) (slice_keys slice)
 
   IsActiveOf : List Slice → Core → Type 0
   IsActiveOf slices core = (slice : Slice) → Contains slices slice → slice.id ≡ core.core.slice
@@ -128,7 +128,7 @@ HasCores-begun old new parent subs snapshot made has plan is_map map_is replicas
 
   among : (key : ℕ × ℕ) → Contains (core_keys old.map) key → Contains (core_keys others) key
   among key there =
-      subst (λ (keys : List (ℕ × ℕ)). Contains keys key) (sym (flat_map-append core_keys old.map (map begun_slice subs)))
+      subst (λ (keys : List (ℕ × ℕ)). Contains keys key) (sym (flat_map-append slice_keys old.map (map begun_slice subs)))
       (Contains-append_left (core_keys old.map) (core_keys (map begun_slice subs)) key there)
 
   its_key : (sub : SubSlice) → Contains subs sub → Contains (core_keys others) (key_of sub)
@@ -140,7 +140,7 @@ HasCores-begun old new parent subs snapshot made has plan is_map map_is replicas
   still_whole : (slice : Slice) → IsWhole old_keys slice → IsWhole (old_keys ++ new_keys) slice
   still_whole slice whole settled =
       All-weaker (Contains old_keys) (Contains (old_keys ++ new_keys))
-      (λ key there. Contains-append_left old_keys new_keys key there) (core_keys slice) (whole settled)
+      (λ key there. Contains-append_left old_keys new_keys key there) (slice_keys slice) (whole settled)
 
   still_active : (core : Core) → Contains old.replicas core → IsActiveOf others core
   still_active core inside slice there named settled =

@@ -20,7 +20,7 @@ use Rattle.sc_ulog.specs.declared.mode.Mode.TheVariants.{Active}
 use Rattle.sc_replica.specs.Core.{Core}
 use Rattle.sc_journal.specs.Journal.{writes}
 use Rattle.sc_bucket.specs.Kept.{Sent, FeedState}
-use Rattle.sc_bucket.specs.Cores.{core_key, core_keys, core_keys, is_core, core_number, IsCounted, put_by_name, without_room, IsCoreWithoutRoom}
+use Rattle.sc_bucket.specs.Cores.{core_key, core_keys, slice_keys, is_core, core_number, IsCounted, put_by_name, without_room, IsCoreWithoutRoom}
 use Rattle.sc_bucket.specs.Flight.{in_flight, is_to}
 use Rattle.sc_bucket.specs.Pending.{is_within, is_feed_of, left_of, to_feed, pending}
 use Rattle.sc_bucket.specs.Sound.{HasLastWrites, IsInRange, IsSent, HasCores, IsFeed, AreFeeds, IsInPhase, IsSound}
@@ -223,7 +223,7 @@ core_is_sound b name sub core feed may =
 -- ---- the names of the cores
 -- the new core's is one of the sub's
 key_of_sub : (b : Bucket) (name : CoreId) (sub : Slice) → CanGrow b name sub
-    → Contains (core_keys sub) (name.slice.0, name.replica)
+    → Contains (slice_keys sub) (name.slice.0, name.replica)
 key_of_sub b name sub can =
     let count = length-range_with_len 1 sub.replicas in
     let below : name.replica - 1 < length (range_with_len 1 sub.replicas) = omega (arith, count, can.above, can.planned) in
@@ -233,7 +233,7 @@ key_of_sub b name sub can =
       get_or-range_with_len 1 sub.replicas (name.replica - 1) name.replica (omega (arith, can.above, can.planned))
           ∙ omega (arith, can.above),
     ) in
-    subst (λ (id : SliceId). Contains (core_keys sub) (id.0, name.replica)) (sym can.of_sub)
+    subst (λ (id : SliceId). Contains (slice_keys sub) (id.0, name.replica)) (sym can.of_sub)
     (Contains-map (λ (n : ℕ). (sub.id.0, n)) (range_with_len 1 sub.replicas) name.replica replica)
 
 HasCores-joined : (b : Bucket) (name : CoreId) (sub : Slice) (core : Core) (feed : FeedState) → MayJoin b name sub core feed
@@ -249,10 +249,10 @@ HasCores-joined b name sub core feed may = record {
   leaders = All-weaker (λ (slice : Slice). Contains (map core_key b.replicas) (slice.id.0, 1))
       (λ (slice : Slice). Contains (map core_key (put_by_name core b.replicas)) (slice.id.0, 1))
       (λ slice there. Contains-map_put core_key core b.replicas (slice.id.0, 1) there) b.map has.leaders;
-  whole = All-weaker (λ (slice : Slice). is_forming slice ≡ false → All (Contains (map core_key b.replicas)) (core_keys slice))
-      (λ (slice : Slice). is_forming slice ≡ false → All (Contains (map core_key (put_by_name core b.replicas))) (core_keys slice))
+  whole = All-weaker (λ (slice : Slice). is_forming slice ≡ false → All (Contains (map core_key b.replicas)) (slice_keys slice))
+      (λ (slice : Slice). is_forming slice ≡ false → All (Contains (map core_key (put_by_name core b.replicas))) (slice_keys slice))
       (λ slice all settled. All-weaker (Contains (map core_key b.replicas)) (Contains (map core_key (put_by_name core b.replicas)))
-      (λ one there. Contains-map_put core_key core b.replicas one there) (core_keys slice) (all settled)) b.map has.whole;
+      (λ one there. Contains-map_put core_key core b.replicas one there) (slice_keys slice) (all settled)) b.map has.whole;
   active = All-put (λ (c : Core). (slice : Slice) → Contains b.map slice → slice.id ≡ c.core.slice → is_forming slice ≡ false → c.mode ≡ Active)
       core b.replicas
       (λ slice there of_core settled.

@@ -16,7 +16,7 @@ use Rattle.sc_cluster.proofs.OrderLemmas.{IsStrictlyIncreasing-map-filter}
 use Rattle.sc_cluster.proofs.PairLemmas.{Contains-from_map}
 use Rattle.sc_ulog.specs.declared.mode.Mode.TheVariants.{Active}
 use Rattle.sc_replica.specs.Core.{Core}
-use Rattle.sc_bucket.specs.Cores.{core_key, core_keys, core_keys, core_number, is_of_one, IsCounted}
+use Rattle.sc_bucket.specs.Cores.{core_key, core_keys, slice_keys, core_number, is_of_one, IsCounted}
 use Rattle.sc_bucket.specs.Sound.{HasCores}
 use Rattle.sc_bucket.specs.declared.bucket.Bucket.{Bucket}
 use Rattle.sc_bucket.proofs.CoreLemmas.{keys_among}
@@ -57,7 +57,7 @@ All-kept P p xs each =
     (filter p xs) (All-contains_itself (filter p xs))
 
 -- a name of a slice's cores is of the slice
-key_is_of : (slice : Slice) (key : ℕ × ℕ) → Contains (core_keys slice) key → key.0 ≡ slice.id.0
+key_is_of : (slice : Slice) (key : ℕ × ℕ) → Contains (slice_keys slice) key → key.0 ≡ slice.id.0
 key_is_of slice key there =
     let (replica, inside, is) =
     Contains-from_map (λ (replica : ℕ). (slice.id.0, replica)) (range_with_len 1 slice.replicas) key there in
@@ -65,13 +65,13 @@ key_is_of slice key there =
 
 -- a name of the map's cores is one of a slice's
 pub slice_of_key : (slices : List Slice) (key : ℕ × ℕ) → Contains (core_keys slices) key
-    → (slice : Slice) × Contains slices slice × Contains (core_keys slice) key
+    → (slice : Slice) × Contains slices slice × Contains (slice_keys slice) key
 slice_of_key [] key (k, below, is) = absurd (omega arith)
 slice_of_key (first ∷ slices) key there =
-    by (slice_of_key slices key) (Contains-append_cases (core_keys first) (core_keys slices) key there) where
-      by : (Contains (core_keys slices) key → (slice : Slice) × Contains slices slice × Contains (core_keys slice) key)
-          → Contains (core_keys first) key ⊎ Contains (core_keys slices) key
-          → (slice : Slice) × Contains (first ∷ slices) slice × Contains (core_keys slice) key
+    by (slice_of_key slices key) (Contains-append_cases (slice_keys first) (core_keys slices) key there) where
+      by : (Contains (core_keys slices) key → (slice : Slice) × Contains slices slice × Contains (slice_keys slice) key)
+          → Contains (slice_keys first) key ⊎ Contains (core_keys slices) key
+          → (slice : Slice) × Contains (first ∷ slices) slice × Contains (slice_keys slice) key
       by rest (inl here) = (first, (0, omega arith, refl), here)
       by rest (inr later) =
           let (slice, (k, below, is), inside) = rest later in (slice, (suc k, omega arith, is), inside)
@@ -88,7 +88,7 @@ key_kept all slices core is_map some there kept =
     let same : one ≡ slice =
     same_from_id all one slice is_map one_there (some slice slice_there) (same_number one.id slice.id number) in
     keys_among slices slice (core_key core) slice_there
-    (subst (λ (s : Slice). Contains (core_keys s) (core_key core)) same inside)
+    (subst (λ (s : Slice). Contains (slice_keys s) (core_key core)) same inside)
 
 -- a core of a slice that stays, which is there, stays
 key_stays : (slices : List Slice) (cores : List Core) (slice : Slice) (key : ℕ × ℕ) → Contains slices slice
@@ -105,7 +105,7 @@ key_stays slices cores slice key there of_slice inside =
 
 -- each replica of the slice is there, where no split is making it
 abbrev IsWhole : List (ℕ × ℕ) → Slice → Type 0
-IsWhole keys slice = is_forming slice ≡ false → All (Contains keys) (core_keys slice)
+IsWhole keys slice = is_forming slice ≡ false → All (Contains keys) (slice_keys slice)
 
 -- So the cores are those that have to be there.
 pub HasCores-kept : (old new : Bucket) → IsMap old.map → AreSome new.map old.map
@@ -125,8 +125,8 @@ HasCores-kept old new is_map some cores has = record {
       (All-contains (λ (s : Slice). Contains (map core_key old.replicas) (s.id.0, 1)) old.map slice has.leaders
       (some slice there)));
   whole = each_slice (IsWhole (map core_key new.replicas))
-      (λ slice there done k d below. stays slice (get_or (core_keys slice) k d) there
-      (key_is_of slice (get_or (core_keys slice) k d) (Contains-get_or (core_keys slice) k d below))
+      (λ slice there done k d below. stays slice (get_or (slice_keys slice) k d) there
+      (key_is_of slice (get_or (slice_keys slice) k d) (Contains-get_or (slice_keys slice) k d below))
       (All-contains (IsWhole (map core_key old.replicas)) old.map slice has.whole (some slice there) done k d below));
   active = subst (All (IsReady new.map)) (sym cores)
       (All-kept (IsReady new.map) kept old.replicas

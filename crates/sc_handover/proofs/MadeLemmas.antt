@@ -16,7 +16,7 @@ use Rattle.sc_cluster.specs.Plans.{IsPlan}
 use Rattle.sc_cluster.proofs.ListLemmas.{Contains-map, All-from_slice_get}
 use Rattle.sc_replica.specs.Core.{Core, IsCore}
 use Rattle.sc_bucket.specs.Kept.{FeedState}
-use Rattle.sc_bucket.specs.Cores.{core_keys, is_core, core_number, CoresAscend, without_room, IsCoreWithoutRoom}
+use Rattle.sc_bucket.specs.Cores.{slice_keys, is_core, core_number, CoresAscend, without_room, IsCoreWithoutRoom}
 use Rattle.sc_bucket.specs.Pending.{to_feed, left_of}
 use Rattle.sc_bucket.specs.Events.{AreSameCores}
 use Rattle.sc_bucket.proofs.CoreLemmas.{name_of, is_core-itself, AreApart-from_ascending}
@@ -110,7 +110,7 @@ All-made slices parent subs snapshot made plan same roomy =
         }
 
 -- the first of a slice's names is that of its leader
-pub first_key : (slice : Slice) → Contains (core_keys slice) (slice.id.0, 1)
+pub first_key : (slice : Slice) → Contains (slice_keys slice) (slice.id.0, 1)
 first_key slice =
     Contains-map (λ (replica : ℕ). (slice.id.0, replica)) (range_with_len 1 slice.replicas) 1 (
       0,

@@ -19,7 +19,7 @@ use Rattle.sc_ulog.specs.declared.mode.Mode.{Mode}
 use Rattle.sc_ulog.specs.declared.mode.Mode.TheVariants.{Active, Buffering}
 use Rattle.sc_replica.specs.Core.{Core}
 use Rattle.sc_journal.specs.Splits.{is_inactive_state}
-use Rattle.sc_bucket.specs.Cores.{core_key, core_keys, core_keys, is_attached}
+use Rattle.sc_bucket.specs.Cores.{core_key, core_keys, slice_keys, is_attached}
 use Rattle.sc_bucket.specs.Sound.{IsFeed, IsSound}
 use Rattle.sc_bucket.specs.declared.bucket.Bucket.{Bucket}
 use Rattle.sc_bucket.proofs.SoundLemmas.{AreAlike, name_and_mode}
@@ -40,7 +40,7 @@ attached_where_forming slice = by slice.state where
 
 -- each core is of a slice of the map, and its name is one of that slice's
 pub slice_of_core : (b : Bucket) (core : Core) → IsSound b → Contains b.replicas core
-    → (slice : Slice) × Contains b.map slice × (slice.id ≡ core.core.slice) × Contains (core_keys slice) (core_key core)
+    → (slice : Slice) × Contains b.map slice × (slice.id ≡ core.core.slice) × Contains (slice_keys slice) (core_key core)
 slice_of_core b core sound there =
     let key = All-contains (Contains (core_keys b.map)) (map core_key b.replicas) (core_key core) sound.cores.of_map
     (Contains-map core_key b.replicas core there) in
@@ -57,14 +57,14 @@ all_are_active b parent core sound can there =
     let (slice, in_map, named, key) = slice_of_core b core sound there in
     by slice in_map named key (is_forming slice) refl
   where
-    by : (slice : Slice) → Contains b.map slice → slice.id ≡ core.core.slice → Contains (core_keys slice) (core_key core)
+    by : (slice : Slice) → Contains b.map slice → slice.id ≡ core.core.slice → Contains (slice_keys slice) (core_key core)
         → (t : Bool) → is_forming slice ≡ t → core.mode ≡ Active
     by slice in_map named key false is =
         All-contains (λ (c : Core). (s : Slice) → Contains b.map s → s.id ≡ c.core.slice → is_forming s ≡ false → c.mode ≡ Active)
         b.replicas core sound.cores.active there slice in_map named is
     by slice in_map named key true is =
-        let each = All-contains (λ (s : Slice). is_forming s ≡ true → All (IsThereActive b) (core_keys s)) b.map slice can.whole in_map is in
-        let (other, other_there, same, active) = All-contains (IsThereActive b) (core_keys slice) (core_key core) each key in
+        let each = All-contains (λ (s : Slice). is_forming s ≡ true → All (IsThereActive b) (slice_keys s)) b.map slice can.whole in_map is in
+        let (other, other_there, same, active) = All-contains (IsThereActive b) (slice_keys slice) (core_key core) each key in
         ap (λ (c : Core). c.mode) (sym (same_from_key b.replicas other core sound.cores.ascend other_there there same)) ∙ active
 
 -- so nothing is fed
@@ -81,11 +81,11 @@ pub CanSwitch-alike : (old new : Bucket) (parent : SliceId) → new.phase ≡ ol
 CanSwitch-alike old new parent same_phase same_map alike can = record {
   recovering = same_phase ∙ can.recovering;
   whole = subst (All Whole) (sym same_map)
-      (All-weaker (λ (sub : Slice). is_forming sub ≡ true → All (IsThereActive old) (core_keys sub)) Whole
-      (λ sub each is. All-weaker (IsThereActive old) (IsThereActive new) still (core_keys sub) (each is)) old.map can.whole);
+      (All-weaker (λ (sub : Slice). is_forming sub ≡ true → All (IsThereActive old) (slice_keys sub)) Whole
+      (λ sub each is. All-weaker (IsThereActive old) (IsThereActive new) still (slice_keys sub) (each is)) old.map can.whole);
 } where
   Whole : Slice → Type 0
-  Whole sub = is_forming sub ≡ true → All (IsThereActive new) (core_keys sub)
+  Whole sub = is_forming sub ≡ true → All (IsThereActive new) (slice_keys sub)
 
   still : (key : ℕ × ℕ) → IsThereActive old key → IsThereActive new key
   still key (core, there, is, active) =

@@ -22,7 +22,7 @@ use Rattle.sc_journal.specs.Splits.{open_split}
 use Rattle.sc_journal.proofs.JournalLemmas.{last_write-push_other, writes-push_other}
 use Rattle.sc_journal.proofs.SplitLemmas.{open_split-push}
 use Rattle.sc_bucket.specs.Kept.{FlightState}
-use Rattle.sc_bucket.specs.Cores.{core_key, core_keys, core_keys, is_attached, CoresAscend, IsCounted, IsCoreWithoutRoom}
+use Rattle.sc_bucket.specs.Cores.{core_key, core_keys, slice_keys, is_attached, CoresAscend, IsCounted, IsCoreWithoutRoom}
 use Rattle.sc_bucket.specs.Pending.{pending}
 use Rattle.sc_bucket.specs.Searchers.{ArePrepared}
 use Rattle.sc_bucket.specs.Sound.{HasLastWrites, HasCores, IsInPhase, IsSound}
@@ -159,7 +159,7 @@ HasCores-switched old new parent ready puts = record {
   has = ready.sound.cores
 
   Whole : Slice → Type 0
-  Whole slice = is_forming slice ≡ false → All (Contains (map core_key new.replicas)) (core_keys slice)
+  Whole slice = is_forming slice ≡ false → All (Contains (map core_key new.replicas)) (slice_keys slice)
 
   inside : (k : ℕ) (d : Core) → k < length new.replicas → Contains new.replicas (get_or new.replicas k d)
   inside k d below = Contains-get_or new.replicas k d below
@@ -179,19 +179,19 @@ HasCores-switched old new parent ready puts = record {
       subst (Contains (map core_key old.replicas)) is (Contains-map core_key old.replicas core there)
 
   by : (slice : Slice) → Contains old.map slice → (t : Bool) → is_forming slice ≡ t
-      → All (Contains (map core_key old.replicas)) (core_keys slice)
+      → All (Contains (map core_key old.replicas)) (slice_keys slice)
   by slice in_map false settled =
-      All-contains (λ (s : Slice). is_forming s ≡ false → All (Contains (map core_key old.replicas)) (core_keys s)) old.map slice
+      All-contains (λ (s : Slice). is_forming s ≡ false → All (Contains (map core_key old.replicas)) (slice_keys s)) old.map slice
       has.whole in_map settled
   by slice in_map true forms =
-      All-weaker (IsThereActive old) (Contains (map core_key old.replicas)) there_in (core_keys slice)
-      (All-contains (λ (s : Slice). is_forming s ≡ true → All (IsThereActive old) (core_keys s)) old.map slice ready.can.whole in_map forms)
+      All-weaker (IsThereActive old) (Contains (map core_key old.replicas)) there_in (slice_keys slice)
+      (All-contains (λ (s : Slice). is_forming s ≡ true → All (IsThereActive old) (slice_keys s)) old.map slice ready.can.whole in_map forms)
 
   whole : (slice : Slice) → Contains old.map slice → Whole (switched_slice parent slice)
   whole slice in_map settled =
       subst (λ (keys : List (ℕ × ℕ)). All (Contains (map core_key new.replicas)) keys)
-      (sym (switched_keeps core_keys (λ _ _. refl) parent slice))
-      (subst (λ (keys : List (ℕ × ℕ)). All (Contains keys) (core_keys slice)) (sym same_keys) (by slice in_map (is_forming slice) refl))
+      (sym (switched_keeps slice_keys (λ _ _. refl) parent slice))
+      (subst (λ (keys : List (ℕ × ℕ)). All (Contains keys) (slice_keys slice)) (sym same_keys) (by slice in_map (is_forming slice) refl))
 
 -- so a bucket is sound once its split was switched
 pub IsSound-switched : (old new : Bucket) (parent : SliceId) → IsReadyToSwitch old parent → PutsSwitch old parent new

@@ -13,7 +13,7 @@ use Rattle.sc_cluster.specs.Changes.{Change, in_state, switched_slice, IsSplit}
 use Rattle.sc_cluster.proofs.StateLemmas.{switched_keeps}
 use Rattle.sc_journal.specs.Splits.{map_after, owed_by_split, owed}
 use Rattle.sc_journal.proofs.OwedLemmas.{owed-push_switched}
-use Rattle.sc_bucket.specs.Cores.{core_keys, core_keys, is_attached}
+use Rattle.sc_bucket.specs.Cores.{core_keys, slice_keys, is_attached}
 use Rattle.sc_bucket.specs.Sound.{HasJournal, IsOpen, AreLedActively, IsInPhase, IsSound}
 use Rattle.sc_bucket.specs.declared.bucket.Bucket.{Bucket}
 use Rattle.sc_bucket.specs.declared.phase.Phase.TheVariants as phases
@@ -60,8 +60,8 @@ HasJournal-switched old new parent journal split puts parts =
 pub core_keys-switched : (parent : SliceId) (slices : List Slice)
     → core_keys (map (switched_slice parent) slices) ≡ core_keys slices
 core_keys-switched parent slices =
-    flat_map-map core_keys (switched_slice parent) slices
-    ∙ ap (λ keys. flat_map keys slices) (fun_ext (switched_keeps core_keys (λ _ _. refl) parent))
+    flat_map-map slice_keys (switched_slice parent) slices
+    ∙ ap (λ keys. flat_map keys slices) (fun_ext (switched_keeps slice_keys (λ _ _. refl) parent))
 
 -- an active slice that no split was making was active before
 pub active_before : (parent : SliceId) (slice : Slice) → is_forming slice ≡ false

@@ -11,7 +11,7 @@ use Rattle.sc_ulog.specs.declared.mode.Mode.{Mode}
 use Rattle.sc_ulog.specs.declared.mode.Mode.TheVariants.{Active, Buffering, Replaying}
 use Rattle.sc_replica.specs.Core.{Core}
 use Rattle.sc_bucket.specs.Kept.{FeedState}
-use Rattle.sc_bucket.specs.Cores.{core_key, core_keys, is_core}
+use Rattle.sc_bucket.specs.Cores.{core_key, slice_keys, is_core}
 use Rattle.sc_bucket.specs.Pending.{is_feed_of}
 use Rattle.sc_bucket.specs.Sound.{AreLedActively}
 use Rattle.sc_bucket.specs.declared.bucket.Bucket.{Bucket}
@@ -70,7 +70,7 @@ IsThereActive b key = (core : Core) × Contains b.replicas core × (core_key cor
 -- switch: every replica of every sub is there, and active
 pub record CanSwitch (b : Bucket) (parent : SliceId) : Type 0 where
   pub recovering : b.phase ≡ phases.Recovering parent
-  pub whole : All (λ (sub : Slice). is_forming sub ≡ true → All (IsThereActive b) (core_keys sub)) b.map
+  pub whole : All (λ (sub : Slice). is_forming sub ≡ true → All (IsThereActive b) (slice_keys sub)) b.map
 
 -- abort: a split is open
 abbrev pub CanAbort : Bucket → SliceId → Type 0

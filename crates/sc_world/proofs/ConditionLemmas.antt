@@ -25,7 +25,7 @@ use Rattle.sc_ulog.specs.contracts.mode.Mode as modes
 use Rattle.sc_ulog.specs.declared.mode.Mode.TheVariants.{Active, Buffering, Replaying}
 use Rattle.sc_replica.specs.Core.{Core}
 use Rattle.sc_bucket.specs.Kept.{FeedState}
-use Rattle.sc_bucket.specs.Cores.{core_key, core_keys, is_core, core_number, CoresAscend}
+use Rattle.sc_bucket.specs.Cores.{core_key, slice_keys, is_core, core_number, CoresAscend}
 use Rattle.sc_bucket.specs.Pending.{is_feed_of}
 use Rattle.sc_bucket.specs.Sound.{HasJournal, HasCores, AreLedActively}
 use Rattle.sc_bucket.specs.declared.bucket.Bucket.{Bucket}
@@ -169,19 +169,19 @@ active-next b slice below so_far one =
 
 -- all are
 pub all_keys : (b : Bucket) (slice : Slice) (below : ℕ) → below ≤ slice.replicas → slice.replicas ≤ below
-    → All (IsThereActive b) (keys_to slice below) → IsTrue true ↔ All (IsThereActive b) (core_keys slice)
+    → All (IsThereActive b) (keys_to slice below) → IsTrue true ↔ All (IsThereActive b) (slice_keys slice)
 all_keys b slice below most least all =
     let every : below ≡ slice.replicas = omega arith in
     (λ is. subst (λ n. All (IsThereActive b) (keys_to slice n)) every all, λ whole. refl)
 
 -- one isn't
 pub not_of_all_keys : (b : Bucket) (slice : Slice) (below : ℕ) (test : Bool) → below < slice.replicas
-    → IsTrue test ↔ IsThereActive b (slice.id.0, below + 1) → test ≡ false → IsTrue false ↔ All (IsThereActive b) (core_keys slice)
+    → IsTrue test ↔ IsThereActive b (slice.id.0, below + 1) → test ≡ false → IsTrue false ↔ All (IsThereActive b) (slice_keys slice)
 not_of_all_keys b slice below test within says fails =
-    let key : Contains (core_keys slice) (slice.id.0, below + 1) =
+    let key : Contains (slice_keys slice) (slice.id.0, below + 1) =
     Contains-map (λ (replica : ℕ). (slice.id.0, replica)) (range_with_len 1 slice.replicas) (below + 1)
     (below, omega (arith, length-range_with_len 1 slice.replicas), get_or-range_with_len 1 slice.replicas below (below + 1) within ∙ omega arith) in
-    (λ is. false_is_not is, λ all. sym fails ∙ says.1 (All-contains (IsThereActive b) (core_keys slice) (slice.id.0, below + 1) all key))
+    (λ is. false_is_not is, λ all. sym fails ∙ says.1 (All-contains (IsThereActive b) (slice_keys slice) (slice.id.0, below + 1) all key))
 
 -- ---- equal states
 pub mode_test : (one other : Mode) → IsTrue (sameb modes.the_type one other) ↔ (one ≡ other)

@@ -5,7 +5,7 @@ use Rattle.sc_record.specs.declared.slice.CoreId.{CoreId}
 use Rattle.sc_cluster.specs.declared.slice.Slice.{Slice}
 use Rattle.sc_cluster.specs.Slices.{is_forming}
 use Rattle.sc_replica.specs.Core.{Core}
-use Rattle.sc_bucket.specs.Cores.{is_core, core_keys}
+use Rattle.sc_bucket.specs.Cores.{is_core, slice_keys}
 use Rattle.sc_bucket.specs.declared.bucket.Bucket.{Bucket}
 use Rattle.sc_bucket.specs.declared.accept.Accepted.{Accepted}
 use Rattle.sc_bucket.specs.declared.accept.AcceptFault.{AcceptFault}
@@ -27,7 +27,7 @@ IsLedActively b slice = is_forming slice ≡ true → IsThereActive b (slice.id.
 
 -- where a split is making the slice each of its replicas is there, and active
 abbrev pub IsWhole : Bucket → Slice → Type 0
-IsWhole b slice = is_forming slice ≡ true → All (IsThereActive b) (core_keys slice)
+IsWhole b slice = is_forming slice ≡ true → All (IsThereActive b) (slice_keys slice)
 
 -- a split is making the slice, which is to have this replica beside its leader
 abbrev pub MayJoin : Slice → ℕ → Type 0

@@ -2,7 +2,7 @@ ghost use Rattle.std.specs.Prelude.{◌≡◌, ◌↔◌, ◌<◌, true, false, 
 ghost use Rattle.sc_record.specs.declared.slice.SliceId.{SliceId};
 ghost use Rattle.sc_cluster.specs.declared.slice.Slice.{Slice};
 ghost use Rattle.sc_cluster.specs.Changes.{IsInactive};
-ghost use Rattle.sc_bucket.specs.Cores.{CoresAscend, core_keys};
+ghost use Rattle.sc_bucket.specs.Cores.{CoresAscend, slice_keys};
 ghost use Rattle.sc_bucket.specs.Sound.{HasCores, AreLedActively, IsSound};
 ghost use Rattle.sc_handover.specs.Conditions.{IsInMode, IsUnfed, IsThereActive, CanFeed};
 ghost use Rattle.sc_world.specs.Steps.{Can};
@@ -141,7 +141,7 @@ fn is_whole(bucket: &Bucket, slice: &Slice) -> bool
 // Every replica of the slice is there, and active.
 fn has_all(bucket: &Bucket, slice: &Slice) -> bool
     requires { CoresAscend bucket.now.replicas }
-    ensures { IsTrue result ↔ All (IsThereActive bucket.now) (core_keys slice.now) }
+    ensures { IsTrue result ↔ All (IsThereActive bucket.now) (slice_keys slice.now) }
 {
     for below in 0..slice.replicas {
         if !is_replica_active(bucket, slice.id, below + 1) {

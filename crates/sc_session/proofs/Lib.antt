@@ -10,3 +10,4 @@ pub mod EndLemmas
 pub mod MessageEndLemmas
 pub mod QueryLemmas
 pub mod AskedLemmas
+pub mod OwnWritesLemmas

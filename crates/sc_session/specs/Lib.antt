@@ -10,3 +10,4 @@ pub mod Asking
 pub mod Answering
 pub mod Serving
 pub mod Ends
+pub mod Laws

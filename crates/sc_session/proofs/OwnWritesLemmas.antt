@@ -1,7 +1,7 @@
 -- A get after an accepted order of the same connection shows the order's version of the id or a later one.
-use Rattle.std.proofs.Common.{◌≡◌, ℕ, zero, suc, ◌+◌, ◌-◌, ◌<◌, ◌≤◌, inl, inr, true, false, cond, List, [], ◌∷◌, ◌++◌, length, take, drop, Option, Some, None, refl, sym, ap, ◌∙◌, subst, arith, append_assoc, Contains}
-use Rattle.std.specs.Prelude.{◌⊎◌, ◌≤ℤ◌, ◌==◌, ℤ, IsSome, bit_and}
-use Rattle.std.specs.List.{AllByRecursion, filter, cons_option, flat_map}
+use Rattle.std.proofs.Common.{◌≡◌, ℕ, zero, suc, ◌+◌, ◌-◌, ◌<◌, ◌≤◌, inl, inr, true, cond, List, [], ◌∷◌, ◌++◌, length, take, drop, Option, Some, None, refl, sym, ap, ◌∙◌, subst, arith, append_assoc, Contains}
+use Rattle.std.specs.Prelude.{◌≤ℤ◌, ◌==◌, ℤ, IsSome}
+use Rattle.std.specs.List.{filter, cons_option}
 use Rattle.std.proofs.lemmas.Bool.Decides.{nat_tests}
 use Rattle.std.proofs.lemmas.Grind.{flat_map-append}
 use Rattle.std.proofs.lemmas.List.{take-append-drop, length-take, length-take-le}
@@ -16,7 +16,7 @@ use Rattle.sc_router.specs.Route.{bucket_of}
 use Rattle.sc_model.specs.Replies.{Reply}
 use Rattle.sc_commands.specs.declared.batch.Batch.{Batch}
 use Rattle.sc_update.specs.Updated.{UpdateEnd}
-use Rattle.sc_journal.specs.Journal.{as_write, write_at, writes_of, last_write}
+use Rattle.sc_journal.specs.Journal.{write_at, writes_of, last_write}
 use Rattle.sc_journal.specs.Legal.{IsLegal}
 use Rattle.sc_journal.specs.Outcomes.{Outcome, accepted, IsOutcome}
 use Rattle.sc_journal.specs.Seen.{Layout, Seen, SeesMore, IsStopWithin, ComeInOrder, AreLegal, place_after, journal_at, stops_at, entries_at}
@@ -32,10 +32,7 @@ use Rattle.sc_journal.proofs.GoesOnLemmas.{SeesMore-self, SeesMore-then, SeesMor
 use Rattle.sc_session.specs.Requests.{Asked, asked, not_built, refused, update, get, get_ids, select}
 use Rattle.sc_session.specs.Answers.{Answer, replied, ran_out, Trace, IsAnswer, EndsBatch, read_trace, get_reply}
 use Rattle.sc_session.specs.Connection.{Exchange, IsExchange, AreExchanges, exchanges_of}
-use Rattle.sc_session.specs.States.{ConnectionState}
-use Rattle.sc_session.specs.Served.{IsServed}
-use Rattle.sc_session.specs.Laws.{Accepts, IsLastSince, ShowsSince, GetsShowOwnWrites, ExchangesShowOwnWrites, ConnectionsShowOwnWrites}
-use Rattle.sc_session.specs.declared.end.End.{End}
+use Rattle.sc_session.specs.Laws.{Accepts, IsLastSince, ShowsSince, ExchangesShowOwnWrites, ConnectionsShowOwnWrites}
 
 -- what was seen before exchanges is seen after them
 sees_more : (layout : Layout) (old : Seen) (exchanges : List Exchange) (new : Seen) → AreExchanges layout old exchanges new → SeesMore old new

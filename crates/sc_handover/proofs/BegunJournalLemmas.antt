@@ -14,7 +14,7 @@ use Rattle.sc_cluster.proofs.BegunLemmas.{All-forming_begun}
 use Rattle.sc_cluster.proofs.ListLemmas.{filter-none, filter-all, none_from_filter}
 use Rattle.sc_cluster.proofs.MapLemmas.{begun_is_split}
 use Rattle.sc_cluster.proofs.StateLemmas.{is_settled, forming-begun}
-use Rattle.sc_journal.specs.Splits.{open_split, owed}
+use Rattle.sc_journal.specs.Splits.{open_split}
 use Rattle.sc_journal.proofs.OwedLemmas.{owed-push_begun}
 use Rattle.sc_journal.proofs.SplitLemmas.{open_split-push}
 use Rattle.sc_bucket.specs.Sound.{HasJournal, IsIdle, IsOpen}

@@ -8,7 +8,6 @@ use Rattle.std.proofs.lemmas.List.Elements.{All-map, All-weaker, All-contains, A
 use Rattle.sc_record.specs.declared.slice.SliceId.{SliceId}
 use Rattle.sc_record.specs.declared.slice.SubSlice.{SubSlice}
 use Rattle.sc_record.specs.declared.slice.CoreId.{CoreId}
-use Rattle.sc_record.specs.declared.write.Write.{Write}
 use Rattle.sc_cluster.specs.declared.slice.Slice.{Slice}
 use Rattle.sc_cluster.specs.Slices.{is_forming, greatest_id}
 use Rattle.sc_cluster.specs.Map.{IsMap}

@@ -11,7 +11,7 @@ use Rattle.sc_cluster.specs.Slices.{is_forming}
 use Rattle.sc_cluster.specs.Map.{IsMap}
 use Rattle.sc_cluster.specs.Changes.{Change, in_state, switched_slice, IsSplit}
 use Rattle.sc_cluster.proofs.StateLemmas.{switched_keeps}
-use Rattle.sc_journal.specs.Splits.{map_after, owed_by_split, owed}
+use Rattle.sc_journal.specs.Splits.{map_after, owed_by_split}
 use Rattle.sc_journal.proofs.OwedLemmas.{owed-push_switched}
 use Rattle.sc_bucket.specs.Cores.{core_keys, slice_keys, is_attached}
 use Rattle.sc_bucket.specs.Sound.{HasJournal, IsOpen, AreLedActively, IsInPhase, IsSound}

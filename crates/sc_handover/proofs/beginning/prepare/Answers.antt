@@ -12,7 +12,6 @@ use Rattle.sc_replica.specs.Core.{Core}
 use Rattle.sc_bucket.specs.Kept.{FeedState}
 use Rattle.sc_bucket.specs.Cores.{IsLeaderOf}
 use Rattle.sc_bucket.specs.Searchers.{AreOfEachSlice, IsTaken, AreTaken}
-use Rattle.sc_bucket.specs.declared.bucket.Bucket.{Bucket}
 use Rattle.sc_bucket.specs.declared.standing.Standing.{Standing}
 use Rattle.sc_bucket.proofs.SearcherLemmas.{AreLed-from_keys}
 use Rattle.sc_bucket.proofs.TakenLemmas.{slice_of, has_searcher}

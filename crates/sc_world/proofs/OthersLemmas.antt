@@ -30,7 +30,7 @@ use Rattle.sc_bucket.proofs.CoreLemmas.{is_core-Decides}
 use Rattle.sc_bucket.proofs.DeliverLemmas.{name-received}
 use Rattle.sc_bucket.proofs.SoundLemmas.{All-slice_get}
 use Rattle.sc_handover.specs.Conditions.{IsInMode, CanBegin, CanGrow}
-use Rattle.sc_handover.specs.Events.{ChangesCore, Begins, FeedsPiece, Grows, Switches, Aborts, Drops}
+use Rattle.sc_handover.specs.Events.{ChangesCore, Begins, Grows, Switches, Aborts, Drops}
 use Rattle.sc_handover.specs.Made.{leader_of, first_core, empty_core, piece_of, settled_sub}
 use Rattle.sc_handover.specs.Parts.{is_of_sub}
 use Rattle.sc_handover.proofs.BegunCoreLemmas.{core_below}
@@ -39,7 +39,7 @@ use Rattle.sc_handover.proofs.FedLemmas.{name-fed_all}
 use Rattle.sc_handover.proofs.KeptLemmas.{same_number, slice_of_one, is_of_one-there}
 use Rattle.sc_handover.proofs.PlanLemmas.{sub_above}
 use Rattle.sc_handover.proofs.SubLemmas.{slice_of_core, of_sub_where_forming}
-use Rattle.sc_world.specs.Others.{cores_apart, searchers_apart, LeavesAlone, LeavesAloneButRoom, LeavesAloneButParent, SplitsLeaveOthersAlone}
+use Rattle.sc_world.specs.Others.{cores_apart, searchers_apart, SplitsLeaveOthersAlone}
 
 -- the core is of none of the slices
 abbrev is_apart : List Slice → Core → Bool

@@ -1,8 +1,7 @@
 -- The events that make the entries which a bucket owes, one after another, bring it to rest.
-use Rattle.std.proofs.Common.{◌≡◌, ◌⊎◌, inl, inr, ℕ, zero, suc, ◌+◌, ◌<◌, ◌≤◌, true, false, List, [], ◌∷◌, ◌++◌, length, Some, None, Option, All, Contains, refl, sym, ap, ◌∙◌, subst, arith, length-append}
+use Rattle.std.proofs.Common.{◌≡◌, inl, inr, ℕ, zero, suc, ◌+◌, ◌≤◌, true, false, List, [], ◌∷◌, ◌++◌, length, None, All, Contains, refl, sym, ap, ◌∙◌, subst, arith, length-append}
 use Rattle.std.specs.Prelude.{IsSome}
 use Rattle.std.proofs.lemmas.Bool.{false≢true}
-use Rattle.std.proofs.lemmas.List.{append-nil}
 use Rattle.std.proofs.lemmas.List.Elements.{All-nil, All-cons, All-contains, Contains-append_right}
 use Rattle.std.proofs.lemmas.Option.{none-some, same_Some}
 use Rattle.sc_record.specs.declared.slice.SliceId.{SliceId}
@@ -27,7 +26,7 @@ use Rattle.sc_world.specs.declared.event.Event.{Event}
 use Rattle.sc_world.specs.declared.event.Event.TheVariants as events
 use Rattle.sc_world.specs.Steps.{Can, IsDone, IsRefused, FindsNoMemory}
 use Rattle.sc_world.specs.Runs.{IsPassed, Runs, RunsOut}
-use Rattle.sc_world.specs.Rests.{is_closing, BringToRest, BucketsComeToRest}
+use Rattle.sc_world.specs.Rests.{is_closing, BucketsComeToRest}
 
 -- the bucket has this journal, from this first map on, and its map and its phase are those after it
 record HasHistory (first : List Slice) (journal : List Entry) (b : Bucket) : Type 0 where

@@ -1,5 +1,5 @@
 -- What the call of each event says, as a step of a run.
-use Rattle.std.proofs.Common.{◌≡◌, ◌≢◌, ◌⊎◌, inl, inr, ◌∙◌, ◌≤◌, ◌<◌, ℕ, ℤ, ◌+◌, List, [], ◌∷◌, ◌++◌, length, take, drop, get_or, slice_get, Some, None, Option, Bool, true, false, Result, Ok, Err, IfOk, OnOk, OnErr, MatchOption, All, refl, sym, ap, subst}
+use Rattle.std.proofs.Common.{◌≡◌, ◌≢◌, inl, inr, ◌∙◌, ◌≤◌, ◌<◌, ℕ, ◌+◌, List, [], ◌∷◌, ◌++◌, length, take, drop, get_or, slice_get, Some, None, Option, true, false, Result, Ok, Err, IfOk, OnOk, OnErr, MatchOption, All, refl, sym, ap, subst}
 use Rattle.std.proofs.lemmas.Bool.{false≢true}
 use Rattle.std.proofs.lemmas.List.{take_all, take-append-drop, drop_more}
 use Rattle.std.proofs.lemmas.Option.{slice_get-get_or, slice_get_within, get_or_from_slice_get}
@@ -21,7 +21,7 @@ use Rattle.sc_handover.specs.Events.{Grows}
 use Rattle.sc_world.specs.declared.event.Event.{Event}
 use Rattle.sc_world.specs.declared.event.Event.TheVariants as events
 use Rattle.sc_world.specs.Steps.{Can, FindsNoMemory}
-use Rattle.sc_world.specs.Runs.{IsPassed, IsStepped, Runs, RunsOut}
+use Rattle.sc_world.specs.Runs.{IsStepped, Runs, RunsOut}
 use Rattle.sc_world.specs.Checks.{lacks_memory}
 use Rattle.sc_world.proofs.RunLemmas.{Runs-push, Adds-run, Adds-run_out}
 

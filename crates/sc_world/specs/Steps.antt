@@ -1,5 +1,5 @@
 -- When each event may come to a bucket, and what it does.
-use Rattle.std.specs.Prelude.{◌≡◌, ◌≢◌, ◌≤◌, ◌<◌, ◌⊎◌, ℤ, ◌+◌, Bool, false, List, [], ◌∷◌, length, IsSome, All, ⊤}
+use Rattle.std.specs.Prelude.{◌≡◌, ◌≢◌, ◌≤◌, ◌⊎◌, ℤ, Bool, false, List, [], ◌∷◌, length, IsSome, All, ⊤}
 use Rattle.sc_record.specs.declared.slice.SliceId.{SliceId}
 use Rattle.sc_record.specs.declared.slice.CoreId.{CoreId}
 use Rattle.sc_record.specs.declared.write.Write.{Write}

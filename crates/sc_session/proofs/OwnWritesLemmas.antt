@@ -32,7 +32,7 @@ use Rattle.sc_journal.proofs.GoesOnLemmas.{SeesMore-self, SeesMore-then, SeesMor
 use Rattle.sc_session.specs.Requests.{Asked, asked, not_built, refused, update, get, get_ids, select}
 use Rattle.sc_session.specs.Answers.{Answer, replied, ran_out, Trace, IsAnswer, EndsBatch, read_trace, get_reply}
 use Rattle.sc_session.specs.Connection.{Exchange, IsExchange, AreExchanges, exchanges_of}
-use Rattle.sc_session.specs.Laws.{Accepts, IsLastSince, ShowsSince, ExchangesShowOwnWrites, ConnectionsShowOwnWrites}
+use Rattle.sc_session.specs.Laws.{AcceptsOrderFor, IsLastSince, ShowsSince, ExchangesShowOwnWrites, ConnectionsShowOwnWrites}
 
 -- what was seen before exchanges is seen after them
 sees_more : (layout : Layout) (old : Seen) (exchanges : List Exchange) (new : Seen) → AreExchanges layout old exchanges new → SeesMore old new
@@ -188,7 +188,7 @@ module _ (layout : Layout) (id : List ℕ) (some_bucket : 0 < layout.buckets) wh
           }
 
   -- so did an exchange that accepted one
-  exchange_made : (before later : Seen) (x : Exchange) (version : ℤ) → IsExchange layout before x → Accepts x id version → SeesMore x.seen later
+  exchange_made : (before later : Seen) (x : Exchange) (version : ℤ) → IsExchange layout before x → AcceptsOrderFor x id version → SeesMore x.seen later
       → IsMade layout x.seen later id version
   exchange_made before later x version is accepts more =
       order_made x.seen later version accepts.answer order accepts.id_is accepts.outcome_is within more

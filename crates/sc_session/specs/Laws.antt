@@ -18,7 +18,7 @@ use Rattle.sc_session.specs.Served.{IsServed}
 use Rattle.sc_session.specs.declared.end.End.{End}
 
 -- the exchange's update accepted an order for the id, and this is the version of its write as it is shown
-pub record Accepts (x : Exchange) (id : List ℕ) (version : ℤ) : Type 0 where
+pub record AcceptsOrderFor (x : Exchange) (id : List ℕ) (version : ℤ) : Type 0 where
   pub answer : OrderAnswer
   pub given : Contains x.trace.answers answer
   pub id_is : answer.order.id ≡ id
@@ -47,7 +47,7 @@ abbrev pub GetsShowOwnWrites : Layout → Seen → List Exchange → Type 0
 GetsShowOwnWrites layout seen exchanges =
     (before between after : List Exchange) (writing reading : Exchange) (id : List ℕ) (version : ℤ) (reply : Reply)
     → exchanges ≡ before ++ writing ∷ between ++ reading ∷ after
-    → Accepts writing id version → asked reading.request ≡ get id → reading.answer ≡ replied reply
+    → AcceptsOrderFor writing id version → asked reading.request ≡ get id → reading.answer ≡ replied reply
     → ShowsSince layout seen reading id version
 
 -- so it is of exchanges one after another, where the journals are legal

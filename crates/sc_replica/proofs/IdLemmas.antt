@@ -1,7 +1,8 @@
 -- How ids compare.
-use Rattle.std.proofs.Common.{◌≡◌, ℕ, List, true, false, ap, ◌∙◌}
+use Rattle.std.proofs.Common.{◌≡◌, ℕ, Bool, List, true, false, refl, ap, ◌∙◌}
+use Rattle.std.specs.Bool.{IsTrue}
 use Rattle.std.specs.Cmp.Lexicographic.{slice_cmp, texts_ties}
-use Rattle.std.specs.Ordering.{nat_cmp, is_eq, ordering_reverse}
+use Rattle.std.specs.Ordering.{nat_cmp, is_eq, is_lt, ordering_reverse}
 use Rattle.std.specs.Str.{bytes_eq}
 use Rattle.std.specs.declared.cmp.Ordering.{Ordering}
 use Rattle.std.specs.declared.cmp.Ordering.TheVariants.{Less, Equal, Greater}
@@ -15,6 +16,12 @@ order one other = slice_cmp nat_cmp one other
 -- turned round, the order is the other way round
 pub order-back : (x y : List ℕ) (o : Ordering) → order x y ≡ o → order y x ≡ ordering_reverse o
 order-back x y o h = nat_list_cmp_total.antisymm y x ∙ ap ordering_reverse h
+
+-- what tests as less is less
+pub tested-less : (o : Ordering) (b : Bool) → b ≡ is_lt o → IsTrue b → o ≡ Less
+tested-less Less b e h = refl
+tested-less Equal b e h = cc
+tested-less Greater b e h = cc
 
 -- ids that compare equal are one id
 pub same-id : (x y : List ℕ) → order x y ≡ Equal → x ≡ y

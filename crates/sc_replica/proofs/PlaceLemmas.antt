@@ -1,11 +1,12 @@
 -- What a binary search for an id finds, and what a put there makes.
-use Rattle.std.proofs.Common.{◌≡◌, ℕ, zero, suc, ◌+◌, ◌-◌, ◌<◌, ◌≤◌, List, [], ◌∷◌, true, false, map, length, get_or, set, insert, Some, None, Result, Ok, Err, refl, sym, ap, ◌∙◌, arith}
+use Rattle.std.proofs.Common.{◌≡◌, ℕ, zero, suc, ◌+◌, ◌-◌, ◌<◌, ◌≤◌, List, [], ◌∷◌, true, false, map, length, get_or, set, insert, Some, None, Result, Ok, Err, inl, inr, refl, sym, ap, ◌∙◌, arith}
 use Rattle.std.specs.List.{AllWithin, HoldsAt}
 use Rattle.std.specs.List.Sorted.{IsNonDecreasingBy, IsBinarySearchResult, IsSearchInRange, IsStrictlySortedBy}
 use Rattle.std.specs.Ordering.{ordering_index, is_lt}
 use Rattle.std.specs.declared.cmp.Ordering.TheVariants.{Less, Equal, Greater}
 use Rattle.std.proofs.lemmas.Cmp.{nat_list_cmp_total}
-use Rattle.std.proofs.lemmas.List.{get_or-map, length-map, map-append, map-set}
+use Rattle.std.proofs.lemmas.Bool.{cases_lt}
+use Rattle.std.proofs.lemmas.List.{get_or-map, get_or_default, length-map, map-append, map-set}
 use Rattle.std.specs.List.{take-map, drop-map}
 use Rattle.std.proofs.Math.ListN as lists
 use Rattle.std.specs.Prelude.{int_lt}
@@ -25,6 +26,18 @@ Less-at writes i j d a l h =
     let within : j < length (ids writes) = simp length-map h in
     let id_of : Write → List ℕ = λ w. w.id in
     rw (lists.get_or-map id_of writes i d, lists.get_or-map id_of writes j d) at (Less-from_sorted order (ids writes) i j d.id a l within)
+
+-- an id that is above the last write's is above all
+pub above-last : (writes : List Write) (id : List ℕ) (last : Write) → AscendById writes
+    → last ≡ get_or writes (length writes - 1) last → compared id last ≡ Less
+    → AllWithin (λ (w : Write). compared id w ≡ Less) writes 0 (length writes)
+above-last writes id last a at below k d low within =
+    let end : get_or writes (length writes - 1) d ≡ last = get_or_default writes (length writes - 1) d last (omega arith) ∙ sym at in
+    elim (cases_lt k (length writes - 1)) [
+      | inl before ↦ nat_list_cmp_total.trans (get_or writes k d).id last.id id
+          (rw end at (Less-at writes k (length writes - 1) d a before (omega arith))) below
+      | inr past ↦ let same : k ≡ length writes - 1 = omega arith in rw (same, end) below
+    ]
 
 module _ {X : Type 0} (f : X → Write) where
   -- where the ids ascend a binary search may be made
@@ -127,6 +140,14 @@ put-found (w ∷ writes) write (suc place) d a h found =
     rw (after, put-found writes write place d a.1 (omega arith) found) refl
 
 module _ {X : Type 0} (f : X → Write) where
+  -- an id that is above the last one is above all
+  pub above-end : (xs : List X) (id : List ℕ) (last : X) → AscendById (map f xs)
+      → last ≡ get_or xs (length xs - 1) last → compared id (f last) ≡ Less
+      → AllWithin (λ (w : Write). compared id w ≡ Less) (map f xs) 0 (length xs)
+  above-end xs id last a at below k d low within =
+      let here : f last ≡ get_or (map f xs) (length (map f xs) - 1) (f last) = simp length-map (ap f at ∙ sym (lists.get_or-map f xs (length xs - 1) last)) in
+      above-last (map f xs) id (f last) a here below k d low (simp length-map within)
+
   -- the place of an id is within the list
   pub within-at : (xs : List X) (id : List ℕ) (place : ℕ) → IsPlace (map f xs) id (Ok place) → place < length xs
   within-at xs id place p = simp length-map at p.0

@@ -1,10 +1,12 @@
 ghost use Rattle.std.specs.Prelude.{◌≡◌, ◌<◌, ◌≤◌, ◌+◌, ◌-◌, [], map, insert, max, min, length, int_lt};
-ghost use Rattle.std.specs.Prelude.{IsOk, IfOk, OnOk, OnErr, option_copied};
+ghost use Rattle.std.specs.Prelude.{IsOk, IfOk, OnOk, OnErr, IsTrue, option_copied};
+ghost use Rattle.std.specs.List.{AllWithin};
+ghost use Rattle.std.specs.declared.cmp.Ordering.TheVariants.{Less};
 ghost use Rattle.std.specs.VecDeque.{deque_len, deque_capacity};
 ghost use Rattle.std.specs.Option.{option_map};
 ghost use Rattle.std.specs.Arc.{arc_value};
 ghost use Rattle.sc_record.specs.Writes.{write_of, AscendById};
-ghost use Rattle.sc_replica.specs.Places.{IsPlace};
+ghost use Rattle.sc_replica.specs.Places.{IsPlace, compared};
 
 use sc_record::{Cell, Id, List};
 use std::alloc::{AllocError, Global};
@@ -63,7 +65,7 @@ impl Cells {
         self.spare
     }
 
-    /// The cell of the id: one binary search.
+    /// The cell of the id: a look at the last cell, and at most one binary search.
     pub fn get(&self, id: &Id) -> Option<&Cell>
         ensures cell { option_map arc_value (option_copied result) ≡ write_of self.now.writes id.now }
         ensures ascends { AscendById self.now.writes }
@@ -106,8 +108,8 @@ impl Cells {
         self.spare = self.spare.min(n);
     }
 
-    /// Puts the write in the place of its id's cell, or in order where its id has none: one binary search, and at most
-    /// one move of the shorter side of the cells.
+    /// Puts the write in the place of its id's cell, or in order where its id has none: a look at the last cell, at
+    /// most one binary search, and at most one move of the shorter side of the cells.
     pub(crate) fn put(&mut self, write: Cell)
         requires { 0 < self.old.spare }
         ensures { self.new ≡ record {
@@ -121,8 +123,8 @@ impl Cells {
         }
     }
 
-    /// Puts the write in, or drops it where its version isn't greater than that of its id's cell: one binary search, and at
-    /// most one move of the shorter side of the cells.
+    /// Puts the write in, or drops it where its version isn't greater than that of its id's cell: a look at
+    /// the last cell, at most one binary search, and at most one move of the shorter side of the cells.
     pub(crate) fn apply(&mut self, write: Cell)
         requires { 0 < self.old.spare }
         ensures { self.new ≡ record {
@@ -141,12 +143,36 @@ impl Cells {
     }
 }
 
-// Where the id's cell is, or else where it would be put in: one binary search.
+// Where the id's cell is, or else where it would be put in: the end where the id is above all, else found by a search. Ids that
+// come in their order are so put in without one.
 fn place(cells: &VecDeque<Cell>, id: &Id) -> Result<usize, usize>
     requires { AscendById (map arc_value cells.now.items) }
     ensures { IsPlace (map arc_value cells.now.items) id.now result }
 {
-    cells.binary_search_by(|cell| cell.id.cmp(id))
+    if is_above_all(cells, id) {
+        return Err(cells.len());
+    }
+    search(cells, id)
+}
+
+// Whether the id is above that of the last cell, and so above all.
+fn is_above_all(cells: &VecDeque<Cell>, id: &Id) -> bool
+    requires { AscendById (map arc_value cells.now.items) }
+    ensures { IsTrue result → AllWithin (λ write. compared id.now write ≡ Less) (map arc_value cells.now.items) 0 (length cells.now.items) }
+{
+    match cells.back() {
+        Some(last) => last.id.as_str().cmp(id.as_str()).is_lt(),
+        None => true,
+    }
+}
+
+// The same by one binary search over all cells.
+fn search(cells: &VecDeque<Cell>, id: &Id) -> Result<usize, usize>
+    requires { AscendById (map arc_value cells.now.items) }
+    ensures { IsPlace (map arc_value cells.now.items) id.now result }
+{
+    let id = id.as_str();
+    cells.binary_search_by(|cell| cell.id.as_str().cmp(id))
 }
 
 // Puts the write in before the cell at this place, in the room that there is, and takes one place of it. The shorter side

@@ -15,8 +15,8 @@
 //!
 //! Tested alone: the worked writes; a replay of 70; that threads may share a core.
 //!
-//! Neither: speed; that a look-up is one binary search, and a put one and at most one move of the shorter side, holds by
-//! construction.
+//! Neither: speed; that a look-up looks at the last cell and then makes at most one binary search, and a put that and at most
+//! one move of the shorter side, holds by construction.
 #![tactic(auto)]
 
 // The greatest write of each id.

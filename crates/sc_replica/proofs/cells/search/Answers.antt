@@ -4,7 +4,7 @@ use Rattle.std.specs.Arc.{arc_value}
 use Rattle.std.proofs.lemmas.Fn.{always_returns_same}
 use Rattle.sc_replica.specs.Places.{compared}
 use Rattle.sc_replica.proofs.PlaceLemmas.{IsPlace-from_search}
-use Rattle.sc_replica.proofs.cells.place.Goals as goal
+use Rattle.sc_replica.proofs.cells.search.Goals as goal
 
 pub returns : goal.returns
 returns c =

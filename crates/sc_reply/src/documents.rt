@@ -1,6 +1,6 @@
 //! The bodies of answers that have documents.
 
-ghost use Rattle.std.specs.Prelude.{◌≡◌, IfOk, map, option_copied};
+ghost use Rattle.std.specs.Prelude.{◌≡◌, IfOk, IsSome, Some, map, option_copied};
 ghost use Rattle.std.specs.Option.{option_map};
 ghost use Rattle.std.specs.Arc.{arc_value};
 ghost use Rattle.serde_json.specs.View.{view};
@@ -10,7 +10,7 @@ ghost use Rattle.sc_reply.specs.Bodies as bodies;
 use crate::fixed::null_body;
 use crate::parts::{put_header, text_of};
 use sc_json::doc_value;
-use sc_record::{Cell, List, Text};
+use sc_record::{Cell, List, Text, Write};
 use serde_json::{Map, Value, json, put};
 use std::alloc::{AllocError, Global};
 
@@ -21,36 +21,21 @@ pub fn get_body(alloc: Global, write: Option<&Cell>) -> Result<Text, AllocError>
         (λ text. text ≡ bodies.get_text (option_map arc_value (option_copied write.entry))) }
 {
     match write {
-        Some(_) => {
-            let value = get_value(alloc, write)?;
-            text_of(alloc, &value)
-        }
+        Some(cell) => found_body(alloc, cell),
         None => Text::new(alloc, null_body()),
     }
 }
 
-/// The value of a get's answer.
-fn get_value(alloc: Global, write: Option<&Cell>) -> Result<Value, AllocError>
-    requires { bodies.IsLiveOrNone (option_map arc_value (option_copied write)) }
-    ensures { IfOk result (λ value. view value
-        ≡ bodies.get_data (option_map arc_value (option_copied write.entry))) }
+/// The body where the id has a document: the document's text, as the one member of an object.
+fn found_body(alloc: Global, write: &Write) -> Result<Text, AllocError>
+    requires { IsSome write.now.doc }
+    ensures { IfOk result (λ text. text ≡ bodies.get_text (Some write.now)) }
 {
-    let document = found_value(alloc, write)?;
-    let mut members = Map::new(alloc);
-    put(&mut members, alloc, "doc", document)?;
-    Ok(Value::Object(members))
-}
-
-/// The document of the write; null where there is none.
-fn found_value(alloc: Global, write: Option<&Cell>) -> Result<Value, AllocError>
-    requires { bodies.IsLiveOrNone (option_map arc_value (option_copied write)) }
-    ensures { IfOk result (λ value. view value
-        ≡ bodies.found_data (option_map arc_value (option_copied write.entry))) }
-{
-    match write {
-        Some(cell) => doc_value(alloc, cell),
-        None => Ok(Value::Null),
-    }
+    let document = doc_value(alloc, write)?;
+    let mut body = document.to_string(alloc)?;
+    body.insert_str(0, "{\"doc\":")?;
+    body.push('}')?;
+    Text::from_string(alloc, body)
 }
 
 /// The body of the answer to a get of several ids: these documents, in this order.

@@ -8,5 +8,6 @@ pub mod StreamLemmas
 pub mod MessageLemmas
 pub mod HeaderLemmas
 pub mod ParsedLemmas
+pub mod PlaceLemmas
 pub mod ReaderLemmas
 pub mod ReplyLemmas

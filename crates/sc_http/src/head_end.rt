@@ -1,4 +1,4 @@
-ghost use Rattle.std.specs.Prelude.{◌≡◌, ◌↔◌, IsTrue, fold};
+ghost use Rattle.std.specs.Prelude.{◌≡◌, ◌≤◌, ◌↔◌, IsTrue, fold, length, take};
 ghost use Rattle.sc_http.specs.HeadEnd.{next_place};
 
 /// How far the search for the end of a head has come: a head ends at the first empty line after some text.
@@ -41,12 +41,41 @@ impl Place {
         ensures { result ≡ fold next_place self bytes.now }
     {
         let mut place = self;
-        for byte in bytes {
-            place = place.next(*byte);
+        let mut at = 0;
+        while at < bytes.len() {
+            at += place.stay(&bytes[at..]);
+            if at == bytes.len() {
+                return place;
+            }
+            place = place.next(bytes[at]);
+            at += 1;
             if let Place::End = place {
                 return Place::End;
             }
         }
         place
     }
+
+    /// How many of these bytes are passed over at once, since the place stays the same after them.
+    fn stay(self, bytes: &[u8]) -> usize
+        ensures bound { result ≤ length bytes.now }
+        ensures stays { fold next_place self (take result bytes.now) ≡ self }
+    {
+        if let Place::Text = self {
+            return text_length(bytes);
+        }
+        0
+    }
+}
+
+/// How many bytes come before the first line feed.
+fn text_length(bytes: &[u8]) -> usize
+    ensures bound { result ≤ length bytes.now }
+    ensures stays { fold next_place Place.Text (take result bytes.now) ≡ Place.Text }
+{
+    let mut length = 0;
+    while length < bytes.len() && bytes[length] != b'\n' {
+        length += 1;
+    }
+    length
 }

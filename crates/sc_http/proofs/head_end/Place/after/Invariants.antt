@@ -1,7 +1,10 @@
 -- The place so far is that after the bytes so far.
-use Rattle.std.proofs.Common.{◌≡◌, fold, take}
+use Rattle.std.proofs.Common.{◌≡◌, ◌-◌, ◌≤◌, fold, take, length}
 use Rattle.sc_http.specs.HeadEnd.{next_place}
 use Rattle.sc_http.proofs.head_end.Place.after.Given as goal
 
-abbrev pub invariant-loop-byte : goal.invariant-loop-byte
-invariant-loop-byte l = l.place ≡ fold next_place l.fn.self (take l.byte-index l.bytes)
+abbrev pub invariant-loop-at : goal.invariant-loop-at
+invariant-loop-at l = (l.at ≤ length l.bytes) × (l.place ≡ fold next_place l.fn.self (take l.at l.bytes))
+
+abbrev pub decreases-loop-at : goal.decreases-loop-at
+decreases-loop-at l = length l.bytes - l.at

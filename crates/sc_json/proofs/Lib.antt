@@ -2,4 +2,7 @@
 pub mod JsonLemmas
 pub mod FloatLemmas
 pub mod RawLemmas
+pub mod TurnLemmas
+pub mod FlatLemmas
+pub mod PlaceLemmas
 pub mod LawLemmas

@@ -2,18 +2,25 @@
 //!
 //! It may depend on the documents of `sc_record` and `sc_schema`, and on the parser and printer of `serde_json`, which does
 //! all reading, printing and escaping. The layers above use the clauses of `read` and `raw_doc`, which say which value a body
-//! has and what its members are, and those of `doc_value` and `print`, which say which text a document has.
+//! has and what its members are, that of `flat_docs`, which reads the common body with no tree of its value, and those of
+//! `doc_value` and `print`, which say which text a document has.
 //!
 //! Proved: `read`, `raw_doc`, `doc_value` and `print` are the definitions in `specs/` over the JSON values of `serde_json`.
-//! Law `shown_document`: a document that is shown, sent back as it is, makes the same document, under the condition of its
-//! version.
+//! The documents that `flat_docs` gives are those of the body's value. Law `shown_document`: a document that is shown, sent
+//! back as it is, makes the same document, under the condition of its version.
 //!
 //! Tested alone: the worked documents.
+//!
+//! Neither: that `flat_docs` gives the documents of each body that is an array of flat objects.
 #![tactic(auto)]
 
 // A body's value, and the members of an object.
 mod body;
 mod raw;
+
+// The documents of a body, read with no tree of its value.
+mod flat;
+mod flat_value;
 
 // A document's value, and a value's text.
 mod document;
@@ -24,6 +31,7 @@ mod laws;
 
 pub use body::{JsonFault, read};
 pub use document::doc_value;
+pub use flat::flat_docs;
 pub use laws::shown_document;
 pub use raw::{RawFault, raw_doc, raw_one};
 pub use text::print;

@@ -1,0 +1,124 @@
+//! The documents of a body that is an array of flat objects, read straight from its text. An object is flat where none of its
+//! members is an object, or has one in its list, and each number is a whole one of 64 signed bits.
+
+ghost use Rattle.std.specs.Prelude.{◌≡◌, ◌<◌, ◌≤◌, [], length, map, Some, IfOk, OnOk, IfSome, option_and_then};
+ghost use Rattle.json.specs.Lex.{tokens};
+ghost use Rattle.sc_schema.specs.Raw.{AscendByName, raw_names};
+ghost use Rattle.sc_json.specs.Bodies.{json_of};
+ghost use Rattle.sc_json.specs.Flat as flat;
+ghost use Rattle.sc_json.specs.RawDocs.{raw_fields_of};
+
+use crate::flat_value::{Unread, next_flat};
+use json::{Reader, Scratch, Token};
+use sc_record::{List, Text};
+use sc_schema::{RawDoc, RawField, RawValue};
+use std::alloc::{AllocError, Global};
+use std::cmp::Ordering;
+
+/// For how many members a document has room at first.
+const FEW_MEMBERS: usize = 8;
+
+/// The documents of a body that is an array of flat objects, each of which has each key once. `None` says nothing of a body.
+pub fn flat_docs(alloc: Global, body: &[u8]) -> Result<Option<List<RawDoc>>, AllocError>
+    ensures { IfOk result (λ found. IfSome found
+        (λ docs. option_and_then flat.docs_of (json_of body.now) ≡ Some (map flat.fields_of docs))) }
+{
+    let Ok(text) = std::str::from_utf8(body) else {
+        return Ok(None);
+    };
+    let mut scratch = Scratch::new(alloc);
+    match all_docs(alloc, text, &mut scratch) {
+        Ok(docs) => Ok(Some(docs)),
+        Err(Unread::Other) => Ok(None),
+        Err(Unread::Memory) => Err(AllocError),
+    }
+}
+
+/// The documents of a text.
+fn all_docs(alloc: Global, text: &str, scratch: &mut Scratch) -> Result<List<RawDoc>, Unread>
+    ensures { IfOk result (λ docs. flat.next_by flat.docs_of flat.body_depth (tokens text.now)
+        ≡ Some (Some (map flat.fields_of docs), [])) }
+{
+    let mut reader = Reader::new(text, scratch)?;
+    let docs = next_docs(alloc, &mut reader)?;
+    if reader.next().is_some() {
+        return Err(Unread::Other);
+    }
+    Ok(docs)
+}
+
+/// The documents of an array.
+fn next_docs(alloc: Global, reader: &mut Reader<'_>) -> Result<List<RawDoc>, Unread>
+    ensures { IfOk result (λ docs. flat.next_by flat.docs_of flat.body_depth reader.old
+        ≡ Some (Some (map flat.fields_of docs), reader.new)) }
+{
+    let Some(Token::BeginArray) = reader.next() else {
+        return Err(Unread::Other);
+    };
+    rest_of_docs(alloc, reader)
+}
+
+/// The documents of an array that has begun.
+fn rest_of_docs(alloc: Global, reader: &mut Reader<'_>) -> Result<List<RawDoc>, Unread>
+    ensures { IfOk result (λ docs. flat.items_by flat.docs_in flat.doc_depth reader.old
+        ≡ Some (Some (map flat.fields_of docs), reader.new)) }
+{
+    let mut docs = List::new(alloc);
+    'docs: while !reader.take_end_array() {
+        let doc = next_doc(alloc, reader)?;
+        docs.push(doc)?;
+    }
+    Ok(docs)
+}
+
+/// The document of a flat object.
+fn next_doc(alloc: Global, reader: &mut Reader<'_>) -> Result<RawDoc, Unread>
+    ensures value { IfOk result (λ doc. flat.next_by raw_fields_of flat.doc_depth reader.old
+        ≡ Some (Some doc.fields, reader.new)) }
+    ensures shorter { OnOk result (length reader.new < length reader.old) }
+{
+    let Some(Token::BeginObject) = reader.next() else {
+        return Err(Unread::Other);
+    };
+    rest_of_members(alloc, reader)
+}
+
+/// The document of a flat object that has begun.
+fn rest_of_members(alloc: Global, reader: &mut Reader<'_>) -> Result<RawDoc, Unread>
+    ensures value { IfOk result (λ doc. flat.fields_by flat.member_depth reader.old
+        ≡ Some (doc.fields, reader.new)) }
+    ensures shorter { OnOk result (length reader.new < length reader.old) }
+{
+    let mut fields = Vec::with_capacity(alloc, FEW_MEMBERS)?;
+    'members: while let Some(name) = reader.next_key()? {
+        let value = next_flat(alloc, reader)?;
+        let Some(at) = place_of(fields.as_slice(), name) else {
+            return Err(Unread::Other);
+        };
+        let field = RawField {
+            name: Text::new(alloc, name)?,
+            value: RawValue::Plain(value),
+        };
+        fields.insert(at, field)?;
+    }
+    Ok(RawDoc {
+        fields: List::from_vec(fields),
+    })
+}
+
+/// Where a field of this name comes among fields whose names ascend. `None` where one has the name.
+fn place_of(fields: &[RawField], name: &str) -> Option<usize>
+    requires { AscendByName fields.now }
+    ensures within { IfSome result (λ at. at ≤ length fields.now) }
+    ensures place { IfSome result (flat.IsPlace name.now (raw_names fields.now)) }
+{
+    let mut at = fields.len();
+    while at > 0 {
+        match fields[at - 1].name.as_str().cmp(name) {
+            Ordering::Less => return Some(at),
+            Ordering::Equal => return None,
+            Ordering::Greater => at -= 1,
+        }
+    }
+    Some(0)
+}

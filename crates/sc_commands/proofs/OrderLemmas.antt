@@ -9,8 +9,9 @@ use Rattle.sc_schema.specs.Documents.{OrderContent, content_of, and_then, found_
 use Rattle.sc_schema.specs.declared.fault.DocFault.{DocFault}
 use Rattle.sc_schema.specs.declared.raw.RawField.{RawField}
 use Rattle.std.specs.List.Sorted.{IsStrictlySortedBy}
-use Rattle.sc_commands.specs.Commands.{Command}
-use Rattle.sc_commands.specs.Listed.{command_of, listed}
+use Rattle.sc_commands.specs.Commands.{Command, add}
+use Rattle.sc_schema.specs.declared.raw.RawDoc.{RawDoc}
+use Rattle.sc_commands.specs.Listed.{added_docs, command_of, listed}
 use Rattle.sc_commands.specs.Updates.{order_of, orders_of}
 use Rattle.sc_commands.specs.declared.forms.Action.{Action}
 use Rattle.sc_commands.specs.declared.forms.Action.TheVariants as actions
@@ -41,6 +42,10 @@ orders-append (x ∷ xs) ys =
 abbrev pub with_rest : Action → List OrderContent → List Value → Result (List OrderContent) DocFault
 with_rest action read values = found_map (λ more. read ++ more) (orders_of (listed action values))
 
+-- the orders that were read, and those of the documents that are left
+abbrev pub with_left : List OrderContent → List RawDoc → Result (List OrderContent) DocFault
+with_left read docs = found_map (λ more. read ++ more) (orders_of (added_docs docs))
+
 -- the fields of one name ascend
 pub alone_ascends : (field : RawField) → AscendByName (field ∷ [])
 unfolding IsStrictlySortedBy
@@ -51,7 +56,8 @@ pub fault_before : (xs ys : List Command) (fault : DocFault) → IsDocumentFault
 fault_before xs ys fault (inl memory) = inl memory
 fault_before xs ys fault (inr found) = inr (orders-append xs ys ∙ ap (λ first. then_more first (orders_of ys)) found)
 
-read_first : (xs : List Command) (none : List Order) (first : List OrderContent) → none ≡ [] → found_map (λ more. map content_of none ++ more) (orders_of xs) ≡ Ok first → orders_of xs ≡ Ok first
+-- the orders that come after none
+pub read_first : (xs : List Command) (none : List Order) (first : List OrderContent) → none ≡ [] → found_map (λ more. map content_of none ++ more) (orders_of xs) ≡ Ok first → orders_of xs ≡ Ok first
 read_first xs none first empty read =
     none_before (orders_of xs) ∙ ap (λ (orders : List Order). found_map (λ more. map content_of orders ++ more) (orders_of xs)) (sym empty) ∙ read
 
@@ -92,4 +98,13 @@ few_orders adds deletes orders limit found small =
     let parts : length both ≡ length (listed actions.Add adds) + length (listed actions.Delete deletes) = length-append (listed actions.Add adds) (listed actions.Delete deletes) in
     let first : length (listed actions.Add adds) ≡ length adds = length-map adds (λ value. command_of actions.Add (view value)) in
     let second : length (listed actions.Delete deletes) ≡ length deletes = length-map deletes (λ value. command_of actions.Delete (view value)) in
+    omega arith
+
+-- there are as many orders as documents
+pub few_docs : (docs : List RawDoc) (orders : List Order) (limit : ℕ) → orders_of (added_docs docs) ≡ Ok (map content_of orders) → length docs ≤ limit → length orders ≤ limit
+few_docs docs orders limit found small =
+    let all = added_docs docs in
+    let counted : length (map content_of orders) ≡ length all = subst (Counts (length all)) found (counts_orders all) in
+    let orders_same : length (map content_of orders) ≡ length orders = length-map orders content_of in
+    let docs_same : length all ≡ length docs = length-map docs (λ (doc : RawDoc). add doc.fields) in
     omega arith

@@ -3,6 +3,7 @@ use Rattle.std.specs.Prelude.{◌≡◌, ℕ, ◌<◌, List, map, Err}
 use Rattle.serde_json.specs.Data.{Data}
 use Rattle.serde_json.specs.View.{view}
 use Rattle.serde_json.specs.declared.value.Value.{Value}
+use Rattle.sc_schema.specs.declared.raw.RawDoc.{RawDoc}
 use Rattle.sc_commands.specs.Commands.{Command, add, delete, members_of, Reading}
 use Rattle.sc_commands.specs.declared.forms.Action.{Action}
 use Rattle.sc_commands.specs.declared.forms.Action.TheVariants as actions
@@ -17,6 +18,10 @@ command_of actions.Delete value = delete (members_of value)
 -- the commands of values, in order
 abbrev pub listed : Action → List Value → List Command
 listed action values = map (λ value. command_of action (view value)) values
+
+-- the commands that add these documents, in order
+abbrev pub added_docs : List RawDoc → List Command
+added_docs docs = map (λ (doc : RawDoc). add doc.fields) docs
 
 -- the reading ends at what has none of the forms, or memory ran out
 abbrev pub IsFormFault : Reading → FormFault → Type 0

@@ -7,7 +7,7 @@ ghost use Rattle.sc_schema.specs.declared.raw.RawFlat.TheVariants.{One};
 ghost use Rattle.sc_schema.specs.declared.raw.RawValue.TheVariants.{Plain};
 ghost use Rattle.sc_json.specs.RawDocs.{raw_one as one_of};
 ghost use Rattle.sc_commands.specs.Commands.{members_of};
-ghost use Rattle.sc_commands.specs.Listed.{command_of, listed};
+ghost use Rattle.sc_commands.specs.Listed.{added_docs, command_of, listed};
 ghost use Rattle.sc_commands.specs.Updates as updates;
 ghost use Rattle.sc_commands.specs.declared.forms.Action.TheVariants as actions;
 
@@ -30,6 +30,33 @@ pub(crate) fn orders_of(alloc: Global, commands: Commands) -> Result<List<Order>
     let none = List::from_vec(Vec::with_capacity(alloc, adds.len() + deletes.len())?);
     let orders = with_orders(alloc, none, adds, Action::Add)?;
     with_orders(alloc, orders, deletes, Action::Delete)
+}
+
+/// The orders to add these documents, or the first fault of the first that has one. Each is let go once its order is made.
+pub(crate) fn orders_of_docs(alloc: Global, docs: List<RawDoc>) -> Result<List<Order>, DocFault>
+    ensures ok { IfOk result (λ orders. updates.orders_of (added_docs docs) ≡ Ok (map content_of orders)) }
+    ensures fault { IfErr result (IsDocumentFault (updates.orders_of (added_docs docs))) }
+{
+    let none = List::from_vec(Vec::with_capacity(alloc, docs.len())?);
+    with_docs(alloc, none, docs.into_vec())
+}
+
+/// The orders with those to add the documents after them.
+fn with_docs(
+    alloc: Global,
+    mut orders: List<Order>,
+    docs: Vec<RawDoc>,
+) -> Result<List<Order>, DocFault>
+    ensures ok { IfOk result
+        (λ all. found_map (λ more. map content_of orders ++ more) (updates.orders_of (added_docs docs.items))
+        ≡ Ok (map content_of all)) }
+    ensures fault { IfErr result (IsDocumentFault (updates.orders_of (added_docs docs.items))) }
+{
+    for document in docs {
+        let order = check_doc(alloc, &document)?;
+        orders.push(order)?;
+    }
+    Ok(orders)
 }
 
 /// The orders with those of the values after them.

@@ -1,17 +1,20 @@
 ghost use Rattle.std.specs.Prelude.{◌≡◌, ◌≤◌, ◌-◌, ◌^◌, length, min, Some, Ok, IfOk, IfErr};
 ghost use Rattle.serde_json.specs.View.{view};
+ghost use Rattle.sc_schema.specs.declared.raw.RawDoc.{RawDoc};
+ghost use Rattle.sc_json.specs.Bodies.{json_of};
+ghost use Rattle.sc_commands.specs.Listed.{added_docs};
 ghost use Rattle.sc_commands.specs.Updates as updates;
 ghost use Rattle.sc_commands.specs.declared.fault.CommandFault.TheVariants as faults;
 
 use crate::batch::{Batch, Flags};
 use crate::fault::CommandFault;
 use crate::forms::{FormFault, commands_of};
-use crate::orders::orders_of;
-use sc_json::{JsonFault, read};
+use crate::orders::{orders_of, orders_of_docs};
+use sc_json::{JsonFault, flat_docs, read};
 use sc_record::List;
-use sc_schema::DocFault;
+use sc_schema::{DocFault, RawDoc};
 use serde_json::Value;
-use std::alloc::Global;
+use std::alloc::{AllocError, Global};
 
 /// The most orders of a body.
 const MAX_ORDERS: usize = 4096;
@@ -31,6 +34,42 @@ pub fn read_update(alloc: Global, body: &[u8], flags: &Flags) -> Result<Batch, C
             flags: *flags,
         });
     }
+    match flat_docs(alloc, body) {
+        Ok(Some(docs)) => read_docs(alloc, docs, flags),
+        Ok(None) => read_tree(alloc, body, flags),
+        Err(AllocError) => Err(CommandFault::Memory),
+    }
+}
+
+/// The orders to add these documents.
+fn read_docs(alloc: Global, docs: List<RawDoc>, flags: &Flags) -> Result<Batch, CommandFault>
+    ensures ok { IfOk result
+        (λ batch. updates.read_commands flags.now (Ok (added_docs docs)) ≡ Ok (updates.update_of batch)) }
+    ensures fault { IfErr result
+        (updates.IsCommandFault (updates.read_commands flags.now (Ok (added_docs docs)))) }
+    ensures few { IfOk result (λ batch. length batch.orders ≤ updates.order_limit) }
+{
+    if docs.len() > MAX_ORDERS {
+        return Err(CommandFault::TooMany);
+    }
+    match orders_of_docs(alloc, docs) {
+        Ok(orders) => Ok(Batch {
+            orders,
+            flags: *flags,
+        }),
+        Err(DocFault::Memory) => Err(CommandFault::Memory),
+        Err(fault) => Err(CommandFault::Doc(fault)),
+    }
+}
+
+/// The orders that a body asks for, by the tree of its value.
+fn read_tree(alloc: Global, body: &[u8], flags: &Flags) -> Result<Batch, CommandFault>
+    ensures ok { IfOk result
+        (λ batch. updates.read_value flags.now (json_of body.now) ≡ Ok (updates.update_of batch)) }
+    ensures fault { IfErr result
+        (updates.IsCommandFault (updates.read_value flags.now (json_of body.now))) }
+    ensures few { IfOk result (λ batch. length batch.orders ≤ updates.order_limit) }
+{
     match read(alloc, body) {
         Ok(value) => read_value(alloc, value, flags),
         Err(JsonFault::Bad) => Err(CommandFault::BadJson),

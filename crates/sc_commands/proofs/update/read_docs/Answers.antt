@@ -1,0 +1,9 @@
+-- There are as many orders as documents.
+use Rattle.std.proofs.Common.{◌≤◌, length, arith}
+use Rattle.sc_commands.proofs.OrderLemmas.{few_docs}
+use Rattle.sc_commands.proofs.update.read_docs.Goals as goal
+
+pub returns-in-Ok-clause-few : goal.returns-in-Ok-clause-few
+returns-in-Ok-clause-few c =
+    let small : length c.args.docs ≤ 4096 = omega arith in
+    few_docs c.args.docs c.in-Ok.orders 4096 c.in-Ok.ensures.ok small

@@ -22,7 +22,7 @@ pub fn read(alloc: Global, body: &[u8]) -> Result<Value, JsonFault>
     ensures value { IfOk result (λ value. json_of body.now ≡ Some (view value)) }
     ensures bad { result ≡ Err JsonFault.Bad → json_of body.now ≡ None }
 {
-    let Ok(text) = std::str::from_utf8(body) else {
+    let Ok(text) = simdutf8::compat::from_utf8(body) else {
         return Err(JsonFault::Bad);
     };
     match Value::from_str(alloc, text) {

@@ -23,7 +23,7 @@ pub fn flat_docs(alloc: Global, body: &[u8]) -> Result<Option<List<RawDoc>>, All
     ensures { IfOk result (λ found. IfSome found
         (λ docs. option_and_then flat.docs_of (json_of body.now) ≡ Some (map flat.fields_of docs))) }
 {
-    let Ok(text) = std::str::from_utf8(body) else {
+    let Ok(text) = simdutf8::compat::from_utf8(body) else {
         return Ok(None);
     };
     let mut scratch = Scratch::new(alloc);

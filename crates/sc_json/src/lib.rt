@@ -1,9 +1,9 @@
 //! JSON (RFC 8259): the value that a body is, a document as a request gives it, and a document as it is shown.
 //!
 //! It may depend on the documents of `sc_record` and `sc_schema`, on the parser and printer of `serde_json`, and on the reader
-//! of `json` below it, which do all reading, printing and escaping. The layers above use the clauses of `read` and `raw_doc`, which say which value a body
-//! has and what its members are, that of `flat_docs`, which reads the common body with no tree of its value, and those of
-//! `doc_value` and `print`, which say which text a document has.
+//! of `json` below it, which do all reading, printing and escaping. The layers above use the clauses of `read` and `raw_doc`,
+//! which say which value a body has and what its members are, that of `flat_docs`, which reads the common body with no tree of
+//! its value, and those of `doc_value` and `print`, which say which text a document has.
 //!
 //! Proved: `read`, `raw_doc`, `doc_value` and `print` are the definitions in `specs/` over the JSON values of `serde_json`.
 //! The documents that `flat_docs` gives are those of the body's value. Law `shown_document`: a document that is shown, sent

@@ -75,38 +75,33 @@ fn assert_rows<L: Ledger>(
     assert!(rt; key.compared.get() <= limit);
 }
 
-fn finds<L: Ledger>(rt: &impl Abort, alloc: Global, blank: Blank) -> Result<(), Fail>
+// The even numbers below 2,000 as keys, each of two rows that are filed twice, in no order: 7 * 143 is 1 more than 1,000.
+fn finds_among_many<L: Ledger>(rt: &impl Abort, alloc: Global, blank: Blank) -> Result<(), Fail>
     requires { IsFresh blank L.name L.parts }
 {
     let mut steps = Steps::<L>::new(blank);
     let compared = Cell::new(0);
-    let pairs = [
-        (0, 20),
-        (0, 10),
-        (0, 10),
-        (2, 10),
-        (2, 30),
-        (2, 20),
-        (5, 10),
-        (5, 30),
-    ];
+    let mut pairs = Vec::new(alloc);
+    for row in 0..2000 {
+        let pair = (row, row * 7 % 1000 * 2);
+        pairs.push(pair)?;
+        pairs.push(pair)?;
+    }
     let segment = filled(rt, alloc, &pairs, &compared)?;
-    let table = [
-        (10, [0, 2, 5].as_slice()),
-        (20, [0, 2].as_slice()),
-        (30, [2, 5].as_slice()),
-        (5, [].as_slice()),
-        (15, [].as_slice()),
-        (35, [].as_slice()),
-    ];
-    for (number, rows) in table {
-        let key = CountedKey {
-            number,
+    for half in 0..1000 {
+        let even = CountedKey {
+            number: 2 * half,
             compared: &compared,
         };
-        let shared = key.share()?;
-        assert!(rt; shared == key);
-        assert_rows(rt, &segment, &shared, rows, 2, &mut steps);
+        let shared = even.share()?;
+        assert!(rt; shared == even);
+        let row = half * 143 % 1000;
+        assert_rows(rt, &segment, &shared, &[row, row + 1000], 10, &mut steps);
+        let odd = CountedKey {
+            number: 2 * half + 1,
+            compared: &compared,
+        };
+        assert_rows(rt, &segment, &odd, &[], 10, &mut steps);
     }
 
     let empty = filled(rt, alloc, &[], &compared)?;
@@ -115,37 +110,6 @@ fn finds<L: Ledger>(rt: &impl Abort, alloc: Global, blank: Blank) -> Result<(), 
         compared: &compared,
     };
     assert_rows(rt, &empty, &key, &[], 0, &mut steps);
-    Ok(())
-}
-
-#[test]
-fn finds_the_rows_of_each_key(rt: HostRuntime) -> Result<(), Fail> {
-    finds::<Brand>(&rt, rt.alloc(), Blank::new(1))
-}
-
-// The even numbers below 2,000 as keys, each of one row, in no order: 7 * 143 is 1 more than 1,000.
-fn finds_among_many<L: Ledger>(rt: &impl Abort, alloc: Global, blank: Blank) -> Result<(), Fail>
-    requires { IsFresh blank L.name L.parts }
-{
-    let mut steps = Steps::<L>::new(blank);
-    let compared = Cell::new(0);
-    let mut pairs = Vec::new(alloc);
-    for row in 0..1000 {
-        pairs.push((row, row * 7 % 1000 * 2))?;
-    }
-    let segment = filled(rt, alloc, &pairs, &compared)?;
-    for half in 0..1000 {
-        let even = CountedKey {
-            number: 2 * half,
-            compared: &compared,
-        };
-        assert_rows(rt, &segment, &even, &[half * 143 % 1000], 10, &mut steps);
-        let odd = CountedKey {
-            number: 2 * half + 1,
-            compared: &compared,
-        };
-        assert_rows(rt, &segment, &odd, &[], 10, &mut steps);
-    }
     Ok(())
 }
 

@@ -1,12 +1,8 @@
-//! `sc_io`: sources, sinks and clocks in memory and of the machine, with calls that fail.
+//! `sc_io`: standard input and output and the machine's clock, with calls that fail.
 
-ghost use Rattle.std.specs.Prelude.{◌≡◌, ◌<◌, length, IfOk};
+ghost use Rattle.std.specs.Prelude.{◌<◌, length};
 
-use sc_io::{
-    Clock, Failed, Fixed, MachineClock, MemClock, MemSink, MemSource, Never, Sink, Source, StdSink,
-    StdSource,
-};
-use sc_record::List;
+use sc_io::{Clock, MachineClock, Sink, Source, StdSink, StdSource};
 use std::alloc::{AllocError, Global};
 use std::io::{ErrorKind, Read, Write};
 use std::process::Abort;
@@ -34,36 +30,6 @@ fn reads<S: Source>(
     Ok(given)
 }
 
-fn list<T: Copy>(alloc: Global, items: &[T]) -> Result<List<T>, AllocError>
-    ensures { IfOk result (λ list. list ≡ items.now) }
-{
-    Ok(List::from_vec(Vec::from_slice(alloc, items)?))
-}
-
-#[test]
-fn a_source_in_memory_gives_pieces_and_fails_by_number(rt: HostRuntime) -> Result<(), Fail> {
-    let alloc = rt.alloc();
-    // how many bytes a read gives at most, the reads that fail, and what six reads into three bytes give
-    let rows: [(usize, &[u64], &str); 4] = [
-        (2, &[], "ab|cd|ef|g|||"),
-        (9, &[1], "abc|!|def|g|||"),
-        (1, &[0, 3], "!|a|b|!|c|d|"),
-        (9, &[4, 3], "abc|def|g|!|!||"),
-    ];
-    for (most, fails, want) in rows {
-        assert!(rt; most > 0);
-        let mut source = MemSource::new(list(alloc, b"abcdefg")?, most, list(alloc, fails)?);
-        let given = reads(alloc, &mut source, &mut [0; 3], 6)?;
-        assert_eq!(rt; given.as_slice(), want.as_bytes());
-        assert_eq!(rt; source.faults.count(), fails.len() as u64);
-    }
-    assert_eq!(rt;
-        reads(alloc, &mut Never, &mut [0; 3], 2)?.as_slice(),
-        b"||".as_slice()
-    );
-    Ok(())
-}
-
 // Which of the pieces were written.
 fn writes<W: Sink>(alloc: Global, sink: &mut W, pieces: &[&str]) -> Result<Vec<bool>, AllocError> {
     let mut written = Vec::new(alloc);
@@ -73,36 +39,8 @@ fn writes<W: Sink>(alloc: Global, sink: &mut W, pieces: &[&str]) -> Result<Vec<b
     Ok(written)
 }
 
-#[test]
-fn a_sink_in_memory_keeps_what_it_is_given_and_fails_by_number(
-    rt: HostRuntime,
-) -> Result<(), Fail> {
-    let alloc = rt.alloc();
-    let mut sink = MemSink::new(alloc, list(alloc, &[1, 4])?);
-    let written = writes(alloc, &mut sink, &["ab", "cd", "", "efg", "h", "i"])?;
-    assert_eq!(rt;
-        written.as_slice(),
-        [true, false, true, true, false, true].as_slice()
-    );
-    assert_eq!(rt; sink.bytes.as_slice(), b"abefgi".as_slice());
-    assert_eq!(rt; sink.calls, 6);
-    assert_eq!(rt; sink.faults.count(), 2);
-    let dropped = writes(alloc, &mut Never, &["ab", ""])?;
-    assert_eq!(rt; dropped.as_slice(), [true, true].as_slice());
-    Ok(())
-}
-
 fn timestamps<C: Clock>(clock: &mut C) -> [u64; 4] {
     [clock.now(), clock.now(), clock.now(), clock.now()]
-}
-
-#[test]
-fn clocks_give_their_timestamps_and_the_last_one_for_ever(rt: HostRuntime) -> Result<(), Fail> {
-    let alloc = rt.alloc();
-    let mut listed = MemClock::new(list(alloc, &[5, 9, 7])?);
-    assert_eq!(rt; timestamps(&mut listed), [5, 9, 7, 7]);
-    assert_eq!(rt; timestamps(&mut Fixed { moment: 1000 }), [1000; 4]);
-    Ok(())
 }
 
 // A machine whose clock shows so many nanoseconds since 1970, or can't be read.

@@ -1,3 +1,4 @@
--- What the arguments ask for, and what a run leaves.
+-- What the arguments ask for, what a run leaves, and what a person is told.
 pub mod Arguments
 pub mod Running
+pub mod Usage

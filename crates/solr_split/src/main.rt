@@ -6,20 +6,21 @@
 //! `Alone` keeps the collection.
 //!
 //! Proved: `run`: the status for all arguments and faults, and the bytes if source and sink report theirs, by the promise of
-//! `sc_session`.
+//! `sc_session`; the texts of the usage and of the line for each status (`meaning`).
+//! `proofs/ArgumentExamples` has arguments at the borders of each range, and the usage's example, with what they ask for.
 //!
-//! Tested alone: that `run` does not say "out of memory" while there is memory; the shipped program's own bytes and status,
-//! by the stored run, which sends a document of over 200,000 bytes through standard input and output and ends with status 3;
-//! the texts of the usage and of the line for each status.
+//! Tested alone: that `run` does not say "out of memory" while there is memory, and the shipped program's own bytes and status: by the
+//! stored run, which sends a document of over 200,000 bytes through standard input and output and ends with status 3.
 //!
 //! Neither: that these lines reach standard error, and that `main` hands over standard input and output and the machine's
 //! clock.
 #![tactic(auto)]
 
+ghost use Rattle.std.specs.Prelude.{◌≡◌};
+ghost use Rattle.solr_split.specs.Usage.{meaning_of};
+
 mod arguments;
 mod run;
-#[cfg(test)]
-mod tests;
 
 pub use run::run;
 use sc_io::{MachineClock, StdSink, StdSource};
@@ -68,7 +69,9 @@ fn arguments_of(rt: &HostRuntime) -> io::Result<Vec<String>> {
 }
 
 /// What a status other than 0 means.
-fn meaning(status: u8) -> &'static str {
+fn meaning(status: u8) -> &'static str
+    ensures { result.now ≡ meaning_of status }
+{
     match status {
         2 => USAGE,
         3 => "the input ended inside a request, or was no request that can be read",

@@ -1,5 +1,5 @@
 -- Each number of the shape is in its range.
-use Rattle.std.proofs.Common.{sym, arith}
+use Rattle.std.proofs.Common.{sym}
 use Rattle.solr_split.proofs.ShapeLemmas.{range_of, count_of}
 use Rattle.solr_split.proofs.arguments.shape_of.Goals as goal
 

@@ -1,5 +1,6 @@
--- What the proofs of the arguments and of a run share, and examples.
+-- What the proofs of the arguments and of a run share, what the options' order means, and examples.
 mod ArgumentExamples
+mod OrderLemmas
 pub mod RunLemmas
 pub mod SettingLemmas
 pub mod ShapeLemmas

@@ -6,8 +6,9 @@
 //! `Alone` keeps the collection.
 //!
 //! Proved: `run`: the status for all arguments and faults, and the bytes if source and sink report theirs, by the promise of
-//! `sc_session`; the texts of the usage and of the line for each status (`meaning`).
-//! `proofs/ArgumentExamples` has arguments at the borders of each range, and the usage's example, with what they ask for.
+//! `sc_session`; the texts of the usage and of the line for each status (`meaning`). The law `options_come_in_any_order`: the order of the
+//! options changes nothing, also where they are refused. `proofs/ArgumentExamples` has arguments at the borders of each range, and the
+//! usage's example, with what they ask for.
 //!
 //! Tested alone: that `run` does not say "out of memory" while there is memory, and the shipped program's own bytes and status: by the
 //! stored run, which sends a document of over 200,000 bytes through standard input and output and ends with status 3.
@@ -20,8 +21,10 @@ ghost use Rattle.std.specs.Prelude.{◌≡◌};
 ghost use Rattle.solr_split.specs.Usage.{meaning_of};
 
 mod arguments;
+mod laws;
 mod run;
 
+pub use laws::options_come_in_any_order;
 pub use run::run;
 use sc_io::{MachineClock, StdSink, StdSource};
 use std::alloc::AllocError;

@@ -5,7 +5,7 @@ use Rattle.serde_json.specs.Data.{Data, null, boolean, number, string, array, ob
 use Rattle.sc_schema.specs.declared.raw.RawDoc.{RawDoc}
 use Rattle.sc_schema.specs.declared.raw.RawField.{RawField}
 use Rattle.sc_json.specs.Bodies.{json_of}
-use Rattle.sc_json.specs.Flat.{fields_of, first_doc, docs_in, docs_of}
+use Rattle.sc_json.specs.Flat.{doc_fields, first_doc, docs_in, docs_of}
 use Rattle.sc_json.specs.RawDocs.{raw_fields_of}
 use Rattle.sc_commands.specs.Commands.{add, one, followed_by, each, added, asks_commit, reading}
 use Rattle.sc_commands.specs.Listed.{added_docs}
@@ -59,17 +59,17 @@ or_false false c none = none
 same_flags : (flags : Flags) (value : Data) → asks_commit value ≡ false → with_commit flags value ≡ flags
 same_flags flags value none = ap (λ b. record flags { commit = b }) (or_false flags.commit (asks_commit value) none)
 
-same_docs : (docs : List RawDoc) → map add (map fields_of docs) ≡ added_docs docs
+same_docs : (docs : List RawDoc) → map add (map doc_fields docs) ≡ added_docs docs
 same_docs [] = refl
 same_docs (doc ∷ docs) = ap (λ more. add doc.fields ∷ more) (same_docs docs)
 
-read_found : (flags : Flags) (found : Option Data) (docs : List RawDoc) → option_and_then docs_of found ≡ Some (map fields_of docs) → read_value flags found ≡ read_commands flags (Ok (added_docs docs))
+read_found : (flags : Flags) (found : Option Data) (docs : List RawDoc) → option_and_then docs_of found ≡ Some (map doc_fields docs) → read_value flags found ≡ read_commands flags (Ok (added_docs docs))
 read_found flags None docs e = absurd (cc)
 read_found flags (Some value) docs e =
-    ap₂ read_commands (same_flags flags value (no_commit value (map fields_of docs) e)) (reading_docs value (map fields_of docs) e ∙ ap Ok (same_docs docs))
+    ap₂ read_commands (same_flags flags value (no_commit value (map doc_fields docs) e)) (reading_docs value (map doc_fields docs) e ∙ ap Ok (same_docs docs))
 
 -- a body that is an array of these documents asks to add them
-pub asks_for_docs : (flags : Flags) (body : List ℕ) (docs : List RawDoc) → 0 < length body → option_and_then docs_of (json_of body) ≡ Some (map fields_of docs)
+pub asks_for_docs : (flags : Flags) (body : List ℕ) (docs : List RawDoc) → 0 < length body → option_and_then docs_of (json_of body) ≡ Some (map doc_fields docs)
     → asked_by flags body ≡ read_commands flags (Ok (added_docs docs))
 asks_for_docs flags [] docs some e = absurd (omega arith)
 asks_for_docs flags (byte ∷ body) docs some e = read_found flags (json_of (byte ∷ body)) docs e

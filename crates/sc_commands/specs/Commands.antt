@@ -36,13 +36,13 @@ each form no_items = Ok []
 each form (item value items) = followed_by (one (form value)) (each form items)
 
 -- the fields of an object; a text or a number stands for the object that has it as its id
-abbrev pub members_of : Data → List RawField
-members_of (object members) = raw_fields members
-members_of value = record { name = codes "id"; value = Plain (One (raw_one value)) } ∷ []
+abbrev pub order_members : Data → List RawField
+order_members (object members) = raw_fields members
+order_members value = record { name = codes "id"; value = Plain (One (raw_one value)) } ∷ []
 
 -- the value is an object
-abbrev pub is_object : Data → Bool
-is_object value = is_some (as_object value)
+abbrev pub is_json_object : Data → Bool
+is_json_object value = is_some (as_object value)
 
 -- the value is a text or a whole number of 64 signed bits
 abbrev pub can_be_id : Data → Bool
@@ -60,7 +60,7 @@ has_keys keys value = false
 
 -- a document to add is an object
 abbrev pub added : Data → Option Command
-added value = if is_object value then Some (add (members_of value)) else None
+added value = if is_json_object value then Some (add (order_members value)) else None
 
 -- the object may have documents in the place of older ones: `overwrite` may be left out, or true
 abbrev pub overwrites : Data → Bool
@@ -80,7 +80,7 @@ orders_of_add value = one (added_doc value)
 
 -- an id in an array of ids to delete
 abbrev pub deleted : Data → Option Command
-deleted value = if can_be_id value then Some (delete (members_of value)) else None
+deleted value = if can_be_id value then Some (delete (order_members value)) else None
 
 -- the value names one document to delete: it is its id, or an object that has the id and may have a version as the condition
 abbrev pub names_one : Data → Bool
@@ -91,11 +91,11 @@ names_one value = can_be_id value
 -- what the key `delete` has: ids, or what names one document
 abbrev pub orders_of_delete : Data → Reading
 orders_of_delete (array items) = each deleted items
-orders_of_delete value = if names_one value then Ok (delete (members_of value) ∷ []) else Err 0
+orders_of_delete value = if names_one value then Ok (delete (order_members value) ∷ []) else Err 0
 
 -- what the key `commit` has: an object, whose content is ignored
 abbrev pub commit_of : Data → Reading
-commit_of value = if is_object value then Ok [] else Err 0
+commit_of value = if is_json_object value then Ok [] else Err 0
 
 -- what a key has; nothing, where it is not there
 abbrev pub where_there : (Data → Reading) → Option Data → Reading

@@ -4,7 +4,7 @@ use Rattle.serde_json.specs.Data.{Data}
 use Rattle.serde_json.specs.View.{view}
 use Rattle.serde_json.specs.declared.value.Value.{Value}
 use Rattle.sc_schema.specs.declared.raw.RawDoc.{RawDoc}
-use Rattle.sc_commands.specs.Commands.{Command, add, delete, members_of, Reading}
+use Rattle.sc_commands.specs.Commands.{Command, add, delete, order_members, Reading}
 use Rattle.sc_commands.specs.declared.forms.Action.{Action}
 use Rattle.sc_commands.specs.declared.forms.Action.TheVariants as actions
 use Rattle.sc_commands.specs.declared.forms.FormFault.{FormFault}
@@ -12,8 +12,8 @@ use Rattle.sc_commands.specs.declared.forms.FormFault.TheVariants as faults
 
 -- the command of a value
 abbrev pub command_of : Action → Data → Command
-command_of actions.Add value = add (members_of value)
-command_of actions.Delete value = delete (members_of value)
+command_of actions.Add value = add (order_members value)
+command_of actions.Delete value = delete (order_members value)
 
 -- the commands of values, in order
 abbrev pub listed : Action → List Value → List Command

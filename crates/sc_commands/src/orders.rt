@@ -6,7 +6,7 @@ ghost use Rattle.sc_schema.specs.Documents.{content_of, found_map, IsDocumentFau
 ghost use Rattle.sc_schema.specs.declared.raw.RawFlat.TheVariants.{One};
 ghost use Rattle.sc_schema.specs.declared.raw.RawValue.TheVariants.{Plain};
 ghost use Rattle.sc_json.specs.RawDocs.{raw_one as one_of};
-ghost use Rattle.sc_commands.specs.Commands.{members_of};
+ghost use Rattle.sc_commands.specs.Commands.{order_members};
 ghost use Rattle.sc_commands.specs.Listed.{added_docs, command_of, listed};
 ghost use Rattle.sc_commands.specs.Updates as updates;
 ghost use Rattle.sc_commands.specs.declared.forms.Action.TheVariants as actions;
@@ -107,7 +107,7 @@ fn deletion(order: Order) -> Order
 
 /// The document of an object, or that of the id which a value is.
 fn document_of(alloc: Global, value: &Value) -> Result<RawDoc, AllocError>
-    ensures { IfOk result (λ document. document.fields ≡ members_of (view value.now)) }
+    ensures { IfOk result (λ document. document.fields ≡ order_members (view value.now)) }
 {
     if !value.is_object() {
         return id_alone(alloc, value);

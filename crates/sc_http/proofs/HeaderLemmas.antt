@@ -10,7 +10,7 @@ use Rattle.std.proofs.lemmas.List.Elements.{filter-append}
 use Rattle.form_urlencoded.specs.Form.{split}
 use Rattle.httparse.specs.Grammar.{RequestHead}
 use Rattle.httparse.specs.Spans.{name_and_value}
-use Rattle.sc_model.specs.Heads.{LengthFault, malformed_length, too_large_length, body_limit, is_digits, length_by, values_of, has_header, comma, says_close}
+use Rattle.sc_model.specs.Heads.{LengthFault, malformed_length, too_large_length, body_limit, is_digits, length_by, header_values, has_header, comma, says_close}
 use Rattle.sc_http.specs.Lines.{is_named, line_values, has_line, is_close}
 
 pub list_any-map : {X Y : Type 0} (p : Y → Bool) (h : X → Y) (xs : List X) → list_any p (map h xs) ≡ list_any (λ x. p (h x)) xs
@@ -33,7 +33,7 @@ values_in-map {X} name h (x ∷ xs) = by_name (values_in-map name h xs) (is_name
     by_name later false e = rw (e, later) refl
 
 -- the values by the lines of the model are those by the names and values of its fields
-pub values_of_head : (name : List ℕ) (head : RequestHead) → values_of name head ≡ line_values name (map name_and_value head.fields)
+pub values_of_head : (name : List ℕ) (head : RequestHead) → header_values name head ≡ line_values name (map name_and_value head.fields)
 values_of_head name head = sym (values_in-map name name_and_value head.fields)
 
 pub has_of_head : (name : List ℕ) (head : RequestHead) → has_header name head ≡ has_line name (map name_and_value head.fields)

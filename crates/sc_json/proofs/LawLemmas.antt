@@ -31,7 +31,7 @@ use Rattle.sc_schema.specs.declared.raw.RawField.{RawField}
 use Rattle.sc_schema.specs.declared.raw.RawOne.TheVariants as ones
 use Rattle.sc_json.specs.Documents.{members_of, whole_number, value_data, field_data, field_member}
 use Rattle.sc_json.specs.RawDocs.{raw_number, raw_one, raw_items, raw_value, raw_fields}
-use Rattle.sc_json.specs.Laws.{IsInRange, IsFieldInRange, IsStoredDocument, ReadsBack}
+use Rattle.sc_json.specs.Laws.{HasItsBits, IsFieldInRange, IsStoredDocument, ReadsBack}
 
 -- names are one just where they compare equal
 name_from : (k l : List ℕ) (o : Ordering) → slice_cmp nat_cmp k l ≡ o → bytes_eq l k ≡ is_eq o
@@ -157,7 +157,7 @@ int-long (pos n) h = grind (arith, ints, nat_tests)
 int-long (negsuc n) h = grind (arith, ints, nat_tests)
 
 -- a value is read as the value that is shown
-value_back : (kind : Kind) (v : Value) → fits_kind kind v ≡ true → IsInRange v → value_of kind (raw_one (value_data v)) ≡ Some v
+value_back : (kind : Kind) (v : Value) → fits_kind kind v ≡ true → HasItsBits v → value_of kind (raw_one (value_data v)) ≡ Some v
 value_back kinds.Str (values.Text text) fits range = refl
 value_back kinds.Words (values.Text text) fits range = refl
 value_back kinds.Int (values.Int n) fits range = rw (as_long n (int-long n range), range) refl
@@ -179,7 +179,7 @@ value_back kinds.Flag (values.Text text) fits range = cc
 value_back kinds.Flag (values.Int n) fits range = cc
 value_back kinds.Flag (values.Long n) fits range = cc
 
-values_back : (kind : Kind) (vs : List Value) → list_all (fits_kind kind) vs ≡ true → AllByRecursion IsInRange vs
+values_back : (kind : Kind) (vs : List Value) → list_all (fits_kind kind) vs ≡ true → AllByRecursion HasItsBits vs
     → values_in kind (raw_items (items_of (map value_data vs))) ≡ Some vs
 values_back kind [] fits range = refl
 values_back kind (v ∷ vs) fits range =
@@ -187,7 +187,7 @@ values_back kind (v ∷ vs) fits range =
     rw (value_back kind v here range.0, values_back kind vs others range.1) refl
 
 -- a value alone sets the field to it
-one_back : (kind : Kind) (v : Value) → value_of kind (raw_one (value_data v)) ≡ Some v → IsInRange v
+one_back : (kind : Kind) (v : Value) → value_of kind (raw_one (value_data v)) ≡ Some v → HasItsBits v
     → how_of_value kind false (raw_value (value_data v)) ≡ Some (Set (v ∷ []))
 one_back kind (values.Text text) back range = rw back refl
 one_back kind (values.Int n) back range =
@@ -202,7 +202,7 @@ one_back kind (values.Flag b) back range = rw back refl
 
 -- the values that are shown of a field set it to them
 field_back : (kind : Kind) (many : Bool) (vs : List Value) → list_all (fits_kind kind) vs ≡ true → fits_count many (length vs) ≡ true
-    → AllByRecursion IsInRange vs → how_of_value kind many (raw_value (field_data (Some (kind, many)) vs)) ≡ Some (Set vs)
+    → AllByRecursion HasItsBits vs → how_of_value kind many (raw_value (field_data (Some (kind, many)) vs)) ≡ Some (Set vs)
 field_back kind true vs fits count range = rw (values_back kind vs fits range) refl
 field_back kind false [] fits count range = cc
 field_back kind false (v ∷ []) fits count range =
@@ -214,7 +214,7 @@ set_to : Field → FieldChange
 set_to field = record { name = field.name; how = Set field.values }
 
 part_back : (name : List ℕ) (vs : List Value) (kind : Option (Kind × Bool)) → kind_of name ≡ kind → fits_name kind vs ≡ true
-    → AllByRecursion IsInRange vs
+    → AllByRecursion HasItsBits vs
     → part_of (record { name = name; value = raw_value (field_data (kind_of name) vs) }) ≡ Ok (record { name = name; how = Set vs })
 part_back name vs None is fits range = cc
 part_back name vs (Some (kind, many)) is fits range =

@@ -9,7 +9,7 @@ use Rattle.serde_json.specs.Data.{Data, Members, no_members, member, put}
 use Rattle.sc_schema.specs.Raw.{AscendByName, raw_names}
 use Rattle.sc_schema.specs.declared.raw.RawField.{RawField}
 use Rattle.sc_schema.specs.declared.raw.RawValue.{RawValue}
-use Rattle.sc_json.specs.Flat.{IsPlace}
+use Rattle.sc_json.specs.Flat.{IsNamePlace}
 use Rattle.sc_json.specs.RawDocs.{raw_fields, raw_value}
 
 -- one name comes before another just where that comes after it
@@ -49,7 +49,7 @@ all_insert P (f ∷ fields) zero x all here = (here, all)
 all_insert P (f ∷ fields) (suc at) x all here = (all.0, all_insert P fields at x all.1 here)
 
 -- the names still ascend
-pub ascend_at : (fields : List RawField) (at : ℕ) (x : RawField) → AscendByName fields → IsPlace x.name (raw_names fields) at → AscendByName (insert fields at x)
+pub ascend_at : (fields : List RawField) (at : ℕ) (x : RawField) → AscendByName fields → IsNamePlace x.name (raw_names fields) at → AscendByName (insert fields at x)
 unfolding IsStrictlySortedBy
 ascend_at [] zero x ascend place = (tt, tt)
 ascend_at [] (suc at) x ascend place = (tt, tt)
@@ -57,7 +57,7 @@ ascend_at (f ∷ fields) zero x ascend place = (place.1, ascend)
 ascend_at (f ∷ fields) (suc at) x ascend place = (all_insert (λ other. slice_cmp nat_cmp f.name other ≡ Less) fields at x ascend.0 place.0.0, ascend_at fields at x ascend.1 (place.0.1, place.1))
 
 -- a member is put at its place
-pub put_at : (k : List ℕ) (d : Data) (ms : Members) (at : ℕ) → IsPlace k (raw_names (raw_fields ms)) at
+pub put_at : (k : List ℕ) (d : Data) (ms : Members) (at : ℕ) → IsNamePlace k (raw_names (raw_fields ms)) at
     → raw_fields (put k d ms) ≡ insert (raw_fields ms) at (record { name = k; value = raw_value d })
 put_at k d no_members zero place = refl
 put_at k d no_members (suc at) place = refl
@@ -69,9 +69,9 @@ put_at k d (member l e ms) (suc at) place =
 
 -- the fields with one more at its place are the members with it
 pub put_field : (k : List ℕ) (d : Data) (ms : Members) (at : ℕ) (old new : List RawField) (name : List ℕ) (shown : RawValue)
-    → raw_fields ms ≡ old → raw_value d ≡ shown → name ≡ k → IsPlace k (raw_names old) at → new ≡ insert old at (record { name = name; value = shown }) → raw_fields (put k d ms) ≡ new
+    → raw_fields ms ≡ old → raw_value d ≡ shown → name ≡ k → IsNamePlace k (raw_names old) at → new ≡ insert old at (record { name = name; value = shown }) → raw_fields (put k d ms) ≡ new
 put_field k d ms at old new name shown are is named place more =
-    put_at k d ms at (subst (λ fields. IsPlace k (raw_names fields) at) (sym are) place)
+    put_at k d ms at (subst (λ fields. IsNamePlace k (raw_names fields) at) (sym are) place)
     ∙ ap (λ (fields : List RawField). insert fields at (record { name = k; value = raw_value d })) are
     ∙ ap (λ (other : List ℕ). insert old at (record { name = other; value = raw_value d })) (sym named)
     ∙ ap (λ (found : RawValue). insert old at (record { name = name; value = found })) is
@@ -79,9 +79,9 @@ put_field k d ms at old new name shown are is named place more =
 
 -- and they ascend
 pub ascend_field : (k : List ℕ) (at : ℕ) (old new : List RawField) (name : List ℕ) (shown : RawValue)
-    → AscendByName old → name ≡ k → IsPlace k (raw_names old) at → new ≡ insert old at (record { name = name; value = shown }) → AscendByName new
+    → AscendByName old → name ≡ k → IsNamePlace k (raw_names old) at → new ≡ insert old at (record { name = name; value = shown }) → AscendByName new
 ascend_field k at old new name shown ascend named place more =
-    let here = subst (λ (other : List ℕ). IsPlace other (raw_names old) at) (sym named) place in
+    let here = subst (λ (other : List ℕ). IsNamePlace other (raw_names old) at) (sym named) place in
     subst AscendByName (sym more) (ascend_at old at (record { name = name; value = shown }) ascend here)
 
 -- no fields ascend

@@ -15,8 +15,8 @@ use Rattle.sc_schema.specs.declared.raw.RawOne.TheVariants as ones
 use Rattle.sc_json.specs.RawDocs.{raw_number, raw_fields, raw_fields_of}
 
 -- the fields of a document
-abbrev pub fields_of : RawDoc → List RawField
-fields_of doc = doc.fields
+abbrev pub doc_fields : RawDoc → List RawField
+doc_fields doc = doc.fields
 
 -- a document and those after it
 abbrev pub first_doc : Option (List RawField) → Option (List (List RawField)) → Option (List (List RawField))
@@ -34,7 +34,7 @@ docs_of null = None
 docs_of (boolean b) = None
 docs_of (number n) = None
 docs_of (string text) = None
-docs_of (object members) = None
+docs_of (object _) = None
 
 -- how deep arrays and objects may be in one another: in a body, in a document, in its member and in an item of this
 abbrev pub body_depth : ℕ
@@ -75,6 +75,6 @@ one_of Token.null = Some ones.Null
 one_of Token.bad = None
 
 -- the names before the place come before this name, and those from there on after it
-abbrev pub IsPlace : List ℕ → List (List ℕ) → ℕ → Type 0
-IsPlace name names at =
+abbrev pub IsNamePlace : List ℕ → List (List ℕ) → ℕ → Type 0
+IsNamePlace name names at =
     AllByRecursion (λ other. slice_cmp nat_cmp other name ≡ Less) (take at names) × AllByRecursion (λ other. slice_cmp nat_cmp name other ≡ Less) (drop at names)

@@ -12,15 +12,15 @@ use Rattle.sc_json.specs.Documents.{document_data}
 use Rattle.sc_json.specs.RawDocs.{raw_fields_of}
 
 -- a number has as many bits as its kind has
-abbrev pub IsInRange : Value → Type 0
-IsInRange (values.Text text) = ⊤
-IsInRange (values.Int n) = IsTrue (is_int n)
-IsInRange (values.Long n) = IsTrue (is_long n)
-IsInRange (values.Flag b) = ⊤
+abbrev pub HasItsBits : Value → Type 0
+HasItsBits (values.Text text) = ⊤
+HasItsBits (values.Int n) = IsTrue (is_int n)
+HasItsBits (values.Long n) = IsTrue (is_long n)
+HasItsBits (values.Flag b) = ⊤
 
 -- so has each number of a field
 abbrev pub IsFieldInRange : Field → Type 0
-IsFieldInRange field = AllByRecursion IsInRange field.values
+IsFieldInRange field = AllByRecursion HasItsBits field.values
 
 -- a document as it is kept, with its id of 1 to 512 bytes and its version of 64 bits
 pub record IsStoredDocument (id : List ℕ) (version : ℤ) (fields : List Field) : Type 0 where

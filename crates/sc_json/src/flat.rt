@@ -21,7 +21,7 @@ const FEW_MEMBERS: usize = 8;
 /// The documents of a body that is an array of flat objects, each of which has each key once. `None` says nothing of a body.
 pub fn flat_docs(alloc: Global, body: &[u8]) -> Result<Option<List<RawDoc>>, AllocError>
     ensures { IfOk result (λ found. IfSome found
-        (λ docs. option_and_then flat.docs_of (json_of body.now) ≡ Some (map flat.fields_of docs))) }
+        (λ docs. option_and_then flat.docs_of (json_of body.now) ≡ Some (map flat.doc_fields docs))) }
 {
     let Ok(text) = simdutf8::compat::from_utf8(body) else {
         return Ok(None);
@@ -37,7 +37,7 @@ pub fn flat_docs(alloc: Global, body: &[u8]) -> Result<Option<List<RawDoc>>, All
 /// The documents of a text.
 fn all_docs(alloc: Global, text: &str, scratch: &mut Scratch) -> Result<List<RawDoc>, Unread>
     ensures { IfOk result (λ docs. flat.next_by flat.docs_of flat.body_depth (tokens text.now)
-        ≡ Some (Some (map flat.fields_of docs), [])) }
+        ≡ Some (Some (map flat.doc_fields docs), [])) }
 {
     let mut reader = Reader::new(text, scratch)?;
     let docs = next_docs(alloc, &mut reader)?;
@@ -50,7 +50,7 @@ fn all_docs(alloc: Global, text: &str, scratch: &mut Scratch) -> Result<List<Raw
 /// The documents of an array.
 fn next_docs(alloc: Global, reader: &mut Reader<'_>) -> Result<List<RawDoc>, Unread>
     ensures { IfOk result (λ docs. flat.next_by flat.docs_of flat.body_depth reader.old
-        ≡ Some (Some (map flat.fields_of docs), reader.new)) }
+        ≡ Some (Some (map flat.doc_fields docs), reader.new)) }
 {
     let Some(Token::BeginArray) = reader.next() else {
         return Err(Unread::Other);
@@ -61,7 +61,7 @@ fn next_docs(alloc: Global, reader: &mut Reader<'_>) -> Result<List<RawDoc>, Unr
 /// The documents of an array that has begun.
 fn rest_of_docs(alloc: Global, reader: &mut Reader<'_>) -> Result<List<RawDoc>, Unread>
     ensures { IfOk result (λ docs. flat.items_by flat.docs_in flat.doc_depth reader.old
-        ≡ Some (Some (map flat.fields_of docs), reader.new)) }
+        ≡ Some (Some (map flat.doc_fields docs), reader.new)) }
 {
     let mut docs = List::new(alloc);
     'docs: while !reader.take_end_array() {
@@ -110,7 +110,7 @@ fn rest_of_members(alloc: Global, reader: &mut Reader<'_>) -> Result<RawDoc, Unr
 fn place_of(fields: &[RawField], name: &str) -> Option<usize>
     requires { AscendByName fields.now }
     ensures within { IfSome result (λ at. at ≤ length fields.now) }
-    ensures place { IfSome result (flat.IsPlace name.now (raw_names fields.now)) }
+    ensures place { IfSome result (flat.IsNamePlace name.now (raw_names fields.now)) }
 {
     let mut at = fields.len();
     while at > 0 {

@@ -25,8 +25,8 @@ abbrev pub body_limit : ℕ
 body_limit = 16777216
 
 -- the values of the headers of a name, which is read in any case, in order and without the white space around them
-abbrev pub values_of : List ℕ → RequestHead → List (List ℕ)
-values_of name head = map field_value (filter (λ field. str_eq_ignore_ascii_case field.name name) head.fields)
+abbrev pub header_values : List ℕ → RequestHead → List (List ℕ)
+header_values name head = map field_value (filter (λ field. str_eq_ignore_ascii_case field.name name) head.fields)
 
 -- there is a header of the name
 abbrev pub has_header : List ℕ → RequestHead → Bool
@@ -51,7 +51,7 @@ length_by (value ∷ more) =
 
 -- the length of the body that follows a head
 abbrev pub body_length : RequestHead → Result ℕ LengthFault
-body_length head = length_by (values_of (codes "content-length") head)
+body_length head = length_by (header_values (codes "content-length") head)
 
 -- the body has a transfer coding (RFC 9112, section 6.1)
 abbrev pub is_coded : RequestHead → Bool
@@ -63,7 +63,7 @@ is_coding value = not (bytes_eq value (codes "identity"))
 
 -- the body has a content coding (RFC 9110, section 8.4)
 abbrev pub is_encoded : RequestHead → Bool
-is_encoded head = list_any is_coding (values_of (codes "content-encoding") head)
+is_encoded head = list_any is_coding (header_values (codes "content-encoding") head)
 
 -- the method, as far as it is distinguished
 abbrev pub method_of : List ℕ → Method
@@ -96,7 +96,7 @@ says_close value = list_any (λ token. str_eq_ignore_ascii_case (trim_ows token)
 
 -- the connection is to be closed: by HTTP/1.0 or by a Connection header
 abbrev pub asks_close : RequestHead → Bool
-asks_close head = head.minor == 0 || list_any says_close (values_of (codes "connection") head)
+asks_close head = head.minor == 0 || list_any says_close (header_values (codes "connection") head)
 
 -- the request that a head and the body after it are
 abbrev pub request_of : RequestHead → List ℕ → Incoming

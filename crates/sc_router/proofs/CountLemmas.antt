@@ -3,7 +3,7 @@ use Rattle.std.proofs.Common.{◌≡◌, ◌≢◌, ℕ, ◌+◌, ◌-◌, ◌*�
 use Rattle.std.specs.Prelude.{Option, Some, None, ◌&&◌, ◌||◌}
 use Rattle.std.specs.Char.{is_ascii_digit, digit_value}
 use Rattle.std.proofs.lemmas.Bool.Decides.{nat_tests}
-use Rattle.sc_router.specs.Parts.{before, after, occurrences, digit_of, stated_count, count_in, key_of, bits_of}
+use Rattle.sc_router.specs.Parts.{before_mark, after_mark, occurrences, digit_of, stated_count, count_in, key_part, bits_of}
 
 and_false : (a : Bool) → a && false ≡ false
 and_false true = refl
@@ -68,24 +68,24 @@ pub count_in-none : (part : List ℕ) → occurrences 47 part ≡ 0 → count_in
 unfolding count_in
 count_in-none part h = rw h refl
 
-pub count_in-first : (part : List ℕ) → length (before 47 part) ≡ 0 → count_in part ≡ None
+pub count_in-first : (part : List ℕ) → length (before_mark 47 part) ≡ 0 → count_in part ≡ None
 unfolding count_in
 count_in-first part h = rw (h, or_true) refl
 
-pub count_in-found : (part : List ℕ) → 0 < occurrences 47 part → length (before 47 part) ≢ 0 → count_in part ≡ stated_count (after 47 part)
+pub count_in-found : (part : List ℕ) → 0 < occurrences 47 part → length (before_mark 47 part) ≢ 0 → count_in part ≡ stated_count (after_mark 47 part)
 unfolding count_in
 count_in-found part some longer =
     let one : eqb (occurrences 47 part) 0 ≡ false = grind (arith, nat_tests) in
-    let two : eqb (length (before 47 part)) 0 ≡ false = grind (arith, nat_tests) in
+    let two : eqb (length (before_mark 47 part)) 0 ≡ false = grind (arith, nat_tests) in
     rw (one, two) refl
 
 -- the key and the count of a part by what it states
-pub key_of-None : (part : List ℕ) → count_in part ≡ None → key_of part ≡ part
-unfolding key_of
+pub key_of-None : (part : List ℕ) → count_in part ≡ None → key_part part ≡ part
+unfolding key_part
 key_of-None part h = rw h refl
 
-pub key_of-Some : (part : List ℕ) (n : ℕ) → count_in part ≡ Some n → key_of part ≡ before 47 part
-unfolding key_of
+pub key_of-Some : (part : List ℕ) (n : ℕ) → count_in part ≡ Some n → key_part part ≡ before_mark 47 part
+unfolding key_part
 key_of-Some part n h = rw h refl
 
 pub bits_of-None : (unstated : ℕ) (part : List ℕ) → count_in part ≡ None → bits_of unstated part ≡ unstated

@@ -5,7 +5,7 @@ use Rattle.std.specs.List.{ends_with}
 use Rattle.std.proofs.lemmas.Nat.{pow_pos, pow-add, shl-shr, shr_high, mod_low, mod_below, mod-pow-add, mul-add-lt, shr_below}
 use Rattle.std.proofs.Math.Nat.{mod-eq_of_lt, mul-one, div-one, min-eq_left, min-le_right, mul_assoc, add-mul}
 use Rattle.sc_hash.specs.Hash.{murmur3}
-use Rattle.sc_router.specs.Parts.{parts, Share, shares, fixed_shares, last_bits, ends_open, open_bits, bits_of, key_of, before, after, occurrences}
+use Rattle.sc_router.specs.Parts.{parts, Share, shares, fixed_shares, last_bits, ends_open, open_bits, bits_of, key_part, before_mark, after_mark, occurrences}
 use Rattle.sc_router.specs.Route.{kept_bits, share_bits, route_bits}
 
 abbrev share : List ℕ → ℕ → ℕ → Share
@@ -51,11 +51,11 @@ shares-one : (a : List ℕ) → shares (a ∷ []) ≡ share a 0 32 ∷ []
 unfolding shares
 shares-one a = refl
 
-shares-two : (a z : List ℕ) → shares (a ∷ z ∷ []) ≡ two_shares (key_of a) z (min (bits_of 16 a) 32)
+shares-two : (a z : List ℕ) → shares (a ∷ z ∷ []) ≡ two_shares (key_part a) z (min (bits_of 16 a) 32)
 unfolding shares
 shares-two a z = refl
 
-shares-three : (a b z : List ℕ) → shares (a ∷ b ∷ z ∷ []) ≡ three_shares (key_of a) (key_of b) z (min (bits_of 8 a) 32) (min (bits_of 8 b) (32 - min (bits_of 8 a) 32))
+shares-three : (a b z : List ℕ) → shares (a ∷ b ∷ z ∷ []) ≡ three_shares (key_part a) (key_part b) z (min (bits_of 8 a) 32) (min (bits_of 8 b) (32 - min (bits_of 8 a) 32))
 unfolding shares
 shares-three a b z = refl
 
@@ -67,33 +67,33 @@ last_bits-shares : (id_parts : List (List ℕ)) (given : List Share) → shares 
 unfolding last_bits fixed_shares
 last_bits-shares id_parts given e = ap rest_bits e
 
-pub shares-two_is : (a z : List ℕ) (f : ℕ) → f ≡ bits_of 16 a → f ≤ 32 → shares (a ∷ z ∷ []) ≡ two_shares (key_of a) z f
-shares-two_is a z f e le = shares-two a z ∙ ap (two_shares (key_of a) z) (ap (λ n. min n 32) (sym e) ∙ min-eq_left le)
+pub shares-two_is : (a z : List ℕ) (f : ℕ) → f ≡ bits_of 16 a → f ≤ 32 → shares (a ∷ z ∷ []) ≡ two_shares (key_part a) z f
+shares-two_is a z f e le = shares-two a z ∙ ap (two_shares (key_part a) z) (ap (λ n. min n 32) (sym e) ∙ min-eq_left le)
 
-pub shares-three_is : (a b z : List ℕ) (f s : ℕ) → f ≡ bits_of 8 a → f ≤ 32 → s ≡ min (bits_of 8 b) (32 - f) → shares (a ∷ b ∷ z ∷ []) ≡ three_shares (key_of a) (key_of b) z f s
+pub shares-three_is : (a b z : List ℕ) (f s : ℕ) → f ≡ bits_of 8 a → f ≤ 32 → s ≡ min (bits_of 8 b) (32 - f) → shares (a ∷ b ∷ z ∷ []) ≡ three_shares (key_part a) (key_part b) z f s
 shares-three_is a b z f s e le k =
     let first : min (bits_of 8 a) 32 ≡ f = ap (λ n. min n 32) (sym e) ∙ min-eq_left le in
     shares-three a b z
-    ∙ ap (λ n. three_shares (key_of a) (key_of b) z n (min (bits_of 8 b) (32 - n))) first
-    ∙ ap (three_shares (key_of a) (key_of b) z f) (sym k)
+    ∙ ap (λ n. three_shares (key_part a) (key_part b) z n (min (bits_of 8 b) (32 - n))) first
+    ∙ ap (three_shares (key_part a) (key_part b) z f) (sym k)
 
 pub last_bits-two : (a z : List ℕ) (f : ℕ) → f ≡ bits_of 16 a → f ≤ 32 → 32 - f ≡ last_bits (a ∷ z ∷ [])
 last_bits-two a z f e le =
-    let same : 32 - f ≡ rest_bits (two_shares (key_of a) z f) = omega arith in
-    same ∙ sym (last_bits-shares (a ∷ z ∷ []) (two_shares (key_of a) z f) (shares-two_is a z f e le))
+    let same : 32 - f ≡ rest_bits (two_shares (key_part a) z f) = omega arith in
+    same ∙ sym (last_bits-shares (a ∷ z ∷ []) (two_shares (key_part a) z f) (shares-two_is a z f e le))
 
 pub last_bits-three : (a b z : List ℕ) (f s : ℕ) → f ≡ bits_of 8 a → f ≤ 32 → s ≡ min (bits_of 8 b) (32 - f) → 32 - f - s ≡ last_bits (a ∷ b ∷ z ∷ [])
 last_bits-three a b z f s e le k =
-    let same : 32 - f - s ≡ rest_bits (three_shares (key_of a) (key_of b) z f s) = omega arith in
-    same ∙ sym (last_bits-shares (a ∷ b ∷ z ∷ []) (three_shares (key_of a) (key_of b) z f s) (shares-three_is a b z f s e le k))
+    let same : 32 - f - s ≡ rest_bits (three_shares (key_part a) (key_part b) z f s) = omega arith in
+    same ∙ sym (last_bits-shares (a ∷ b ∷ z ∷ []) (three_shares (key_part a) (key_part b) z f s) (shares-three_is a b z f s e le k))
 
-pub sum-two : (a z : List ℕ) (f h l : ℕ) → f ≡ bits_of 16 a → f ≤ 32 → h ≡ murmur3 (key_of a) 0 → h < 2 ^ 32 → l ≡ murmur3 z 0 → h / 2 ^ (32 - f) * 2 ^ (32 - f) + l % 2 ^ (32 - f) ≡ sum_by share_bits (shares (a ∷ z ∷ []))
+pub sum-two : (a z : List ℕ) (f h l : ℕ) → f ≡ bits_of 16 a → f ≤ 32 → h ≡ murmur3 (key_part a) 0 → h < 2 ^ 32 → l ≡ murmur3 z 0 → h / 2 ^ (32 - f) * 2 ^ (32 - f) + l % 2 ^ (32 - f) ≡ sum_by share_bits (shares (a ∷ z ∷ []))
 sum-two a z f h l e le hash fits last =
-    let joined : h / 2 ^ (32 - f) * 2 ^ (32 - f) + l % 2 ^ (32 - f) ≡ kept_bits (32 - f) f (murmur3 (key_of a) 0) + kept_bits 0 (32 - f) (murmur3 z 0) = joined_two f h l le fits ∙ ap (λ n. kept_bits (32 - f) f n + kept_bits 0 (32 - f) l) hash ∙ ap (λ n. kept_bits (32 - f) f (murmur3 (key_of a) 0) + kept_bits 0 (32 - f) n) last in
-    let added : sum_by share_bits (two_shares (key_of a) z f) ≡ kept_bits (32 - f) f (murmur3 (key_of a) 0) + kept_bits 0 (32 - f) (murmur3 z 0) = omega arith in
+    let joined : h / 2 ^ (32 - f) * 2 ^ (32 - f) + l % 2 ^ (32 - f) ≡ kept_bits (32 - f) f (murmur3 (key_part a) 0) + kept_bits 0 (32 - f) (murmur3 z 0) = joined_two f h l le fits ∙ ap (λ n. kept_bits (32 - f) f n + kept_bits 0 (32 - f) l) hash ∙ ap (λ n. kept_bits (32 - f) f (murmur3 (key_part a) 0) + kept_bits 0 (32 - f) n) last in
+    let added : sum_by share_bits (two_shares (key_part a) z f) ≡ kept_bits (32 - f) f (murmur3 (key_part a) 0) + kept_bits 0 (32 - f) (murmur3 z 0) = omega arith in
     joined ∙ sym added ∙ ap (sum_by share_bits) (sym (shares-two_is a z f e le))
 
-pub sum-three : (a b z : List ℕ) (f s g h l : ℕ) → f ≡ bits_of 8 a → f ≤ 32 → s ≡ min (bits_of 8 b) (32 - f) → g ≡ murmur3 (key_of a) 0 → g < 2 ^ 32 → h ≡ murmur3 (key_of b) 0 → l ≡ murmur3 z 0 → g / 2 ^ (32 - f) * 2 ^ (32 - f) + (h / 2 ^ (32 - f - s) * 2 ^ (32 - f - s) + l % 2 ^ (32 - f - s)) % 2 ^ (32 - f) ≡ sum_by share_bits (shares (a ∷ b ∷ z ∷ []))
+pub sum-three : (a b z : List ℕ) (f s g h l : ℕ) → f ≡ bits_of 8 a → f ≤ 32 → s ≡ min (bits_of 8 b) (32 - f) → g ≡ murmur3 (key_part a) 0 → g < 2 ^ 32 → h ≡ murmur3 (key_part b) 0 → l ≡ murmur3 z 0 → g / 2 ^ (32 - f) * 2 ^ (32 - f) + (h / 2 ^ (32 - f - s) * 2 ^ (32 - f - s) + l % 2 ^ (32 - f - s)) % 2 ^ (32 - f) ≡ sum_by share_bits (shares (a ∷ b ∷ z ∷ []))
 sum-three a b z f s g h l e le k first fits second last =
     let n = 32 - f - s in
     let within : s ≤ 32 - f = subst (λ x. x ≤ 32 - f) (sym k) (min-le_right (bits_of 8 b) (32 - f)) in
@@ -101,12 +101,12 @@ sum-three a b z f s g h l e le k first fits second last =
     let left : s + n ≡ 32 - f = omega arith in
     let upper : g / 2 ^ (32 - f) * 2 ^ (32 - f) ≡ kept_bits (32 - f) f g = sym (kept-upper (32 - f) f g (subst (λ x. g < 2 ^ x) (sym whole) fits)) in
     let lower : (h / 2 ^ n * 2 ^ n + l % 2 ^ n) % 2 ^ (32 - f) ≡ kept_bits n s h + kept_bits 0 n l = ap (λ x. (h / 2 ^ n * 2 ^ n + l % 2 ^ n) % 2 ^ x) (sym left) ∙ lower_two s n h l in
-    let added : sum_by share_bits (three_shares (key_of a) (key_of b) z f s) ≡ kept_bits (32 - f) f (murmur3 (key_of a) 0) + (kept_bits n s (murmur3 (key_of b) 0) + kept_bits 0 n (murmur3 z 0)) = omega arith in
+    let added : sum_by share_bits (three_shares (key_part a) (key_part b) z f s) ≡ kept_bits (32 - f) f (murmur3 (key_part a) 0) + (kept_bits n s (murmur3 (key_part b) 0) + kept_bits 0 n (murmur3 z 0)) = omega arith in
     ap (λ x. x + (h / 2 ^ n * 2 ^ n + l % 2 ^ n) % 2 ^ (32 - f)) upper
     ∙ ap (λ x. kept_bits (32 - f) f g + x) lower
     ∙ ap (λ x. kept_bits (32 - f) f x + (kept_bits n s h + kept_bits 0 n l)) first
-    ∙ ap (λ x. kept_bits (32 - f) f (murmur3 (key_of a) 0) + (kept_bits n s x + kept_bits 0 n l)) second
-    ∙ ap (λ x. kept_bits (32 - f) f (murmur3 (key_of a) 0) + (kept_bits n s (murmur3 (key_of b) 0) + kept_bits 0 n x)) last
+    ∙ ap (λ x. kept_bits (32 - f) f (murmur3 (key_part a) 0) + (kept_bits n s x + kept_bits 0 n l)) second
+    ∙ ap (λ x. kept_bits (32 - f) f (murmur3 (key_part a) 0) + (kept_bits n s (murmur3 (key_part b) 0) + kept_bits 0 n x)) last
     ∙ sym added
     ∙ ap (sum_by share_bits) (sym (shares-three_is a b z f s e le k))
 
@@ -204,16 +204,16 @@ unfolding parts
 SplitsOff-parts id =
     by (nat_eq (occurrences 33 id) 0) (nat_eq (occurrences 33 id) 1) (nat_eq (occurrences 33 id) 2 && ends_with nat_eq id (33 ∷ 33 ∷ [])) where
       two : (a z : List ℕ) → SplitsOff (shares (a ∷ z ∷ []))
-      two a z = subst SplitsOff (sym (shares-two a z)) (SplitsOff-two (key_of a) z (min (bits_of 16 a) 32) (min-le_right (bits_of 16 a) 32))
+      two a z = subst SplitsOff (sym (shares-two a z)) (SplitsOff-two (key_part a) z (min (bits_of 16 a) 32) (min-le_right (bits_of 16 a) 32))
 
       three : (a b z : List ℕ) → SplitsOff (shares (a ∷ b ∷ z ∷ []))
-      three a b z = subst SplitsOff (sym (shares-three a b z)) (SplitsOff-three (key_of a) (key_of b) z (min (bits_of 8 a) 32) (min (bits_of 8 b) (32 - min (bits_of 8 a) 32)) (min-le_right (bits_of 8 a) 32) (min-le_right (bits_of 8 b) (32 - min (bits_of 8 a) 32)))
+      three a b z = subst SplitsOff (sym (shares-three a b z)) (SplitsOff-three (key_part a) (key_part b) z (min (bits_of 8 a) 32) (min (bits_of 8 b) (32 - min (bits_of 8 a) 32)) (min-le_right (bits_of 8 a) 32) (min-le_right (bits_of 8 b) (32 - min (bits_of 8 a) 32)))
 
-      by : (t u v : Bool) → SplitsOff (shares (cond t (id ∷ []) (cond u (before 33 id ∷ after 33 id ∷ []) (cond v (before 33 id ∷ [] ∷ []) (before 33 id ∷ before 33 (after 33 id) ∷ after 33 (after 33 id) ∷ [])))))
+      by : (t u v : Bool) → SplitsOff (shares (cond t (id ∷ []) (cond u (before_mark 33 id ∷ after_mark 33 id ∷ []) (cond v (before_mark 33 id ∷ [] ∷ []) (before_mark 33 id ∷ before_mark 33 (after_mark 33 id) ∷ after_mark 33 (after_mark 33 id) ∷ [])))))
       by true u v = subst SplitsOff (sym (shares-one id)) (SplitsOff-one id)
-      by false true v = two (before 33 id) (after 33 id)
-      by false false true = two (before 33 id) []
-      by false false false = three (before 33 id) (before 33 (after 33 id)) (after 33 (after 33 id))
+      by false true v = two (before_mark 33 id) (after_mark 33 id)
+      by false false true = two (before_mark 33 id) []
+      by false false false = three (before_mark 33 id) (before_mark 33 (after_mark 33 id)) (after_mark 33 (after_mark 33 id))
 
 pub route_bits-lt : (id : List ℕ) → route_bits id < 2 ^ 32
 unfolding route_bits

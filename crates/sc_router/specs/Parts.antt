@@ -7,11 +7,11 @@ use Rattle.std.specs.Str.{all_ascii_digits}
 use Rattle.std.specs.Str.Parse.{digits_value}
 
 -- what stands before the first such byte, and after it
-abbrev pub before : ℕ → List ℕ → List ℕ
-before mark text = before_first (λ b. b == mark) text
+abbrev pub before_mark : ℕ → List ℕ → List ℕ
+before_mark mark text = before_first (λ b. b == mark) text
 
-abbrev pub after : ℕ → List ℕ → List ℕ
-after mark text = after_first (λ b. b == mark) text
+abbrev pub after_mark : ℕ → List ℕ → List ℕ
+after_mark mark text = after_first (λ b. b == mark) text
 
 -- how many such bytes a text has
 abbrev pub occurrences : ℕ → List ℕ → ℕ
@@ -22,9 +22,9 @@ occurrences mark text = count_by (λ b. b == mark) text
 unfoldable pub parts : List ℕ → List (List ℕ)
 parts id =
     if occurrences 33 id == 0 then id ∷ []
-    else if occurrences 33 id == 1 then before 33 id ∷ after 33 id ∷ []
-    else if occurrences 33 id == 2 && ends_with nat_eq id (33 ∷ 33 ∷ []) then before 33 id ∷ [] ∷ []
-    else before 33 id ∷ before 33 (after 33 id) ∷ after 33 (after 33 id) ∷ []
+    else if occurrences 33 id == 1 then before_mark 33 id ∷ after_mark 33 id ∷ []
+    else if occurrences 33 id == 2 && ends_with nat_eq id (33 ∷ 33 ∷ []) then before_mark 33 id ∷ [] ∷ []
+    else before_mark 33 id ∷ before_mark 33 (after_mark 33 id) ∷ after_mark 33 (after_mark 33 id) ∷ []
 
 -- a decimal digit's value
 abbrev pub digit_of : ℕ → Option ℕ
@@ -38,11 +38,11 @@ stated_count text =
 
 -- the bit count after a part's first `/`, where that one isn't its first byte
 unfoldable pub count_in : List ℕ → Option ℕ
-count_in part = if occurrences 47 part == 0 || length (before 47 part) == 0 then None else stated_count (after 47 part)
+count_in part = if occurrences 47 part == 0 || length (before_mark 47 part) == 0 then None else stated_count (after_mark 47 part)
 
 -- a part without its bit count
-unfoldable pub key_of : List ℕ → List ℕ
-key_of part = if is_some (count_in part) then before 47 part else part
+unfoldable pub key_part : List ℕ → List ℕ
+key_part part = if is_some (count_in part) then before_mark 47 part else part
 
 -- how many bits a part before the last asks for: what it states, or the number for parts that state none
 unfoldable pub bits_of : ℕ → List ℕ → ℕ
@@ -61,7 +61,7 @@ shares_from unstated left [] = []
 shares_from unstated left (last ∷ []) = record { key = last; low = 0; count = left } ∷ []
 shares_from unstated left (part ∷ next ∷ rest) =
     let count = min (bits_of unstated part) left in
-    record { key = key_of part; low = left - count; count = count } ∷ shares_from unstated (left - count) (next ∷ rest)
+    record { key = key_part part; low = left - count; count = count } ∷ shares_from unstated (left - count) (next ∷ rest)
 
 -- the shares of an id's parts: a part before the last that states no count asks for 16 bits where there are
 -- two parts, and for 8 where there are three

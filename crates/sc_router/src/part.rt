@@ -5,7 +5,7 @@ ghost use Rattle.std.specs.Prelude.{◌≡◌, ◌≢◌, ◌+◌, ◌<◌, ◌�
 ghost use Rattle.std.proofs.Props.{props};
 ghost use Rattle.sc_hash.specs.Hash.{murmur3};
 ghost use Rattle.sc_hash.specs.Hasher.{progress};
-ghost use Rattle.sc_router.specs.Parts.{before, after, occurrences};
+ghost use Rattle.sc_router.specs.Parts.{before_mark, after_mark, occurrences};
 ghost use Rattle.sc_router.specs.Slash.{IsFirstSlash};
 
 use sc_hash::Hasher;
@@ -64,9 +64,9 @@ fn read_words(text: &[u8]) -> (Hasher, usize)
 /// The part that a text begins with, up to the first `!` or the end, and what comes after that `!`.
 pub(crate) fn first_part(text: &[u8]) -> (Part<'_>, Option<&[u8]>)
     requires { length text.now < 2 ^ 32 }
-    ensures part { result.0.text.now ≡ before 33 text.now }
+    ensures part { result.0.text.now ≡ before_mark 33 text.now }
     ensures rest { MatchOption result.1 (occurrences 33 text.now ≡ 0)
-        (λ rest. rest.now ≡ after 33 text.now) }
+        (λ rest. rest.now ≡ after_mark 33 text.now) }
     ensures found { MatchOption result.1 ⊤ (λ rest. occurrences 33 text.now ≡ 1 + occurrences 33 rest.now) }
     ensures length { MatchOption result.1 ⊤ (λ rest. length rest.now < length text.now) }
 {

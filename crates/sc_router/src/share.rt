@@ -2,7 +2,7 @@
 
 ghost use Rattle.std.specs.Prelude.{◌≡◌, ◌≤◌, ◌*◌, ◌+◌, ◌/◌, ◌%◌, ◌^◌, IfSome};
 ghost use Rattle.sc_hash.specs.Hash.{murmur3};
-ghost use Rattle.sc_router.specs.Parts.{digit_of, stated_count, key_of, bits_of};
+ghost use Rattle.sc_router.specs.Parts.{digit_of, stated_count, key_part, bits_of};
 
 use crate::part::Part;
 
@@ -36,7 +36,7 @@ fn stated_count(text: &[u8]) -> Option<u32>
 /// The hash of a part's key, and the bit count that the part states or else the other one.
 pub(crate) fn key_and_count(part: &Part, unstated: u32) -> (u32, u32)
     requires { unstated ≤ 32 }
-    ensures key { result.0 ≡ murmur3 (key_of part.now.text.now) 0 }
+    ensures key { result.0 ≡ murmur3 (key_part part.now.text.now) 0 }
     ensures count { result.1 ≡ bits_of unstated part.now.text.now }
     ensures most { result.1 ≤ 32 }
 {

@@ -6,7 +6,7 @@ use Rattle.serde_json.specs.Data.{no_members, put}
 use Rattle.serde_json.specs.Read.{of_json, converted}
 use Rattle.sc_schema.specs.Raw.{AscendByName, raw_names}
 use Rattle.sc_schema.specs.declared.raw.RawValue.TheVariants.{Plain}
-use Rattle.sc_json.specs.Flat.{member_depth, IsPlace}
+use Rattle.sc_json.specs.Flat.{member_depth, IsNamePlace}
 use Rattle.sc_json.specs.RawDocs.{raw_value, raw_fields}
 use Rattle.sc_json.proofs.PlaceLemmas.{none_ascend, put_field, ascend_field}
 use Rattle.sc_json.proofs.TurnLemmas.{said_of, member_read, members_over}
@@ -32,7 +32,7 @@ members-preserved c =
     let less = read_key-shorter l.reader (Some k) s named in
     let lesser = done.shorter in
     let at = c.in-Some-place_of.at in
-    let place : IsPlace k (raw_names l.fields.items) at = rw c.as_slice.ensures.value at c.in-Some-place_of.ensures.place in
+    let place : IsNamePlace k (raw_names l.fields.items) at = rw c.as_slice.ensures.value at c.in-Some-place_of.ensures.place in
     let name = c.in_ok-new.field-0 in
     let copied = c.in_ok-new.ensures in
     let new = c.insert.new.self.items in

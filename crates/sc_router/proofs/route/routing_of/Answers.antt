@@ -2,7 +2,7 @@
 use Rattle.std.proofs.Common.{◌≡◌, ◌≢◌, ◌+◌, ◌<◌, ◌∷◌, [], length, sym, ap, ◌∙◌, arith}
 use Rattle.std.specs.Prelude.{sum_by}
 use Rattle.sc_hash.specs.Hash.{murmur3}
-use Rattle.sc_router.specs.Parts.{before, after, occurrences, parts, shares, open_bits}
+use Rattle.sc_router.specs.Parts.{before_mark, after_mark, occurrences, parts, shares, open_bits}
 use Rattle.sc_router.specs.Route.{share_bits, route_bits}
 use Rattle.sc_router.proofs.MarkLemmas.{before-none, lone_mark, parts-one, parts-two, parts-open, parts-three}
 use Rattle.sc_router.proofs.ShareLemmas.{sum-one, open_bits-one}
@@ -54,7 +54,7 @@ open_parts c =
     let more : 0 < occurrences 33 others = omega (arith, again) in
     let e = parts-open id (found ∙ ap (λ text. 1 + occurrences 33 text) rest) (omega (arith, more, ap (occurrences 33) rest)) (sym (ap length rest) ∙ c.if-others-eq1.true) in
     let first = c.first_part.ensures.part in
-    let second = c.first_part-2.ensures.part ∙ ap (before 33) (lone_mark 33 others more c.if-others-eq1.true) in
+    let second = c.first_part-2.ensures.part ∙ ap (before_mark 33) (lone_mark 33 others more c.if-others-eq1.true) in
     cc (e, first, second)
 
 pub returns-in-Some-rest-clause-bits : goal.returns-in-Some-rest-clause-bits
@@ -73,11 +73,11 @@ three_parts c =
     let found = rw c.in-Some.is at c.first_part.ensures.found in
     let last = rw c.in-Some-2.is at c.first_part-2.ensures.rest in
     let again = rw c.in-Some-2.is at c.first_part-2.ensures.found in
-    let several : length (after 33 id) ≢ 1 = λ e. c.if-others-eq1.false (ap length rest ∙ e) in
+    let several : length (after_mark 33 id) ≢ 1 = λ e. c.if-others-eq1.false (ap length rest ∙ e) in
     let e = parts-three id (found ∙ ap (λ text. 1 + occurrences 33 text) rest) (omega (arith, again, ap (occurrences 33) rest)) several in
     let first = c.first_part.ensures.part in
-    let second = c.first_part-2.ensures.part ∙ ap (before 33) rest in
-    let third = last ∙ ap (after 33) rest in
+    let second = c.first_part-2.ensures.part ∙ ap (before_mark 33) rest in
+    let third = last ∙ ap (after_mark 33) rest in
     cc (e, first, second, third)
 
 pub returns-in-Some-2-clause-bits : goal.returns-in-Some-2-clause-bits

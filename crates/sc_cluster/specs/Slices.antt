@@ -17,11 +17,19 @@ is_forming_state states.Construction = true
 is_forming_state states.Recovery = true
 is_forming_state _ = false
 
+-- the state is that of a slice whose subs have taken its place
+abbrev pub is_inactive_state : State → Bool
+is_inactive_state states.Inactive = true
+is_inactive_state _ = false
+
 abbrev pub is_active : Slice → Bool
 is_active slice = is_active_state slice.state
 
 abbrev pub is_forming : Slice → Bool
 is_forming slice = is_forming_state slice.state
+
+abbrev pub is_inactive : Slice → Bool
+is_inactive slice = is_inactive_state slice.state
 
 -- the slices that a split is making
 abbrev pub forming : List Slice → List Slice

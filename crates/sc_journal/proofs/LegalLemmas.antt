@@ -74,6 +74,9 @@ settles_write first journal (entry.Begun parent subs) place may is = absurd (fal
 settles_write first journal (entry.Switched parent) place may is = absurd (false≢true is)
 settles_write first journal (entry.Failed parent) place may is = absurd (false≢true is)
 settles_write first journal (entry.Dropped slice) place may is = absurd (false≢true is)
+settles_write first journal (entry.Down core) place may is = absurd (false≢true is)
+settles_write first journal (entry.Up core) place may is = absurd (false≢true is)
+settles_write first journal (entry.Led core) place may is = absurd (false≢true is)
 
 -- what the journal settles are writes of its
 abbrev SettlesWrites : List Entry → Type 0
@@ -136,6 +139,9 @@ is_may_write first before (entry.Begun parent subs) write is may = absurd (cc)
 is_may_write first before (entry.Switched parent) write is may = absurd (cc)
 is_may_write first before (entry.Failed parent) write is may = absurd (cc)
 is_may_write first before (entry.Dropped slice) write is may = absurd (cc)
+is_may_write first before (entry.Down core) write is may = absurd (cc)
+is_may_write first before (entry.Up core) write is may = absurd (cc)
+is_may_write first before (entry.Led core) write is may = absurd (cc)
 
 -- each write of a legal journal could follow the entries before it
 pub legal_write : (first : List Slice) (journal : List Entry) (write : Write) → IsLegal first journal

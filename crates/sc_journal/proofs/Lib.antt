@@ -1,14 +1,19 @@
 -- Facts on journals, on those that can be, on what they owe, and on what is seen of them, lowest first.
 pub mod ListLemmas
+pub mod SumLemmas
 pub mod JournalLemmas
 pub mod CommittedLemmas
 pub mod SettledLemmas
+pub mod DownLemmas
 pub mod SplitLemmas
-pub mod OwedLemmas
 pub mod LegalLemmas
+pub mod FollowerLemmas
+pub mod LegalDownLemmas
+pub mod OwedLemmas
 pub mod RestLemmas
 pub mod VersionLemmas
 pub mod MapLemmas
+pub mod SeatLemmas
 pub mod ExtendsLemmas
 pub mod GoesOnLemmas
 pub mod BatchLemmas

@@ -11,7 +11,7 @@ use Rattle.sc_cluster.proofs.MapLemmas.{change_is_map, begun_is_split, switched_
 use Rattle.sc_journal.specs.Splits.{map_change_of, map_after, split_after, open_split}
 use Rattle.sc_journal.specs.Legal.{MayFollow, IsLegal}
 use Rattle.sc_journal.specs.Laws.{JournalsKeepAMap}
-use Rattle.sc_journal.proofs.SplitLemmas.{map_after-push, map_after-left, open_split-push, open_split-left, LeavesSlices, LeavesSlices-write, LeavesSlices-settled, LeavesSlices-committed}
+use Rattle.sc_journal.proofs.SplitLemmas.{map_after-push, map_after-left, open_split-push, open_split-left, LeavesSlices, LeavesSlices-write, LeavesSlices-settled, LeavesSlices-committed, LeavesSlices-down, LeavesSlices-up, LeavesSlices-led}
 use Rattle.sc_journal.proofs.LegalLemmas.{legal_induction}
 
 -- the slices are a map, and those that are being made are those of the open split
@@ -86,6 +86,12 @@ fits_push first journal (entry.Dropped slice) legal may fits =
     fits_change first journal (entry.Dropped slice) change None refl may.idle
     (fits_idle (after slices change) (change_is_map slices change fits.is_map (idle, may.inactive))
     (dropped_is_idle slices slice idle))
+fits_push first journal (entry.Down core) legal may fits =
+    fits_left first journal (entry.Down core) (LeavesSlices-down core) fits
+fits_push first journal (entry.Up core) legal may fits =
+    fits_left first journal (entry.Up core) (LeavesSlices-up core) fits
+fits_push first journal (entry.Led core) legal may fits =
+    fits_left first journal (entry.Led core) (LeavesSlices-led core) fits
 
 -- the slices after a legal journal fit its open split
 pub legal_fits : (first : List Slice) (journal : List Entry) → IsMap first → forming first ≡ [] → IsLegal first journal

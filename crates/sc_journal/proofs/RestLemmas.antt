@@ -15,13 +15,15 @@ use Rattle.sc_cluster.specs.Changes.{Change}
 use Rattle.sc_cluster.proofs.CountLemmas.{count_by-cons, count_by-none}
 use Rattle.sc_cluster.proofs.StateLemmas.{is_other}
 use Rattle.sc_journal.specs.Journal.{write_at, is_settled, unsettled}
-use Rattle.sc_journal.specs.Splits.{map_after, open_split, is_inactive_state, is_inactive, owed_by_split, owed}
+use Rattle.sc_cluster.specs.Slices.{is_inactive_state, is_inactive}
+use Rattle.sc_journal.specs.Down.{count_up}
+use Rattle.sc_journal.specs.Splits.{map_after, open_split, owed_by_split, owed}
 use Rattle.sc_journal.specs.Legal.{MayFollow, IsLegal}
 use Rattle.sc_journal.specs.Laws.{IsAtRest, OwesNothingAtRest, closes, ComesToRest}
 use Rattle.sc_journal.proofs.ListLemmas.{append-cons}
-use Rattle.sc_journal.proofs.SettledLemmas.{unsettled_is, unsettled_from, unsettled-push_other}
-use Rattle.sc_journal.proofs.OwedLemmas.{owed-push_failed}
-use Rattle.sc_journal.proofs.SplitLemmas.{map_after-push, open_split-push, owed-push_settled}
+use Rattle.sc_journal.proofs.SettledLemmas.{unsettled_is, unsettled_from, unsettled-push_other, length-unsettled-push_settled}
+use Rattle.sc_journal.proofs.OwedLemmas.{owed_by_slices-push_failed}
+use Rattle.sc_journal.proofs.SplitLemmas.{map_after-push, open_split-push, owed_by_slices, owed_by_slices-left, LeavesSlices-settled}
 use Rattle.sc_journal.proofs.LegalLemmas.{IsLegal-push}
 
 -- where some elements are counted there is one
@@ -75,26 +77,37 @@ none_counted {A} p xs none =
       by true is =
           absurd (omega (arith, none, count-filter_less p (λ y. not (p y)) xs x there is (ap not is)))
 
--- the entry closes something and may come next, and less is owed after it
+-- how many entries bring a journal to rest at most
+abbrev pub owed_to_rest : List Slice → List Entry → ℕ
+owed_to_rest first journal = length (unsettled journal) + owed_by_slices first journal
+
+-- what is owed besides them is one entry of each follower that is not down
+pub owed_is : (first : List Slice) (journal : List Entry)
+    → owed first journal ≡ owed_to_rest first journal + count_up (map_after first journal) journal
+owed_is first journal = omega arith
+
+-- the entry closes something and may come next, and the journal is nearer to rest after it
 pub record OwesLess (first : List Slice) (journal : List Entry) (one : Entry) : Type 0 where
   pub may : MayFollow first journal one
   pub closing : closes one ≡ true
-  pub less : owed first (journal ++ one ∷ []) + 1 ≤ owed first journal
+  pub less : owed_to_rest first (journal ++ one ∷ []) + 1 ≤ owed_to_rest first journal
 
 -- the entry that settles the first write that is not settled
 settles_next : (first : List Slice) (journal : List Entry) (place : ℕ) → Contains (unsettled journal) place
     → OwesLess first journal (entry.Settled place)
 settles_next first journal place there =
     let (written, once) = unsettled_is journal place there in
-    let less = owed-push_settled first journal place written once in
-    record { may = record { written = written; once = once }; closing = refl; less = omega (arith, less) }
+    let slices = owed_by_slices-left first journal (entry.Settled place) (LeavesSlices-settled place) in
+    let places = length-unsettled-push_settled journal place written once in
+    record { may = record { written = written; once = once }; closing = refl; less = omega (arith, slices, places) }
 
 -- the entry that gives the open split up
 gives_up : (first : List Slice) (journal : List Entry) (parent : SliceId) → open_split journal ≡ Some parent
     → OwesLess first journal (entry.Failed parent)
 gives_up first journal parent opened =
-    let fewer = owed-push_failed first journal parent opened in
-    record { may = opened; closing = refl; less = omega (arith, fewer) }
+    let places = ap length (unsettled-push_other journal (entry.Failed parent) refl (λ _. refl)) in
+    let fewer = owed_by_slices-push_failed first journal parent opened in
+    record { may = opened; closing = refl; less = omega (arith, places, fewer) }
 
 -- an inactive slice by its state
 inactive_from_test : (state : State) → is_inactive_state state ≡ true → state ≡ states.Inactive
@@ -121,8 +134,8 @@ drops_next first journal slice idle there inactive =
       less = omega (arith, places, still, left, fewer);
     }
 
--- what owes something may get an entry after which it owes less
-pub owes_less : (first : List Slice) (journal : List Entry) → 0 < owed first journal
+-- what is not at rest may get an entry after which it is nearer to rest
+pub owes_less : (first : List Slice) (journal : List Entry) → 0 < owed_to_rest first journal
     → (one : Entry) × OwesLess first journal one
 owes_less first journal some = by (unsettled journal) refl (open_split journal) refl where
   by : (places : List ℕ) → unsettled journal ≡ places → (split : Option SliceId) → open_split journal ≡ split
@@ -138,8 +151,8 @@ owes_less first journal some = by (unsettled journal) refl (open_split journal) 
       let found = counted is_inactive (map_after first journal) (omega (arith, some, places, split)) in
       (entry.Dropped found.0.id, drops_next first journal found.0 split_is found.1 found.2)
 
--- nothing is owed: no write is unsettled, no split is open, and no slice is inactive
-at_rest : (first : List Slice) (journal : List Entry) → owed first journal ≡ 0 → IsAtRest first journal
+-- nothing is left to bring it to rest: no write is unsettled, no split is open, and no slice is inactive
+pub at_rest : (first : List Slice) (journal : List Entry) → owed_to_rest first journal ≡ 0 → IsAtRest first journal
 at_rest first journal nothing = record {
   settled = λ place written. settled place written (is_settled journal place) refl;
   ended = ended (open_split journal) refl;
@@ -158,7 +171,7 @@ at_rest first journal nothing = record {
       let two = ap owed_by_split is in
       absurd (omega (arith, nothing, two))
 
-nothing_owed : (first : List Slice) (journal : List Entry) → IsAtRest first journal → owed first journal ≡ 0
+nothing_owed : (first : List Slice) (journal : List Entry) → IsAtRest first journal → owed_to_rest first journal ≡ 0
 nothing_owed first journal rest =
     let places = none (unsettled journal) refl in
     let split = ap owed_by_split rest.ended in
@@ -174,15 +187,18 @@ nothing_owed first journal rest =
         absurd (false≢true (sym once ∙ rest.settled place written))
 
 pub owes_nothing_at_rest : OwesNothingAtRest
-owes_nothing_at_rest first journal = (at_rest first journal, nothing_owed first journal)
+owes_nothing_at_rest first journal = (
+  λ no_more. at_rest first journal (omega (arith, no_more, owed_is first journal)),
+  λ rest. omega (arith, nothing_owed first journal rest, owed_is first journal),
+)
 
 -- entry after entry it comes to rest
 abbrev Rests : List Slice → List Entry → Type 0
 Rests first journal = (more : List Entry) × IsLegal first (journal ++ more) × All (λ (one : Entry). closes one ≡ true) more
-    × (length more ≤ owed first journal) × IsAtRest first (journal ++ more)
+    × (length more ≤ owed_to_rest first journal) × IsAtRest first (journal ++ more)
 
--- where nothing is owed it is
-at_once : (first : List Slice) (journal : List Entry) → IsLegal first journal → owed first journal ≡ 0
+-- where nothing is left to be done it is
+at_once : (first : List Slice) (journal : List Entry) → IsLegal first journal → owed_to_rest first journal ≡ 0
     → Rests first journal
 at_once first journal legal nothing = (
   [],
@@ -205,12 +221,12 @@ after_one first journal one next (more, legal, closing, few, rest) =
       subst (IsAtRest first) joined rest,
     )
 
-rests : (n : ℕ) (first : List Slice) (journal : List Entry) → owed first journal ≤ n → IsLegal first journal
+rests : (n : ℕ) (first : List Slice) (journal : List Entry) → owed_to_rest first journal ≤ n → IsLegal first journal
     → Rests first journal
 rests zero first journal most legal = at_once first journal legal (omega (arith, most))
-rests (suc n) first journal most legal = by (rests n first) (owed first journal) refl where
-  by : ((longer : List Entry) → owed first longer ≤ n → IsLegal first longer → Rests first longer)
-      → (m : ℕ) → owed first journal ≡ m → Rests first journal
+rests (suc n) first journal most legal = by (rests n first) (owed_to_rest first journal) refl where
+  by : ((longer : List Entry) → owed_to_rest first longer ≤ n → IsLegal first longer → Rests first longer)
+      → (m : ℕ) → owed_to_rest first journal ≡ m → Rests first journal
   by later zero is = at_once first journal legal is
   by later (suc m) is =
       let (one, next) = owes_less first journal (omega (arith, is)) in
@@ -219,4 +235,7 @@ rests (suc n) first journal most legal = by (rests n first) (owed first journal)
       (later (journal ++ one ∷ []) (omega (arith, less, most)) (IsLegal-push first journal one legal next.may))
 
 pub comes_to_rest : ComesToRest
-comes_to_rest first journal legal = rests (owed first journal) first journal (omega arith) legal
+comes_to_rest first journal legal =
+    let (more, more_legal, closing, few, rest) =
+    rests (owed_to_rest first journal) first journal (omega arith) legal in
+    (more, more_legal, closing, omega (arith, few, owed_is first journal), rest)

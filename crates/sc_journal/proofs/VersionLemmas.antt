@@ -90,6 +90,9 @@ ascends_push first journal (entry.Begun parent subs) legal may up =
 ascends_push first journal (entry.Switched parent) legal may up = ascends_other journal (entry.Switched parent) refl up
 ascends_push first journal (entry.Failed parent) legal may up = ascends_other journal (entry.Failed parent) refl up
 ascends_push first journal (entry.Dropped slice) legal may up = ascends_other journal (entry.Dropped slice) refl up
+ascends_push first journal (entry.Down core) legal may up = ascends_other journal (entry.Down core) refl up
+ascends_push first journal (entry.Up core) legal may up = ascends_other journal (entry.Up core) refl up
+ascends_push first journal (entry.Led core) legal may up = ascends_other journal (entry.Led core) refl up
 
 ascends_none : Ascends []
 ascends_none id [] between after one other is = absurd (cc)

@@ -1,16 +1,21 @@
 -- Laws of journals, above their definitions.
-use Rattle.std.specs.Prelude.{◌≡◌, ◌<ℤ◌, ◌≤◌, ◌↔◌, ℕ, ◌+◌, Bool, true, false, List, [], ◌∷◌, ◌++◌, length, Some, None, IsSome, All}
+use Rattle.std.specs.Prelude.{◌≡◌, ◌<ℤ◌, ◌≤◌, ◌↔◌, ℕ, ◌+◌, Bool, true, false, List, [], ◌∷◌, ◌++◌, length, map, not, count_by, Some, None, IsSome, All, Contains}
+use Rattle.std.specs.List.{flat_map, range_with_len}
+use Rattle.std.specs.List.Sorted.{IsPermutation}
 use Rattle.sc_record.specs.declared.write.Write.{Write}
 use Rattle.sc_record.specs.declared.slice.SliceId.{SliceId}
+use Rattle.sc_record.specs.declared.slice.CoreId.{CoreId}
 use Rattle.sc_record.specs.declared.slice.SubSlice.{SubSlice}
 use Rattle.sc_record.specs.declared.entry.Entry.{Entry}
 use Rattle.sc_record.specs.declared.entry.Entry.TheVariants as entry
 use Rattle.sc_cluster.specs.declared.slice.Slice.{Slice}
-use Rattle.sc_cluster.specs.Slices.{forming}
+use Rattle.sc_cluster.specs.Slices.{is_forming, forming, is_inactive}
 use Rattle.sc_cluster.specs.Map.{IsMap}
 use Rattle.sc_cluster.specs.Changes.{IsSplit}
 use Rattle.sc_journal.specs.Journal.{write_at, writes_of, is_settled}
-use Rattle.sc_journal.specs.Splits.{map_after, is_inactive, open_split, owed}
+use Rattle.sc_journal.specs.Splits.{map_after, open_split, owed, entries_of_split}
+use Rattle.sc_journal.specs.Down.{is_down, follower_keys, count_up}
+use Rattle.sc_journal.specs.Seats.{seats}
 use Rattle.sc_journal.specs.Legal.{MayFollow, IsLegal}
 
 -- a journal with no entries is legal, and so is a legal one with an entry more that may follow it
@@ -37,23 +42,26 @@ abbrev pub OwesOneLessSettled : Type 0
 OwesOneLessSettled = (first : List Slice) (journal : List Entry) (place : ℕ) → IsLegal first (journal ++ entry.Settled place ∷ [])
     → owed first (journal ++ entry.Settled place ∷ []) + 1 ≡ owed first journal
 
--- a split that begins makes two more owed: its end, and the drop of its parent
-abbrev pub OwesTwoForASplit : Type 0
-OwesTwoForASplit = (first : List Slice) (journal : List Entry) (parent : SliceId) (subs : List SubSlice)
+-- a split that begins makes more owed: its end, the drop of its parent, and one of each follower of its slices
+abbrev pub OwesForASplit : Type 0
+OwesForASplit = (first : List Slice) (journal : List Entry) (parent : SliceId) (subs : List SubSlice) → IsMap first → forming first ≡ []
     → IsLegal first (journal ++ entry.Begun parent subs ∷ [])
-    → owed first (journal ++ entry.Begun parent subs ∷ []) ≡ owed first journal + 2
+    → owed first (journal ++ entry.Begun parent subs ∷ []) + 1 ≡ owed first journal + entries_of_split subs
 
--- it is over with both where it is given up
-abbrev pub OwesTwoLessFailed : Type 0
-OwesTwoLessFailed = (first : List Slice) (journal : List Entry) (parent : SliceId)
+-- it is over with all of them where it is given up
+abbrev pub OwesLessFailed : Type 0
+OwesLessFailed = (first : List Slice) (journal : List Entry) (parent : SliceId) → IsMap first → forming first ≡ []
     → IsLegal first (journal ++ entry.Failed parent ∷ [])
-    → owed first (journal ++ entry.Failed parent ∷ []) + 2 ≡ owed first journal
+    → owed first (journal ++ entry.Failed parent ∷ []) + 2 + length (flat_map follower_keys (forming (map_after first journal)))
+    ≡ owed first journal
 
--- where it is switched one of them is left
-abbrev pub OwesOneLessSwitched : Type 0
-OwesOneLessSwitched = (first : List Slice) (journal : List Entry) (parent : SliceId) → IsMap first → forming first ≡ []
-    → IsLegal first (journal ++ entry.Switched parent ∷ [])
-    → owed first (journal ++ entry.Switched parent ∷ []) + 1 ≡ owed first journal
+-- where it is switched the drop of the parent and its slices' followers are left, and the parent's followers are over with
+abbrev pub OwesLessSwitched : Type 0
+OwesLessSwitched = (first : List Slice) (journal : List Entry) (parent : Slice) → IsMap first → forming first ≡ []
+    → IsLegal first (journal ++ entry.Switched parent.id ∷ []) → Contains (map_after first journal) parent
+    → owed first (journal ++ entry.Switched parent.id ∷ []) + 1
+    + count_by (λ (key : ℕ × ℕ). not (is_down journal key)) (follower_keys parent)
+    ≡ owed first journal
 
 -- which the drop of the parent is
 abbrev pub OwesOneLessDropped : Type 0
@@ -61,15 +69,40 @@ OwesOneLessDropped = (first : List Slice) (journal : List Entry) (slice : SliceI
     → IsLegal first (journal ++ entry.Dropped slice ∷ [])
     → owed first (journal ++ entry.Dropped slice ∷ []) + 1 ≡ owed first journal
 
+-- a follower that goes down, or takes the lead, makes one less owed
+abbrev pub OwesOneLessDown : Type 0
+OwesOneLessDown = (first : List Slice) (journal : List Entry) (core : CoreId) → IsMap first → forming first ≡ []
+    → (IsLegal first (journal ++ entry.Down core ∷ []) → owed first (journal ++ entry.Down core ∷ []) + 1 ≡ owed first journal)
+    × (IsLegal first (journal ++ entry.Led core ∷ []) → owed first (journal ++ entry.Led core ∷ []) + 1 ≡ owed first journal)
+
+-- and one that comes up one more
+abbrev pub OwesOneForUp : Type 0
+OwesOneForUp = (first : List Slice) (journal : List Entry) (core : CoreId) → IsMap first → forming first ≡ []
+    → IsLegal first (journal ++ entry.Up core ∷ []) → owed first (journal ++ entry.Up core ∷ []) ≡ owed first journal + 1
+
+-- In a legal journal a core that is down is a follower of a slice that is there, and that no split is making: neither a core that
+-- leads nor one of a sub is down.
+abbrev pub DownAreFollowers : Type 0
+DownAreFollowers = (first : List Slice) (journal : List Entry) (key : ℕ × ℕ) → IsMap first → forming first ≡ [] → IsLegal first journal
+    → is_down journal key ≡ true
+    → (slice : Slice) × Contains (map_after first journal) slice × (is_forming slice ≡ false) × Contains (follower_keys slice) key
+
+-- of each slice the cores sit in its seats, each in one: the numbers of the cores are those of the seats, in another order
+abbrev pub SeatsAreExchanged : Type 0
+SeatsAreExchanged = (first : List Slice) (journal : List Entry) (slice : Slice) → IsMap first → forming first ≡ []
+    → IsLegal first journal → Contains (map_after first journal) slice
+    → IsPermutation (map (seats journal slice.id) (range_with_len 1 slice.replicas)) (range_with_len 1 slice.replicas)
+
 -- A journal is at rest: each of its writes is settled, no split is open, and no slice is inactive.
 pub record IsAtRest (first : List Slice) (journal : List Entry) : Type 0 where
   pub settled : (place : ℕ) → IsSome (write_at journal place) → is_settled journal place ≡ true
   pub ended : open_split journal ≡ None
   pub dropped : All (λ (slice : Slice). is_inactive slice ≡ false) (map_after first journal)
 
--- nothing is owed at rest, and only then
+-- at rest, and only then, nothing is owed but an entry of each follower that is not down
 abbrev pub OwesNothingAtRest : Type 0
-OwesNothingAtRest = (first : List Slice) (journal : List Entry) → (owed first journal ≡ 0) ↔ IsAtRest first journal
+OwesNothingAtRest = (first : List Slice) (journal : List Entry)
+    → (owed first journal ≡ count_up (map_after first journal) journal) ↔ IsAtRest first journal
 
 -- the entry settles a write, gives up a split or drops a slice
 abbrev pub closes : Entry → Bool

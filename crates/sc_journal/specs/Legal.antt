@@ -1,9 +1,11 @@
 -- Which journals can be.
-use Rattle.std.specs.Prelude.{◌≡◌, ◌<ℤ◌, ◌≤ℤ◌, ℕ, ◌+◌, ◌-◌, ◌^◌, pos, false, List, [], ◌∷◌, ◌++◌, length, IsSome, Option, Some, None, ⊤}
+use Rattle.std.specs.Prelude.{◌≡◌, ◌<ℤ◌, ◌≤ℤ◌, ℕ, ◌+◌, ◌-◌, ◌^◌, pos, true, false, List, [], ◌∷◌, ◌++◌, length, IsSome, Option, Some, None, ⊤}
 use Rattle.std.specs.List.{AllByRecursion}
 use Rattle.sc_record.specs.declared.write.Write.{Write}
 use Rattle.sc_record.specs.declared.slice.SliceId.{SliceId}
 use Rattle.sc_record.specs.declared.slice.SubSlice.{SubSlice}
+use Rattle.sc_record.specs.Names.{key_of_core}
+use Rattle.sc_record.specs.declared.slice.CoreId.{CoreId}
 use Rattle.sc_record.specs.declared.term.Term.{Term}
 use Rattle.sc_record.specs.declared.document.Field.{Field}
 use Rattle.sc_record.specs.declared.entry.Entry.{Entry}
@@ -15,6 +17,7 @@ use Rattle.sc_cluster.specs.Plans.{IsPlan}
 use Rattle.sc_schema.specs.Terms.{AreTerms}
 use Rattle.sc_journal.specs.Journal.{write_at, writes, writes_of, is_settled}
 use Rattle.sc_journal.specs.Splits.{map_after, open_split}
+use Rattle.sc_journal.specs.Down.{is_down, IsFollower}
 
 -- the terms are those of the document; a deletion has none
 abbrev pub HasTerms : List ℕ → Option (List Field) → List Term → Type 0
@@ -46,6 +49,23 @@ pub record MayDrop (first : List Slice) (before : List Entry) (slice : SliceId) 
   pub idle : open_split before ≡ None
   pub inactive : IsInactive (map_after first before) slice
 
+-- the core may be said to be down: it is a follower of an active slice, and is not down
+pub record MayGoDown (first : List Slice) (before : List Entry) (core : CoreId) : Type 0 where
+  pub follower : IsFollower (map_after first before) core
+  pub up : is_down before (key_of_core core) ≡ false
+
+-- the core may be said to be up again: no split is open, and it is a follower of an active slice that is down
+pub record MayComeUp (first : List Slice) (before : List Entry) (core : CoreId) : Type 0 where
+  pub idle : open_split before ≡ None
+  pub follower : IsFollower (map_after first before) core
+  pub down : is_down before (key_of_core core) ≡ true
+
+-- the core may take the lead: no split is open, and it is a follower of an active slice that is not down
+pub record MayLead (first : List Slice) (before : List Entry) (core : CoreId) : Type 0 where
+  pub idle : open_split before ≡ None
+  pub follower : IsFollower (map_after first before) core
+  pub up : is_down before (key_of_core core) ≡ false
+
 -- the entry may come after these, where the first map is this
 abbrev pub MayFollow : List Slice → List Entry → Entry → Type 0
 MayFollow first before (entry.Write cell) = MayWrite before cell.value
@@ -55,6 +75,9 @@ MayFollow first before (entry.Begun parent subs) = MayBegin first before parent 
 MayFollow first before (entry.Switched parent) = open_split before ≡ Some parent
 MayFollow first before (entry.Failed parent) = open_split before ≡ Some parent
 MayFollow first before (entry.Dropped slice) = MayDrop first before slice
+MayFollow first before (entry.Down core) = MayGoDown first before core
+MayFollow first before (entry.Up core) = MayComeUp first before core
+MayFollow first before (entry.Led core) = MayLead first before core
 
 -- each entry may come after those before it
 abbrev pub IsLegal : List Slice → List Entry → Type 0

@@ -1,14 +1,16 @@
 -- What a journal says of its bucket's slices, the entries that it has still to get, and its room for others.
-use Rattle.std.specs.Prelude.{ℕ, ◌+◌, ◌≤◌, ◌<◌, Bool, true, false, List, length, fold, filter_map, count_by, Option, Some, None}
+use Rattle.std.specs.Prelude.{ℕ, ◌+◌, ◌≤◌, ◌<◌, List, length, map, fold, filter_map, count_by, Option, Some, None}
+use Rattle.std.specs.List.{flat_map}
 use Rattle.sc_record.specs.declared.slice.SliceId.{SliceId}
+use Rattle.sc_record.specs.declared.slice.SubSlice.{SubSlice}
 use Rattle.sc_record.specs.declared.entry.Entry.{Entry}
 use Rattle.sc_record.specs.declared.entry.Entry.TheVariants as entry
-use Rattle.sc_cluster.specs.declared.slice.State.{State}
-use Rattle.sc_cluster.specs.declared.slice.State.TheVariants as states
 use Rattle.sc_cluster.specs.declared.slice.Slice.{Slice}
-use Rattle.sc_cluster.specs.Changes.{Change}
+use Rattle.sc_cluster.specs.Changes.{Change, begun_slice}
 use Rattle.sc_cluster.specs.Histories.{after_all}
 use Rattle.sc_journal.specs.Journal.{unsettled}
+use Rattle.sc_cluster.specs.Slices.{is_inactive}
+use Rattle.sc_journal.specs.Down.{follower_keys, count_up}
 
 -- how an entry changes the bucket's map of slices, if it does
 abbrev pub map_change_of : Entry → Option Change
@@ -33,25 +35,17 @@ split_after split _ = split
 abbrev pub open_split : List Entry → Option SliceId
 open_split journal = fold split_after None journal
 
--- the state is that of a slice whose subs have taken its place
-abbrev pub is_inactive_state : State → Bool
-is_inactive_state states.Inactive = true
-is_inactive_state _ = false
-
--- the slice is in that state
-abbrev pub is_inactive : Slice → Bool
-is_inactive slice = is_inactive_state slice.state
-
 -- what an open split has still to get: its end, and that of its parent
 abbrev pub owed_by_split : Option SliceId → ℕ
 owed_by_split None = 0
 owed_by_split (Some parent) = 2
 
--- How many entries a journal has still to get, whose first map is this: one that settles each write that is not settled,
--- those of an open split, and one that drops each inactive slice.
+-- How many entries a journal has still to get at most, whose first map is this: one that settles each write that is not settled,
+-- those of an open split, one that drops each inactive slice, and one that says of each follower that it is down.
 abbrev pub owed : List Slice → List Entry → ℕ
 owed first journal =
     length (unsettled journal) + owed_by_split (open_split journal) + count_by is_inactive (map_after first journal)
+    + count_up (map_after first journal) journal
 
 -- the journal has room for so many entries more, beside those that it owes
 abbrev pub HasRoomFor : ℕ → ℕ → List Slice → List Entry → Type 0
@@ -60,3 +54,11 @@ HasRoomFor wanted limit first journal = length journal + owed first journal + wa
 -- it has none for so many
 abbrev pub IsFullFor : ℕ → ℕ → List Slice → List Entry → Type 0
 IsFullFor wanted limit first journal = limit < length journal + owed first journal + wanted
+
+-- the followers of the slices that a split makes
+abbrev pub new_followers : List SubSlice → ℕ
+new_followers subs = length (flat_map follower_keys (map begun_slice subs))
+
+-- how many entries a split takes: that it begins, its end and that of its parent, and one of each follower of its slices
+abbrev pub entries_of_split : List SubSlice → ℕ
+entries_of_split subs = 3 + new_followers subs

@@ -1,6 +1,6 @@
 //! Laws of journals, above their definitions.
 
-ghost use Rattle.sc_journal.specs.Laws.{GrowsByWhatMayFollow, HasLegalPrefixes, AscendsInVersions, OwesOneForAWrite, OwesOneLessSettled, OwesTwoForASplit, OwesTwoLessFailed, OwesOneLessSwitched, OwesOneLessDropped, OwesNothingAtRest, ComesToRest, JournalsKeepAMap};
+ghost use Rattle.sc_journal.specs.Laws.{GrowsByWhatMayFollow, HasLegalPrefixes, AscendsInVersions, OwesOneForAWrite, OwesOneLessSettled, OwesForASplit, OwesLessFailed, OwesLessSwitched, OwesOneLessDropped, OwesOneLessDown, OwesOneForUp, OwesNothingAtRest, ComesToRest, JournalsKeepAMap, DownAreFollowers, SeatsAreExchanged};
 
 /// Whatever a bucket's journal gets, each entry where it may follow.
 pub fn journals_stay_legal()
@@ -13,10 +13,12 @@ pub fn journals_stay_legal()
 pub fn journals_owe_entries()
     ensures write { OwesOneForAWrite }
     ensures settled { OwesOneLessSettled }
-    ensures begun { OwesTwoForASplit }
-    ensures failed { OwesTwoLessFailed }
-    ensures switched { OwesOneLessSwitched }
+    ensures begun { OwesForASplit }
+    ensures failed { OwesLessFailed }
+    ensures switched { OwesLessSwitched }
     ensures dropped { OwesOneLessDropped }
+    ensures down { OwesOneLessDown }
+    ensures up { OwesOneForUp }
 {}
 
 /// What the entries are for that a legal journal has still to get.
@@ -28,4 +30,10 @@ pub fn journals_come_to_rest()
 /// What a legal journal makes of the slices.
 pub fn journals_keep_a_map()
     ensures { JournalsKeepAMap }
+{}
+
+/// What a legal journal says of a slice's cores.
+pub fn journals_seat_cores()
+    ensures down { DownAreFollowers }
+    ensures seats { SeatsAreExchanged }
 {}

@@ -1,8 +1,9 @@
 use crate::list::List;
-use crate::slice::{SliceId, SubSlice};
+use crate::slice::{CoreId, SliceId, SubSlice};
 use crate::write::Cell;
 
-/// One entry of a bucket's journal. The entries of a split change the bucket's map of slices.
+/// One entry of a bucket's journal. The entries of a split change the bucket's map of slices; those of a core say which cores are
+/// down, and which lead.
 #[derive(Debug, Drop)]
 pub enum Entry {
     /// A write that was accepted.
@@ -30,5 +31,17 @@ pub enum Entry {
     /// An inactive slice is gone.
     Dropped {
         slice: SliceId,
+    },
+    /// This follower of an active slice is down: it is sent nothing from here on.
+    Down {
+        core: CoreId,
+    },
+    /// The core that was down is fed anew, and is sent what is written from here on.
+    Up {
+        core: CoreId,
+    },
+    /// The core in this seat leads its slice from here on: it and the core that led change seats, and the one that led is down.
+    Led {
+        core: CoreId,
     },
 }

@@ -1,0 +1,10 @@
+-- The laws are the lemmas on the cores of a legal journal that are down, and on its seats.
+use Rattle.sc_journal.proofs.LegalDownLemmas.{down_are_followers}
+use Rattle.sc_journal.proofs.SeatLemmas.{seats_are_exchanged}
+use Rattle.sc_journal.proofs.laws.journals_seat_cores.Goals as goal
+
+pub returns-clause-down : goal.returns-clause-down
+returns-clause-down c = down_are_followers
+
+pub returns-clause-seats : goal.returns-clause-seats
+returns-clause-seats c = seats_are_exchanged

@@ -8,7 +8,7 @@ use Rattle.sc_record.specs.declared.write.Write.{Write}
 use Rattle.sc_replica.specs.Core.{Core, received}
 use Rattle.sc_replica.specs.Deliveries.{received_all}
 use Rattle.sc_bucket.specs.Kept.{Sent}
-use Rattle.sc_bucket.specs.Cores.{is_core}
+use Rattle.sc_record.specs.Names.{is_core}
 use Rattle.sc_bucket.specs.Flight.{in_flight, is_to, received_by, delivered_all, arrived}
 use Rattle.sc_bucket.specs.Events.{DeliversAllTo}
 use Rattle.sc_bucket.specs.declared.bucket.Bucket.{Bucket}

@@ -10,6 +10,7 @@ use Rattle.std.proofs.lemmas.Map.Keys.{IsDistinct-from_sorted}
 use Rattle.std.proofs.lemmas.Map.Made.{is_member-Decides, length-le_from_is_member}
 use Rattle.std.proofs.lemmas.Slice.Eq.{bytes_eq-Decides}
 use Rattle.sc_record.specs.Writes.{AscendById}
+use Rattle.sc_record.specs.Names.{key_of_core}
 use Rattle.sc_record.specs.declared.write.Write.{Write}
 use Rattle.sc_record.specs.declared.entry.Entry.{Entry}
 use Rattle.sc_record.specs.declared.entry.Entry.TheVariants as entry
@@ -21,11 +22,13 @@ use Rattle.sc_cluster.proofs.LeaderLemmas.{same_from_id}
 use Rattle.sc_cluster.proofs.ListLemmas.{Contains-map, Contains-filter, Contains-from_filter}
 use Rattle.sc_replica.specs.Core.{Core, IsCore}
 use Rattle.sc_journal.specs.Journal.{as_write, writes, last_write, write_at, is_settled, unsettled}
+use Rattle.sc_journal.specs.Down.{is_down}
 use Rattle.sc_journal.specs.Splits.{map_after, open_split, owed}
 use Rattle.sc_journal.specs.Legal.{IsLegal}
 use Rattle.sc_journal.specs.Committed.{commits, committed, last_commit}
 use Rattle.sc_journal.proofs.JournalLemmas.{length-writes, writes-push_other, write_at-append, write_at_within}
 use Rattle.sc_journal.proofs.CommittedLemmas.{committed-push_commit, last_commit-push_commit}
+use Rattle.sc_journal.proofs.DownLemmas.{is_down-push}
 use Rattle.sc_journal.proofs.SettledLemmas.{unsettled-push_other, is_settled-push_other}
 use Rattle.sc_journal.proofs.SplitLemmas.{map_after-left, open_split-left, owed-push_committed, LeavesSlices-committed}
 use Rattle.sc_journal.proofs.LegalLemmas.{IsLegal-push}
@@ -121,6 +124,9 @@ no_write (entry.Begun parent subs) is = refl
 no_write (entry.Switched parent) is = cc
 no_write (entry.Failed parent) is = cc
 no_write (entry.Dropped slice) is = cc
+no_write (entry.Down core) is = cc
+no_write (entry.Up core) is = cc
+no_write (entry.Led core) is = cc
 
 -- A bucket's searchers were taken as its journal got an entry that commits. Its map is this then, whose active slices are those of
 -- the map before.
@@ -181,7 +187,13 @@ HasSearchers-taken old new one sound entries takes = record {
       (sym entries)
       (shows_written old one new.map new.searchers searcher slice sound takes is there same)
 
--- a message is still of a write that is not settled, and to a core that is there
+-- no other core is down
+down-committed : (old new : Bucket) → Commits old new
+    → (key : ℕ × ℕ) → is_down new.journal.entries key ≡ is_down old.journal.entries key
+down-committed old new commits key =
+    ap (λ entries. is_down entries key) commits.entries ∙ is_down-push old.journal.entries entry.Committed key
+
+-- a message is still of a write that is not settled, and to a core that is there and not down
 sent_still : (old new : Bucket) (message : Sent) → Commits old new → IsSent old message → IsSent new message
 sent_still old new message commits sent =
     let one : Entry = entry.Committed in
@@ -191,6 +203,7 @@ sent_still old new message commits sent =
     ∙ write_at-append old.journal.entries (one ∷ []) message.place (write_at_within old.journal.entries message.place written))
     (ap (λ entries. is_settled entries message.place) commits.entries
     ∙ is_settled-push_other old.journal.entries one message.place (λ place. refl))
+    (down-committed old new commits (key_of_core message.core))
     sent
 
 -- so the bucket is sound
@@ -202,6 +215,7 @@ IsSound-committed old new sound commits parts =
     (ap (map without_room) commits.cores)
     (ap writes commits.entries ∙ writes-push_other old.journal.entries one refl)
     (ap open_split commits.entries ∙ open_split-left old.journal.entries one LeavesSlices-committed)
+    (down-committed old new commits)
     commits.messages
     (record {
       each = subst (All (IsSent new)) (sym commits.messages)

@@ -1,7 +1,7 @@
 -- The cores of a bucket by their names, and which of them serves a hash.
 use Rattle.std.proofs.Common.{[], ◌∷◌, get_or, take, ◌++◌, ◌≡◌, ◌∙◌, ℕ, ℤ, zero, suc, ◌+◌, ◌<◌, Bool, List, length, map, slice_get, Some, None, Option, All, AllPairs, Contains, MatchOption, IsSome, true, false, ◌⊎◌, inl, inr, refl, sym, ap, subst, append_assoc, arith}
 use Rattle.std.specs.Bool.{Decides}
-use Rattle.std.specs.List.{range_with_len, AllWithin, HoldsAt}
+use Rattle.std.specs.List.{flat_map, range_with_len, AllWithin, HoldsAt}
 use Rattle.std.specs.List.Sorted.{IsStrictlyIncreasing}
 use Rattle.std.proofs.lemmas.Bool.{cases_order}
 use Rattle.std.proofs.lemmas.Bool.Decides.{Decides-and, Decides-like, Decides-eqb}
@@ -20,7 +20,8 @@ use Rattle.sc_cluster.specs.Map.{Leads}
 use Rattle.sc_cluster.proofs.ListLemmas.{Contains-map}
 use Rattle.sc_cluster.proofs.PairLemmas.{AllPairs-from_map}
 use Rattle.sc_replica.specs.Core.{Core}
-use Rattle.sc_bucket.specs.Cores.{core_key, core_keys, slice_keys, is_core, core_number, CoresAscend, AreApart, IsLeaderOf, IsLeaderAt}
+use Rattle.sc_record.specs.Names.{is_core}
+use Rattle.sc_bucket.specs.Cores.{core_key, core_keys, slice_keys, core_number, CoresAscend, AreApart, IsLeaderOf, IsLeaderAt}
 use Rattle.sc_bucket.proofs.PlaceLemmas.{some_at}
 use mathlib.Core.HLevel.{is_prop→PathP}
 use native.Mathlib.Bridge.{le_prop}
@@ -208,14 +209,19 @@ leader_at slices cores hash slice name found at leads same first is found_at =
 pub IsLeaderAt-within : (slices : List Slice) (cores : List Core) (hash : ℤ) (at : ℕ) → IsLeaderAt slices cores hash at → at < length cores
 IsLeaderAt-within slices cores hash at leader = slice_get_within cores at leader.core leader.found
 
--- the names of the first slices' cores, and those of the next
+-- what is joined of the first slices, and of the next
+pub joined-push : {X : Type 0} (f : Slice → List X) (slices : List Slice) (at : ℕ) (slice : Slice) → slice_get slices at ≡ Some slice
+    → flat_map f (take at slices) ++ f slice ≡ flat_map f (take (at + 1) slices)
+joined-push f slices at slice there =
+    ap (λ xs. flat_map f (take at slices) ++ xs) (sym (append-nil (f slice)))
+    ∙ sym (flat_map-append f (take at slices) (slice ∷ []))
+    ∙ ap (flat_map f) (sym (take_more slices at slice (slice_get_within slices at slice there)
+    ∙ ap (λ (s : Slice). take at slices ++ s ∷ []) (get_or_from_slice_get slices at slice slice there)))
+
+-- as the names of the first slices' cores, and those of the next
 pub keys-push : (slices : List Slice) (at : ℕ) (slice : Slice) → slice_get slices at ≡ Some slice
     → core_keys (take at slices) ++ slice_keys slice ≡ core_keys (take (at + 1) slices)
-keys-push slices at slice there =
-    ap (λ keys. core_keys (take at slices) ++ keys) (sym (append-nil (slice_keys slice)))
-    ∙ sym (flat_map-append slice_keys (take at slices) (slice ∷ []))
-    ∙ ap core_keys (sym (take_more slices at slice (slice_get_within slices at slice there)
-    ∙ ap (λ (s : Slice). take at slices ++ s ∷ []) (get_or_from_slice_get slices at slice slice there)))
+keys-push slices at slice there = joined-push slice_keys slices at slice there
 
 -- the names of one core more of a slice
 pub keys_more : (id below : ℕ) (before : List (ℕ × ℕ)) (cores : List Core) (core : Core)

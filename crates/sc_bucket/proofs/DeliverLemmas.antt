@@ -8,20 +8,23 @@ use Rattle.std.proofs.lemmas.Map.Keys.{apart_from_distinct, IsDistinct-from_apar
 use Rattle.std.proofs.lemmas.Option.{slice_get_within, none-some, same_Some}
 use Rattle.sc_record.specs.declared.slice.CoreId.{CoreId}
 use Rattle.sc_record.specs.declared.write.Write.{Write}
+use Rattle.sc_cluster.proofs.ListLemmas.{map-map_kept}
 use Rattle.sc_ulog.specs.declared.mode.Mode.{Mode}
 use Rattle.sc_ulog.specs.declared.mode.Mode.TheVariants.{Active, Buffering, Replaying}
 use Rattle.sc_replica.specs.Core.{Core, fed, buffered, received, received_in}
 use Rattle.sc_bucket.specs.declared.bucket.Bucket.{Bucket}
 use Rattle.sc_bucket.specs.Kept.{Sent, FlightState}
-use Rattle.sc_bucket.specs.Cores.{is_core, AreApart, IsCoreWithoutRoom}
+use Rattle.sc_record.specs.Names.{is_core}
+use Rattle.sc_bucket.specs.Cores.{AreApart, IsCoreWithoutRoom}
 use Rattle.sc_bucket.specs.Flight.{in_flight, received_by, delivered, is_same_message, IsFirstOf}
 use Rattle.sc_bucket.specs.Pending.{to_feed, pending}
 use Rattle.sc_bucket.specs.Sound.{HasJournal, IsSent, AreSent, HasSpare, IsSound}
 use Rattle.sc_bucket.specs.Events.{Delivers, DeliversFirst}
 use Rattle.sc_bucket.proofs.CoreLemmas.{name_of, is_core-Decides, IsCoreFound, AreApart-from_ascending}
+use Rattle.sc_bucket.proofs.ChangedLemmas.{changed_at}
 use Rattle.sc_bucket.proofs.PendingLemmas.{length-pending}
 use Rattle.sc_bucket.proofs.SearcherLemmas.{HasSearchers-same}
-use Rattle.sc_bucket.proofs.SoundLemmas.{All-slice_get, name_and_mode, AreAlike, AreAlike-map, names-alike, HasCores-alike, AreFeeds-alike, IsInPhase-alike}
+use Rattle.sc_bucket.proofs.SoundLemmas.{All-slice_get, name_and_mode, AreAlike, AreAlike-map, name_and_mark, AreMarked-left, names-alike, HasCores-alike, AreFeeds-alike, IsInPhase-alike}
 use Rattle.sc_bucket.proofs.FlightLemmas.{IsOneLess, one_less-append, taken-own, taken-other}
 use Rattle.sc_bucket.proofs.DeliveredLemmas.{IsSoundCore, fed_is_sound, buffered_is_sound, AreSame-append, AreSame-moved}
 use Rattle.sc_bucket.proofs.InOrderLemmas.{in_order-received}
@@ -55,6 +58,22 @@ name_and_mode-received core write =
 
 pub name-received : (core : Core) (write : Write) → (received core write).core ≡ core.core
 name-received core write = ap (λ (pair : CoreId × Mode). pair.0) (name_and_mode-received core write)
+
+-- nor is it marked as down, or as up
+name_and_mark-received : (core : Core) (write : Write) → name_and_mark (received core write) ≡ name_and_mark core
+name_and_mark-received core write =
+    elim core.mode as (λ mode. name_and_mark (received_in mode core write) ≡ name_and_mark core) [
+      | Active ↦ refl
+      | Buffering ↦ refl
+      | Replaying ↦ refl
+    ]
+
+marks-delivered : (message : Sent) (cores : List Core) → map name_and_mark (delivered message cores) ≡ map name_and_mark cores
+marks-delivered message cores =
+    map-map_kept name_and_mark (received_by message.core message.write)
+    (λ core. received_by_cases (λ (after : Core). name_and_mark after ≡ name_and_mark core)
+    message.core message.write core
+    (λ own. name_and_mark-received core message.write) (λ other. refl)) cores
 
 AreAlike-delivered : (message : Sent) (cores : List Core) → AreAlike cores (delivered message cores)
 AreAlike-delivered message cores =
@@ -167,6 +186,7 @@ AreSent-left b at flight cores within left names sent = record {
     write = is.write;
     unsettled = is.unsettled;
     core = subst (λ (those : List CoreId). Contains those message.core) (sym names) is.core;
+    up = is.up;
   }
 
 -- which says nothing of the messages and the cores
@@ -207,54 +227,18 @@ IsSound-delivered b at message flight sound found left =
       messages = AreSent-left b at flight cores (slice_get_within b.flight.messages at message found) left
           (names-alike b.replicas cores alike) sound.messages;
       room = λ k d below. record { cells = (sound_cores k d below).cell_room; buffer = (sound_cores k d below).buffer_room };
-      cores = HasCores-alike b new refl alike sound.cores;
+      cores = HasCores-alike b new refl alike
+          (AreMarked-left b.journal.entries b.journal.entries b.replicas cores (marks-delivered message b.replicas)
+          (λ key. refl) sound.cores.down) sound.cores;
       feeds = AreFeeds-alike b new refl refl alike sound.feeds;
       phase = IsInPhase-alike b new b.phase refl refl alike sound.phase;
     }
 
--- cores of other names stay
-stay : (message : Sent) (cores : List Core) → AllByRecursion (λ (name : CoreId). is_core message.core name ≡ false) (map name_of cores)
-    → delivered message cores ≡ cores
-stay message [] apart = refl
-stay message (core ∷ cores) apart =
-    let first : received_by message.core message.write core ≡ core = rw apart.0 refl in
-    let rest = stay message cores apart.1 in
-    cc
-
 -- the core of the message's name, which is at this place, receives it alone
 pub delivered_at : (message : Sent) (cores : List Core) (k : ℕ) (core : Core) → AreApart cores → slice_get cores k ≡ Some core
     → is_core message.core core.core ≡ true → delivered message cores ≡ set cores k (received core message.write)
-unfolding IsDistinct
-delivered_at message [] k core apart found is = absurd (none-some core found)
-delivered_at message (first ∷ cores) zero core apart found is =
-    let same : first ≡ core = same_Some first core found in
-    let named : message.core ≡ first.core = (is_core-Decides message.core core.core).0 is ∙ ap name_of (sym same) in
-    let here : received_by message.core message.write first ≡ received core message.write =
-    ap (received_by message.core message.write) same ∙ rw is refl in
-    let rest = stay message cores
-    (subst (λ (name : CoreId). AllByRecursion (λ (other : CoreId). is_core name other ≡ false) (map name_of cores)) (sym named) apart.0) in
-    cc
-delivered_at message (first ∷ cores) (suc k) core apart found is =
-    let named : message.core ≡ core.core = (is_core-Decides message.core core.core).0 is in
-    let each = All-from_recursion (λ (other : CoreId). is_core first.core other ≡ false) (map name_of cores) apart.0 in
-    let differ : is_core first.core core.core ≡ false = All-slice_get (λ (other : Core). is_core first.core other.core ≡ false) cores k core (unmapped each) found in
-    let other : received_by message.core message.write first ≡ first = by (is_core message.core first.core) refl named differ in
-    let rest = delivered_at message cores k core apart.1 found is in
-    cc
-  where
-    unmapped : All (λ (other : CoreId). is_core first.core other ≡ false) (map name_of cores)
-        → All (λ (other : Core). is_core first.core other.core ≡ false) cores
-    unmapped all j d below =
-        ap (is_core first.core) (sym (get_or-map name_of cores j d d.core below)) ∙ all j d.core (omega (arith, length-map cores name_of))
-
-    by : (b : Bool) → is_core message.core first.core ≡ b → message.core ≡ core.core → is_core first.core core.core ≡ false
-        → cond b (received first message.write) first ≡ first
-    by false test named differ = refl
-    by true test named differ =
-        let same : first.core ≡ core.core = sym ((is_core-Decides message.core first.core).0 test) ∙ named in
-        let yes : is_core first.core core.core ≡ true = (is_core-Decides first.core core.core).1 same in
-        let both : true ≡ false = sym yes ∙ differ in
-        absurd (cc)
+delivered_at message cores k core apart found is =
+    changed_at message.core (λ (other : Core). received other message.write) cores k core apart found is
 
 -- the core that a message in flight is to is there
 pub core_is_there : (b : Bucket) (at : ℕ) (message : Sent) → IsSound b → slice_get b.flight.messages at ≡ Some message

@@ -34,7 +34,7 @@ pub record IsSoundCore (slices : List Slice) (journal : List Entry) (sent pendin
     : Type 0 where
   pub serves : (slice : Slice) → Contains slices slice → slice.id ≡ core.core.slice → Serves journal slice core
   pub written : All (Contains (writes journal)) core.cells × All (Contains (writes journal)) pending
-  pub held : (slice : Slice) → Contains slices slice → slice.id ≡ core.core.slice → IsTrue (is_attached slice)
+  pub held : (slice : Slice) → Contains slices slice → slice.id ≡ core.core.slice → IsTrue (is_attached slice core)
       → (id : List ℕ) (write : Write) → IsWithin slice.range.min slice.range.max (route_hash id)
       → last_write journal id ≡ Some write → (write_of core.cells id ≡ Some write) ⊎ Contains pending write
   pub in_range : (slice : Slice) → Contains slices slice → slice.id ≡ core.core.slice

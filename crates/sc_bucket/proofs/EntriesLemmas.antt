@@ -10,62 +10,62 @@ use Rattle.sc_bucket.specs.declared.entries.Mark.TheVariants as mark
 use Rattle.sc_bucket.specs.Entries.{entries_of, AreParts}
 
 -- what is left where the first entry is a write
-AreParts-after_write : (marks : List Mark) (cell : Arc Write Global) (writes : List (Arc Write Global)) (settled : List ℕ) (splits : List Entry)
-    → AreParts (mark.Write ∷ marks) (cell ∷ writes) settled splits → AreParts marks writes settled splits
-AreParts-after_write marks cell writes settled splits parts = grind arith
+AreParts-after_write : (marks : List Mark) (cell : Arc Write Global) (writes : List (Arc Write Global)) (settled : List ℕ) (others : List Entry)
+    → AreParts (mark.Write ∷ marks) (cell ∷ writes) settled others → AreParts marks writes settled others
+AreParts-after_write marks cell writes settled others parts = grind arith
 
 -- or settles one
-AreParts-after_settling : (marks : List Mark) (writes : List (Arc Write Global)) (place : ℕ) (settled : List ℕ) (splits : List Entry)
-    → AreParts (mark.Settled ∷ marks) writes (place ∷ settled) splits → AreParts marks writes settled splits
-AreParts-after_settling marks writes place settled splits parts = grind arith
+AreParts-after_settling : (marks : List Mark) (writes : List (Arc Write Global)) (place : ℕ) (settled : List ℕ) (others : List Entry)
+    → AreParts (mark.Settled ∷ marks) writes (place ∷ settled) others → AreParts marks writes settled others
+AreParts-after_settling marks writes place settled others parts = grind arith
 
 -- or commits
-AreParts-after_committed : (marks : List Mark) (writes : List (Arc Write Global)) (settled : List ℕ) (splits : List Entry)
-    → AreParts (mark.Committed ∷ marks) writes settled splits → AreParts marks writes settled splits
-AreParts-after_committed marks writes settled splits parts = grind arith
+AreParts-after_committed : (marks : List Mark) (writes : List (Arc Write Global)) (settled : List ℕ) (others : List Entry)
+    → AreParts (mark.Committed ∷ marks) writes settled others → AreParts marks writes settled others
+AreParts-after_committed marks writes settled others parts = grind arith
 
--- or is of a split
-AreParts-after_split : (marks : List Mark) (writes : List (Arc Write Global)) (settled : List ℕ) (split : Entry) (splits : List Entry)
-    → AreParts (mark.Split ∷ marks) writes settled (split ∷ splits) → AreParts marks writes settled splits
-AreParts-after_split marks writes settled split splits parts = grind arith
+-- or is of a split or of a core
+AreParts-after_other : (marks : List Mark) (writes : List (Arc Write Global)) (settled : List ℕ) (other : Entry) (others : List Entry)
+    → AreParts (mark.Other ∷ marks) writes settled (other ∷ others) → AreParts marks writes settled others
+AreParts-after_other marks writes settled other others parts = grind arith
 
 -- there are as many entries as marks
-pub length-entries_of : (marks : List Mark) (writes : List (Arc Write Global)) (settled : List ℕ) (splits : List Entry)
-    → AreParts marks writes settled splits → length (entries_of marks writes settled splits) ≡ length marks
-length-entries_of [] writes settled splits parts = refl
-length-entries_of (mark.Write ∷ marks) [] settled splits parts = absurd (omega (arith, parts.each_write))
-length-entries_of (mark.Write ∷ marks) (cell ∷ writes) settled splits parts =
-    omega (arith, length-entries_of marks writes settled splits (AreParts-after_write marks cell writes settled splits parts))
-length-entries_of (mark.Settled ∷ marks) writes [] splits parts = absurd (omega (arith, parts.each_settling))
-length-entries_of (mark.Settled ∷ marks) writes (place ∷ settled) splits parts =
-    omega (arith, length-entries_of marks writes settled splits (AreParts-after_settling marks writes place settled splits parts))
-length-entries_of (mark.Committed ∷ marks) writes settled splits parts =
-    omega (arith, length-entries_of marks writes settled splits (AreParts-after_committed marks writes settled splits parts))
-length-entries_of (mark.Split ∷ marks) writes settled [] parts = absurd (omega (arith, parts.each_split))
-length-entries_of (mark.Split ∷ marks) writes settled (split ∷ splits) parts =
-    omega (arith, length-entries_of marks writes settled splits (AreParts-after_split marks writes settled split splits parts))
+pub length-entries_of : (marks : List Mark) (writes : List (Arc Write Global)) (settled : List ℕ) (others : List Entry)
+    → AreParts marks writes settled others → length (entries_of marks writes settled others) ≡ length marks
+length-entries_of [] writes settled others parts = refl
+length-entries_of (mark.Write ∷ marks) [] settled others parts = absurd (omega (arith, parts.each_write))
+length-entries_of (mark.Write ∷ marks) (cell ∷ writes) settled others parts =
+    omega (arith, length-entries_of marks writes settled others (AreParts-after_write marks cell writes settled others parts))
+length-entries_of (mark.Settled ∷ marks) writes [] others parts = absurd (omega (arith, parts.each_settling))
+length-entries_of (mark.Settled ∷ marks) writes (place ∷ settled) others parts =
+    omega (arith, length-entries_of marks writes settled others (AreParts-after_settling marks writes place settled others parts))
+length-entries_of (mark.Committed ∷ marks) writes settled others parts =
+    omega (arith, length-entries_of marks writes settled others (AreParts-after_committed marks writes settled others parts))
+length-entries_of (mark.Other ∷ marks) writes settled [] parts = absurd (omega (arith, parts.each_other))
+length-entries_of (mark.Other ∷ marks) writes settled (other ∷ others) parts =
+    omega (arith, length-entries_of marks writes settled others (AreParts-after_other marks writes settled other others parts))
 
 -- where the parts of some entries stand before those of others, so do the entries
-pub entries_of-append : (marks more : List Mark) (writes more_writes : List (Arc Write Global)) (settled more_settled : List ℕ) (splits more_splits : List Entry)
-    → AreParts marks writes settled splits
-    → entries_of (marks ++ more) (writes ++ more_writes) (settled ++ more_settled) (splits ++ more_splits)
-    ≡ entries_of marks writes settled splits ++ entries_of more more_writes more_settled more_splits
-entries_of-append [] more [] more_writes [] more_settled [] more_splits parts = refl
-entries_of-append [] more (cell ∷ writes) more_writes settled more_settled splits more_splits parts = absurd (omega (arith, parts.each_write))
-entries_of-append [] more [] more_writes (place ∷ settled) more_settled splits more_splits parts = absurd (omega (arith, parts.each_settling))
-entries_of-append [] more [] more_writes [] more_settled (split ∷ splits) more_splits parts = absurd (omega (arith, parts.each_split))
-entries_of-append (mark.Write ∷ marks) more [] more_writes settled more_settled splits more_splits parts = absurd (omega (arith, parts.each_write))
-entries_of-append (mark.Write ∷ marks) more (cell ∷ writes) more_writes settled more_settled splits more_splits parts =
+pub entries_of-append : (marks more : List Mark) (writes more_writes : List (Arc Write Global)) (settled more_settled : List ℕ) (others more_others : List Entry)
+    → AreParts marks writes settled others
+    → entries_of (marks ++ more) (writes ++ more_writes) (settled ++ more_settled) (others ++ more_others)
+    ≡ entries_of marks writes settled others ++ entries_of more more_writes more_settled more_others
+entries_of-append [] more [] more_writes [] more_settled [] more_others parts = refl
+entries_of-append [] more (cell ∷ writes) more_writes settled more_settled others more_others parts = absurd (omega (arith, parts.each_write))
+entries_of-append [] more [] more_writes (place ∷ settled) more_settled others more_others parts = absurd (omega (arith, parts.each_settling))
+entries_of-append [] more [] more_writes [] more_settled (other ∷ others) more_others parts = absurd (omega (arith, parts.each_other))
+entries_of-append (mark.Write ∷ marks) more [] more_writes settled more_settled others more_others parts = absurd (omega (arith, parts.each_write))
+entries_of-append (mark.Write ∷ marks) more (cell ∷ writes) more_writes settled more_settled others more_others parts =
     ap (λ rest. entry.Write cell ∷ rest)
-    (entries_of-append marks more writes more_writes settled more_settled splits more_splits (AreParts-after_write marks cell writes settled splits parts))
-entries_of-append (mark.Settled ∷ marks) more writes more_writes [] more_settled splits more_splits parts = absurd (omega (arith, parts.each_settling))
-entries_of-append (mark.Settled ∷ marks) more writes more_writes (place ∷ settled) more_settled splits more_splits parts =
+    (entries_of-append marks more writes more_writes settled more_settled others more_others (AreParts-after_write marks cell writes settled others parts))
+entries_of-append (mark.Settled ∷ marks) more writes more_writes [] more_settled others more_others parts = absurd (omega (arith, parts.each_settling))
+entries_of-append (mark.Settled ∷ marks) more writes more_writes (place ∷ settled) more_settled others more_others parts =
     ap (λ rest. entry.Settled place ∷ rest)
-    (entries_of-append marks more writes more_writes settled more_settled splits more_splits (AreParts-after_settling marks writes place settled splits parts))
-entries_of-append (mark.Committed ∷ marks) more writes more_writes settled more_settled splits more_splits parts =
+    (entries_of-append marks more writes more_writes settled more_settled others more_others (AreParts-after_settling marks writes place settled others parts))
+entries_of-append (mark.Committed ∷ marks) more writes more_writes settled more_settled others more_others parts =
     ap (λ rest. entry.Committed ∷ rest)
-    (entries_of-append marks more writes more_writes settled more_settled splits more_splits (AreParts-after_committed marks writes settled splits parts))
-entries_of-append (mark.Split ∷ marks) more writes more_writes settled more_settled [] more_splits parts = absurd (omega (arith, parts.each_split))
-entries_of-append (mark.Split ∷ marks) more writes more_writes settled more_settled (split ∷ splits) more_splits parts =
-    ap (λ rest. split ∷ rest)
-    (entries_of-append marks more writes more_writes settled more_settled splits more_splits (AreParts-after_split marks writes settled split splits parts))
+    (entries_of-append marks more writes more_writes settled more_settled others more_others (AreParts-after_committed marks writes settled others parts))
+entries_of-append (mark.Other ∷ marks) more writes more_writes settled more_settled [] more_others parts = absurd (omega (arith, parts.each_other))
+entries_of-append (mark.Other ∷ marks) more writes more_writes settled more_settled (other ∷ others) more_others parts =
+    ap (λ rest. other ∷ rest)
+    (entries_of-append marks more writes more_writes settled more_settled others more_others (AreParts-after_other marks writes settled other others parts))

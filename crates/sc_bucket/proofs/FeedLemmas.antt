@@ -14,7 +14,7 @@ use Rattle.sc_hash.specs.declared.range.Range.{Range}
 use Rattle.sc_record.specs.declared.write.Write.{Write}
 use Rattle.sc_cluster.proofs.ListLemmas.{filter-none}
 use Rattle.sc_bucket.specs.Kept.{FeedState}
-use Rattle.sc_bucket.specs.Cores.{is_core}
+use Rattle.sc_record.specs.Names.{is_core}
 use Rattle.sc_bucket.specs.Pending.{is_within, is_feed_of, left_of, to_feed}
 use Rattle.sc_bucket.proofs.CoreLemmas.{is_core-Decides}
 

@@ -8,7 +8,7 @@ use Rattle.std.proofs.lemmas.Option.{none-some, same_Some, slice_get-map, get_or
 use Rattle.sc_record.specs.declared.slice.CoreId.{CoreId}
 use Rattle.sc_record.specs.declared.write.Write.{Write}
 use Rattle.sc_bucket.specs.Kept.{Sent}
-use Rattle.sc_bucket.specs.Cores.{is_core}
+use Rattle.sc_record.specs.Names.{is_core}
 use Rattle.sc_bucket.specs.declared.message.Message.{Message}
 use Rattle.sc_bucket.specs.Flight.{sent_of, in_flight, IsFirstOf}
 use Rattle.sc_bucket.proofs.PlaceLemmas.{some_at}
@@ -21,11 +21,11 @@ split_get (y ∷ ys) zero x is = ap (λ z. z ∷ ys) (same_Some y x is)
 split_get (y ∷ ys) (suc k) x is = ap (λ zs. y ∷ zs) (split_get ys k x is)
 
 -- the messages to a core, of one message and others
-in_flight-own : (message : Sent) (messages : List Sent) (core : CoreId) → is_core core message.core ≡ true
+pub in_flight-own : (message : Sent) (messages : List Sent) (core : CoreId) → is_core core message.core ≡ true
     → in_flight (message ∷ messages) core ≡ message.write ∷ in_flight messages core
 in_flight-own message messages core is = rw is refl
 
-in_flight-other : (message : Sent) (messages : List Sent) (core : CoreId) → is_core core message.core ≡ false
+pub in_flight-other : (message : Sent) (messages : List Sent) (core : CoreId) → is_core core message.core ≡ false
     → in_flight (message ∷ messages) core ≡ in_flight messages core
 in_flight-other message messages core is = rw is refl
 

@@ -1,5 +1,5 @@
--- Which cores are sent a write: each other core whose slice takes it, and each once.
-use Rattle.std.proofs.Common.{◌≡◌, ◌≢◌, ℕ, zero, suc, ℤ, ◌<◌, Bool, true, false, cond, not, eqb, List, [], ◌∷◌, ◌++◌, map, filter, get_or, All, Contains, refl, sym, ap, subst, arith}
+-- Which cores are sent a write: each other core that is not down and whose slice takes it, and each once.
+use Rattle.std.proofs.Common.{◌≡◌, ◌≢◌, ℕ, zero, suc, ℤ, ◌<◌, Bool, true, false, cond, not, ◌&&◌, eqb, List, [], ◌∷◌, ◌++◌, map, filter, get_or, All, Contains, refl, sym, ap, ◌∙◌, subst, arith}
 use Rattle.std.specs.List.{IsDistinct, flat_map, AllPairs}
 use Rattle.std.proofs.lemmas.Bool.{eqb-true, eq-eqb, and_parts, and_from, and_left, and_right}
 use Rattle.std.proofs.lemmas.List.{length-map, get_or-map}
@@ -12,16 +12,19 @@ use Rattle.sc_record.specs.declared.slice.CoreId.{CoreId}
 use Rattle.sc_record.specs.declared.write.Write.{Write}
 use Rattle.sc_cluster.specs.declared.slice.Slice.{Slice}
 use Rattle.sc_cluster.specs.Map.{IsMap}
-use Rattle.sc_cluster.proofs.ListLemmas.{Contains-filter, Contains-from_filter}
+use Rattle.sc_cluster.specs.Slices.{is_inactive}
+use Rattle.sc_cluster.proofs.ListLemmas.{Contains-map, Contains-filter, Contains-from_filter}
+use Rattle.sc_cluster.proofs.PairLemmas.{Contains-from_map}
 use Rattle.sc_replica.specs.Core.{Core}
 use Rattle.sc_bucket.specs.Kept.{Sent}
-use Rattle.sc_bucket.specs.Cores.{is_core, is_attached, has_hash, follows, followers, AreApart}
+use Rattle.sc_record.specs.Names.{is_core}
+use Rattle.sc_bucket.specs.Cores.{is_attached, has_hash, follows, followers, AreApart}
 use Rattle.sc_bucket.specs.Flight.{is_same_message, sent_to}
 use Rattle.sc_bucket.proofs.CoreLemmas.{is_core-Decides, name_of}
 use Rattle.sc_bucket.proofs.SendLemmas.{takes, followers_in}
 
 -- what is true of each element is so at each place
-All-from_contains : {X : Type 0} (P : X → Type 0) (xs : List X) → ((x : X) → Contains xs x → P x) → All P xs
+pub All-from_contains : {X : Type 0} (P : X → Type 0) (xs : List X) → ((x : X) → Contains xs x → P x) → All P xs
 All-from_contains P xs each k d below = each (get_or xs k d) (Contains-get_or xs k d below)
 
 -- lists that are joined: what is true of each element, and what is among them
@@ -38,7 +41,7 @@ Contains-joined {X} {Y} f (first ∷ xs) x y (zero, below, is) there =
 Contains-joined f (first ∷ xs) x y (suc k, below, is) there =
     Contains-append_right (f first) (flat_map f xs) y (Contains-joined f xs x y (k, omega arith, is) there)
 
--- lists without repeats: two of which no element of one is that of the other, and a part of one
+-- lists without repeats, where no element of one is that of the other
 pub IsDistinct-append : {X : Type 0} (e : X → X → Bool) (xs ys : List X) → IsDistinct e xs → IsDistinct e ys
     → All (λ x. All (λ y. e x y ≡ false) ys) xs → IsDistinct e (xs ++ ys)
 IsDistinct-append e [] ys first second cross = second
@@ -49,7 +52,8 @@ IsDistinct-append e (x ∷ xs) ys first second cross =
     (All-head (λ z. All (λ y. e z y ≡ false) ys) x xs cross)))
     (IsDistinct-append e xs ys (IsDistinct-tail e x xs first) second (All-tail (λ z. All (λ y. e z y ≡ false) ys) x xs cross))
 
-IsDistinct-filter : {X : Type 0} (e : X → X → Bool) (p : X → Bool) (xs : List X) → IsDistinct e xs → IsDistinct e (filter p xs)
+-- nor has a part of one
+pub IsDistinct-filter : {X : Type 0} (e : X → X → Bool) (p : X → Bool) (xs : List X) → IsDistinct e xs → IsDistinct e (filter p xs)
 IsDistinct-filter e p [] apart = apart
 IsDistinct-filter e p (x ∷ xs) apart = by (p x) (IsDistinct-filter e p xs (IsDistinct-tail e x xs apart)) where
   by : (b : Bool) → IsDistinct e (filter p xs) → IsDistinct e (cond b (x ∷ filter p xs) (filter p xs))
@@ -58,6 +62,28 @@ IsDistinct-filter e p (x ∷ xs) apart = by (p x) (IsDistinct-filter e p xs (IsD
       IsDistinct-cons e x (filter p xs)
       (recursion_from_All (λ y. e x y ≡ false) (filter p xs)
       (All-filter p (λ y. e x y ≡ false) xs (All-from_recursion (λ y. e x y ≡ false) xs (IsDistinct-head e x xs apart)))) rest
+
+-- what is true of each name is true of each core's
+pub All-named : (P : CoreId → Type 0) (cores : List Core) → All P (map name_of cores) → All (λ (core : Core). P core.core) cores
+All-named P cores all k d below =
+    subst P (get_or-map name_of cores k d d.core below) (all k d.core (omega (arith, length-map cores name_of)))
+
+-- the names of some cores are apart where those of all are
+names_apart : (cores : List Core) (p : Core → Bool) → AreApart cores → IsDistinct is_core (map name_of (filter p cores))
+names_apart [] p apart = apart
+names_apart (core ∷ cores) p apart =
+    by (p core) (names_apart cores p (IsDistinct-tail is_core core.core (map name_of cores) apart)) where
+      by : (b : Bool) → IsDistinct is_core (map name_of (filter p cores))
+          → IsDistinct is_core (map name_of (cond b (core ∷ filter p cores) (filter p cores)))
+      by false rest = rest
+      by true rest =
+          IsDistinct-cons is_core core.core (map name_of (filter p cores))
+          (recursion_from_All (λ name. is_core core.core name ≡ false) (map name_of (filter p cores))
+          (All-map (λ name. is_core core.core name ≡ false) name_of (filter p cores)
+          (All-filter p (λ (other : Core). is_core core.core other.core ≡ false) cores
+          (All-named (λ name. is_core core.core name ≡ false) cores
+          (All-from_recursion (λ name. is_core core.core name ≡ false) (map name_of cores)
+          (IsDistinct-head is_core core.core (map name_of cores) apart)))))) rest
 
 -- names of different slices are those of different cores
 not_core : (one other : CoreId) → one.slice.0 ≢ other.slice.0 → is_core one other ≡ false
@@ -73,17 +99,38 @@ pub record IsFollower (slices : List Slice) (cores : List Core) (hash : ℤ) (le
   pub within : IsWithin slice.range.min slice.range.max hash
   pub of_slice : name.slice.0 ≡ slice.id.0
   pub other : is_core leader name ≡ false
-  pub core : Contains (map name_of cores) name
+  pub core : Core
+  pub core_there : Contains cores core
+  pub core_is : core.core ≡ name
+  pub up : core.down ≡ false
+
+-- what is false is not true
+pub negated : (b : Bool) → not b ≡ true → b ≡ false
+negated true is = absurd (cc)
+negated false is = refl
 
 -- a slice's follower by its test
-follows_parts : (leader : CoreId) (slice : Slice) (name : CoreId) → follows leader slice name ≡ true
-    → (name.slice.0 ≡ slice.id.0) × (is_core leader name ≡ false)
-follows_parts leader slice name is =
-    let both = and_parts (eqb name.slice.0 slice.id.0) (not (is_core leader name)) is in
-    (eqb-true name.slice.0 slice.id.0 both.0, negated (is_core leader name) both.1) where
-      negated : (b : Bool) → not b ≡ true → b ≡ false
-      negated true is = absurd (cc)
-      negated false is = refl
+follows_parts : (leader : CoreId) (slice : Slice) (core : Core) → follows leader slice core ≡ true
+    → (core.core.slice.0 ≡ slice.id.0) × (is_core leader core.core ≡ false) × (core.down ≡ false)
+follows_parts leader slice core is =
+    let (both, up) = and_parts (eqb core.core.slice.0 slice.id.0 && not (is_core leader core.core)) (not core.down) is in
+    let (of_slice, other) = and_parts (eqb core.core.slice.0 slice.id.0) (not (is_core leader core.core)) both in
+    (eqb-true core.core.slice.0 slice.id.0 of_slice, negated (is_core leader core.core) other, negated core.down up)
+
+-- a follower in the slice is one of its cores
+follower_in : (cores : List Core) (leader : CoreId) (slice : Slice) (name : CoreId) → Contains (followers_in cores leader slice) name
+    → (core : Core) × Contains cores core × (core.core ≡ name) × (follows leader slice core ≡ true)
+follower_in cores leader slice name there =
+    let (core, inside, named) = Contains-from_map name_of (filter (follows leader slice) cores) name there in
+    let (among, passes) = Contains-from_filter (follows leader slice) cores core inside in
+    (core, among, named, passes)
+
+-- so its name is of the slice
+of_slice_in : (cores : List Core) (leader : CoreId) (slice : Slice) (name : CoreId) → Contains (followers_in cores leader slice) name
+    → name.slice.0 ≡ slice.id.0
+of_slice_in cores leader slice name there =
+    let (core, inside, named, passes) = follower_in cores leader slice name there in
+    ap (λ (n : CoreId). n.slice.0) (sym named) ∙ (follows_parts leader slice core passes).0
 
 -- and so are all of the followers
 pub are_followers : (slices : List Slice) (cores : List Core) (hash : ℤ) (leader : CoreId)
@@ -92,30 +139,42 @@ are_followers slices cores hash leader =
     All-joined (IsFollower slices cores hash leader) (followers_in cores leader) (filter (takes hash) slices) (λ slice there.
     All-from_contains (IsFollower slices cores hash leader) (followers_in cores leader slice) (λ name here.
     let taken = Contains-from_filter (takes hash) slices slice there in
-    let named = Contains-from_filter (follows leader slice) (map name_of cores) name here in
-    let tests = and_parts (is_attached slice) (has_hash hash slice) taken.1 in
-    let parts = follows_parts leader slice name named.1 in
+    let (core, inside, named, passes) = follower_in cores leader slice name here in
+    let tests = and_parts (not (is_inactive slice)) (has_hash hash slice) taken.1 in
+    let (of_slice, other, up) = follows_parts leader slice core passes in
     record {
       slice = slice;
       there = taken.0;
       within = (contains-Decides hash slice.range.min slice.range.max).0 tests.1;
-      of_slice = parts.0;
-      other = parts.1;
-      core = named.0;
+      of_slice = of_slice_in cores leader slice name here;
+      other = ap (is_core leader) (sym named) ∙ other;
+      core = core;
+      core_there = inside;
+      core_is = named;
+      up = up;
     }))
 
--- each other core of a slice that takes the write is one
-pub is_follower : (slices : List Slice) (cores : List Core) (hash : ℤ) (leader name : CoreId) (slice : Slice) → Contains slices slice
-    → is_attached slice ≡ true → IsWithin slice.range.min slice.range.max hash → Contains (map name_of cores) name
-    → name.slice.0 ≡ slice.id.0 → is_core leader name ≡ false → Contains (followers slices cores hash leader) name
-is_follower slices cores hash leader name slice there attached within named same other =
+-- each is the name of a core
+pub follower_is_there : (slices : List Slice) (cores : List Core) (hash : ℤ) (leader name : CoreId)
+    → IsFollower slices cores hash leader name → Contains (map name_of cores) name
+follower_is_there slices cores hash leader name follower =
+    subst (Contains (map name_of cores)) follower.core_is (Contains-map name_of cores follower.core follower.core_there)
+
+-- each other core that is attached to a slice that takes the write is one
+pub is_follower : (slices : List Slice) (cores : List Core) (hash : ℤ) (leader : CoreId) (core : Core) (slice : Slice)
+    → Contains slices slice → is_attached slice core ≡ true → IsWithin slice.range.min slice.range.max hash → Contains cores core
+    → core.core.slice.0 ≡ slice.id.0 → is_core leader core.core ≡ false → Contains (followers slices cores hash leader) core.core
+is_follower slices cores hash leader core slice there attached within inside same other =
+    let (stays, up) = and_parts (not (is_inactive slice)) (not core.down) attached in
     let taken : takes hash slice ≡ true =
-    and_from (is_attached slice) (has_hash hash slice) attached ((contains-Decides hash slice.range.min slice.range.max).1 within) in
-    let not_leader : not (is_core leader name) ≡ true = ap not other in
-    let passes : follows leader slice name ≡ true =
-    and_from (eqb name.slice.0 slice.id.0) (not (is_core leader name)) (eq-eqb name.slice.0 slice.id.0 same) not_leader in
-    Contains-joined (followers_in cores leader) (filter (takes hash) slices) slice name (Contains-filter (takes hash) slices slice there taken)
-    (Contains-filter (follows leader slice) (map name_of cores) name named passes)
+    and_from (not (is_inactive slice)) (has_hash hash slice) stays ((contains-Decides hash slice.range.min slice.range.max).1 within) in
+    let not_leader : not (is_core leader core.core) ≡ true = ap not other in
+    let passes : follows leader slice core ≡ true =
+    and_from (eqb core.core.slice.0 slice.id.0 && not (is_core leader core.core)) (not core.down)
+    (and_from (eqb core.core.slice.0 slice.id.0) (not (is_core leader core.core)) (eq-eqb core.core.slice.0 slice.id.0 same) not_leader)
+    up in
+    Contains-joined (followers_in cores leader) (filter (takes hash) slices) slice core.core (Contains-filter (takes hash) slices slice there taken)
+    (Contains-map name_of (filter (follows leader slice) cores) core (Contains-filter (follows leader slice) cores core inside passes))
 
 -- the slices' numbers ascend
 abbrev IsBefore : Slice → Slice → Type 0
@@ -132,16 +191,16 @@ joined_apart : (cores : List Core) (leader : CoreId) (slices : List Slice) → A
 joined_apart cores leader [] apart up = IsDistinct-from_apart is_core [] (λ i j d less below. absurd (omega arith))
 joined_apart cores leader (slice ∷ slices) apart up =
     IsDistinct-append is_core (followers_in cores leader slice) (flat_map (followers_in cores leader) slices)
-    (IsDistinct-filter is_core (follows leader slice) (map name_of cores) apart)
+    (names_apart cores (follows leader slice) apart)
     (joined_apart cores leader slices apart (λ i j d less below. up (suc i) (suc j) d (omega arith) (omega arith)))
     (All-from_contains (λ name. All (λ later. is_core name later ≡ false) (flat_map (followers_in cores leader) slices)) (followers_in cores leader slice)
     (λ name here. All-joined (λ later. is_core name later ≡ false) (followers_in cores leader) slices (λ other there.
     All-from_contains (λ later. is_core name later ≡ false) (followers_in cores leader other) (λ later among.
-    let one = follows_parts leader slice name (Contains-from_filter (follows leader slice) (map name_of cores) name here).1 in
-    let two = follows_parts leader other later (Contains-from_filter (follows leader other) (map name_of cores) later among).1 in
+    let one = of_slice_in cores leader slice name here in
+    let two = of_slice_in cores leader other later among in
     let less = up 0 (suc there.0) other (omega arith) (omega (arith, there.1)) in
     let at : (get_or slices there.0 other).id.0 ≡ other.id.0 = ap (λ (s : Slice). s.id.0) there.2 in
-    not_core name later (λ same. absurd (omega (arith, less, at, one.0, two.0, same)))))))
+    not_core name later (λ same. absurd (omega (arith, less, at, one, two, same)))))))
 
 pub followers_apart : (slices : List Slice) (cores : List Core) (hash : ℤ) (leader : CoreId) → IsMap slices → AreApart cores
     → IsDistinct is_core (followers slices cores hash leader)

@@ -31,13 +31,15 @@ use Rattle.sc_journal.specs.Outcomes.{IsClock}
 use Rattle.sc_journal.proofs.JournalLemmas.{id_from_is_of, writes-push_write, last_write-push_write, last_write-push_write_other}
 use Rattle.sc_journal.proofs.VersionLemmas.{IsClock-append, IsClock-push_write}
 use Rattle.sc_bucket.specs.Kept.{Sent, FeedState}
-use Rattle.sc_bucket.specs.Cores.{is_core, is_attached, followers, AreApart, IsLeaderAt}
+use Rattle.sc_record.specs.Names.{is_core}
+use Rattle.sc_bucket.specs.Cores.{is_attached, followers, AreApart, IsLeaderAt}
 use Rattle.sc_bucket.specs.Flight.{sent_to}
 use Rattle.sc_bucket.specs.Pending.{pending}
 use Rattle.sc_bucket.specs.Sound.{Serves, AreWritten, HasOrAwaits, IsInRange, AreInRange}
 use Rattle.sc_bucket.proofs.CoreLemmas.{same_name_by, is_core-Decides, core_alone, name_of}
 use Rattle.sc_bucket.proofs.SoundLemmas.{All-slice_get}
 use Rattle.sc_bucket.proofs.PlaceLemmas.{All-set_apart}
+use Rattle.sc_bucket.proofs.TakenLemmas.{Contains-slice_get}
 use Rattle.sc_bucket.proofs.PendingLemmas.{All-pending_sent, pending-stays, pending-sent}
 use Rattle.sc_bucket.proofs.FollowerLemmas.{IsFollower, are_followers, is_follower}
 
@@ -139,11 +141,6 @@ sent_in_range slices cores write leader core slice name is_map there named sent 
     let one : slice ≡ follower.slice = same_from_id slices slice follower.slice is_map there follower.there ids in
     subst (λ (s : Slice). IsWithin s.range.min s.range.max write.hash) (sym one) follower.within
 
--- the name of a core at a place is among the names
-name_there : (cores : List Core) (k : ℕ) (core : Core) → slice_get cores k ≡ Some core → Contains (map name_of cores) core.core
-name_there cores k core there =
-    Contains-map name_of cores core (k, slice_get_within cores k core there, get_or_from_slice_get cores k core core there)
-
 -- of each id the core that led the write has the last write, or awaits it
 led_holds : (slices : List Slice) (journal : List Entry) (messages sent : List Sent) (feeds : List FeedState)
     (core : Core) (cell : Arc Write Global)
@@ -170,7 +167,7 @@ led_holds slices journal messages sent feeds core cell holds slice there named a
 -- and so of any other core, which is sent the write where it is to have it
 other_holds : (slices : List Slice) (journal : List Entry) (messages : List Sent) (place : ℕ) (names : List CoreId)
     (feeds : List FeedState) (core : Core) (cell : Arc Write Global) → cell.value.hash ≡ route_hash cell.value.id
-    → ((slice : Slice) → Contains slices slice → slice.id ≡ core.core.slice → IsTrue (is_attached slice)
+    → ((slice : Slice) → Contains slices slice → slice.id ≡ core.core.slice → IsTrue (is_attached slice core)
     → IsWithin slice.range.min slice.range.max cell.value.hash → Contains names core.core)
     → OfSlices slices (HasOrAwaits journal messages feeds) core
     → OfSlices slices
@@ -265,10 +262,10 @@ AreSound-led slices journal messages feeds cores at place cell is_map hashed dis
       (same_name_by other.core core.core (ap (λ (id : SliceId). id.0) ids) (first ∙ sym leader.leader.1)))
 
   gets : (k : ℕ) (other : Core) → k ≢ at → slice_get cores k ≡ Some other → (one : Slice) → Contains slices one → one.id ≡ other.core.slice
-      → IsTrue (is_attached one) → IsWithin one.range.min one.range.max cell.value.hash → Contains names other.core
+      → IsTrue (is_attached one other) → IsWithin one.range.min one.range.max cell.value.hash → Contains names other.core
   gets k other apart there one inside named attached within =
-      is_follower slices cores cell.value.hash core.core other.core one inside attached within
-      (name_there cores k other there) (ap (λ (id : SliceId). id.0) (sym named)) (differs (is_core core.core other.core) refl) where
+      is_follower slices cores cell.value.hash core.core other one inside attached within
+      (Contains-slice_get cores k other there) (ap (λ (id : SliceId). id.0) (sym named)) (differs (is_core core.core other.core) refl) where
         differs : (b : Bool) → is_core core.core other.core ≡ b → is_core core.core other.core ≡ false
         differs false is = is
         differs true is =

@@ -18,6 +18,7 @@ pub mod AcceptLemmas
 pub mod OutcomeLemmas
 pub mod FlightLemmas
 pub mod DeliveredLemmas
+pub mod ChangedLemmas
 pub mod DeliverLemmas
 pub mod TakenLemmas
 pub mod CommitLemmas
@@ -27,3 +28,7 @@ pub mod FeedLemmas
 pub mod FindLemmas
 pub mod ReplicasLemmas
 pub mod SpareLemmas
+pub mod LeftOutLemmas
+pub mod DetachLemmas
+pub mod DownLemmas
+pub mod CountLemmas

@@ -1,9 +1,10 @@
 -- A new bucket is sound.
-use Rattle.std.proofs.Common.{◌≡◌, ◌<◌, ◌≤◌, ◌⊎◌, ◌∙◌, ℕ, suc, ◌^◌, ◌+◌, ◌*◌, None, false, List, [], ◌∷◌, ◌++◌, length, get_or, map, count_by, All, AllPairs, Contains, refl, sym, ap, subst, inl, inr, arith}
+use Rattle.std.proofs.Common.{◌≡◌, ◌<◌, ◌≤◌, ◌⊎◌, ◌∙◌, ℕ, suc, ◌^◌, ◌+◌, ◌*◌, None, Bool, false, not, List, [], ◌∷◌, ◌++◌, length, get_or, map, count_by, All, AllPairs, Contains, refl, sym, ap, subst, inl, inr, arith}
 use Rattle.std.specs.List.{IsDistinct, range_with_len}
 use Rattle.std.proofs.lemmas.List.Elements.{All-nil, All-head, All-tail, All-map, All-weaker, All-contains, All-contains_itself, Contains-append_left, Contains-append_right, Contains-append_cases}
 use Rattle.std.proofs.lemmas.List.FromFn.{length-range_with_len, get_or-range_with_len}
 use Rattle.std.proofs.lemmas.List.Kept.{AllPairs-from_increasing}
+use Rattle.std.proofs.lemmas.List.Sums.{length-filter}
 use Rattle.std.proofs.lemmas.Option.{none-some}
 use Rattle.std.proofs.lemmas.Simd.{map-map}
 use Rattle.sc_record.specs.Writes.{write_of}
@@ -11,14 +12,17 @@ use Rattle.sc_record.specs.declared.write.Write.{Write}
 use Rattle.sc_cluster.specs.declared.slice.State.TheVariants as states
 use Rattle.sc_cluster.specs.declared.slice.Slice.{Slice}
 use Rattle.sc_cluster.specs.Map.{IsMap}
-use Rattle.sc_cluster.specs.Slices.{is_forming, forming}
+use Rattle.sc_cluster.specs.Slices.{is_forming, forming, is_inactive}
+use Rattle.sc_cluster.proofs.ListLemmas.{filter-all}
 use Rattle.sc_cluster.proofs.PairLemmas.{AllPairs-append, AllPairs-from_map, AllPairs-map, Contains-from_map}
 use Rattle.sc_replica.specs.Core.{Core}
 use Rattle.sc_journal.specs.Journal.{writes, unsettled}
-use Rattle.sc_journal.specs.Splits.{map_after, open_split, owed, is_inactive}
+use Rattle.sc_journal.specs.Down.{is_down, all_followers, count_up}
+use Rattle.sc_journal.specs.Splits.{map_after, open_split, owed}
 use Rattle.sc_journal.proofs.LegalLemmas.{IsLegal-none}
 use Rattle.sc_bucket.specs.Kept.{Sent, FeedState}
-use Rattle.sc_bucket.specs.Cores.{core_key, core_keys, slice_keys, core_number, is_core, CoresAscend, IsCounted, IsNewCore, IsCoreWithoutRoom}
+use Rattle.sc_record.specs.Names.{is_core}
+use Rattle.sc_bucket.specs.Cores.{core_key, core_keys, slice_keys, core_number, CoresAscend, IsCounted, IsNewCore, IsCoreWithoutRoom}
 use Rattle.sc_bucket.specs.Searchers.{AreTaken}
 use Rattle.sc_bucket.specs.Flight.{in_flight, is_same_message}
 use Rattle.sc_bucket.specs.Pending.{to_feed, pending}
@@ -51,7 +55,8 @@ pub record IsMade (b : Bucket) (first : List Slice) (limit : ℕ) : Type 0 where
   pub map_is : b.map ≡ first
   pub entries : b.journal.entries ≡ []
   pub places : b.unsettled.places ≡ []
-  pub owed_is : b.owed ≡ 0
+  pub owed_is : b.owed ≡ length (all_followers first)
+  pub room : b.owed ≤ b.journal.room
   pub limit_is : b.limit ≡ limit
   pub keys : map core_key b.replicas ≡ core_keys first
   pub messages : b.flight.messages ≡ []
@@ -62,15 +67,26 @@ pub record IsMade (b : Bucket) (first : List Slice) (limit : ℕ) : Type 0 where
   pub feeds_are : b.feeds ≡ []
   pub spares_are : b.spares ≡ None
 
--- what it owes is nothing
-owed_at_first : (first : List Slice) → AreActive first → owed first [] ≡ 0
-owed_at_first first active = let none = none_is_inactive first active in omega arith
+-- room for some is room for no more
+pub has_room_for : (wanted n room : ℕ) → n ≤ room → wanted ≤ n → wanted ≤ room
+has_room_for wanted n room fits most = omega (arith, fits, most)
+
+-- what it owes is an entry of each follower
+owed_at_first : (first : List Slice) → AreActive first → owed first [] ≡ length (all_followers first)
+owed_at_first first active =
+    let none = none_is_inactive first active in
+    let up : count_up first [] ≡ length (all_followers first) =
+    sym (length-filter is_up (all_followers first)) ∙ ap length (filter-all is_up (all_followers first) (λ k d below. refl)) in
+    omega (arith, none, up)
+  where
+    is_up : ℕ × ℕ → Bool
+    is_up key = not (is_down [] key)
 
 -- its journal is as it has to be
-HasJournal-new : (b : Bucket) (first : List Slice) (limit : ℕ) → IsMap first → AreActive first → 16 ≤ limit → limit ≤ 2 ^ 24
-    → IsMade b first limit → HasJournal b
+HasJournal-new : (b : Bucket) (first : List Slice) (limit : ℕ) → IsMap first → AreActive first
+    → 16 + length (all_followers first) ≤ limit → limit ≤ 2 ^ 24 → IsMade b first limit → HasJournal b
 HasJournal-new b first limit is_map active least most made =
-    let owes : owed b.first b.journal.entries ≡ 0 =
+    let owes : owed b.first b.journal.entries ≡ length (all_followers first) =
     ap (λ slices. owed slices b.journal.entries) made.first_is ∙ ap (owed first) made.entries ∙ owed_at_first first active in
     let none : length b.journal.entries ≡ 0 = ap length made.entries in
     record {
@@ -80,8 +96,8 @@ HasJournal-new b first limit is_map active least most made =
       map_is = made.map_is ∙ sym made.first_is ∙ sym (ap (map_after b.first) made.entries);
       unsettled_are = made.places ∙ sym (ap unsettled made.entries);
       owed_is = made.owed_is ∙ sym owes;
-      room = omega (arith, made.owed_is);
-      within = omega (arith, none, made.owed_is);
+      room = made.room;
+      within = omega (arith, none, made.owed_is, made.limit_is, least);
       limit_from = omega (arith, made.limit_is, least);
       limit_to = subst (λ n. n ≤ 2 ^ 24) (sym made.limit_is) most;
     }
@@ -232,11 +248,14 @@ HasCores-new b first limit is_map made =
           (slice_keys slice) (All-contains_itself (slice_keys slice)))
           b.map (All-contains_itself b.map);
       active = λ k d below slice there same whole. (made.new k d below).active;
+      down = λ k d below.
+          (made.new k d below).up
+          ∙ ap (λ entries. is_down entries (core_key (get_or b.replicas k d))) (sym made.entries);
     }
 
 -- and so the bucket is sound
-pub IsSound-new : (b : Bucket) (first : List Slice) (limit : ℕ) → IsMap first → AreActive first → 16 ≤ limit → limit ≤ 2 ^ 24
-    → IsMade b first limit → IsSound b
+pub IsSound-new : (b : Bucket) (first : List Slice) (limit : ℕ) → IsMap first → AreActive first
+    → 16 + length (all_followers first) ≤ limit → limit ≤ 2 ^ 24 → IsMade b first limit → IsSound b
 IsSound-new b first limit is_map active least most made =
     let sent : List Sent = b.flight.messages in
     record {

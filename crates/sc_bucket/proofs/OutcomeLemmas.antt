@@ -1,9 +1,11 @@
 -- What an order is answered by a bucket.
-use Rattle.std.proofs.Common.{◌≡◌, ℕ, ◌<◌, Bool, false, ℤ, List, [], ◌∷◌, ◌++◌, length, filter, set, Option, Some, Err, refl, sym, ap, ◌∙◌, subst, slice_get}
+use Rattle.std.proofs.Common.{◌≡◌, ℕ, ◌<◌, Bool, false, ℤ, List, [], ◌∷◌, ◌++◌, length, map, filter, set, Option, Some, Err, refl, sym, ap, ◌∙◌, subst, slice_get}
 use Rattle.std.specs.Prelude.{IsSome}
 use Rattle.std.specs.List.{flat_map}
 use Rattle.std.specs.declared.sync.Arc.{Arc}
 use Rattle.std.specs.declared.alloc.Global.{Global}
+use Rattle.std.proofs.Math.Path.{fun_ext}
+use Rattle.std.proofs.lemmas.Simd.{map-map}
 use Rattle.sc_record.specs.Versions.{found_version, version_after, shown_version, meets}
 use Rattle.sc_record.specs.Writes.{write_of}
 use Rattle.sc_record.specs.declared.slice.CoreId.{CoreId}
@@ -13,6 +15,7 @@ use Rattle.sc_record.specs.declared.entry.Entry.{Entry}
 use Rattle.sc_record.specs.declared.entry.Entry.TheVariants as entry
 use Rattle.sc_router.specs.Route.{route_hash}
 use Rattle.sc_cluster.specs.declared.slice.Slice.{Slice}
+use Rattle.sc_cluster.proofs.ListLemmas.{filter-map}
 use Rattle.sc_replica.specs.Core.{Core, led}
 use Rattle.sc_partial.specs.Resolved.{IsRefusalOf}
 use Rattle.sc_partial.specs.declared.fault.PartialFault.{PartialFault}
@@ -27,12 +30,13 @@ use Rattle.sc_bucket.specs.declared.accept.AcceptFault.{AcceptFault}
 use Rattle.sc_bucket.specs.declared.accept.AcceptFault.TheVariants as faults
 use Rattle.sc_bucket.specs.Kept.{Sent}
 use Rattle.sc_bucket.specs.Accepting.{accept_fault, IsPut}
-use Rattle.sc_bucket.specs.Cores.{follows, followers, IsLeaderAt}
+use Rattle.sc_bucket.specs.Cores.{follows, followers, IsLeaderAt, without_room}
 use Rattle.sc_bucket.specs.Flight.{sent_to}
 use Rattle.sc_bucket.specs.Events.{AreSameCores, IsSameButRoom, Accepts, outcome_of}
 use Rattle.sc_bucket.specs.Room.{BucketHasRoom}
 use Rattle.sc_bucket.specs.Sound.{IsSound}
-use Rattle.sc_bucket.proofs.SoundLemmas.{leader_reads, names-same_cores}
+use Rattle.sc_bucket.proofs.SoundLemmas.{leader_reads}
+use Rattle.sc_bucket.proofs.CoreLemmas.{name_of}
 use Rattle.sc_bucket.proofs.SendLemmas.{takes}
 use Rattle.sc_bucket.proofs.AcceptLemmas.{sent_by}
 use Rattle.sc_bucket.proofs.PlaceLemmas.{some_at, same_core_at, IsLeaderAt-same_cores, AreSameCores-led}
@@ -63,13 +67,26 @@ pub memory_outcome : (limit : ℕ) (first : List Slice) (before after : List Ent
     → IsMet before order → fault ≡ faults.Memory → IsOutcome limit first before order now (outcome_of (Err fault)) after
 memory_outcome limit first before after order now fault met is = rw is met
 
--- the followers are the same where the map and the names of the cores are
+-- the names of those of the cores that pass a test that doesn't speak of their room
+names-bare : (p : Core → Bool) (cores : List Core)
+    → map name_of (filter p (map without_room cores)) ≡ map name_of (filter (λ core. p (without_room core)) cores)
+names-bare p cores =
+    ap (map name_of) (filter-map p without_room cores)
+    ∙ map-map name_of without_room (filter (λ core. p (without_room core)) cores)
+
+-- the followers are the same where the map and the cores are, but for their room
 pub followers-same_cores : (old roomy : Bucket) (hash : ℤ) (leader : CoreId) → IsSameButRoom old roomy
     → followers roomy.map roomy.replicas hash leader ≡ followers old.map old.replicas hash leader
 followers-same_cores old roomy hash leader same =
     ap (λ (slices : List Slice). followers slices roomy.replicas hash leader) same.map_is
-    ∙ ap (λ (names : List CoreId). flat_map (λ (slice : Slice). filter (follows leader slice) names) (filter (takes hash) old.map))
-    (names-same_cores old.replicas roomy.replicas same.cores)
+    ∙ ap (λ (each : Slice → List CoreId). flat_map each (filter (takes hash) old.map)) (fun_ext in_slice)
+  where
+    in_slice : (slice : Slice) → map name_of (filter (follows leader slice) roomy.replicas)
+        ≡ map name_of (filter (follows leader slice) old.replicas)
+    in_slice slice =
+        sym (names-bare (follows leader slice) roomy.replicas)
+        ∙ ap (λ (cores : List Core). map name_of (filter (follows leader slice) cores)) same.cores
+        ∙ names-bare (follows leader slice) old.replicas
 
 -- an order is accepted where its write is put into the bucket, which is as it was but for room, and sent to the others
 pub Accepts-put : (old roomy new : Bucket) (order : Order) (now : ℕ) (version : ℤ) (cell : Arc Write Global) (at : ℕ) (messages : List Sent)

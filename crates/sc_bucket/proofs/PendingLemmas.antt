@@ -9,7 +9,7 @@ use Rattle.sc_record.specs.declared.slice.CoreId.{CoreId}
 use Rattle.sc_record.specs.declared.write.Write.{Write}
 use Rattle.sc_replica.specs.Core.{Core}
 use Rattle.sc_bucket.specs.Kept.{Sent, FeedState}
-use Rattle.sc_bucket.specs.Cores.{is_core}
+use Rattle.sc_record.specs.Names.{is_core}
 use Rattle.sc_bucket.specs.Flight.{sent_to, in_flight, is_to}
 use Rattle.sc_bucket.specs.Pending.{to_feed, pending}
 use Rattle.sc_bucket.proofs.CoreLemmas.{is_core-Decides, is_core-itself}

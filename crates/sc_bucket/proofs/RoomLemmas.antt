@@ -10,16 +10,18 @@ use Rattle.sc_cluster.specs.Map.{IsMap}
 use Rattle.sc_cluster.proofs.ListLemmas.{All-from_slice_get}
 use Rattle.sc_replica.specs.Core.{Core}
 use Rattle.sc_journal.specs.Journal.{writes, unsettled}
-use Rattle.sc_journal.specs.Splits.{map_after, open_split, owed}
+use Rattle.sc_journal.specs.Down.{is_down}
+use Rattle.sc_journal.specs.Splits.{map_after, open_split, owed, HasRoomFor}
 use Rattle.sc_journal.specs.Legal.{IsLegal}
 use Rattle.sc_bucket.specs.declared.bucket.Bucket.{Bucket}
 use Rattle.sc_bucket.specs.declared.message.Message.{Message}
 use Rattle.sc_bucket.specs.Kept.{JournalState, PlacesState, Sent, FlightState, FeedState}
-use Rattle.sc_bucket.specs.Cores.{is_core}
+use Rattle.sc_record.specs.Names.{is_core}
 use Rattle.sc_bucket.specs.Flight.{sent_of, in_flight}
 use Rattle.sc_bucket.specs.Pending.{to_feed, pending}
 use Rattle.sc_bucket.specs.Events.{HasSameFirstAndLimit, IsSameButRoom}
 use Rattle.sc_bucket.specs.Accepting.{IsRoomier, HasMore, HasMoreAt, HasMemory}
+use Rattle.sc_bucket.specs.Room.{BucketHasRoom}
 use Rattle.sc_bucket.specs.Sound.{AreActive, HasJournal, HasSpare, IsSound}
 use Rattle.sc_bucket.proofs.CoreLemmas.{is_core-Decides}
 use Rattle.sc_bucket.proofs.SearcherLemmas.{HasSearchers-same}
@@ -45,6 +47,13 @@ HasJournal-same old new name map_is entries places owed_is room journal = record
   limit_to = omega (arith, journal.limit_to, name.limit);
 }
 
+-- nor does its room for entries change with that in memory
+pub BucketHasRoom-same : (old new : Bucket) (wanted : ℕ) → IsSameButRoom old new → BucketHasRoom wanted old → BucketHasRoom wanted new
+BucketHasRoom-same old new wanted same room =
+    subst (λ limit. HasRoomFor wanted limit new.first new.journal.entries) (sym same.name.limit)
+    (subst (λ first. HasRoomFor wanted old.limit first new.journal.entries) (sym same.name.first)
+    (subst (HasRoomFor wanted old.limit old.first) (sym same.entries) room))
+
 -- a bucket in which nothing changed but room is sound
 pub IsSound-same : (old new : Bucket) → IsSameButRoom old new → new.unsettled.places ≡ old.unsettled.places → new.owed ≡ old.owed
     → new.owed ≤ new.journal.room → new.spares ≡ old.spares → All (HasSpare new.flight.messages new.feeds) new.replicas
@@ -52,7 +61,7 @@ pub IsSound-same : (old new : Bucket) → IsSameButRoom old new → new.unsettle
 IsSound-same old new same places owed_is room same_spares spares sound =
     IsSound-left old new sound same.split
     (HasJournal-same old new same.name same.map_is same.entries places owed_is room sound.journal) same.map_is same.cores
-    (ap writes same.entries) (ap open_split same.entries) same.messages
+    (ap writes same.entries) (ap open_split same.entries) (λ key. ap (λ entries. is_down entries key) same.entries) same.messages
     (AreSent-same old new same.cores same.entries same.messages sound.messages) spares
     (HasSearchers-same old new same.map_is same.searchers_are same.entries sound.searchers)
     (ArePrepared-same old new same.split.phase same.map_is same.searchers_are same_spares sound.prepared)

@@ -1,5 +1,5 @@
 -- The messages that send a write, as a loop over the cores of a slice and one over the slices of a map make them.
-use Rattle.std.proofs.Common.{◌≡◌, ℕ, ℤ, ◌+◌, Bool, true, false, cond, ◌&&◌, List, [], ◌∷◌, ◌++◌, map, filter, take, slice_get, Some, refl, sym, ap, ◌∙◌}
+use Rattle.std.proofs.Common.{◌≡◌, ℕ, ℤ, ◌+◌, Bool, true, false, cond, not, ◌&&◌, List, [], ◌∷◌, ◌++◌, map, filter, take, slice_get, Some, refl, sym, ap, ◌∙◌}
 use Rattle.std.specs.List.{flat_map}
 use Rattle.std.specs.Arc.{arc_value}
 use Rattle.std.proofs.lemmas.List.{map-id, append-nil, append_assoc, map-append, take_more}
@@ -10,10 +10,11 @@ use Rattle.std.proofs.lemmas.Option.{slice_get_within, get_or_from_slice_get}
 use Rattle.sc_record.specs.declared.slice.CoreId.{CoreId}
 use Rattle.sc_record.specs.declared.write.Write.{Write}
 use Rattle.sc_cluster.specs.declared.slice.Slice.{Slice}
+use Rattle.sc_cluster.specs.Slices.{is_inactive}
 use Rattle.sc_replica.specs.Core.{Core}
 use Rattle.sc_bucket.specs.Kept.{Sent}
 use Rattle.sc_bucket.specs.declared.message.Message.{Message}
-use Rattle.sc_bucket.specs.Cores.{is_attached, has_hash, follows, followers}
+use Rattle.sc_bucket.specs.Cores.{has_hash, follows, followers}
 use Rattle.sc_bucket.specs.Flight.{sent_of, sent_to}
 use Rattle.sc_bucket.proofs.CoreLemmas.{name_of}
 
@@ -37,18 +38,18 @@ sent_of-is message place core write same_place same_core same_write = λ i. reco
 }
 
 -- the messages to the first cores that pass, where the next passes too
-pub sent_to-more : (p : CoreId → Bool) (place : ℕ) (write : Write) (cores : List Core) (at : ℕ) (core : Core) (before : List Sent)
-    (items more : List Message) (message : Message) → slice_get cores at ≡ Some core → p core.core ≡ true
-    → map sent_of items ≡ before ++ sent_to place write (filter p (map name_of (take at cores)))
+pub sent_to-more : (p : Core → Bool) (place : ℕ) (write : Write) (cores : List Core) (at : ℕ) (core : Core) (before : List Sent)
+    (items more : List Message) (message : Message) → slice_get cores at ≡ Some core → p core ≡ true
+    → map sent_of items ≡ before ++ sent_to place write (map name_of (filter p (take at cores)))
     → more ≡ items ++ message ∷ [] → sent_of message ≡ record { place = place; core = core.core; write = write }
-    → map sent_of more ≡ before ++ sent_to place write (filter p (map name_of (take (at + 1) cores)))
+    → map sent_of more ≡ before ++ sent_to place write (map name_of (filter p (take (at + 1) cores)))
 sent_to-more p place write cores at core before items more message there passes so_far is says =
-    let first : List CoreId = filter p (map name_of (take at cores)) in
-    let names : filter p (map name_of (take (at + 1) cores)) ≡ first ++ core.core ∷ [] =
-    ap (λ (cs : List Core). filter p (map name_of cs)) (first_more cores at core there)
-    ∙ ap (filter p) (map-append name_of (take at cores) (core ∷ []))
-    ∙ filter-append p (map name_of (take at cores)) (core.core ∷ [])
-    ∙ ap (λ (cs : List CoreId). first ++ cs) (filter-one p core.core true passes) in
+    let first : List CoreId = map name_of (filter p (take at cores)) in
+    let names : map name_of (filter p (take (at + 1) cores)) ≡ first ++ core.core ∷ [] =
+    ap (λ (cs : List Core). map name_of (filter p cs)) (first_more cores at core there)
+    ∙ ap (map name_of) (filter-append p (take at cores) (core ∷ []))
+    ∙ ap (λ (cs : List Core). map name_of (filter p (take at cores) ++ cs)) (filter-one p core true passes)
+    ∙ map-append name_of (filter p (take at cores)) (core ∷ []) in
     let one : Sent = record { place = place; core = core.core; write = write } in
     ap (map sent_of) is ∙ map-append sent_of items (message ∷ [])
     ∙ ap (λ (ms : List Sent). ms ++ sent_of message ∷ []) so_far
@@ -58,26 +59,25 @@ sent_to-more p place write cores at core before items more message there passes 
     ∙ ap (λ (cs : List CoreId). before ++ sent_to place write cs) (sym names)
 
 -- and where it doesn't
-pub sent_to-same : (p : CoreId → Bool) (place : ℕ) (write : Write) (cores : List Core) (at : ℕ) (core : Core) (before all : List Sent)
-    → slice_get cores at ≡ Some core → p core.core ≡ false
-    → all ≡ before ++ sent_to place write (filter p (map name_of (take at cores)))
-    → all ≡ before ++ sent_to place write (filter p (map name_of (take (at + 1) cores)))
+pub sent_to-same : (p : Core → Bool) (place : ℕ) (write : Write) (cores : List Core) (at : ℕ) (core : Core) (before all : List Sent)
+    → slice_get cores at ≡ Some core → p core ≡ false
+    → all ≡ before ++ sent_to place write (map name_of (filter p (take at cores)))
+    → all ≡ before ++ sent_to place write (map name_of (filter p (take (at + 1) cores)))
 sent_to-same p place write cores at core before all there fails so_far =
-    let first : List CoreId = filter p (map name_of (take at cores)) in
-    let names : filter p (map name_of (take (at + 1) cores)) ≡ first =
-    ap (λ (cs : List Core). filter p (map name_of cs)) (first_more cores at core there)
-    ∙ ap (filter p) (map-append name_of (take at cores) (core ∷ []))
-    ∙ filter-append p (map name_of (take at cores)) (core.core ∷ [])
-    ∙ ap (λ (cs : List CoreId). first ++ cs) (filter-one p core.core false fails) ∙ append-nil first in
+    let first : List Core = filter p (take at cores) in
+    let names : map name_of (filter p (take (at + 1) cores)) ≡ map name_of first =
+    ap (λ (cs : List Core). map name_of (filter p cs)) (first_more cores at core there)
+    ∙ ap (map name_of) (filter-append p (take at cores) (core ∷ []))
+    ∙ ap (λ (cs : List Core). map name_of (first ++ cs)) (filter-one p core false fails) ∙ ap (map name_of) (append-nil first) in
     so_far ∙ ap (λ (cs : List CoreId). before ++ sent_to place write cs) (sym names)
 
 -- the slice's cores are sent a write of the hash
 abbrev pub takes : ℤ → Slice → Bool
-takes hash slice = is_attached slice && has_hash hash slice
+takes hash slice = not (is_inactive slice) && has_hash hash slice
 
 -- the cores that follow in one slice
 abbrev pub followers_in : List Core → CoreId → Slice → List CoreId
-followers_in cores leader slice = filter (follows leader slice) (map name_of cores)
+followers_in cores leader slice = map name_of (filter (follows leader slice) cores)
 
 -- the messages to the followers of the first slices, where the next takes the write
 pub followers-more : (place : ℕ) (write : Write) (slices : List Slice) (cores : List Core) (hash : ℤ) (leader : CoreId) (at : ℕ) (slice : Slice)

@@ -1,5 +1,5 @@
 -- A look into a bucket is one into its journal; and what is true of it stays true where its journal gets no write.
-use Rattle.std.proofs.Common.{◌<◌, ◌^◌, ℤ, pos, ◌≡◌, ◌⊎◌, ◌∙◌, ◌∷◌, ◌++◌, [], ℕ, not, true, false, List, map, filter, slice_get, slice_set, Some, IsTrue, All, Contains, refl, sym, ap, subst, arith}
+use Rattle.std.proofs.Common.{◌<◌, ◌^◌, ℤ, pos, ◌≡◌, ◌⊎◌, ◌∙◌, ◌∷◌, ◌++◌, [], ℕ, Bool, not, true, false, List, map, filter, slice_get, slice_set, Some, IsTrue, All, Contains, refl, sym, ap, subst, arith}
 use Rattle.std.specs.List.{IsDistinct}
 use Rattle.std.proofs.lemmas.Option.{slice_get_within, get_or_from_slice_get, same_Some}
 use Rattle.std.proofs.lemmas.List.{length-map, get_or-map}
@@ -12,19 +12,22 @@ use Rattle.sc_record.specs.Writes.{write_of, is_of}
 use Rattle.sc_record.specs.declared.write.Write.{Write}
 use Rattle.sc_record.specs.declared.slice.SliceId.{SliceId}
 use Rattle.sc_record.specs.declared.slice.CoreId.{CoreId}
+use Rattle.sc_record.specs.declared.entry.Entry.{Entry}
 use Rattle.sc_cluster.specs.declared.slice.State.TheVariants as states
 use Rattle.sc_cluster.specs.declared.slice.Slice.{Slice}
 use Rattle.sc_cluster.specs.Slices.{is_forming, forming}
 use Rattle.sc_cluster.specs.Changes.{IsSplit}
-use Rattle.sc_cluster.proofs.ListLemmas.{Contains-map}
+use Rattle.sc_cluster.proofs.ListLemmas.{map-map_kept, Contains-map}
 use Rattle.sc_cluster.proofs.PairLemmas.{Contains-from_map}
 use Rattle.sc_ulog.specs.declared.mode.Mode.{Mode}
 use Rattle.sc_ulog.specs.declared.mode.Mode.TheVariants.{Active}
 use Rattle.sc_replica.specs.Core.{Core, IsCore}
 use Rattle.sc_journal.specs.Journal.{writes, write_at, is_settled, last_of, last_write}
+use Rattle.sc_journal.specs.Down.{is_down}
 use Rattle.sc_journal.specs.Splits.{open_split}
 use Rattle.sc_bucket.specs.Kept.{Sent, FeedState}
-use Rattle.sc_bucket.specs.Cores.{core_key, core_keys, slice_keys, is_core, is_attached, IsLeaderAt, without_room}
+use Rattle.sc_record.specs.Names.{key_of_core, is_core}
+use Rattle.sc_bucket.specs.Cores.{core_key, core_keys, slice_keys, is_attached, IsLeaderAt, without_room}
 use Rattle.sc_bucket.specs.Searchers.{ArePrepared}
 use Rattle.sc_bucket.specs.Flight.{is_same_message}
 use Rattle.sc_bucket.specs.Pending.{pending}
@@ -92,20 +95,36 @@ AreAlike old new = map name_and_mode new ≡ map name_and_mode old
 pub AreAlike-same_cores : (old new : List Core) → AreSameCores old new → AreAlike old new
 AreAlike-same_cores old new same = map-same_cores name_and_mode old new same
 
--- so are they where each was changed so that it keeps both
+-- what is made of each core is the same where one was changed so that it keeps it
+pub set-kept : {X : Type 0} (f : Core → X) (cores : List Core) (at : ℕ) (core new : Core) → slice_get cores at ≡ Some core
+    → f new ≡ f core → map f (slice_set cores at new) ≡ map f cores
+set-kept f cores at core new there keeps =
+    map-set_same f cores at new core (keeps ∙ ap f (sym (get_or_from_slice_get cores at core core there)))
+
+-- so cores are alike where each was changed so that it keeps both, or one of them was
 pub AreAlike-map : (f : Core → Core) → ((core : Core) → name_and_mode (f core) ≡ name_and_mode core)
     → (cores : List Core) → AreAlike cores (map f cores)
-AreAlike-map f keeps [] = refl
-AreAlike-map f keeps (core ∷ cores) =
-    ap (λ one. one ∷ map name_and_mode (map f cores)) (keeps core)
-    ∙ ap (λ rest. name_and_mode core ∷ rest) (AreAlike-map f keeps cores)
+AreAlike-map f keeps cores = map-map_kept name_and_mode f keeps cores
 
--- or one of them was
 pub AreAlike-set : (cores : List Core) (at : ℕ) (core new : Core) → slice_get cores at ≡ Some core
     → name_and_mode new ≡ name_and_mode core → AreAlike cores (slice_set cores at new)
-AreAlike-set cores at core new there keeps =
-    map-set_same name_and_mode cores at new core
-    (keeps ∙ ap name_and_mode (sym (get_or_from_slice_get cores at core core there)))
+AreAlike-set cores at core new there keeps = set-kept name_and_mode cores at core new there keeps
+
+-- the name of a core, and whether it is marked as down
+abbrev pub name_and_mark : Core → CoreId × Bool
+name_and_mark core = (core.core, core.down)
+
+-- those cores are marked as down that the journal says are down
+abbrev pub AreMarked : List Entry → List Core → Type 0
+AreMarked journal cores = All (λ (core : Core). core.down ≡ is_down journal (core_key core)) cores
+
+-- they are marked so still, where their names and their marks stay, and the journal says the same
+pub AreMarked-left : (old new : List Entry) (cores others : List Core) → map name_and_mark others ≡ map name_and_mark cores
+    → ((key : ℕ × ℕ) → is_down new key ≡ is_down old key) → AreMarked old cores → AreMarked new others
+AreMarked-left old new cores others same says marked =
+    All-weaker (λ (core : Core). core.down ≡ is_down old (core_key core)) (λ core. core.down ≡ is_down new (core_key core))
+    (λ core is. is ∙ sym (says (core_key core))) others
+    (All-alike name_and_mark (λ pair. pair.1 ≡ is_down old (key_of_core pair.0)) cores others same marked)
 
 -- their names are the same
 pub names-alike : (old new : List Core) → AreAlike old new → map name_of new ≡ map name_of old
@@ -119,31 +138,31 @@ keys-named old new same =
     sym (map-map key name_of new) ∙ ap (map key) same ∙ map-map key name_of old
 
 -- the core serves its slice of the map, where these are the writes of the journal
-abbrev ServesBy : List Slice → List Write → Core → Type 0
+abbrev pub ServesBy : List Slice → List Write → Core → Type 0
 ServesBy slices all core = (slice : Slice) → Contains slices slice → slice.id ≡ core.core.slice
     → slice.state ≡ states.Active → core.core.replica ≡ 1
     → (core.mode ≡ Active)
     × ((id : List ℕ) → IsWithin slice.range.min slice.range.max (route_hash id)
     → write_of core.cells id ≡ last_of (filter (is_of id) all))
 
-abbrev AreWrittenBy : List Write → List Sent → List FeedState → Core → Type 0
+abbrev pub AreWrittenBy : List Write → List Sent → List FeedState → Core → Type 0
 AreWrittenBy all messages feeds core = All (Contains all) core.cells × All (Contains all) (pending messages feeds core)
 
-abbrev HasOrAwaitsBy : List Slice → List Write → List Sent → List FeedState → Core → Type 0
+abbrev pub HasOrAwaitsBy : List Slice → List Write → List Sent → List FeedState → Core → Type 0
 HasOrAwaitsBy slices all messages feeds core = (slice : Slice) → Contains slices slice → slice.id ≡ core.core.slice
-    → IsTrue (is_attached slice) → (id : List ℕ) (write : Write)
+    → IsTrue (is_attached slice core) → (id : List ℕ) (write : Write)
     → IsWithin slice.range.min slice.range.max (route_hash id) → last_of (filter (is_of id) all) ≡ Some write
     → (write_of core.cells id ≡ Some write) ⊎ Contains (pending messages feeds core) write
 
-abbrev IsInRangeBy : List Slice → List Sent → List FeedState → Core → Type 0
+abbrev pub IsInRangeBy : List Slice → List Sent → List FeedState → Core → Type 0
 IsInRangeBy slices messages feeds core = (slice : Slice) → Contains slices slice → slice.id ≡ core.core.slice
     → AreInRange messages feeds slice core
 
-abbrev IsClockBy : List Write → Core → Type 0
+abbrev pub IsClockBy : List Write → Core → Type 0
 IsClockBy all core = (core.clock ≡ pos 0) ⊎ Contains (map (λ (write : Write). write.version) all) core.clock
 
 -- what is true of the same cores, with the same map, writes, messages and feeds
-all_left : (P : List Slice → List Write → List Sent → List FeedState → Core → Type 0) (old_map new_map : List Slice)
+pub all_left : (P : List Slice → List Write → List Sent → List FeedState → Core → Type 0) (old_map new_map : List Slice)
     (old_writes new_writes : List Write) (old_messages new_messages : List Sent) (old_feeds new_feeds : List FeedState)
     (cores : List Core) → new_map ≡ old_map → new_writes ≡ old_writes → new_messages ≡ old_messages
     → new_feeds ≡ old_feeds → All (P old_map old_writes old_messages old_feeds) cores → All (P new_map new_writes new_messages new_feeds) cores
@@ -158,12 +177,12 @@ all_left P old_map new_map old_writes new_writes old_messages new_messages old_f
 abbrev IsWhole : List (ℕ × ℕ) → Slice → Type 0
 IsWhole keys slice = is_forming slice ≡ false → All (Contains keys) (slice_keys slice)
 
--- The cores are those that have to be there, where they have the same names and the map stays, and those of slices
--- that no split is making are active.
+-- The cores are those that have to be there, where they have the same names and the map stays, those of slices that no
+-- split is making are active, and those are marked that are down.
 pub HasCores-named : (old new : Bucket) → new.map ≡ old.map → map name_of new.replicas ≡ map name_of old.replicas
     → OfEachCore new (λ (slice : Slice) (core : Core). is_forming slice ≡ false → core.mode ≡ Active)
-    → HasCores old → HasCores new
-HasCores-named old new same_map same active has =
+    → AreMarked new.journal.entries new.replicas → HasCores old → HasCores new
+HasCores-named old new same_map same active marked has =
     let keys : map core_key new.replicas ≡ map core_key old.replicas = keys-named old.replicas new.replicas same in
     record {
       counted = All-alike name_of (λ (name : CoreId). name.replica < 2 ^ 8) old.replicas new.replicas same has.counted;
@@ -176,6 +195,7 @@ HasCores-named old new same_map same active has =
       whole = subst (All (IsWhole (map core_key new.replicas))) (sym same_map)
           (subst (λ (these : List (ℕ × ℕ)). All (IsWhole these) old.map) (sym keys) has.whole);
       active = active;
+      down = marked;
     }
 
 -- what is said of each core's name and mode and of its slice stays true where they do
@@ -189,12 +209,12 @@ OfEachCore-alike P old new same_map alike each =
     subst (λ slices. All (λ (core : Core). Of slices (name_and_mode core)) new.replicas) (sym same_map)
     (All-alike name_and_mode (Of old.map) old.replicas new.replicas alike each)
 
--- so the cores are those that have to be there
-pub HasCores-alike : (old new : Bucket) → new.map ≡ old.map → AreAlike old.replicas new.replicas → HasCores old
-    → HasCores new
-HasCores-alike old new same_map alike has =
+-- so the cores are those that have to be there, where those are marked that are down
+pub HasCores-alike : (old new : Bucket) → new.map ≡ old.map → AreAlike old.replicas new.replicas
+    → AreMarked new.journal.entries new.replicas → HasCores old → HasCores new
+HasCores-alike old new same_map alike marked has =
     HasCores-named old new same_map (names-alike old.replicas new.replicas alike)
-    (OfEachCore-alike (λ slice pair. is_forming slice ≡ false → pair.1 ≡ Active) old new same_map alike has.active) has
+    (OfEachCore-alike (λ slice pair. is_forming slice ≡ false → pair.1 ≡ Active) old new same_map alike has.active) marked has
 
 -- and a feed is still of a core that buffers
 pub IsFeed-alike : (old new : Bucket) (feed : FeedState) → new.map ≡ old.map → AreAlike old.replicas new.replicas
@@ -268,15 +288,17 @@ ArePrepared-same old new same_phase same_map same_searchers same_spares are =
     (subst (λ searchers. ArePrepared old.phase old.map searchers new.spares) (sym same_searchers)
     (subst (λ spares. ArePrepared old.phase old.map old.searchers spares) (sym same_spares) are)))
 
--- a message is of a write that is not settled, and to a core that is there, where the same is said of its write and the cores
--- have the same names
+-- a message is of a write that is not settled, and to a core that is there and not down, where the same is said of its write
+-- and of its core, and the cores have the same names
 pub IsSent-left : (old new : Bucket) (message : Sent) → AreSameCores old.replicas new.replicas
     → write_at new.journal.entries message.place ≡ write_at old.journal.entries message.place
     → is_settled new.journal.entries message.place ≡ is_settled old.journal.entries message.place
+    → is_down new.journal.entries (key_of_core message.core) ≡ is_down old.journal.entries (key_of_core message.core)
     → IsSent old message → IsSent new message
-IsSent-left old new message same_cores same_write same_settled sent = record {
+IsSent-left old new message same_cores same_write same_settled same_down sent = record {
   write = same_write ∙ sent.write;
   unsettled = same_settled ∙ sent.unsettled;
+  up = same_down ∙ sent.up;
   core = subst (λ (names : List CoreId). Contains names message.core) (sym (names-same_cores old.replicas new.replicas same_cores)) sent.core;
 }
 
@@ -287,21 +309,23 @@ AreSent-same old new same_cores same_entries same_messages sent = record {
   each = subst (All (IsSent new)) (sym same_messages)
       (All-weaker (IsSent old) (IsSent new)
       (λ message. IsSent-left old new message same_cores (ap (λ entries. write_at entries message.place) same_entries)
-      (ap (λ entries. is_settled entries message.place) same_entries)) old.flight.messages sent.each);
+      (ap (λ entries. is_settled entries message.place) same_entries)
+      (ap (λ entries. is_down entries (key_of_core message.core)) same_entries)) old.flight.messages sent.each);
   once = subst (IsDistinct is_same_message) (sym same_messages) sent.once;
 }
 
--- A bucket stays sound where nothing of a split changes, its journal, which is as it has to be, has the same writes and
--- the same open split, its messages are the same, its cores change only their room, and it has its searchers and what a
+-- A bucket stays sound where nothing of a split changes, its journal, which is as it has to be, has the same writes, says
+-- that the same cores are down and that the same split is open, its messages are the same, its cores change only their room, and it has its searchers and what a
 -- switch leaves of them.
 pub IsSound-left : (old new : Bucket) → IsSound old → HasSameSplit old new → HasJournal new → new.map ≡ old.map
     → AreSameCores old.replicas new.replicas
     → writes new.journal.entries ≡ writes old.journal.entries
     → open_split new.journal.entries ≡ open_split old.journal.entries
+    → ((key : ℕ × ℕ) → is_down new.journal.entries key ≡ is_down old.journal.entries key)
     → new.flight.messages ≡ old.flight.messages → AreSent new
     → All (HasSpare new.flight.messages new.feeds) new.replicas → HasSearchers new → ArePrepared new.phase new.map new.searchers new.spares
     → IsSound new
-IsSound-left old new sound same journal same_map same_cores same_writes same_split same_messages sent spares searchers
+IsSound-left old new sound same journal same_map same_cores same_writes same_split same_down same_messages sent spares searchers
     prepared =
     let all : List Write = writes old.journal.entries in
     let messages : List Sent = old.flight.messages in
@@ -329,7 +353,9 @@ IsSound-left old new sound same journal same_map same_cores same_writes same_spl
       prepared = prepared;
       messages = sent;
       room = spares;
-      cores = HasCores-alike old new same_map alike sound.cores;
+      cores = HasCores-alike old new same_map alike
+          (AreMarked-left old.journal.entries new.journal.entries old.replicas new.replicas
+          (map-same_cores name_and_mark old.replicas new.replicas same_cores) same_down sound.cores.down) sound.cores;
       feeds = AreFeeds-alike old new same_map same.feeds alike sound.feeds;
       phase = subst (IsInPhase new) (sym same.phase)
           (IsInPhase-alike old new old.phase same_split same_map alike sound.phase);

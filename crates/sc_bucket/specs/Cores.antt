@@ -1,14 +1,15 @@
 -- The cores of a bucket, by their names.
-use Rattle.std.specs.Prelude.{◌≡◌, ◌<◌, ℕ, ◌+◌, ◌*◌, ◌^◌, ℤ, Bool, ◌&&◌, not, nat_eq, nat_lt, int_le, if◌then◌else◌, List, [], ◌∷◌, map, filter, max, pos, slice_get, Some}
+use Rattle.std.specs.Prelude.{◌≡◌, ◌<◌, ℕ, ◌+◌, ◌*◌, ◌^◌, ℤ, Bool, ◌&&◌, not, nat_eq, nat_lt, int_le, if◌then◌else◌, List, [], ◌∷◌, map, filter, max, pos, slice_get, Some, false}
 use Rattle.std.specs.List.{IsDistinct, flat_map, list_any, range_with_len}
 use Rattle.std.specs.List.Sorted.{IsStrictlyIncreasing}
 use Rattle.sc_record.specs.declared.slice.SliceId.{SliceId}
+use Rattle.sc_record.specs.Names.{is_core}
 use Rattle.sc_record.specs.declared.slice.CoreId.{CoreId}
 use Rattle.sc_cluster.specs.declared.slice.Slice.{Slice}
 use Rattle.sc_cluster.specs.Map.{Leads}
 use Rattle.sc_ulog.specs.declared.mode.Mode.TheVariants.{Active}
 use Rattle.sc_replica.specs.Core.{Core, IsCore}
-use Rattle.sc_journal.specs.Splits.{is_inactive}
+use Rattle.sc_cluster.specs.Slices.{is_inactive}
 
 -- the name of a core: its slice and its replica
 abbrev pub core_key : Core → ℕ × ℕ
@@ -21,10 +22,6 @@ slice_keys slice = map (λ (replica : ℕ). (slice.id.0, replica)) (range_with_l
 -- the names of the cores of a map: slice after slice, replica after replica
 abbrev pub core_keys : List Slice → List (ℕ × ℕ)
 core_keys slices = flat_map slice_keys slices
-
--- the two names are those of one core
-abbrev pub is_core : CoreId → CoreId → Bool
-is_core one other = nat_eq one.slice.0 other.slice.0 && nat_eq one.replica other.replica
 
 -- the number of a core's name: cores are in the order of the slices, and of each slice in that of its replicas
 abbrev pub core_number : CoreId → ℕ
@@ -49,24 +46,24 @@ is_of_one slices core = list_any (λ (slice : Slice). nat_eq slice.id.0 core.sli
 abbrev pub AreApart : List Core → Type 0
 AreApart cores = IsDistinct is_core (map (λ (core : Core). core.core) cores)
 
--- the slice's cores are sent what is written: it is active, or a split is making it
-abbrev pub is_attached : Slice → Bool
-is_attached slice = not (is_inactive slice)
+-- the core of the slice takes part in what is written: the slice is active, or a split is making it, and the core is not down
+abbrev pub is_attached : Slice → Core → Bool
+is_attached slice core = not (is_inactive slice) && not core.down
 
 -- the hash is in the slice's range
 abbrev pub has_hash : ℤ → Slice → Bool
 has_hash hash slice = int_le slice.range.min hash && int_le hash slice.range.max
 
--- the core of this name is one of the slice's, and not the one that led
-abbrev pub follows : CoreId → Slice → CoreId → Bool
-follows leader slice core = nat_eq core.slice.0 slice.id.0 && not (is_core leader core)
+-- the core is one of the slice's, not the one that led, and not down
+abbrev pub follows : CoreId → Slice → Core → Bool
+follows leader slice core = nat_eq core.core.slice.0 slice.id.0 && not (is_core leader core.core) && not core.down
 
--- the cores that are sent a write of the hash which this core led: the other cores of each attached slice that has the hash, in
--- the order of the map's slices
+-- the cores that are sent a write of the hash which this core led: of each slice that is not inactive and has the hash, in the order
+-- of the map, the other cores that are not down
 abbrev pub followers : List Slice → List Core → ℤ → CoreId → List CoreId
 followers slices cores hash leader =
-    flat_map (λ (slice : Slice). filter (follows leader slice) (map (λ (core : Core). core.core) cores))
-    (filter (λ (slice : Slice). is_attached slice && has_hash hash slice) slices)
+    flat_map (λ (slice : Slice). map (λ (core : Core). core.core) (filter (follows leader slice) cores))
+    (filter (λ (slice : Slice). not (is_inactive slice) && has_hash hash slice) slices)
 
 -- the core leads the slice: it is its replica 1
 abbrev pub IsLeaderOf : SliceId → Core → Type 0
@@ -90,6 +87,7 @@ pub record IsNewCore (core : Core) : Type 0 where
   pub buffer : core.buffer ≡ []
   pub active : core.mode ≡ Active
   pub clock : core.clock ≡ pos 0
+  pub up : core.down ≡ false
 
 -- the core with room for at least n more writes
 abbrev pub with_room : ℕ → Core → Core

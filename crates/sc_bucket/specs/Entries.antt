@@ -12,10 +12,10 @@ use Rattle.sc_bucket.specs.declared.entries.EntryRef.TheVariants as lent
 
 -- the entries with these marks: at each mark whose entry has more besides, the next of its list. They end where a list has no next
 abbrev pub entries_of : List Mark → List (Arc Write Global) → List ℕ → List Entry → List Entry
-entries_of (mark.Write ∷ marks) (cell ∷ writes) settled splits = entry.Write cell ∷ entries_of marks writes settled splits
-entries_of (mark.Settled ∷ marks) writes (place ∷ settled) splits = entry.Settled place ∷ entries_of marks writes settled splits
-entries_of (mark.Committed ∷ marks) writes settled splits = entry.Committed ∷ entries_of marks writes settled splits
-entries_of (mark.Split ∷ marks) writes settled (split ∷ splits) = split ∷ entries_of marks writes settled splits
+entries_of (mark.Write ∷ marks) (cell ∷ writes) settled others = entry.Write cell ∷ entries_of marks writes settled others
+entries_of (mark.Settled ∷ marks) writes (place ∷ settled) others = entry.Settled place ∷ entries_of marks writes settled others
+entries_of (mark.Committed ∷ marks) writes settled others = entry.Committed ∷ entries_of marks writes settled others
+entries_of (mark.Other ∷ marks) writes settled (other ∷ others) = other ∷ entries_of marks writes settled others
 entries_of _ _ _ _ = []
 
 -- the mark of a write
@@ -28,20 +28,20 @@ abbrev pub is_settling : Mark → Bool
 is_settling mark.Settled = true
 is_settling _ = false
 
--- the mark of an entry of a split
-abbrev pub is_of_split : Mark → Bool
-is_of_split mark.Split = true
-is_of_split _ = false
+-- the mark of an entry of a split or of a core
+abbrev pub is_other : Mark → Bool
+is_other mark.Other = true
+is_other _ = false
 
 -- each list has as many as there are marks of its kind
-pub record AreParts (marks : List Mark) (writes : List (Arc Write Global)) (settled : List ℕ) (splits : List Entry) : Type 0 where
+pub record AreParts (marks : List Mark) (writes : List (Arc Write Global)) (settled : List ℕ) (others : List Entry) : Type 0 where
   pub each_write : length writes ≡ length (filter is_write marks)
   pub each_settling : length settled ≡ length (filter is_settling marks)
-  pub each_split : length splits ≡ length (filter is_of_split marks)
+  pub each_other : length others ≡ length (filter is_other marks)
 
 -- the entry that is lent
 abbrev pub entry_of : EntryRef → Entry
 entry_of (lent.Write cell) = entry.Write cell.now
 entry_of (lent.Settled place) = entry.Settled place
 entry_of lent.Committed = entry.Committed
-entry_of (lent.Split split) = split.now
+entry_of (lent.Other other) = other.now

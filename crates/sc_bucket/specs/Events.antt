@@ -1,8 +1,9 @@
 -- What each event of a bucket changes, and that all else stays.
-use Rattle.std.specs.Prelude.{◌≡◌, ℕ, ◌∷◌, ◌++◌, ℤ, [], List, length, map, filter, not, slice_get, slice_set, Some, Result, Ok, Err, IsSome, false}
+use Rattle.std.specs.Prelude.{◌≡◌, ℕ, ◌∷◌, ◌++◌, ℤ, [], List, length, map, filter, not, slice_get, slice_set, Some, Result, Ok, Err, IsSome, true, false, if◌then◌else◌, Contains}
 use Rattle.std.specs.List.{remove}
 use Rattle.std.specs.declared.sync.Arc.{Arc}
 use Rattle.std.specs.declared.alloc.Global.{Global}
+use Rattle.sc_record.specs.Names.{key_of_core, is_core}
 use Rattle.sc_record.specs.declared.slice.CoreId.{CoreId}
 use Rattle.sc_record.specs.Versions.{version_after, shown_version}
 use Rattle.sc_record.specs.declared.write.Write.{Write}
@@ -10,6 +11,7 @@ use Rattle.sc_record.specs.declared.order.Order.{Order}
 use Rattle.sc_record.specs.declared.entry.Entry.TheVariants as entry
 use Rattle.sc_replica.specs.Core.{Core, led}
 use Rattle.sc_journal.specs.Journal.{write_at, is_settled}
+use Rattle.sc_journal.specs.Down.{is_down, IsFollower}
 use Rattle.sc_journal.specs.Outcomes.{Outcome, accepted, conflict, partial, log_full, out_of_memory, IsFitting, IsWriteOf}
 use Rattle.sc_bucket.specs.Kept.{Sent}
 use Rattle.sc_bucket.specs.Cores.{followers, IsLeaderAt, without_room}
@@ -104,6 +106,27 @@ pub record Settles (old : Bucket) (place : ℕ) (new : Bucket) : Type 0 where
   pub cores : new.replicas ≡ delivered_all (filter (is_of_write place) old.flight.messages) old.replicas
   pub searchers_are : new.searchers ≡ old.searchers
 
+-- detach: the core is a follower of an active slice, is there, and is not down
+pub record CanDetach (b : Bucket) (name : CoreId) : Type 0 where
+  pub follower : IsFollower b.map name
+  pub there : Contains (map (λ (core : Core). core.core) b.replicas) name
+  pub up : is_down b.journal.entries (key_of_core name) ≡ false
+
+-- the core of this name marked as down; any other core stays
+abbrev pub detached : CoreId → Core → Core
+detached name core = if is_core name core.core then record core { down = true } else core
+
+-- The core of this name is marked as down: the messages to it leave the flight, and the entry that says so comes to the end of the
+-- journal. It keeps its cells, its log and its clock.
+pub record Detaches (old : Bucket) (name : CoreId) (new : Bucket) : Type 0 where
+  pub kept : HasSameFirstAndLimit old new
+  pub split : HasSameSplit old new
+  pub map_is : new.map ≡ old.map
+  pub entries : new.journal.entries ≡ old.journal.entries ++ entry.Down name ∷ []
+  pub messages : new.flight.messages ≡ filter (λ (message : Sent). not (is_to name message)) old.flight.messages
+  pub cores : new.replicas ≡ map (detached name) old.replicas
+  pub searchers_are : new.searchers ≡ old.searchers
+
 -- the entry that settles the write at the place comes to the end of the journal
 pub record Notes (old : Bucket) (place : ℕ) (new : Bucket) : Type 0 where
   pub name : HasSameFirstAndLimit old new
@@ -134,6 +157,7 @@ pub data IsStep (old new : Bucket) : Type 0 where
   settles : {place : ℕ} → IsSome (write_at old.journal.entries place) → is_settled old.journal.entries place ≡ false
       → Settles old place new → IsStep old new
   commits : Commits old new → IsStep old new
+  detaches : {name : CoreId} → CanDetach old name → Detaches old name new → IsStep old new
 
 -- what an accept answered
 abbrev pub outcome_of : Result Accepted AcceptFault → Outcome

@@ -7,7 +7,7 @@ use Rattle.sc_replica.specs.Core.{Core, received}
 use Rattle.sc_replica.specs.Deliveries.{received_all}
 use Rattle.sc_bucket.specs.declared.message.Message.{Message}
 use Rattle.sc_bucket.specs.Kept.{Sent}
-use Rattle.sc_bucket.specs.Cores.{is_core}
+use Rattle.sc_record.specs.Names.{is_core}
 
 -- a message as contracts see it
 abbrev pub sent_of : Message → Sent

@@ -16,12 +16,14 @@ use Rattle.sc_cluster.specs.Changes.{IsSplit}
 use Rattle.sc_ulog.specs.declared.mode.Mode.TheVariants.{Active, Buffering}
 use Rattle.sc_replica.specs.Core.{Core}
 use Rattle.sc_journal.specs.Journal.{writes, write_at, last_write, is_settled, unsettled}
+use Rattle.sc_journal.specs.Down.{is_down}
 use Rattle.sc_journal.specs.Splits.{map_after, open_split, owed}
 use Rattle.sc_journal.specs.Legal.{IsLegal}
 use Rattle.sc_journal.specs.Outcomes.{IsClock}
 use Rattle.sc_journal.specs.Committed.{last_commit}
 use Rattle.sc_bucket.specs.Kept.{Sent, FeedState}
-use Rattle.sc_bucket.specs.Cores.{core_key, core_keys, slice_keys, is_attached, CoresAscend, IsCounted, is_core, IsCoreWithoutRoom}
+use Rattle.sc_record.specs.Names.{is_core, key_of_core}
+use Rattle.sc_bucket.specs.Cores.{core_key, core_keys, slice_keys, is_attached, CoresAscend, IsCounted, IsCoreWithoutRoom}
 use Rattle.sc_bucket.specs.Searchers.{rows_of, AreOfEachSlice, ShowsCommitted, ArePrepared}
 use Rattle.sc_bucket.specs.Flight.{in_flight, is_same_message}
 use Rattle.sc_bucket.specs.Pending.{pending}
@@ -67,10 +69,10 @@ abbrev pub AreWritten : List Entry → List Sent → List FeedState → Core →
 AreWritten journal messages feeds core =
     All (Contains (writes journal)) core.cells × All (Contains (writes journal)) (pending messages feeds core)
 
--- of each id whose hash is in the range of an attached slice the core has the last write, or it is pending for it, unless the id
+-- of each id whose hash is in the range of its slice an attached core has the last write, or it is pending for it, unless the id
 -- was never written
 abbrev pub HasOrAwaits : List Entry → List Sent → List FeedState → Slice → Core → Type 0
-HasOrAwaits journal messages feeds slice core = IsTrue (is_attached slice) → (id : List ℕ) (write : Write)
+HasOrAwaits journal messages feeds slice core = IsTrue (is_attached slice core) → (id : List ℕ) (write : Write)
     → IsWithin slice.range.min slice.range.max (route_hash id) → last_write journal id ≡ Some write
     → (write_of core.cells id ≡ Some write) ⊎ Contains (pending messages feeds core) write
 
@@ -90,11 +92,12 @@ pub record HasSearchers (b : Bucket) : Type 0 where
       → (searcher.range ≡ slice.range) × ShowsCommitted b.journal.entries slice (rows_of searcher)) b.searchers
   pub place : All (λ (searcher : Standing). (arc_value searcher.snapshot).place ≡ last_commit b.journal.entries) b.searchers
 
--- a message in flight is of a write of the journal that is not settled, and to a core that is there
+-- a message in flight is of a write of the journal that is not settled, and to a core that is there and not down
 pub record IsSent (b : Bucket) (message : Sent) : Type 0 where
   pub write : write_at b.journal.entries message.place ≡ Some message.write
   pub unsettled : is_settled b.journal.entries message.place ≡ false
   pub core : Contains (map (λ (core : Core). core.core) b.replicas) message.core
+  pub up : is_down b.journal.entries (key_of_core message.core) ≡ false
 
 -- each message is one, and no two are of one write to one core
 pub record AreSent (b : Bucket) : Type 0 where
@@ -107,7 +110,7 @@ pub record HasSpare (messages : List Sent) (feeds : List FeedState) (core : Core
   pub buffer : length (in_flight messages core.core) ≤ core.buffer_spare
 
 -- The cores that are there, in the order of their names: each is of a slice of the map, and each slice's leader is among them. Of a
--- slice that no split is making each replica is there, and active.
+-- slice that no split is making each replica is there, and active. Those that the journal says are down are marked so.
 pub record HasCores (b : Bucket) : Type 0 where
   pub counted : All IsCounted b.replicas
   pub ascend : CoresAscend b.replicas
@@ -115,6 +118,7 @@ pub record HasCores (b : Bucket) : Type 0 where
   pub leaders : All (λ (slice : Slice). Contains (map core_key b.replicas) (slice.id.0, 1)) b.map
   pub whole : All (λ (slice : Slice). is_forming slice ≡ false → All (Contains (map core_key b.replicas)) (slice_keys slice)) b.map
   pub active : OfEachCore b (λ (slice : Slice) (core : Core). is_forming slice ≡ false → core.mode ≡ Active)
+  pub down : All (λ (core : Core). core.down ≡ is_down b.journal.entries (core_key core)) b.replicas
 
 -- A feed is of a core that buffers what comes, of a slice that a split is making, and has that slice's range.
 pub record IsFeed (b : Bucket) (feed : FeedState) : Type 0 where

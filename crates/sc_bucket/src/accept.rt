@@ -1,15 +1,17 @@
-ghost use Rattle.std.specs.Prelude.{◌≡◌, ◌<◌, ◌≤◌, ◌+◌, ◌<ℤ◌, Ok, Err, IfOk, IfErr, OnOk, OnErr, ◌++◌, ◌&&◌, length, map, filter, slice_get, Some, None, option_copied, false, All, Contains};
+ghost use Rattle.std.specs.Prelude.{◌≡◌, ◌<◌, ◌≤◌, ◌+◌, ◌<ℤ◌, Ok, Err, IfOk, IfErr, OnOk, OnErr, ◌++◌, ◌&&◌, not, length, map, filter, slice_get, Some, None, option_copied, false, All, Contains};
 ghost use Rattle.std.specs.List.{AllZip, IsDistinct};
 ghost use Rattle.std.specs.Option.{option_map};
 ghost use Rattle.std.specs.Arc.{arc_value};
 ghost use Rattle.sc_record.specs.Orders.{IsChange};
 ghost use Rattle.sc_record.specs.Versions.{version_after};
+ghost use Rattle.sc_cluster.specs.Slices.{is_inactive};
 ghost use Rattle.sc_router.specs.Route.{route_hash};
 ghost use Rattle.sc_replica.specs.Core.{Core};
 ghost use Rattle.sc_partial.specs.Resolved.{IsRefusalOf, fields_of};
 ghost use Rattle.sc_journal.specs.Legal.{HasTerms, MayWrite};
 ghost use Rattle.sc_journal.specs.Outcomes.{Makes, refused, IsWriteOf, IsFitting, IsOutcome, live_fields};
-ghost use Rattle.sc_bucket.specs.Cores.{is_core, is_attached, has_hash, CoresAscend, follows, followers, IsLeaderAt};
+ghost use Rattle.sc_record.specs.Names.{is_core};
+ghost use Rattle.sc_bucket.specs.Cores.{has_hash, CoresAscend, follows, followers, IsLeaderAt};
 ghost use Rattle.sc_bucket.specs.Kept.{FeedState};
 ghost use Rattle.sc_bucket.specs.Flight.{sent_of, sent_to};
 ghost use Rattle.sc_bucket.specs.Room.{BucketHasRoom};
@@ -25,6 +27,7 @@ use sc_record::{
     Cell, Change, CloneIn, CoreId, Doc, Entry, Id, List, Order, Term, Text, Write, found, meets,
     next_version,
 };
+use sc_replica::Replica;
 use sc_router::route_hash;
 use sc_schema::terms_of;
 use std::alloc::{AllocError, Global};
@@ -184,14 +187,14 @@ impl Bucket {
     ) -> Result<(), AllocError>
         ensures { OnOk result (map sent_of messages.new.items ≡ map sent_of messages.old.items
             ++ sent_to (length self.now.journal.entries) (arc_value write.now)
-            (filter (follows leader slice.now) (map (λ (core : Core). core.core) self.now.replicas))) }
+            (map (λ (core : Core). core.core) (filter (follows leader slice.now) self.now.replicas))) }
     {
         for at in 0..self.replicas.len() {
-            let core = self.replicas.get(at).core();
-            if follows(leader, slice, core) {
+            let replica = self.replicas.get(at);
+            if follows(leader, slice, replica) {
                 messages.push(Message {
                     place: self.entries(),
-                    core,
+                    core: replica.core(),
                     write: Arc::try_clone(write)?,
                 })?;
             }
@@ -285,16 +288,17 @@ impl Bucket {
 
 // The slice's cores are sent a write of this hash.
 fn takes(slice: &Slice, hash: i32) -> bool
-    ensures { result ≡ (is_attached slice.now && has_hash hash slice.now) }
+    ensures { result ≡ (not (is_inactive slice.now) && has_hash hash slice.now) }
 {
     slice.state != State::Inactive && slice.range.contains(hash)
 }
 
-// The core of this name is one of the slice's, and not the one that led.
-fn follows(leader: CoreId, slice: &Slice, core: CoreId) -> bool
-    ensures { result ≡ follows leader slice.now core }
+// The core is one of the slice's, not the one that led, and not down.
+fn follows(leader: CoreId, slice: &Slice, replica: &Replica) -> bool
+    ensures { result ≡ follows leader slice.now replica.now }
 {
-    core.slice == slice.id && core != leader
+    let core = replica.core();
+    core.slice == slice.id && core != leader && !replica.is_down()
 }
 
 // Two shares of a write.

@@ -1,3 +1,7 @@
+ghost use Rattle.std.specs.Prelude.{◌≡◌, ◌<◌, ◌+◌, [], None, length};
+ghost use Rattle.sc_journal.specs.Down.{all_followers};
+ghost use Rattle.sc_bucket.specs.Sound.{AreActive};
+
 use crate::commit::searchers_at;
 use crate::feeds::Feeds;
 use crate::flight::Flight;
@@ -6,7 +10,7 @@ use crate::phase::Phase;
 use crate::replicas::Replicas;
 use crate::standing::Standing;
 use crate::unsettled::Unsettled;
-use sc_cluster::ClusterMap;
+use sc_cluster::{ClusterMap, Slice};
 use sc_record::{Cell, CloneIn, CoreId, Id, List};
 use sc_router::route_hash;
 use std::alloc::{AllocError, Global};
@@ -41,18 +45,19 @@ pub struct Bucket {
 }
 
 impl Bucket {
-    ghost use Rattle.std.specs.Prelude.{◌≡◌, ◌<◌, ◌≤◌, ◌^◌, [], length, IfOk, IsSome, option_copied};
+    ghost use Rattle.std.specs.Prelude.{◌≡◌, ◌<◌, ◌≤◌, ◌+◌, ◌^◌, [], length, IfOk, IsSome, option_copied};
     ghost use Rattle.std.specs.Option.{option_map};
     ghost use Rattle.std.specs.Arc.{arc_value};
     ghost use Rattle.sc_journal.specs.Journal.{last_write, write_at, is_settled};
+    ghost use Rattle.sc_journal.specs.Down.{all_followers};
     ghost use Rattle.sc_bucket.specs.Cores.{IsLeaderAt};
     ghost use Rattle.sc_bucket.specs.Sound.{AreActive, IsSound};
 
     /// A bucket with an empty journal, whose first map is this, with a core for each replica of a slice. Its journal may have `limit`
-    /// entries. An error means out of memory.
+    /// entries, of which each follower is owed one. An error means out of memory.
     pub fn new(alloc: Global, map: &ClusterMap, limit: u64) -> Result<Bucket, AllocError>
         requires active { AreActive map.now }
-        requires least { 16 ≤ limit }
+        requires least { 16 + length (all_followers map.now) ≤ limit }
         requires most { limit ≤ 2 ^ 24 }
         ensures sound { IfOk result IsSound }
         ensures first { IfOk result (λ bucket. bucket.first ≡ map.now) }
@@ -61,20 +66,15 @@ impl Bucket {
         ensures limit { IfOk result (λ bucket. bucket.limit ≡ limit) }
     {
         let replicas = Replicas::new(alloc, map)?;
-        Ok(Bucket {
-            first: map.clone_in(alloc)?,
-            map: map.clone_in(alloc)?,
-            journal: Journal::new(alloc),
-            unsettled: Unsettled::new(alloc),
-            searchers: searchers_at(alloc, map, &replicas, 0)?,
-            replicas,
-            flight: Flight::new(alloc),
-            phase: Phase::Idle,
-            feeds: Feeds::new(alloc),
-            spares: None,
-            owed: 0,
-            limit,
-        })
+        let searchers = searchers_at(alloc, map, &replicas, 0)?;
+        let first = map.clone_in(alloc)?;
+        let slices = map.clone_in(alloc)?;
+        let _ = map.get(0); // by it the proof knows that it is a map
+        let owed = followers(map);
+        let journal = Journal::with_room(alloc, owed as usize)?;
+        Ok(begun(
+            alloc, first, slices, journal, replicas, searchers, owed, limit,
+        ))
     }
 
     /// How many entries the journal has.
@@ -115,4 +115,66 @@ impl Bucket {
             .position(CoreId { slice, replica: 1 })
             .unwrap()
     }
+}
+
+// A bucket of these parts, in which nothing is in flight, and no split is open.
+fn begun(
+    alloc: Global,
+    first: ClusterMap,
+    map: ClusterMap,
+    journal: Journal,
+    replicas: Replicas,
+    searchers: List<Standing>,
+    owed: u64,
+    limit: u64,
+) -> Bucket
+    ensures { result ≡ record {
+      first = first;
+      map = map;
+      journal = journal;
+      unsettled = record { places = []; room = 0 };
+      replicas = replicas;
+      flight = record { messages = []; room = 0 };
+      searchers = searchers;
+      phase = Phase.Idle;
+      feeds = [];
+      spares = None;
+      owed = owed;
+      limit = limit;
+    } }
+{
+    Bucket {
+        first,
+        map,
+        journal,
+        unsettled: Unsettled::new(alloc),
+        replicas,
+        flight: Flight::new(alloc),
+        searchers,
+        phase: Phase::Idle,
+        feeds: Feeds::new(alloc),
+        spares: None,
+        owed,
+        limit,
+    }
+}
+
+// How many followers the slices of a map have, all of which are active.
+fn followers(map: &ClusterMap) -> u64
+    requires { AreActive map.now }
+    ensures { result ≡ length (all_followers map.now) }
+{
+    let mut count = 0;
+    for at in 0..map.len() {
+        count += followers_of(map.get(at).unwrap());
+    }
+    count
+}
+
+// How many followers the slice has: one less than replicas.
+fn followers_of(slice: &Slice) -> u64
+    ensures count { result + 1 ≡ slice.now.replicas }
+    ensures few { result < 256 }
+{
+    u64::from(slice.replicas - 1)
 }

@@ -11,7 +11,7 @@ pub(crate) enum Mark {
     Write,
     Settled,
     Committed,
-    Split,
+    Other,
 }
 
 /// An entry of a journal, lent.
@@ -20,8 +20,8 @@ pub enum EntryRef<'a> {
     Write(&'a Cell),
     Settled { place: u64 },
     Committed,
-    /// An entry of a split, whole.
-    Split(&'a Entry),
+    /// An entry of a split or of a core, whole.
+    Other(&'a Entry),
 }
 
 /// The entries of a journal that are still to be lent, the oldest first, which contracts see as the list of them.
@@ -30,7 +30,7 @@ pub struct Entries<'a> {
     pub(crate) marks: slice::Iter<'a, Mark>,
     pub(crate) writes: slice::Iter<'a, Cell>,
     pub(crate) settled: slice::Iter<'a, u64>,
-    pub(crate) splits: slice::Iter<'a, Entry>,
+    pub(crate) others: slice::Iter<'a, Entry>,
 }
 
 impl<'a> Model for Entries<'a> {
@@ -42,9 +42,9 @@ impl<'a> Model for Entries<'a> {
 
     ghost use Rattle.sc_bucket.specs.Entries.{entries_of, AreParts};
 
-    ghost view = { λ a. entries_of (iter_rest a.marks) (iter_rest a.writes) (iter_rest a.settled) (iter_rest a.splits) };
+    ghost view = { λ a. entries_of (iter_rest a.marks) (iter_rest a.writes) (iter_rest a.settled) (iter_rest a.others) };
 
-    ghost invariant = { λ a. AreParts (iter_rest a.marks) (iter_rest a.writes) (iter_rest a.settled) (iter_rest a.splits) };
+    ghost invariant = { λ a. AreParts (iter_rest a.marks) (iter_rest a.writes) (iter_rest a.settled) (iter_rest a.others) };
 }
 
 impl<'a> Iterator for Entries<'a> {
@@ -62,7 +62,7 @@ impl<'a> Iterator for Entries<'a> {
                 place: *self.settled.next()?,
             }),
             Mark::Committed => Some(EntryRef::Committed),
-            Mark::Split => Some(EntryRef::Split(self.splits.next()?)),
+            Mark::Other => Some(EntryRef::Other(self.others.next()?)),
         }
     }
 }

@@ -1,4 +1,4 @@
-ghost use Rattle.std.specs.Prelude.{◌≡◌, ◌≢◌, ◌<◌, ◌≤◌, ◌-◌, [], ◌++◌, length, map, filter, take, max, slice_get, Some, true, false, MatchOption, OnOk, OnErr, All};
+ghost use Rattle.std.specs.Prelude.{◌≡◌, ◌≢◌, ◌<◌, ◌≤◌, ◌-◌, [], ◌++◌, length, map, filter, take, max, slice_get, Some, true, false, not, MatchOption, OnOk, OnErr, All};
 ghost use Rattle.std.specs.List.{remove};
 ghost use Rattle.sc_bucket.specs.Kept.{Sent};
 ghost use Rattle.sc_bucket.specs.Cores.{is_of_one};
@@ -106,6 +106,13 @@ impl Flight {
     {
         self.messages
             .retain(|message| is_of_one(slices, message.core));
+    }
+
+    /// Leaves the messages to this core out.
+    pub fn leave_out(&mut self, core: CoreId)
+        ensures { self.new ≡ record self.old { messages = filter (λ (message : Sent). not (is_to core message)) self.old.messages } }
+    {
+        self.messages.retain(|message| message.core != core);
     }
 
     /// Takes the message at this place of the flight out.

@@ -1,4 +1,4 @@
-ghost use Rattle.std.specs.Prelude.{◌≡◌, ◌<◌, ◌-◌, [], ◌∷◌, ◌++◌, length, max, OnOk, OnErr};
+ghost use Rattle.std.specs.Prelude.{◌≡◌, ◌<◌, ◌≤◌, ◌-◌, [], ◌∷◌, ◌++◌, length, max, IfOk, OnOk, OnErr};
 
 use crate::entries::{Entries, Mark};
 use sc_record::{Cell, Entry};
@@ -15,8 +15,8 @@ pub struct Journal {
     writes: Vec<Cell>,
     // the places that are settled, in the order of the entries that settle them
     settled: Vec<u64>,
-    // the entries of splits, whole
-    splits: Vec<Entry>,
+    // the entries of splits and of cores, whole
+    others: Vec<Entry>,
     // how many more entries fit, as far as callers have asked for room
     room: usize,
 }
@@ -28,11 +28,11 @@ impl Model for Journal {
 
     ghost Value = { JournalState };
 
-    ghost view = { λ a. record { entries = entries_of a.marks.items a.writes.items a.settled.items a.splits.items; room = a.room } };
+    ghost view = { λ a. record { entries = entries_of a.marks.items a.writes.items a.settled.items a.others.items; room = a.room } };
 
-    ghost invariant = { λ a. AreParts a.marks.items a.writes.items a.settled.items a.splits.items
+    ghost invariant = { λ a. AreParts a.marks.items a.writes.items a.settled.items a.others.items
         × (vec_len a.marks + a.room ≤ vec_capacity a.marks) × (vec_len a.writes + a.room ≤ vec_capacity a.writes)
-        × (vec_len a.settled + a.room ≤ vec_capacity a.settled) × (vec_len a.splits + a.room ≤ vec_capacity a.splits) };
+        × (vec_len a.settled + a.room ≤ vec_capacity a.settled) × (vec_len a.others + a.room ≤ vec_capacity a.others) };
 }
 
 impl Journal {
@@ -44,9 +44,19 @@ impl Journal {
             marks: Vec::new(alloc),
             writes: Vec::new(alloc),
             settled: Vec::new(alloc),
-            splits: Vec::new(alloc),
+            others: Vec::new(alloc),
             room: 0,
         }
+    }
+
+    /// No entries, and room for at least `n`. An error means out of memory.
+    pub(crate) fn with_room(alloc: Global, n: usize) -> Result<Journal, AllocError>
+        ensures entries { IfOk result (λ journal. journal.entries ≡ []) }
+        ensures room { IfOk result (λ journal. n ≤ journal.room) }
+    {
+        let mut journal = Journal::new(alloc);
+        journal.reserve(n)?;
+        Ok(journal)
     }
 
     pub fn len(&self) -> u64
@@ -63,7 +73,7 @@ impl Journal {
             marks: self.marks.iter(),
             writes: self.writes.iter(),
             settled: self.settled.iter(),
-            splits: self.splits.iter(),
+            others: self.others.iter(),
         }
     }
 
@@ -76,7 +86,7 @@ impl Journal {
             self.marks.reserve(n)?;
             self.writes.reserve(n)?;
             self.settled.reserve(n)?;
-            self.splits.reserve(n)?;
+            self.others.reserve(n)?;
             self.room = n;
         }
         Ok(())
@@ -98,9 +108,9 @@ impl Journal {
                 self.settled.push_reserved(place);
             }
             Entry::Committed => self.marks.push_reserved(Mark::Committed),
-            split => {
-                self.marks.push_reserved(Mark::Split);
-                self.splits.push_reserved(split);
+            other => {
+                self.marks.push_reserved(Mark::Other);
+                self.others.push_reserved(other);
             }
         }
     }

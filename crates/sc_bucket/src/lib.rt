@@ -1,17 +1,20 @@
 //! One bucket: the journal of its ids, its own copy of the cluster's map, and the cells of its cores. Each event of it is
 //! one call, which keeps what `IsSound` says of every bucket, and changes what its own definition in `specs/Events` says.
 //!
-//! Proved: `accept`, `deliver`, `deliver_nth`, `settle` and `commit` keep what `IsSound` says of a bucket, and do what
-//! `specs/Events` says: `accept` gives the answer of `IsOutcome`, both ways, with a version after its leader's clock, sends
-//! the write to each other core that takes its hash, and changes nothing but room if it refuses; `deliver` hands one message
-//! to its core; `settle` delivers what is left of a write's, so that none of a settled write is in flight; `commit` gives
-//! each active slice a searcher of its leader's cells, is refused for a full log exactly if the journal has no room for one
-//! entry more than it owes, and changes nothing if it is refused; `read` gives the last write of the id, `is_settled` whether
-//! an entry settles a write, and `Journal::iter` lends the entries, the oldest first. By `IsSound`, in and between splits,
-//! each core of a slice that is not inactive has the last write of each id of its range, or it is pending for it (in flight,
-//! in its update log, or among the rows that it is still to be fed), and each searcher has of each id of its range the last
-//! write before the last commit; ids of a core ascend, no cell is newer than its core's clock, and an active core buffers
-//! nothing; the snapshots of searchers and feeds have the places at which they were taken.
+//! Proved: `accept`, `deliver`, `deliver_nth`, `settle`, `commit` and `detach` keep what `IsSound` says of a bucket, and do
+//! what `specs/Events` says: `accept` gives the answer of `IsOutcome`, both ways, with a version after its leader's clock,
+//! sends the write to each other core that takes its hash and is not down, and changes nothing but room if it refuses;
+//! `deliver` hands one message to its core; `settle` delivers what is left of a write's, so that none of a settled write is in
+//! flight; `commit` gives each active slice a searcher of its leader's cells, is refused for a full log exactly if the journal
+//! has no room for one entry more than it owes, and changes nothing if it is refused; `detach` marks a follower as down, which
+//! keeps what it has, and leaves the messages to it out; `can_detach` says exactly of which cores it may be called, and
+//! `is_down` exactly which cores the journal says are down; `read` gives the last write of the id, `is_settled` whether an
+//! entry settles a write, and `Journal::iter` lends the entries, the oldest first. By `IsSound`, in and between splits, each
+//! core of a slice that is not inactive, unless it is down, has the last write of each id of its range, or it is pending for
+//! it (in flight, in its update log, or among the rows that it is still to be fed), no message is in flight to a core that is
+//! down, and each searcher has of each id of its range the last write before the last commit; ids of a core ascend, no cell is
+//! newer than its core's clock, and an active core buffers nothing; the snapshots of searchers and feeds have the places at
+//! which they were taken.
 //!
 //! Tested alone: the worked orders; a full log; two and three replicas; two commits of two shards.
 //!
@@ -37,6 +40,7 @@ mod accept;
 mod bucket;
 mod commit;
 mod deliver;
+mod detach;
 mod searcher;
 mod settle;
 

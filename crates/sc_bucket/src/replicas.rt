@@ -3,7 +3,8 @@ ghost use Rattle.std.specs.Arc.{arc_value};
 ghost use Rattle.std.specs.List.{insert};
 ghost use Rattle.sc_replica.specs.Core.{Core, led, received, fed, replayed};
 ghost use Rattle.sc_replica.specs.Deliveries.{replaying};
-ghost use Rattle.sc_bucket.specs.Cores.{core_key, core_keys, slice_keys, core_number, put_by_name, is_of_one, is_core, IsCounted, IsNewCore, with_room};
+ghost use Rattle.sc_record.specs.Names.{is_core};
+ghost use Rattle.sc_bucket.specs.Cores.{core_key, core_keys, slice_keys, core_number, put_by_name, is_of_one, IsCounted, IsNewCore, with_room};
 
 use sc_cluster::{ClusterMap, Slice};
 use sc_record::{Cell, CoreId};
@@ -121,6 +122,14 @@ impl Replicas {
         ensures { (core : Core) → slice_get self.old at ≡ Some core → self.new ≡ slice_set self.old at (fed core (arc_value write)) }
     {
         self.replicas[at].feed(write);
+    }
+
+    /// Marks the core at this place as down.
+    pub fn mark_down(&mut self, at: usize)
+        requires { at < length self.old }
+        ensures { (core : Core) → slice_get self.old at ≡ Some core → self.new ≡ slice_set self.old at (record core { down = true }) }
+    {
+        self.replicas[at].mark_down();
     }
 
     /// From here on the core at this place replays what it buffered, and applies what comes.

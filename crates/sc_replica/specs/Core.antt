@@ -1,5 +1,5 @@
 -- A core, and what becomes of it by each call.
-use Rattle.std.specs.Prelude.{◌<◌, ◌≤ℤ◌, ◌-◌, ◌^◌, ℕ, ℤ, pos, All, List, [], ◌∷◌, ◌++◌, take, drop}
+use Rattle.std.specs.Prelude.{◌<◌, ◌≤ℤ◌, ◌-◌, ◌^◌, ℕ, ℤ, pos, Bool, All, List, [], ◌∷◌, ◌++◌, take, drop}
 use Rattle.std.specs.Int.{int_max}
 use Rattle.sc_record.specs.declared.slice.CoreId.{CoreId}
 use Rattle.sc_record.specs.declared.write.Write.{Write}
@@ -9,14 +9,15 @@ use Rattle.sc_ulog.specs.declared.mode.Mode.TheVariants.{Active, Buffering, Repl
 use Rattle.sc_ulog.specs.LogState.{IsEmptyWhereActive}
 use Rattle.sc_replica.specs.Cells.{put, applied, spare_after}
 
--- a core as contracts see it: its name, its cells, its log (the oldest write first), its clock, and how many more ids the
--- cells and how many more writes the buffer have room for
+-- a core as contracts see it: its name, its cells, its log (the oldest write first), its clock, whether it is marked as down, and
+-- how many more ids the cells and how many more writes the buffer have room for
 pub record Core : Type 0 where
   pub core : CoreId
   pub cells : List Write
   pub mode : Mode
   pub buffer : List Write
   pub clock : ℤ
+  pub down : Bool
   pub cell_spare : ℕ
   pub buffer_spare : ℕ
 

@@ -12,6 +12,7 @@ core_of a = record {
   mode = a.log.mode;
   buffer = map arc_value a.log.entries;
   clock = a.clock;
+  down = a.down;
   cell_spare = a.cells.spare;
   buffer_spare = a.log.spare;
 }

@@ -1,4 +1,4 @@
-ghost use Rattle.std.specs.Prelude.{◌≡◌, ◌<◌, ◌≤◌, ◌↔◌, [], pos, ◌<ℤ◌, length, max};
+ghost use Rattle.std.specs.Prelude.{◌≡◌, ◌<◌, ◌≤◌, ◌↔◌, [], pos, true, false, ◌<ℤ◌, length, max};
 ghost use Rattle.std.specs.Prelude.{IsTrue, IsOk, OnOk, OnErr, option_copied};
 ghost use Rattle.std.specs.Option.{option_map};
 ghost use Rattle.std.specs.Arc.{arc_value};
@@ -16,14 +16,15 @@ use std::marker::Model;
 /// How many writes a replay applies at most.
 const REPLAY_LIMIT: usize = 64;
 
-/// One core: its cells, its update log and its clock, which contracts see as a `Core`. All calls but `reserve` take no
-/// memory.
+/// One core: its cells, its update log, its clock, and whether it is marked as down, which contracts see as a `Core`. All calls
+/// but `reserve` take no memory.
 #[derive(Drop)]
 pub struct Replica {
     core: CoreId,
     cells: Cells,
     log: Log<Cell>,
     clock: i64,
+    down: bool,
 }
 
 impl Model for Replica {
@@ -47,6 +48,7 @@ impl Replica {
           mode = mode;
           buffer = [];
           clock = pos 0;
+          down = false;
           cell_spare = 0;
           buffer_spare = 0;
         } }
@@ -57,6 +59,7 @@ impl Replica {
             cells: Cells::new(alloc),
             log: Log::new(alloc, mode),
             clock: 0,
+            down: false,
         }
     }
 
@@ -80,6 +83,22 @@ impl Replica {
         ensures core { IsCore self.now }
     {
         self.clock
+    }
+
+    /// Whether it is marked as down.
+    pub fn is_down(&self) -> bool
+        ensures value { result ≡ self.now.down }
+        ensures core { IsCore self.now }
+    {
+        self.down
+    }
+
+    /// Marks it as down: it keeps all that it has.
+    pub fn mark_down(&mut self)
+        ensures value { self.new ≡ record self.old { down = true } }
+        ensures core { IsCore self.new }
+    {
+        self.down = true;
     }
 
     pub fn cells(&self) -> &Cells

@@ -15,6 +15,7 @@ loop-below-preserved c =
       buffer = ap (λ (core : Core). core.buffer) c.new.ensures.value;
       active = ap (λ (core : Core). core.mode) c.new.ensures.value;
       clock = ap (λ (core : Core). core.clock) c.new.ensures.value;
+      up = ap (λ (core : Core). core.down) c.new.ensures.value;
     } in
     let inv = c.new.type_inv in
     let named = c.new.ensures.core in

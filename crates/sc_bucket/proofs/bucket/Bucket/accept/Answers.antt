@@ -10,12 +10,14 @@ use Rattle.sc_record.proofs.VersionLemmas.{version_after-above_clock}
 use Rattle.sc_replica.specs.Core.{Core}
 use Rattle.sc_journal.specs.Outcomes.{IsWriteOf}
 use Rattle.sc_bucket.specs.declared.message.Message.{Message}
-use Rattle.sc_bucket.specs.Cores.{is_core, followers, IsLeaderAt}
+use Rattle.sc_record.specs.Names.{is_core}
+use Rattle.sc_bucket.specs.Cores.{followers, IsLeaderAt}
 use Rattle.sc_bucket.specs.Flight.{sent_of}
 use Rattle.sc_bucket.proofs.CoreLemmas.{name_of, AreApart-from_ascending}
 use Rattle.sc_bucket.proofs.SendLemmas.{names-sent}
-use Rattle.sc_bucket.proofs.FollowerLemmas.{IsFollower, are_followers, followers_apart}
+use Rattle.sc_bucket.proofs.FollowerLemmas.{IsFollower, are_followers, follower_is_there, followers_apart}
 use Rattle.sc_bucket.proofs.AcceptLemmas.{bucket_has_map}
+use Rattle.sc_bucket.proofs.RoomLemmas.{BucketHasRoom-same}
 use Rattle.sc_bucket.proofs.PlaceLemmas.{length-same_cores, same_core_at, IsLeaderAt-same_cores}
 use Rattle.sc_bucket.proofs.OutcomeLemmas.{Accepts-put, accepted_outcome, sent_by-share, sent_by-same}
 use Rattle.sc_bucket.proofs.bucket.Bucket.accept.Goals as goal
@@ -32,6 +34,10 @@ put_in-requires-clause-leader c =
     subst (λ h. IsLeaderAt c.args.self.now.map c.args.self.now.replicas h c.leader-leader.result) (sym hash) c.leader-leader.ensures.leader in
     subst (λ m. IsLeaderAt m c.make_room.new.self.replicas (arc_value c.in_ok-entry.entry).hash c.leader-leader.result) (sym c.make_room.ensures.same.map_is)
     (IsLeaderAt-same_cores c.args.self.now.map c.args.self.now.replicas c.make_room.new.self.replicas (arc_value c.in_ok-entry.entry).hash c.leader-leader.result c.make_room.ensures.same.cores leader)
+
+pub put_in-requires-clause-room : goal.put_in-requires-clause-room
+put_in-requires-clause-room c =
+    BucketHasRoom-same c.args.self.now c.make_room.new.self 2 c.make_room.ensures.same c.in_ok-write.ensures.room
 
 pub put_in-requires-clause-above : goal.put_in-requires-clause-above
 put_in-requires-clause-above c core there =
@@ -53,7 +59,8 @@ make_room-requires-clause-there c =
     ∙ names-sent (length b.journal.entries) share (followers b.map b.replicas share.hash leader.core.core) c.in_ok-messages.messages.items
     (c.in_ok-messages.ensures leader.core leader.found) in
     subst (All (Contains (map name_of b.replicas))) (sym names)
-    (All-weaker (IsFollower b.map b.replicas share.hash leader.core.core) (Contains (map name_of b.replicas)) (λ name follower. follower.core)
+    (All-weaker (IsFollower b.map b.replicas share.hash leader.core.core) (Contains (map name_of b.replicas))
+    (λ name. follower_is_there b.map b.replicas share.hash leader.core.core name)
     (followers b.map b.replicas share.hash leader.core.core) (are_followers b.map b.replicas share.hash leader.core.core))
 
 pub make_room-requires-clause-once : goal.make_room-requires-clause-once

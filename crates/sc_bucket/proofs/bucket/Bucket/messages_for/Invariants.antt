@@ -1,4 +1,4 @@
--- So far each core of the slices that take the write, but the leader, got a message.
+-- So far each core of the slices that take the write got a message, but the leader and those that are down.
 use Rattle.std.proofs.Common.{◌≡◌, length, map, take}
 use Rattle.std.specs.Arc.{arc_value}
 use Rattle.sc_bucket.specs.Cores.{followers}

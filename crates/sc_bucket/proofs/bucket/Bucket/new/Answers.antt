@@ -1,12 +1,14 @@
 -- A new bucket is sound.
-use Rattle.std.proofs.Common.{◌∙◌, refl, ap, subst}
+use Rattle.std.proofs.Common.{[], None, refl, sym, subst, arith}
 use Rattle.std.proofs.lemmas.List.Elements.{All-weaker}
 use Rattle.sc_snapshot.specs.Rows.{AreRows}
 use Rattle.sc_cluster.specs.Map.{IsMap}
 use Rattle.sc_replica.specs.Core.{Core, IsCore}
-use Rattle.sc_bucket.specs.Kept.{JournalState, PlacesState, FlightState}
+use Rattle.sc_bucket.specs.Sound.{IsSound}
+use Rattle.sc_bucket.specs.declared.bucket.Bucket.{Bucket}
+use Rattle.sc_bucket.specs.declared.phase.Phase.TheVariants as phases
 use Rattle.sc_bucket.proofs.CoreLemmas.{have_leaders}
-use Rattle.sc_bucket.proofs.NewLemmas.{IsSound-new}
+use Rattle.sc_bucket.proofs.NewLemmas.{IsMade, has_room_for, IsSound-new}
 use Rattle.sc_bucket.proofs.SearcherLemmas.{AreLed-from_keys, AreRows-new}
 use Rattle.sc_bucket.proofs.bucket.Bucket.new.Goals as goal
 
@@ -23,22 +25,38 @@ searchers_at-requires-clause-rows c =
 
 pub returns-clause-sound : goal.returns-clause-sound
 returns-clause-sound c =
-    let same = c.in_ok-clone_in.ensures in
-    IsSound-new _ c.args.map.now c.args.limit (subst IsMap (c.drop.view_is ∙ same) c.drop.invariant)
-    c.requires.active c.requires.least c.requires.most
-    (record {
+    let same = c.in_ok-first.ensures in
+    let is_map : IsMap c.args.map.now = c.get.ensures.map in
+    let b : Bucket = record {
+      first = c.in_ok-first.first;
+      map = c.in_ok-slices.slices;
+      journal = c.in_ok-journal.journal;
+      unsettled = record { places = []; room = 0 };
+      replicas = c.in_ok-replicas.replicas;
+      flight = record { messages = []; room = 0 };
+      searchers = c.in_ok-searchers.searchers;
+      phase = phases.Idle;
+      feeds = [];
+      spares = None;
+      owed = c.followers-owed.result;
+      limit = c.args.limit;
+    } in
+    let made : IsMade b c.args.map.now c.args.limit = record {
       first_is = same;
-      map_is = c.in_ok-clone_in-2.ensures;
-      entries = ap (λ (journal : JournalState). journal.entries) c.new-2.ensures;
-      places = ap (λ (places : PlacesState). places.places) c.new-3.ensures;
-      owed_is = refl;
+      map_is = c.in_ok-slices.ensures;
+      entries = c.in_ok-journal.ensures.entries;
+      places = refl;
+      owed_is = c.followers-owed.ensures;
+      room = has_room_for c.followers-owed.result _ c.in_ok-journal.journal.room c.in_ok-journal.ensures.room (omega arith);
       limit_is = refl;
       keys = c.in_ok-replicas.ensures.keys;
-      messages = ap (λ (flight : FlightState). flight.messages) c.new-4.ensures;
+      messages = refl;
       new = c.in_ok-replicas.ensures.new;
       counted = c.in_ok-replicas.ensures.counted;
-      searchers = c.in_ok-searchers_at.ensures;
+      searchers = c.in_ok-searchers.ensures;
       phase_is = refl;
-      feeds_are = c.new-5.ensures;
+      feeds_are = refl;
       spares_are = refl;
-    })
+    } in
+    subst IsSound (sym c.begun.ensures)
+    (IsSound-new b c.args.map.now c.args.limit is_map c.requires.active c.requires.least c.requires.most made)

@@ -4,7 +4,7 @@ use Rattle.std.proofs.lemmas.Iterator.{IsFirst-from_position, YieldsList-from_sl
 use borrow.Author.Tests.{tests}
 use Rattle.sc_bucket.specs.declared.message.Message.{Message}
 use Rattle.sc_bucket.specs.Kept.{FlightState}
-use Rattle.sc_bucket.specs.Cores.{is_core}
+use Rattle.sc_record.specs.Names.{is_core}
 use Rattle.sc_bucket.specs.Flight.{sent_of, is_to}
 use Rattle.sc_bucket.proofs.FindLemmas.{IsFirstThat, first_from_search, first-mapped}
 use Rattle.sc_bucket.proofs.flight.Flight.first_to.Goals as goal

@@ -3,7 +3,7 @@ use Rattle.std.proofs.Common.{◌≡◌, subst, rules, true, false}
 use Rattle.std.proofs.lemmas.Iterator.{IsFirst-from_position, YieldsList-from_slice}
 use borrow.Author.Tests.{tests}
 use Rattle.sc_replica.specs.Core.{Core}
-use Rattle.sc_bucket.specs.Cores.{is_core}
+use Rattle.sc_record.specs.Names.{is_core}
 use Rattle.sc_bucket.proofs.CoreLemmas.{IsCoreFound, core_found}
 use Rattle.sc_bucket.proofs.replicas.Replicas.position.Goals as goal
 

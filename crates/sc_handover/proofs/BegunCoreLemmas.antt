@@ -25,7 +25,8 @@ use Rattle.sc_journal.specs.Journal.{as_write, writes, last_write}
 use Rattle.sc_journal.proofs.JournalLemmas.{writes-push_other, last_write_is}
 use Rattle.sc_journal.proofs.LegalLemmas.{legal_hash}
 use Rattle.sc_bucket.specs.Kept.{Sent, FeedState}
-use Rattle.sc_bucket.specs.Cores.{core_key, core_keys, is_core, IsLeaderOf}
+use Rattle.sc_record.specs.Names.{is_core}
+use Rattle.sc_bucket.specs.Cores.{core_key, core_keys, IsLeaderOf}
 use Rattle.sc_bucket.specs.Flight.{in_flight}
 use Rattle.sc_bucket.specs.Pending.{is_within, is_feed_of, left_of, to_feed, pending}
 use Rattle.sc_bucket.specs.Sound.{AreWritten, IsInRange, IsSent, HasCores, Serves, IsSound}

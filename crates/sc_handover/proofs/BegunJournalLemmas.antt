@@ -14,7 +14,8 @@ use Rattle.sc_cluster.proofs.BegunLemmas.{All-forming_begun}
 use Rattle.sc_cluster.proofs.ListLemmas.{filter-none, filter-all, none_from_filter}
 use Rattle.sc_cluster.proofs.MapLemmas.{begun_is_split}
 use Rattle.sc_cluster.proofs.StateLemmas.{is_settled, forming-begun}
-use Rattle.sc_journal.specs.Splits.{open_split}
+use Rattle.sc_journal.specs.Splits.{open_split, entries_of_split}
+use Rattle.sc_journal.specs.Legal.{MayBegin}
 use Rattle.sc_journal.proofs.OwedLemmas.{owed-push_begun}
 use Rattle.sc_journal.proofs.SplitLemmas.{open_split-push}
 use Rattle.sc_bucket.specs.Sound.{HasJournal, IsIdle, IsOpen}
@@ -35,18 +36,18 @@ active-begun slices subs =
 -- the journal is as it has to be
 pub HasJournal-begun : (old new : Bucket) (parent : SliceId) (subs : List SubSlice) → HasJournal old → IsIdle old
     → IsPlan old.map parent subs → Begins old parent subs new → new.unsettled.places ≡ old.unsettled.places
-    → new.owed ≡ old.owed + 2 → new.owed ≤ new.journal.room → HasJournal new
+    → new.owed + 1 ≡ old.owed + entries_of_split subs → new.owed ≤ new.journal.room → HasJournal new
 HasJournal-begun old new parent subs journal idle plan begins places owed_is room =
-    let plan_then = subst (λ slices. IsPlan slices parent subs) journal.map_is plan in
-    HasJournal-pushed old new (entry.Begun parent subs) (Change.Begun parent subs) journal
-    (record { idle = idle.idle; plan = plan_then }) refl refl (λ place. refl)
+    let may : MayBegin old.first old.journal.entries parent subs =
+    record { idle = idle.idle; plan = subst (λ slices. IsPlan slices parent subs) journal.map_is plan } in
+    let more = owed-push_begun old.first old.journal.entries parent subs journal.legal may in
+    HasJournal-pushed old new (entry.Begun parent subs) (Change.Begun parent subs) journal may refl refl (λ place. refl)
     (record {
       name = begins.name;
       entries = begins.entries;
       map_is = begins.map_is;
       unsettled_are = places;
-      owed_is = owed_is ∙ ap (λ n. n + 2) journal.owed_is
-          ∙ sym (owed-push_begun old.first old.journal.entries parent subs idle.idle);
+      owed_is = omega (arith, owed_is, journal.owed_is, more);
       room = room;
       within = omega (arith, owed_is, journal.owed_is, begins.room);
     })

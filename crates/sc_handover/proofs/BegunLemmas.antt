@@ -11,6 +11,8 @@ use Rattle.sc_cluster.specs.Map.{IsMap}
 use Rattle.sc_cluster.specs.Changes.{Change}
 use Rattle.sc_cluster.proofs.MapLemmas.{change_is_map}
 use Rattle.sc_replica.specs.Core.{Core}
+use Rattle.sc_journal.specs.Splits.{entries_of_split}
+use Rattle.sc_journal.proofs.DownLemmas.{LeavesCores-begun}
 use Rattle.sc_bucket.specs.Kept.{FeedState}
 use Rattle.sc_bucket.specs.Cores.{IsLeaderOf, without_room, IsCoreWithoutRoom}
 use Rattle.sc_bucket.specs.Searchers.{ArePrepared}
@@ -35,7 +37,7 @@ use Rattle.sc_handover.proofs.BegunPartsLemmas.{HasCores-begun, AreFeeds-begun}
 pub record BeginsParts (old : Bucket) (parent : SliceId) (subs : List SubSlice) (made : List Core)
     (new : Bucket) : Type 0 where
   pub unsettled_are : new.unsettled.places ≡ old.unsettled.places
-  pub owed_is : new.owed ≡ old.owed + 2
+  pub owed_is : new.owed + 1 ≡ old.owed + entries_of_split subs
   pub room : new.owed ≤ new.journal.room
   pub replicas_are : new.replicas ≡ old.replicas ++ made
   pub made_are : map without_room made ≡ map made_core subs
@@ -80,9 +82,10 @@ IsSound-begun old new parent subs made sound can begins parts =
       taken = begins.searchers_are;
     }))
     (subst (λ phase. ArePrepared phase new.map new.searchers new.spares) (sym begins.phase_is) parts.prepared)
-    (AreSent-more old new one made sound.messages begins.entries (λ _. refl) parts.replicas_are begins.messages)
-    (HasCores-begun old new parent subs (cells_now old begins.leader) made sound.cores can.1 is_map begins.map_is
-    parts.replicas_are parts.made_are made_for)
+    (AreSent-more old new one made sound.messages begins.entries (λ _. refl) (LeavesCores-begun parent subs) parts.replicas_are
+    begins.messages)
+    (HasCores-begun old new parent subs (cells_now old begins.leader) made sound.journal sound.cores can.1 is_map begins.map_is
+    begins.entries parts.replicas_are parts.made_are made_for)
     (AreFeeds-begun new old.map parent subs (cells_now old begins.leader) old.replicas made can.1 begins.map_is
     parts.replicas_are begins.feeds_are parts.made_are)
     (subst (IsInPhase new) (sym begins.phase_is) (IsOpen-begun old new parent subs sound.journal idle can.1 begins))

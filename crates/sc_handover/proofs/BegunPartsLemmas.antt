@@ -1,5 +1,5 @@
 -- The cores, the feeds and the messages of a bucket once a split has begun.
-use Rattle.std.proofs.Common.{◌≡◌, ◌≤◌, ◌<◌, ◌+◌, ◌*◌, ◌^◌, ◌∙◌, ℕ, true, false, List, ◌++◌, map, All, Contains, refl, sym, ap, subst, arith}
+use Rattle.std.proofs.Common.{◌≡◌, ◌≤◌, ◌<◌, ◌+◌, ◌*◌, ◌^◌, ◌∙◌, ℕ, true, false, List, [], ◌∷◌, ◌++◌, map, All, Contains, refl, sym, ap, subst, arith}
 use Rattle.std.specs.List.{IsDistinct}
 use Rattle.std.specs.List.Sorted.{IsStrictlyIncreasing}
 use Rattle.std.proofs.lemmas.List.{map-append}
@@ -8,6 +8,8 @@ use Rattle.std.proofs.lemmas.List.Elements.{All-map, All-weaker, All-contains, A
 use Rattle.sc_record.specs.declared.slice.SliceId.{SliceId}
 use Rattle.sc_record.specs.declared.slice.SubSlice.{SubSlice}
 use Rattle.sc_record.specs.declared.slice.CoreId.{CoreId}
+use Rattle.sc_record.specs.declared.entry.Entry.{Entry}
+use Rattle.sc_record.specs.declared.entry.Entry.TheVariants as entry
 use Rattle.sc_cluster.specs.declared.slice.Slice.{Slice}
 use Rattle.sc_cluster.specs.Slices.{is_forming, greatest_id}
 use Rattle.sc_cluster.specs.Map.{IsMap}
@@ -18,9 +20,13 @@ use Rattle.sc_cluster.proofs.OrderLemmas.{IsStrictlyIncreasing-append, AreBelow-
 use Rattle.sc_cluster.proofs.PairLemmas.{Contains-from_map}
 use Rattle.sc_ulog.specs.declared.mode.Mode.TheVariants.{Active}
 use Rattle.sc_replica.specs.Core.{Core}
+use Rattle.sc_journal.specs.Down.{is_down}
+use Rattle.sc_journal.proofs.DownLemmas.{LeavesCores-begun, is_down-left}
+use Rattle.sc_journal.proofs.LegalDownLemmas.{leader_is_up}
 use Rattle.sc_bucket.specs.Kept.{FeedState}
-use Rattle.sc_bucket.specs.Cores.{core_key, core_keys, slice_keys, core_number, is_core, IsCounted, without_room}
-use Rattle.sc_bucket.specs.Sound.{HasCores, IsFeed, AreFeeds}
+use Rattle.sc_record.specs.Names.{is_core}
+use Rattle.sc_bucket.specs.Cores.{core_key, core_keys, slice_keys, core_number, IsCounted, without_room}
+use Rattle.sc_bucket.specs.Sound.{HasJournal, HasCores, IsFeed, AreFeeds}
 use Rattle.sc_bucket.specs.declared.bucket.Bucket.{Bucket}
 use Rattle.sc_bucket.proofs.CoreLemmas.{keys_among}
 use Rattle.sc_bucket.proofs.FeedLemmas.{fed_core}
@@ -60,10 +66,11 @@ ascend-begun old parent subs made has plan same =
 
 -- the cores are those that have to be there
 pub HasCores-begun : (old new : Bucket) (parent : SliceId) (subs : List SubSlice) (snapshot : SnapshotState) (made : List Core)
-    → HasCores old → IsPlan old.map parent subs → IsMap (old.map ++ map begun_slice subs)
-    → new.map ≡ old.map ++ map begun_slice subs → new.replicas ≡ old.replicas ++ made
+    → HasJournal old → HasCores old → IsPlan old.map parent subs → IsMap (old.map ++ map begun_slice subs)
+    → new.map ≡ old.map ++ map begun_slice subs → new.journal.entries ≡ old.journal.entries ++ entry.Begun parent subs ∷ []
+    → new.replicas ≡ old.replicas ++ made
     → map without_room made ≡ map made_core subs → All (IsMade snapshot subs) made → HasCores new
-HasCores-begun old new parent subs snapshot made has plan is_map map_is replicas_are same each = record {
+HasCores-begun old new parent subs snapshot made journal has plan is_map map_is entries replicas_are same each = record {
   counted = subst (All IsCounted) (sym replicas_are)
       (All-append IsCounted old.replicas made has.counted (All-weaker (IsMade snapshot subs) IsCounted counted made each));
   ascend = subst (λ (cores : List Core). IsStrictlyIncreasing (map number_of cores)) (sym replicas_are)
@@ -96,6 +103,11 @@ HasCores-begun old new parent subs snapshot made has plan is_map map_is replicas
       (All-weaker (Contains old.replicas) (IsActiveOf others) still_active old.replicas
       (All-contains_itself old.replicas))
       (All-weaker (IsMade snapshot subs) (IsActiveOf others) no_matter made each)));
+  down = subst (All IsMarked) (sym replicas_are)
+      (All-append IsMarked old.replicas made
+      (All-weaker (λ (core : Core). core.down ≡ is_down old.journal.entries (core_key core)) IsMarked
+      (λ core is. is ∙ sym (same_down (core_key core))) old.replicas has.down)
+      (All-weaker (IsMade snapshot subs) IsMarked up made each));
 } where
   others : List Slice
   others = old.map ++ map begun_slice subs
@@ -115,6 +127,21 @@ HasCores-begun old new parent subs snapshot made has plan is_map map_is replicas
   IsActiveOf : List Slice → Core → Type 0
   IsActiveOf slices core = (slice : Slice) → Contains slices slice → slice.id ≡ core.core.slice
       → is_forming slice ≡ false → core.mode ≡ Active
+
+  IsMarked : Core → Type 0
+  IsMarked core = core.down ≡ is_down new.journal.entries (core_key core)
+
+  same_down : (key : ℕ × ℕ) → is_down new.journal.entries key ≡ is_down old.journal.entries key
+  same_down key =
+      ap (λ (these : List Entry). is_down these key) entries
+      ∙ is_down-left old.journal.entries (entry.Begun parent subs) key (LeavesCores-begun parent subs)
+
+  up : (core : Core) → IsMade snapshot subs core → IsMarked core
+  up core is =
+      let key : core_key core ≡ (is.sub.id.0, 1) = ap core_key is.core_is in
+      ap (λ (c : Core). c.down) is.core_is
+      ∙ sym (same_down (core_key core) ∙ ap (is_down old.journal.entries) key
+      ∙ leader_is_up old.first old.journal.entries is.sub.id.0 journal.legal)
 
   keys_are : map core_key new.replicas ≡ old_keys ++ new_keys
   keys_are =

@@ -1,9 +1,10 @@
 -- A bucket is sound once one of its cores, or its feeds, or both were changed, where that core is.
-use Rattle.std.proofs.Common.{◌≡◌, ◌≢◌, ◌≤◌, ℕ, true, false, List, ◌++◌, length, map, get_or, set, slice_get, Some, All, Contains, refl, sym, ap, ◌∙◌, subst}
+use Rattle.std.proofs.Common.{◌≡◌, ◌≢◌, ◌≤◌, ℕ, Bool, true, false, List, ◌++◌, length, map, get_or, set, slice_get, Some, All, Contains, refl, sym, ap, ◌∙◌, subst}
 use Rattle.std.proofs.lemmas.Bool.{false_from_ne_true}
 use Rattle.std.proofs.Math.Seq.{map-set_same}
 use Rattle.std.proofs.lemmas.List.Elements.{All-weaker}
 use Rattle.std.proofs.lemmas.Option.{get_or_from_slice_get}
+use Rattle.std.proofs.lemmas.Simd.{map-map}
 use Rattle.sc_record.specs.declared.slice.CoreId.{CoreId}
 use Rattle.sc_record.specs.declared.write.Write.{Write}
 use Rattle.sc_cluster.specs.declared.slice.Slice.{Slice}
@@ -11,7 +12,8 @@ use Rattle.sc_cluster.specs.Slices.{is_forming}
 use Rattle.sc_ulog.specs.declared.mode.Mode.TheVariants.{Active}
 use Rattle.sc_replica.specs.Core.{Core}
 use Rattle.sc_bucket.specs.Kept.{Sent, FeedState}
-use Rattle.sc_bucket.specs.Cores.{is_core, IsCoreWithoutRoom}
+use Rattle.sc_record.specs.Names.{is_core}
+use Rattle.sc_bucket.specs.Cores.{IsCoreWithoutRoom}
 use Rattle.sc_bucket.specs.Flight.{in_flight}
 use Rattle.sc_bucket.specs.Pending.{to_feed}
 use Rattle.sc_bucket.specs.Sound.{HasCores, OfEachCore, IsSent, AreSent, IsFeed, AreFeeds, AreLedActively, IsInPhase, IsSound}
@@ -22,7 +24,7 @@ use Rattle.sc_bucket.proofs.CoreLemmas.{name_of, is_core-Decides, AreApart-from_
 use Rattle.sc_bucket.proofs.PlaceLemmas.{All-set_apart}
 use Rattle.sc_bucket.proofs.RoomLemmas.{HasJournal-same}
 use Rattle.sc_bucket.proofs.SearcherLemmas.{HasSearchers-same}
-use Rattle.sc_bucket.proofs.SoundLemmas.{All-slice_get, HasCores-named, IsIdle-same, IsOpen-same}
+use Rattle.sc_bucket.proofs.SoundLemmas.{All-slice_get, name_and_mark, AreMarked-left, HasCores-named, IsIdle-same, IsOpen-same}
 use Rattle.sc_bucket.proofs.DeliveredLemmas.{IsSoundCore}
 use Rattle.sc_bucket.proofs.DeliverLemmas.{IsSoundIn, core_is_sound}
 use Rattle.sc_bucket.proofs.TakenLemmas.{Contains-slice_get}
@@ -66,7 +68,7 @@ AreSent-with_fed : (b : Bucket) (feeds : List FeedState) (cores : List Core)
     → AreSent (with_fed b feeds cores)
 AreSent-with_fed b feeds cores still sent = record {
   each = All-weaker (IsSent b) (IsSent (with_fed b feeds cores))
-      (λ message is. record { write = is.write; unsettled = is.unsettled; core = still message.core is.core })
+      (λ message is. record { write = is.write; unsettled = is.unsettled; core = still message.core is.core; up = is.up })
       b.flight.messages sent.each;
   once = sent.once;
 }
@@ -111,20 +113,24 @@ same_phase b feeds cores (phases.Building parent) led is = IsOpen-same b (with_f
 same_phase b feeds cores (phases.Recovering parent) led is =
     (IsOpen-same b (with_fed b feeds cores) parent refl refl is.0, led is.1)
 
--- It is sound where each core is, the cores have the same names and are active where they have to be, and the feeds
--- are as they have to be.
+-- It is sound where each core is, the cores have the same names and marks and are active where they have to be, and the
+-- feeds are as they have to be.
 IsSound-changed : (b : Bucket) (feeds : List FeedState) (cores : List Core) → IsSound b
     → All (IsSoundIn (with_fed b feeds cores) b.flight.messages) cores → All IsCoreWithoutRoom cores
-    → map name_of cores ≡ map name_of b.replicas
+    → map name_and_mark cores ≡ map name_and_mark b.replicas
     → OfEachCore (with_fed b feeds cores)
     (λ (slice : Slice) (core : Core). is_forming slice ≡ false → core.mode ≡ Active)
     → (AreLedActively b → AreLedActively (with_fed b feeds cores)) → AreFeeds (with_fed b feeds cores)
     → IsSound (with_fed b feeds cores)
-IsSound-changed b feeds cores sound each in_order names active led are =
+IsSound-changed b feeds cores sound each in_order marks active led are =
     let new : Bucket = with_fed b feeds cores in
+    let name : CoreId × Bool → CoreId = λ pair. pair.0 in
+    let names : map name_of cores ≡ map name_of b.replicas =
+    sym (map-map name name_and_mark cores) ∙ ap (map name) marks ∙ map-map name name_and_mark b.replicas in
     IsSound-with_fed b feeds cores sound each in_order
     (λ name. subst (λ (those : List CoreId). Contains those name) (sym names))
-    (HasCores-named b new refl names active sound.cores) are (same_phase b feeds cores b.phase led sound.phase)
+    (HasCores-named b new refl names active
+    (AreMarked-left b.journal.entries b.journal.entries b.replicas cores marks (λ key. refl) sound.cores.down) sound.cores) are (same_phase b feeds cores b.phase led sound.phase)
 
 -- a core for which the same is still to be fed is sound as before
 still_sound : (b : Bucket) (feeds : List FeedState) (cores : List Core) (core : Core)
@@ -166,16 +172,17 @@ apart_from b at k core other sound there is differ =
     differ (core_alone b.replicas k at other core (AreApart-from_ascending b.replicas sound.cores.ascend) is there
     ((is_core-Decides other.core core.core).0 same)))
 
--- It is sound where the core at a place was changed, and perhaps the feeds: that core has its name, is active where
+-- It is sound where the core at a place was changed, and perhaps the feeds: that core has its name and its mark, is active where
 -- it was, is in order if it was, and is sound with what is pending for it now; each other is still to be fed the same; and the feeds are as
 -- they have to be.
 pub IsSound-core_changed : (b : Bucket) (feeds : List FeedState) (at : ℕ) (core new : Core) → IsSound b
-    → slice_get b.replicas at ≡ Some core → new.core ≡ core.core → (core.mode ≡ Active → new.mode ≡ Active)
-    → (IsCoreWithoutRoom core → IsCoreWithoutRoom new) → IsSoundIn (with_fed b feeds (set b.replicas at new)) b.flight.messages new
+    → slice_get b.replicas at ≡ Some core → name_and_mark new ≡ name_and_mark core
+    → (core.mode ≡ Active → new.mode ≡ Active) → (IsCoreWithoutRoom core → IsCoreWithoutRoom new) → IsSoundIn (with_fed b feeds (set b.replicas at new)) b.flight.messages new
     → ((name : CoreId) → is_core name core.core ≡ false → to_feed feeds name ≡ to_feed b.feeds name)
     → AreFeeds (with_fed b feeds (set b.replicas at new)) → IsSound (with_fed b feeds (set b.replicas at new))
-IsSound-core_changed b feeds at core new sound there named still in_order own others are =
+IsSound-core_changed b feeds at core new sound there same still in_order own others are =
     let cores : List Core = set b.replicas at new in
+    let named : new.core ≡ core.core = ap (λ (pair : CoreId × Bool). pair.0) same in
     IsSound-changed b feeds cores sound
     (All-set_apart (IsSoundIn (with_fed b feeds cores) b.flight.messages) b.replicas at new own
     (λ k other differ is. still_sound b feeds cores other
@@ -184,8 +191,8 @@ IsSound-core_changed b feeds at core new sound there named still in_order own ot
     (All-set_apart IsCoreWithoutRoom b.replicas at new
     (in_order (All-slice_get IsCoreWithoutRoom b.replicas at core sound.in_order there))
     (λ k other differ is. All-slice_get IsCoreWithoutRoom b.replicas k other sound.in_order is))
-    (map-set_same name_of b.replicas at new core
-    (named ∙ ap name_of (sym (get_or_from_slice_get b.replicas at core core there))))
+    (map-set_same name_and_mark b.replicas at new core
+    (same ∙ ap name_and_mark (sym (get_or_from_slice_get b.replicas at core core there))))
     (changed_of_each (λ slice one. is_forming slice ≡ false → one.mode ≡ Active) b feeds at core new there named
     (λ slice active free. still (active free)) sound.cores.active)
     (λ led. changed_of_each (λ slice one. is_forming slice ≡ true → one.core.replica ≡ 1 → one.mode ≡ Active)

@@ -1,8 +1,10 @@
 -- A bucket without an inactive slice owes one entry less, and is sound.
-use Rattle.std.proofs.Common.{◌≡◌, ◌∙◌, ◌+◌, ◌≤◌, Bool, true, false, cond, not, eqb, List, [], ◌∷◌, ◌++◌, filter, None, All, Contains, refl, sym, ap, subst, arith}
-use Rattle.std.proofs.lemmas.Bool.{eqb-true}
+use Rattle.std.proofs.Common.{◌≡◌, ◌≢◌, ◌∙◌, ◌+◌, ◌≤◌, Bool, true, false, cond, not, eqb, List, [], ◌∷◌, ◌++◌, filter, None, All, Contains, refl, sym, ap, subst, arith}
+use Rattle.std.proofs.lemmas.Bool.{eq-eqb, eqb-true}
 use Rattle.std.proofs.lemmas.List.Elements.{All-contains_itself, All-head, All-tail, All-weaker}
+use Rattle.sc_record.specs.Names.{key_of_core}
 use Rattle.sc_record.specs.declared.slice.SliceId.{SliceId}
+use Rattle.sc_record.specs.declared.slice.CoreId.{CoreId}
 use Rattle.sc_record.specs.declared.entry.Entry.TheVariants as entry
 use Rattle.sc_cluster.specs.declared.slice.Slice.{Slice}
 use Rattle.sc_cluster.specs.Map.{IsMap}
@@ -14,8 +16,10 @@ use Rattle.sc_cluster.proofs.MapLemmas.{dropped_is_idle}
 use Rattle.sc_cluster.proofs.StateLemmas.{is_other}
 use Rattle.sc_journal.specs.Splits.{owed}
 use Rattle.sc_journal.specs.Legal.{MayDrop}
+use Rattle.sc_journal.proofs.DownLemmas.{is_down-push_dropped}
 use Rattle.sc_journal.proofs.OwedLemmas.{owed-push_dropped}
 use Rattle.sc_journal.proofs.SplitLemmas.{open_split-push}
+use Rattle.sc_bucket.specs.Cores.{is_of_one}
 use Rattle.sc_bucket.specs.Searchers.{ArePrepared}
 use Rattle.sc_bucket.specs.Sound.{IsIdle, IsInPhase, IsSound}
 use Rattle.sc_bucket.specs.declared.bucket.Bucket.{Bucket}
@@ -23,7 +27,7 @@ use Rattle.sc_bucket.specs.declared.phase.Phase.TheVariants as phases
 use Rattle.sc_bucket.proofs.AcceptLemmas.{bucket_has_map}
 use Rattle.sc_handover.proofs.NoFeedLemmas.{no_feeds}
 use Rattle.sc_handover.specs.Conditions.{CanDrop}
-use Rattle.sc_handover.proofs.KeptLemmas.{same_number}
+use Rattle.sc_handover.proofs.KeptLemmas.{same_number, slice_of_one}
 use Rattle.sc_handover.proofs.NotedLemmas.{TakesOut}
 use Rattle.sc_handover.proofs.LeftOutLemmas.{IsSound-taken_out}
 
@@ -88,6 +92,17 @@ active-other slices dropped is_map (slice, there, named, inactive) =
           let both : true ≡ false = sym active ∙ ap is_active alike ∙ ap is_active_state inactive in
           absurd (cc)
 
+-- a core of a slice that stays is of another
+of_other : (slices : List Slice) (dropped : SliceId) (name : CoreId)
+    → is_of_one (filter (is_other dropped) slices) name ≡ true → name.slice.0 ≢ dropped.0
+of_other slices dropped name kept same =
+    let (slice, there, named) = slice_of_one (filter (is_other dropped) slices) name kept in
+    let other : not (eqb slice.id.0 dropped.0) ≡ true = (Contains-from_filter (is_other dropped) slices slice there).1 in
+    let own : eqb slice.id.0 dropped.0 ≡ true =
+    eq-eqb slice.id.0 dropped.0 (ap (λ (id : SliceId). id.0) named ∙ same) in
+    let both : false ≡ true = ap not (sym own) ∙ other in
+    absurd (cc)
+
 -- and the bucket is sound
 pub IsSound-dropped : (old : Bucket) (slice : SliceId) (new : Bucket) → IsSound old → CanDrop old slice
     → TakesOut old (entry.Dropped slice) (Change.Dropped slice) 1 new → new.phase ≡ old.phase → new.feeds ≡ old.feeds
@@ -105,6 +120,8 @@ IsSound-dropped old slice new sound can takes phase feeds =
       owed_less = owed_dropped old slice sound can;
       among = λ one there. (Contains-from_filter (is_other slice) old.map one there).0;
       same_active = active-other old.map slice (bucket_has_map old sound.journal) can.1;
+      same_down = λ name kept.
+          is_down-push_dropped old.journal.entries slice (key_of_core name) (of_other old.map slice name kept);
       idle = open_split-push old.journal.entries (entry.Dropped slice) ∙ idle.idle;
       whole = dropped_is_idle old.map slice idle.whole;
     }) takes (phase ∙ can.0) (feeds ∙ no_feeds old idle sound.feeds.each)

@@ -12,7 +12,7 @@ use Rattle.sc_record.specs.declared.write.Write.{Write}
 use Rattle.sc_replica.specs.Core.{Core, fed, fed_all}
 use Rattle.sc_replica.proofs.CoreLemmas.{mode-fed_all}
 use Rattle.sc_bucket.specs.Kept.{FeedState}
-use Rattle.sc_bucket.specs.Cores.{is_core}
+use Rattle.sc_record.specs.Names.{is_core}
 use Rattle.sc_bucket.specs.Flight.{in_flight}
 use Rattle.sc_bucket.specs.Pending.{is_within, is_feed_of, left_of, to_feed}
 use Rattle.sc_bucket.specs.Sound.{IsFeed, AreFeeds, IsSound}
@@ -21,7 +21,7 @@ use Rattle.sc_bucket.proofs.CoreLemmas.{is_core-Decides}
 use Rattle.sc_bucket.proofs.FeedLemmas.{fed_core, to_feed-of}
 use Rattle.sc_bucket.proofs.FlightLemmas.{map-remove}
 use Rattle.sc_bucket.proofs.PlaceLemmas.{All-set_apart, slice_get-set}
-use Rattle.sc_bucket.proofs.SoundLemmas.{All-slice_get, name_and_mode, AreAlike, AreAlike-set, IsFeed-alike}
+use Rattle.sc_bucket.proofs.SoundLemmas.{All-slice_get, name_and_mode, name_and_mark, AreAlike, AreAlike-set, IsFeed-alike}
 use Rattle.sc_bucket.proofs.DeliveredLemmas.{IsSoundCore, fed_all_is_sound}
 use Rattle.sc_bucket.proofs.TakenLemmas.{Contains-slice_get}
 use Rattle.sc_bucket.proofs.InOrderLemmas.{in_order-fed_all}
@@ -29,7 +29,7 @@ use Rattle.sc_handover.proofs.EachCoreLemmas.{core_in}
 use Rattle.sc_handover.specs.Feeding.{IsFedAt, next_of, after_rows}
 use Rattle.sc_handover.proofs.ChangedLemmas.{with_fed, IsFeed-with_fed, IsSoundIn-parts, IsSound-core_changed, IsSound-other_feeds}
 
--- writes that are applied change neither the name nor the log
+-- writes that are applied change neither the name, nor the mark, nor the log
 pub name-fed_all : (core : Core) (writes : List Write) → (fed_all core writes).core ≡ core.core
 name-fed_all core [] = refl
 name-fed_all core (write ∷ writes) = name-fed_all (fed core write) writes
@@ -41,6 +41,10 @@ buffer-fed_all core (write ∷ writes) = buffer-fed_all (fed core write) writes
 name_and_mode-fed_all : (core : Core) (writes : List Write) → name_and_mode (fed_all core writes) ≡ name_and_mode core
 name_and_mode-fed_all core [] = refl
 name_and_mode-fed_all core (write ∷ writes) = name_and_mode-fed_all (fed core write) writes
+
+pub name_and_mark-fed_all : (core : Core) (writes : List Write) → name_and_mark (fed_all core writes) ≡ name_and_mark core
+name_and_mark-fed_all core [] = refl
+name_and_mark-fed_all core (write ∷ writes) = name_and_mark-fed_all (fed core write) writes
 
 -- and some are applied after others where all are
 pub fed_all-append : (core : Core) (xs ys : List Write) → fed_all core (xs ++ ys) ≡ fed_all (fed_all core xs) ys
@@ -155,7 +159,7 @@ pub IsSound-fed : (b : Bucket) (feed_at core_at n : ℕ) (feed : FeedState) (cor
     → IsSound (with_fed b (set b.feeds feed_at (after_rows n feed))
     (set b.replicas core_at (fed_all core (next_of n feed))))
 IsSound-fed b feed_at core_at n feed core sound is within =
-    IsSound-core_changed b feeds core_at core after sound is.core_found (name-fed_all core these)
+    IsSound-core_changed b feeds core_at core after sound is.core_found (name_and_mark-fed_all core these)
     (λ active. mode-fed_all core these ∙ active) (in_order-fed_all core these)
     (IsSoundIn-parts b feeds cores after core.core core.buffer (left_of new) (name-fed_all core these)
     (buffer-fed_all core these) still

@@ -7,7 +7,6 @@ use Rattle.sc_record.specs.declared.slice.CoreId.{CoreId}
 use Rattle.sc_record.specs.declared.write.Write.{Write}
 use Rattle.sc_cluster.specs.declared.slice.Slice.{Slice}
 use Rattle.sc_cluster.specs.Slices.{is_forming}
-use Rattle.sc_cluster.proofs.LeaderLemmas.{same_from_id}
 use Rattle.sc_ulog.specs.declared.mode.Mode.TheVariants.{Active}
 use Rattle.sc_replica.specs.Core.{Core}
 use Rattle.sc_bucket.specs.Kept.{Sent, FeedState}
@@ -23,7 +22,7 @@ use Rattle.sc_handover.specs.Conditions.{CanGrow}
 use Rattle.sc_handover.specs.Made.{leader_of, empty_core, IsRoomyFor, cells_now}
 use Rattle.sc_handover.specs.Parts.{IsQuiet, IsMade}
 use Rattle.sc_handover.proofs.LastWriteLemmas.{last_where_settled}
-use Rattle.sc_handover.proofs.SubLemmas.{attached_where_forming, IsSliceFound}
+use Rattle.sc_handover.proofs.SubLemmas.{attached_where_forming, IsSliceFound, found_by_id}
 use Rattle.sc_handover.proofs.SettleSubsLemmas.{in_flight-no_message}
 use Rattle.sc_handover.proofs.SwitchedMapLemmas.{split_is_open}
 use Rattle.sc_snapshot.specs.Rows.{SnapshotState}
@@ -53,7 +52,8 @@ sub_leader_has_last b name leader sub core sound can leads there is named quiet 
     let active : core.mode ≡ Active =
     All-contains (λ (c : Core). (s : Slice) → Contains b.map s → s.id ≡ c.core.slice → is_forming s ≡ true → c.core.replica ≡ 1 → c.mode ≡ Active)
     b.replicas core led there sub can.there (sym is.0) can.forming is.1 in
-    last_where_settled b sub core sound can.there (sym is.0) (attached_where_forming sub can.forming) there active (quiet active)
+    last_where_settled b sub core sound can.there (sym is.0)
+    (attached_where_forming b sub core sound can.there (sym is.0) can.forming there) there active (quiet active)
     (in_flight-no_message b.flight.messages core.core
     (subst (λ (n : CoreId). All (λ (message : Sent). is_to n message ≡ false) b.flight.messages) (sym named) none))
 
@@ -61,8 +61,7 @@ sub_leader_has_last b name leader sub core sound can leads there is named quiet 
 pub found_sub : (b : Bucket) (name : CoreId) (sub : Slice) (found : Option (Bor Slice)) (slice : Bor Slice) → IsSound b
     → CanGrow b name sub → IsSliceFound b.map name found → found ≡ Some slice → slice.now ≡ sub
 found_sub b name sub found slice sound can is found_slice =
-    let here = subst (IsSliceFound b.map name) found_slice is in
-    same_from_id b.map slice.now sub (bucket_has_map b sound.journal) here.0 can.there (here.1 ∙ can.of_sub)
+    found_by_id b.map name.slice found slice sub (bucket_has_map b sound.journal) is found_slice can.there (sym can.of_sub)
 
 -- a snapshot of the core's cells, taken when the journal has as many entries as now
 pub taken_now : (b : Bucket) (core : Core) (snapshot : SnapshotState) (place : ℕ) (rows : List Write)

@@ -7,7 +7,8 @@ use Rattle.sc_record.specs.declared.entry.Entry.{Entry}
 use Rattle.sc_cluster.specs.declared.slice.Slice.{Slice}
 use Rattle.sc_replica.specs.Core.{Core}
 use Rattle.sc_bucket.specs.Kept.{Sent, FlightState, FeedState}
-use Rattle.sc_bucket.specs.Cores.{is_core, put_by_name, without_room}
+use Rattle.sc_record.specs.Names.{is_core}
+use Rattle.sc_bucket.specs.Cores.{put_by_name, without_room}
 use Rattle.sc_bucket.specs.Flight.{is_to, arrived}
 use Rattle.sc_bucket.specs.Events.{DeliversAllTo}
 use Rattle.sc_bucket.specs.declared.bucket.Bucket.{Bucket}

@@ -12,6 +12,7 @@ use Rattle.sc_record.specs.declared.slice.SliceId.{SliceId}
 use Rattle.sc_record.specs.declared.slice.CoreId.{CoreId}
 use Rattle.sc_record.specs.declared.write.Write.{Write}
 use Rattle.sc_cluster.specs.declared.slice.Slice.{Slice}
+use Rattle.sc_cluster.specs.Map.{IsMap}
 use Rattle.sc_cluster.specs.Slices.{is_forming}
 use Rattle.sc_cluster.proofs.LeaderLemmas.{same_from_id}
 use Rattle.sc_cluster.proofs.ListLemmas.{Contains-map, Contains-filter, filter-none}
@@ -19,8 +20,11 @@ use Rattle.sc_cluster.proofs.StateLemmas.{active_settled}
 use Rattle.sc_ulog.specs.declared.mode.Mode.TheVariants.{Active}
 use Rattle.sc_replica.specs.Core.{Core}
 use Rattle.sc_journal.specs.Journal.{writes}
+use Rattle.sc_journal.specs.Down.{is_down}
+use Rattle.sc_journal.proofs.LegalDownLemmas.{forming_is_up}
 use Rattle.sc_bucket.specs.Kept.{Sent, FeedState}
-use Rattle.sc_bucket.specs.Cores.{core_key, core_keys, slice_keys, is_core, core_number, IsCounted, put_by_name, without_room, IsCoreWithoutRoom}
+use Rattle.sc_record.specs.Names.{is_core}
+use Rattle.sc_bucket.specs.Cores.{core_key, core_keys, slice_keys, core_number, IsCounted, put_by_name, without_room, IsCoreWithoutRoom}
 use Rattle.sc_bucket.specs.Flight.{in_flight, is_to}
 use Rattle.sc_bucket.specs.Pending.{is_within, is_feed_of, left_of, to_feed, pending}
 use Rattle.sc_bucket.specs.Sound.{HasLastWrites, IsInRange, IsSent, HasCores, IsFeed, AreFeeds, IsInPhase, IsSound}
@@ -261,12 +265,22 @@ HasCores-joined b name sub core feed may = record {
       let both : true ≡ false = sym (ap is_forming same ∙ may.can.forming) ∙ settled in
       absurd (cc))
       has.active;
+  down = All-put (λ (c : Core). c.down ≡ is_down b.journal.entries (core_key c)) core b.replicas
+      (ap (λ (c : Core). c.down) may.made.core_is ∙ sym up) has.down;
 } where
   has : HasCores b
   has = may.sound.cores
 
   named : core.core ≡ name
   named = core_named b name sub core feed may.made
+
+  up : is_down b.journal.entries (core_key core) ≡ false
+  up =
+      let journal = may.sound.journal in
+      forming_is_up b.first b.journal.entries sub (core_key core) journal.legal
+      (subst IsMap journal.map_is (bucket_has_map b journal))
+      (subst (λ (slices : List Slice). Contains slices sub) journal.map_is may.can.there) may.can.forming
+      (ap (λ (id : SliceId). id.0) (ap (λ (n : CoreId). n.slice) named ∙ may.can.of_sub))
 
   differ : (other : Core) → Contains b.replicas other → core_number other.core ≢ core_number core.core
   differ other there =

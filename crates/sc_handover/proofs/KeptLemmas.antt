@@ -16,6 +16,7 @@ use Rattle.sc_cluster.proofs.OrderLemmas.{IsStrictlyIncreasing-map-filter}
 use Rattle.sc_cluster.proofs.PairLemmas.{Contains-from_map}
 use Rattle.sc_ulog.specs.declared.mode.Mode.TheVariants.{Active}
 use Rattle.sc_replica.specs.Core.{Core}
+use Rattle.sc_journal.specs.Down.{is_down}
 use Rattle.sc_bucket.specs.Cores.{core_key, core_keys, slice_keys, core_number, is_of_one, IsCounted}
 use Rattle.sc_bucket.specs.Sound.{HasCores}
 use Rattle.sc_bucket.specs.declared.bucket.Bucket.{Bucket}
@@ -107,10 +108,13 @@ key_stays slices cores slice key there of_slice inside =
 abbrev IsWhole : List (ℕ × ℕ) → Slice → Type 0
 IsWhole keys slice = is_forming slice ≡ false → All (Contains keys) (slice_keys slice)
 
--- So the cores are those that have to be there.
+-- So the cores are those that have to be there, where those that stay are down as before.
 pub HasCores-kept : (old new : Bucket) → IsMap old.map → AreSome new.map old.map
-    → new.replicas ≡ filter (is_kept new.map) old.replicas → HasCores old → HasCores new
-HasCores-kept old new is_map some cores has = record {
+    → new.replicas ≡ filter (is_kept new.map) old.replicas
+    → ((core : Core) → is_kept new.map core ≡ true
+    → is_down new.journal.entries (core_key core) ≡ is_down old.journal.entries (core_key core))
+    → HasCores old → HasCores new
+HasCores-kept old new is_map some cores same_down has = record {
   counted = subst (All IsCounted) (sym cores)
       (All-kept IsCounted kept old.replicas
       (λ core there _. All-contains IsCounted old.replicas core has.counted there));
@@ -132,6 +136,11 @@ HasCores-kept old new is_map some cores has = record {
       (All-kept (IsReady new.map) kept old.replicas
       (λ core there _ slice inside.
       All-contains (IsReady old.map) old.replicas core has.active there slice (some slice inside)));
+  down = subst (All (λ (core : Core). core.down ≡ is_down new.journal.entries (core_key core))) (sym cores)
+      (All-kept (λ (core : Core). core.down ≡ is_down new.journal.entries (core_key core)) kept old.replicas
+      (λ core there own.
+      All-contains (λ (c : Core). c.down ≡ is_down old.journal.entries (core_key c)) old.replicas core has.down there
+      ∙ sym (same_down core own)));
 } where
   kept : Core → Bool
   kept = is_kept new.map

@@ -14,7 +14,8 @@ use Rattle.sc_replica.specs.Core.{Core}
 use Rattle.sc_journal.specs.Journal.{writes, writes_of, last_write}
 use Rattle.sc_journal.proofs.JournalLemmas.{last_write_none}
 use Rattle.sc_bucket.specs.Kept.{Sent, FeedState}
-use Rattle.sc_bucket.specs.Cores.{core_key, core_number, is_core, is_attached, CoresAscend}
+use Rattle.sc_record.specs.Names.{is_core}
+use Rattle.sc_bucket.specs.Cores.{core_key, core_number, is_attached, CoresAscend}
 use Rattle.sc_bucket.specs.Flight.{in_flight}
 use Rattle.sc_bucket.specs.Pending.{is_feed_of, to_feed, pending}
 use Rattle.sc_bucket.specs.Sound.{HasLastWrites, IsFeed, IsSound}
@@ -39,10 +40,10 @@ never_written journal (cell ∷ cells) id written none =
         let (k, below, is) = subst (λ (these : List Write). Contains these cell) (last_write_none journal id none) there in
         absurd (omega arith)
 
--- a core for which nothing is pending has the last write of each id in the range of its slice, where that is attached
+-- a core for which nothing is pending has the last write of each id in the range of its slice, where it is attached
 last_from_nothing : (slices : List Slice) (journal : List Entry) (sent pending : List Write) (core : Core) (slice : Slice)
     → IsSoundCore slices journal sent pending core → pending ≡ [] → Contains slices slice → slice.id ≡ core.core.slice
-    → IsTrue (is_attached slice) → HasLastWrites journal slice core
+    → IsTrue (is_attached slice core) → HasLastWrites journal slice core
 last_from_nothing slices journal sent pending core slice sound nothing there named attached id within =
     by (last_write journal id) refl
   where
@@ -85,7 +86,7 @@ pending-none messages feeds core sent kept left =
 
 -- so an active core to which nothing is in flight, and that buffers nothing, has the last writes
 pub last_where_settled : (b : Bucket) (slice : Slice) (core : Core) → IsSound b → Contains b.map slice
-    → slice.id ≡ core.core.slice → IsTrue (is_attached slice) → Contains b.replicas core → core.mode ≡ Active
+    → slice.id ≡ core.core.slice → IsTrue (is_attached slice core) → Contains b.replicas core → core.mode ≡ Active
     → core.buffer ≡ [] → in_flight b.flight.messages core.core ≡ [] → HasLastWrites b.journal.entries slice core
 last_where_settled b slice core sound in_map named attached there active kept sent =
     last_from_nothing b.map b.journal.entries (in_flight b.flight.messages core.core)

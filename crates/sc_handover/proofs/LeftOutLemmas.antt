@@ -4,6 +4,7 @@ use Rattle.std.specs.List.{IsDistinct}
 use Rattle.std.proofs.lemmas.List.Elements.{All-contains, All-filter, All-weaker}
 use Rattle.std.proofs.lemmas.List.Kept.{AllPairs-filter}
 use Rattle.std.proofs.lemmas.Map.Keys.{apart_from_distinct, IsDistinct-from_apart}
+use Rattle.sc_record.specs.Names.{key_of_core}
 use Rattle.sc_record.specs.Writes.{is_of}
 use Rattle.sc_record.specs.declared.slice.CoreId.{CoreId}
 use Rattle.sc_record.specs.declared.write.Write.{Write}
@@ -17,6 +18,7 @@ use Rattle.sc_cluster.proofs.PairLemmas.{Contains-from_map}
 use Rattle.sc_replica.specs.Core.{Core}
 use Rattle.sc_journal.specs.Journal.{as_write, writes, last_of, last_write}
 use Rattle.sc_journal.specs.Committed.{commits, committed, last_commit}
+use Rattle.sc_journal.specs.Down.{is_down}
 use Rattle.sc_journal.specs.Splits.{open_split}
 use Rattle.sc_journal.proofs.CommittedLemmas.{committed-push_other, last_commit-push_other}
 use Rattle.sc_journal.proofs.JournalLemmas.{writes-push_other}
@@ -49,7 +51,7 @@ is_kept_message slices message = is_of_one slices message.core
 
 -- Slices left a bucket, and no split is open then: its map has some of its slices, every active one among them. Its
 -- cores and its messages are those of these slices, nothing is fed, and its journal got an entry that is no write,
--- commits nothing and settles none.
+-- commits nothing, settles none, and leaves those cores down as they were.
 record LeavesOut (old : Bucket) (one : Entry) (new : Bucket) : Type 0 where
   pub some : AreSome new.map old.map
   pub same_active : filter is_active new.map ≡ filter is_active old.map
@@ -57,6 +59,8 @@ record LeavesOut (old : Bucket) (one : Entry) (new : Bucket) : Type 0 where
   pub no_write : as_write one ≡ None
   pub no_commit : commits one ≡ false
   pub settles_nothing : SettlesNothing one
+  pub same_down : (name : CoreId) → is_of_one new.map name ≡ true
+      → is_down (old.journal.entries ++ one ∷ []) (key_of_core name) ≡ is_down old.journal.entries (key_of_core name)
   pub phase_is : new.phase ≡ phases.Idle
   pub idle : open_split new.journal.entries ≡ None
   pub whole : forming new.map ≡ []
@@ -158,7 +162,7 @@ IsSent-kept old one new message leaves kept sent =
     let stays : Contains new.replicas core =
     subst (λ (these : List Core). Contains these core) (sym leaves.cores)
     (Contains-filter (is_kept new.map) old.replicas core there own) in
-    IsSent-push old new one message leaves.entries leaves.settles_nothing
+    IsSent-push old new one message leaves.entries leaves.settles_nothing (leaves.same_down message.core kept)
     (subst (Contains (map name_of new.replicas)) is (Contains-map name_of new.replicas core stays)) sent
 
 AreSent-kept : (old : Bucket) (one : Entry) (new : Bucket) → LeavesOut old one new → AreSent old → AreSent new
@@ -204,7 +208,9 @@ IsSound-left_out old one new sound journal leaves =
     (HasSearchers-kept old one new leaves sound.searchers)
     (subst (λ phase. ArePrepared phase new.map new.searchers new.spares) (sym leaves.phase_is) leaves.spares_are)
     (AreSent-kept old one new leaves sound.messages)
-    (HasCores-kept old new (bucket_has_map old sound.journal) leaves.some leaves.cores sound.cores)
+    (HasCores-kept old new (bucket_has_map old sound.journal) leaves.some leaves.cores
+    (λ core kept. ap (λ entries. is_down entries (key_of_core core.core)) leaves.entries ∙ leaves.same_down core.core kept)
+    sound.cores)
     (AreFeeds-none new leaves.feeds_are)
     (subst (IsInPhase new) (sym leaves.phase_is) (record { idle = leaves.idle; whole = leaves.whole }))
 
@@ -220,6 +226,9 @@ IsSound-taken_out old one change less new sound may takes idle unfed =
       no_write = may.no_write;
       no_commit = may.no_commit;
       settles_nothing = may.settles_nothing;
+      same_down = subst (λ slices. (name : CoreId) → is_of_one slices name ≡ true
+          → is_down (old.journal.entries ++ one ∷ []) (key_of_core name) ≡ is_down old.journal.entries (key_of_core name))
+          (sym takes.loses.map_is) may.same_down;
       phase_is = idle;
       idle = ap open_split takes.loses.entries ∙ may.idle;
       whole = ap forming takes.loses.map_is ∙ may.whole;

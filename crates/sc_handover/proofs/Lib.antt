@@ -1,4 +1,5 @@
 -- Facts on the events of a split.
+pub mod CountLemmas
 pub mod EachCoreLemmas
 pub mod NoFeedLemmas
 pub mod SentLemmas

@@ -15,7 +15,8 @@ use Rattle.sc_cluster.specs.Plans.{IsPlan}
 use Rattle.sc_cluster.proofs.ListLemmas.{Contains-map, All-from_slice_get}
 use Rattle.sc_replica.specs.Core.{Core, IsCore}
 use Rattle.sc_bucket.specs.Kept.{FeedState}
-use Rattle.sc_bucket.specs.Cores.{slice_keys, is_core, core_number, CoresAscend, without_room, IsCoreWithoutRoom}
+use Rattle.sc_record.specs.Names.{is_core}
+use Rattle.sc_bucket.specs.Cores.{slice_keys, core_number, CoresAscend, without_room, IsCoreWithoutRoom}
 use Rattle.sc_bucket.specs.Pending.{to_feed, left_of}
 use Rattle.sc_bucket.specs.Events.{AreSameCores}
 use Rattle.sc_bucket.proofs.CoreLemmas.{name_of, is_core-itself, AreApart-from_ascending}

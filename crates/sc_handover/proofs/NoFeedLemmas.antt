@@ -6,7 +6,7 @@ use Rattle.sc_cluster.specs.declared.slice.Slice.{Slice}
 use Rattle.sc_cluster.specs.Slices.{is_forming}
 use Rattle.sc_cluster.proofs.ListLemmas.{Contains-filter}
 use Rattle.sc_bucket.specs.Kept.{FeedState}
-use Rattle.sc_bucket.specs.Cores.{is_core}
+use Rattle.sc_record.specs.Names.{is_core}
 use Rattle.sc_bucket.specs.Sound.{IsFeed, AreFeeds, IsIdle}
 use Rattle.sc_bucket.specs.declared.bucket.Bucket.{Bucket}
 use Rattle.sc_bucket.proofs.FeedLemmas.{fed_core}

@@ -17,7 +17,7 @@ use Rattle.sc_bucket.specs.Sound.{HasSpare, IsFeed, AreFeeds, IsSound}
 use Rattle.sc_bucket.specs.declared.bucket.Bucket.{Bucket}
 use Rattle.sc_bucket.proofs.CoreLemmas.{is_core-Decides, IsCoreFound}
 use Rattle.sc_bucket.proofs.PendingLemmas.{length-pending}
-use Rattle.sc_bucket.proofs.SoundLemmas.{All-slice_get}
+use Rattle.sc_bucket.proofs.SoundLemmas.{All-slice_get, name_and_mark}
 use Rattle.sc_bucket.proofs.TakenLemmas.{Contains-slice_get}
 use Rattle.sc_bucket.proofs.DeliveredLemmas.{IsSoundCore, fed_all_is_sound, other_log_is_sound}
 use Rattle.sc_bucket.proofs.DeliverLemmas.{IsSoundIn, place_of_core, named_at}
@@ -28,7 +28,7 @@ use Rattle.sc_handover.specs.Events.{ChangesCore, StartsReplay, ReplaysPiece}
 use Rattle.sc_handover.proofs.ChangedLemmas.{with_fed, IsFeed-with_fed, IsSoundIn-parts, IsSound-core_changed}
 use Rattle.sc_handover.proofs.EachCoreLemmas.{core_in}
 use Rattle.sc_handover.proofs.LastWriteLemmas.{same_from_key}
-use Rattle.sc_handover.proofs.FedLemmas.{name-fed_all}
+use Rattle.sc_handover.proofs.FedLemmas.{name-fed_all, name_and_mark-fed_all}
 
 -- two cores of one name are one
 one_by_name : (b : Bucket) (one other : Core) → IsSound b → Contains b.replicas one → Contains b.replicas other
@@ -109,11 +109,11 @@ AreFeeds-unfed b at core new are there unfed = record {
 -- a core that has no feed and isn't active was changed
 IsSound-unfed : (b : Bucket) (at : ℕ) (core new : Core) → IsSound b → slice_get b.replicas at ≡ Some core
     → IsUnfed b core.core
-    → core.mode ≢ Active → new.core ≡ core.core → (IsCoreWithoutRoom core → IsCoreWithoutRoom new)
+    → core.mode ≢ Active → name_and_mark new ≡ name_and_mark core → (IsCoreWithoutRoom core → IsCoreWithoutRoom new)
     → IsSoundIn (with_fed b b.feeds (set b.replicas at new)) b.flight.messages new
     → IsSound (with_fed b b.feeds (set b.replicas at new))
-IsSound-unfed b at core new sound there unfed passive named in_order own =
-    IsSound-core_changed b b.feeds at core new sound there named (λ active. absurd (passive active)) in_order own
+IsSound-unfed b at core new sound there unfed passive same in_order own =
+    IsSound-core_changed b b.feeds at core new sound there same (λ active. absurd (passive active)) in_order own
     (λ name apart. refl)
     (AreFeeds-unfed b at core new sound.feeds there unfed)
 
@@ -154,7 +154,7 @@ IsSound-replayed : (b : Bucket) (at : ℕ) (core : Core) → IsSound b → slice
 IsSound-replayed b at core sound there replays =
     IsSound-unfed b at core (replayed core) sound there
     (unfed_replaying b core sound (Contains-slice_get b.replicas at core there) replays)
-    passive (name-fed_all core these) (in_order-replayed core)
+    passive (name_and_mark-fed_all core these) (in_order-replayed core)
     (IsSoundIn-parts b b.feeds (set b.replicas at (replayed core)) (replayed core) core.core left fed
     (name-fed_all core these) refl refl
     (other_log_is_sound b.map b.journal.entries sent (sent ++ left ++ fed) (fed_all core these) (mode_left left) left

@@ -14,7 +14,7 @@ use Rattle.sc_ulog.specs.declared.mode.Mode.TheVariants.{Active, Buffering, Repl
 use Rattle.sc_replica.specs.Core.{Core, received, received_in}
 use Rattle.sc_replica.specs.Deliveries.{received_all}
 use Rattle.sc_bucket.specs.Kept.{Sent}
-use Rattle.sc_bucket.specs.Cores.{is_core}
+use Rattle.sc_record.specs.Names.{is_core}
 use Rattle.sc_bucket.specs.Flight.{in_flight, is_to, arrived}
 use Rattle.sc_bucket.specs.Sound.{IsSent, IsSound}
 use Rattle.sc_bucket.specs.Events.{HasSameFirstAndLimit, HasSameSplit, DeliversAllTo}

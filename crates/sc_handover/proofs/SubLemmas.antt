@@ -1,5 +1,5 @@
 -- The slice of each core, and the cores of the subs as a switch finds them: each is active, so none is fed.
-use Rattle.std.proofs.Common.{◌≡◌, ◌≢◌, Bool, true, false, not, IsTrue, ℕ, nat_eq, List, [], map, Option, Some, None, Bor, MatchOption, All, Contains, refl, sym, ap, ◌∙◌, subst}
+use Rattle.std.proofs.Common.{◌≡◌, ◌≢◌, Bool, true, false, not, ◌&&◌, IsTrue, ℕ, nat_eq, List, [], map, Option, Some, None, Bor, MatchOption, All, Contains, refl, sym, ap, ◌∙◌, subst}
 use Rattle.std.proofs.lemmas.Bool.{false_from_ne_true}
 use Rattle.std.specs.List.{range_with_len}
 use Rattle.std.proofs.lemmas.Bool.Decides.{Decides-eqb}
@@ -11,17 +11,19 @@ use Rattle.sc_cluster.specs.declared.slice.State.{State}
 use Rattle.sc_cluster.specs.declared.slice.State.TheVariants as states
 use Rattle.sc_cluster.specs.declared.slice.Slice.{Slice}
 use Rattle.sc_cluster.specs.Map.{IsMap}
-use Rattle.sc_cluster.specs.Slices.{is_forming_state, is_forming, forming}
+use Rattle.sc_cluster.specs.Slices.{is_forming_state, is_forming, forming, is_inactive_state, is_inactive}
 use Rattle.sc_cluster.proofs.LeaderLemmas.{same_from_id}
 use Rattle.sc_cluster.proofs.ListLemmas.{Contains-map, Contains-filter, Contains-from_filter}
 use Rattle.sc_cluster.proofs.PairLemmas.{Contains-from_map}
 use Rattle.sc_ulog.specs.declared.mode.Mode.{Mode}
 use Rattle.sc_ulog.specs.declared.mode.Mode.TheVariants.{Active, Buffering}
 use Rattle.sc_replica.specs.Core.{Core}
-use Rattle.sc_journal.specs.Splits.{is_inactive_state}
+use Rattle.sc_journal.specs.Down.{is_down}
+use Rattle.sc_journal.proofs.LegalDownLemmas.{forming_is_up}
 use Rattle.sc_bucket.specs.Cores.{core_key, core_keys, slice_keys, is_attached}
 use Rattle.sc_bucket.specs.Sound.{IsFeed, IsSound}
 use Rattle.sc_bucket.specs.declared.bucket.Bucket.{Bucket}
+use Rattle.sc_bucket.proofs.AcceptLemmas.{bucket_has_map}
 use Rattle.sc_bucket.proofs.SoundLemmas.{AreAlike, name_and_mode}
 use Rattle.sc_handover.proofs.NoFeedLemmas.{none_where}
 use Rattle.sc_handover.proofs.KeptLemmas.{is_of_one-there, slice_of_key}
@@ -29,14 +31,27 @@ use Rattle.sc_handover.specs.Conditions.{IsThereActive, CanSwitch}
 use Rattle.sc_handover.specs.Parts.{is_of_sub}
 use Rattle.sc_handover.proofs.LastWriteLemmas.{same_from_key}
 
--- a slice that a split is making is sent what is written
-pub attached_where_forming : (slice : Slice) → is_forming slice ≡ true → IsTrue (is_attached slice)
-attached_where_forming slice = by slice.state where
-  by : (state : State) → is_forming_state state ≡ true → IsTrue (not (is_inactive_state state))
+-- a slice that a split is making is not inactive
+pub not_inactive : (slice : Slice) → is_forming slice ≡ true → not (is_inactive slice) ≡ true
+not_inactive slice = by slice.state where
+  by : (state : State) → is_forming_state state ≡ true → not (is_inactive_state state) ≡ true
   by states.Active is = refl
   by states.Inactive is = absurd (cc)
   by states.Construction is = refl
   by states.Recovery is = refl
+
+-- and none of its cores is down, so that each takes part in what is written
+pub attached_where_forming : (b : Bucket) (slice : Slice) (core : Core) → IsSound b → Contains b.map slice
+    → slice.id ≡ core.core.slice → is_forming slice ≡ true → Contains b.replicas core → IsTrue (is_attached slice core)
+attached_where_forming b slice core sound in_map named forms there =
+    let journal = sound.journal in
+    let up : core.down ≡ false =
+    All-contains (λ (c : Core). c.down ≡ is_down b.journal.entries (core_key c)) b.replicas core sound.cores.down there
+    ∙ forming_is_up b.first b.journal.entries slice (core_key core) journal.legal
+    (subst IsMap journal.map_is (bucket_has_map b journal))
+    (subst (λ (slices : List Slice). Contains slices slice) journal.map_is in_map) forms
+    (ap (λ (id : SliceId). id.0) (sym named)) in
+    ap (λ t. t && not core.down) (not_inactive slice forms) ∙ ap not up
 
 -- each core is of a slice of the map, and its name is one of that slice's
 pub slice_of_core : (b : Bucket) (core : Core) → IsSound b → Contains b.replicas core
@@ -115,11 +130,22 @@ none_has_id slices core other =
         false_from_ne_true (nat_eq slice.id.0 core.slice.0)
         (λ same. other slice inside is (ap (λ (n : ℕ). record { 0 = n }) ((Decides-eqb slice.id.0 core.slice.0).0 same)))
 
+-- what a search for the slice of an id says of it
+abbrev pub IsFoundById : List Slice → SliceId → Option (Bor Slice) → Type 0
+IsFoundById slices id found =
+    MatchOption found (All (λ (slice : Slice). slice.id ≢ id) slices)
+    (λ slice. Contains slices slice.now × (slice.now.id ≡ id))
+
+-- so what is found is the slice of that id
+pub found_by_id : (slices : List Slice) (id : SliceId) (found : Option (Bor Slice)) (slice : Bor Slice) (one : Slice)
+    → IsMap slices → IsFoundById slices id found → found ≡ Some slice → Contains slices one → one.id ≡ id → slice.now ≡ one
+found_by_id slices id found slice one is_map is same there named =
+    let here = subst (IsFoundById slices id) same is in
+    same_from_id slices slice.now one is_map here.0 there (here.1 ∙ sym named)
+
 -- what a search for the slice of a core's id says of it
 abbrev pub IsSliceFound : List Slice → CoreId → Option (Bor Slice) → Type 0
-IsSliceFound slices core found =
-    MatchOption found (All (λ (slice : Slice). slice.id ≢ core.slice) slices)
-    (λ slice. Contains slices slice.now × (slice.now.id ≡ core.slice))
+IsSliceFound slices core found = IsFoundById slices core.slice found
 
 pub of_sub-found : (slices : List Slice) (core : CoreId) (found : Option (Bor Slice)) (slice : Bor Slice) → IsMap slices
     → IsSliceFound slices core found → found ≡ Some slice → is_forming slice.now ≡ is_of_sub slices core

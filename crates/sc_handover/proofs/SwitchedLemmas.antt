@@ -18,7 +18,9 @@ use Rattle.sc_cluster.proofs.PairLemmas.{Contains-from_map}
 use Rattle.sc_cluster.proofs.StateLemmas.{switched_keeps}
 use Rattle.sc_replica.specs.Core.{Core}
 use Rattle.sc_journal.specs.Journal.{writes, last_write}
+use Rattle.sc_journal.specs.Down.{is_down}
 use Rattle.sc_journal.specs.Splits.{open_split}
+use Rattle.sc_journal.proofs.DownLemmas.{LeavesCores-switched, is_down-left}
 use Rattle.sc_journal.proofs.JournalLemmas.{last_write-push_other, writes-push_other}
 use Rattle.sc_journal.proofs.SplitLemmas.{open_split-push}
 use Rattle.sc_bucket.specs.Kept.{FlightState}
@@ -27,6 +29,7 @@ use Rattle.sc_bucket.specs.Pending.{pending}
 use Rattle.sc_bucket.specs.Searchers.{ArePrepared}
 use Rattle.sc_bucket.specs.Sound.{HasLastWrites, HasCores, IsInPhase, IsSound}
 use Rattle.sc_bucket.specs.declared.bucket.Bucket.{Bucket}
+use Rattle.sc_bucket.proofs.SoundLemmas.{name_and_mark, AreMarked-left}
 use Rattle.std.proofs.lemmas.List.{append-nil}
 use Rattle.sc_handover.proofs.SentLemmas.{AreSent-more}
 use Rattle.sc_handover.specs.Conditions.{IsThereActive, CanSwitch}
@@ -53,7 +56,8 @@ last_of_sub : (b : Bucket) (parent : SliceId) (sub : Slice) (core : Core) → Is
 last_of_sub b parent sub core ready in_map forms there named =
     let active = all_are_active b parent core ready.sound ready.can there in
     let is_sub = of_sub_where_forming b.map core.core sub in_map named forms in
-    last_where_settled b sub core ready.sound in_map named (attached_where_forming sub forms) there active
+    last_where_settled b sub core ready.sound in_map named
+    (attached_where_forming b sub core ready.sound in_map named forms there) there active
     (All-contains IsQuiet b.replicas core ready.quiet there active) (in_flight-to_sub b core.core ready.settled is_sub)
 
 -- what is within one range is within the same
@@ -114,7 +118,7 @@ core-switched b parent core ready there = record {
   held = λ slice in_map named attached id write within is.
       let was = slice_before b parent slice in_map in
       before.held was.before was.there (was.id ∙ named)
-      (attached_before parent was.before (subst (λ (s : Slice). IsTrue (is_attached s)) (sym was.now) attached)) id write
+      (attached_before parent was.before core (subst (λ (s : Slice). IsTrue (is_attached s core)) (sym was.now) attached)) id write
       (within_same was.before.range slice.range _ was.range within) (sym (same_last b parent id) ∙ is);
   in_range = λ slice in_map named.
       let was = slice_before b parent slice in_map in
@@ -154,6 +158,9 @@ HasCores-switched old new parent ready puts = record {
   active = λ k d below slice in_map named settled.
       all_are_active old parent (get_or new.replicas k d) ready.sound ready.can
       (subst (λ (cores : List Core). Contains cores (get_or new.replicas k d)) puts.cores (inside k d below));
+  down = AreMarked-left old.journal.entries new.journal.entries old.replicas new.replicas (ap (map name_and_mark) puts.cores)
+      (λ key. ap (λ (entries : List Entry). is_down entries key) puts.entries
+      ∙ is_down-left old.journal.entries (entry.Switched parent) key (LeavesCores-switched parent)) has.down;
 } where
   has : HasCores old
   has = ready.sound.cores
@@ -195,7 +202,7 @@ HasCores-switched old new parent ready puts = record {
 
 -- so a bucket is sound once its split was switched
 pub IsSound-switched : (old new : Bucket) (parent : SliceId) → IsReadyToSwitch old parent → PutsSwitch old parent new
-    → SwitchesParts old new → IsSound new
+    → SwitchesParts old parent new → IsSound new
 IsSound-switched old new parent ready puts parts =
     let split = (split_is_open old parent ready.sound ready.can.recovering).0 in
     let slices : List Slice = map (switched_slice parent) old.map in
@@ -210,7 +217,7 @@ IsSound-switched old new parent ready puts parts =
     (HasSearchers-switched old new parent ready.sound split puts)
     (subst (λ phase. ArePrepared phase new.map new.searchers new.spares) (sym puts.phase_is) parts.spares_are)
     (AreSent-more old new (entry.Switched parent) [] ready.sound.messages puts.entries (λ _. refl)
-    (puts.cores ∙ sym (append-nil old.replicas)) (ap (λ (flight : FlightState). flight.messages) puts.flight_is))
+    (LeavesCores-switched parent) (puts.cores ∙ sym (append-nil old.replicas)) (ap (λ (flight : FlightState). flight.messages) puts.flight_is))
     (HasCores-switched old new parent ready puts)
     (AreFeeds-none new puts.feeds_are)
     (subst (IsInPhase new) (sym puts.phase_is) (record {

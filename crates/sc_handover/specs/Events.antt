@@ -11,6 +11,7 @@ use Rattle.sc_cluster.specs.Slices.{forming}
 use Rattle.sc_cluster.specs.Changes.{Change, after}
 use Rattle.sc_replica.specs.Core.{Core, fed_all, replayed}
 use Rattle.sc_replica.specs.Deliveries.{replaying}
+use Rattle.sc_journal.specs.Splits.{entries_of_split}
 use Rattle.sc_bucket.specs.Kept.{Sent, FeedState}
 use Rattle.sc_bucket.specs.Cores.{IsLeaderOf, is_of_one, put_by_name}
 use Rattle.sc_bucket.specs.Flight.{is_to, arrived}
@@ -26,10 +27,10 @@ use Rattle.sc_handover.specs.Made.{first_core, empty_core, cells_now, first_feed
 
 -- A split begins, which commits: each active slice has a searcher of its leader's cells as they are. The subs join the map, each with
 -- its leader, which buffers what comes and has no cells, and is fed from the parent's cells as they are. The journal has room for the
--- entry that says so and for the two that it owes then.
+-- entry that says so and for all that it owes then.
 pub record Begins (old : Bucket) (parent : SliceId) (subs : List SubSlice) (new : Bucket) : Type 0 where
   pub name : HasSameFirstAndLimit old new
-  pub room : BucketHasRoom 3 old
+  pub room : BucketHasRoom (entries_of_split subs) old
   pub map_is : new.map ≡ after old.map (Change.Begun parent subs)
   pub entries : new.journal.entries ≡ old.journal.entries ++ entry.Begun parent subs ∷ []
   pub phase_is : new.phase ≡ phases.Building parent

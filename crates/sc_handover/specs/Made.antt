@@ -1,5 +1,5 @@
 -- The cores and feeds that a split makes, and how far a piece of a feed goes.
-use Rattle.std.specs.Prelude.{ℕ, ◌+◌, ◌≤◌, pos, List, [], length, filter, take, drop, if◌then◌else◌}
+use Rattle.std.specs.Prelude.{ℕ, ◌+◌, ◌≤◌, pos, false, List, [], length, filter, take, drop, if◌then◌else◌}
 use Rattle.std.proofs.Math.Nat.{zero-lt-suc}
 use Rattle.sc_hash.specs.declared.range.Range.{Range}
 use Rattle.sc_record.specs.declared.slice.SliceId.{SliceId}
@@ -34,6 +34,7 @@ empty_core name = record {
   mode = Buffering;
   buffer = [];
   clock = pos 0;
+  down = false;
   cell_spare = 0;
   buffer_spare = 0;
 }

@@ -1,6 +1,7 @@
-ghost use Rattle.std.specs.Prelude.{◌≡◌, ◌<◌, ◌≤◌, ◌+◌, ◌↔◌, Err, [], ◌∷◌, ◌++◌, length, map, Contains, IfOk, OnOk, OnErr};
+ghost use Rattle.std.specs.Prelude.{◌≡◌, ◌<◌, ◌≤◌, ◌+◌, ◌^◌, ◌↔◌, Err, [], ◌∷◌, ◌++◌, length, map, Contains, IfOk, OnOk, OnErr};
 ghost use Rattle.std.specs.List.{AllZip};
 ghost use Rattle.std.specs.Arc.{arc_value};
+ghost use Rattle.sc_journal.specs.Splits.{entries_of_split};
 ghost use Rattle.sc_bucket.specs.Cores.{without_room};
 ghost use Rattle.sc_bucket.specs.declared.standing.Standing.{Standing};
 ghost use Rattle.sc_bucket.specs.Room.{BucketHasRoom, BucketIsFull};
@@ -26,7 +27,7 @@ use thiserror::Error;
 /// Why a split did not begin. The bucket is as it was.
 #[derive(Clone, Copy, Debug, PartialEq, Eq, Error)]
 pub enum BeginFault {
-    /// The journal has no room for the entry that says so and for the two that it owes then.
+    /// The journal has no room for the entry that says so and for those that it owes then.
     #[error("the update log is full")]
     LogFull,
     #[error("out of memory")]
@@ -52,12 +53,13 @@ pub fn begin(alloc: Global, bucket: &mut Bucket, plan: &SplitPlan) -> Result<(),
     ensures sound { IsSound bucket.new }
     ensures begun { OnOk result (Begins bucket.old plan.now.parent plan.now.subs bucket.new) }
     ensures refused { OnErr result (IsSameButRoom bucket.old bucket.new) }
-    ensures full { (result ≡ Err BeginFault.LogFull) ↔ BucketIsFull 3 bucket.old }
+    ensures full { (result ≡ Err BeginFault.LogFull) ↔ BucketIsFull (entries_of_split plan.now.subs) bucket.old }
 {
-    if bucket.limit < bucket.entries() + bucket.owed + 3 {
+    let entries = bucket.owed + entries_of_split(plan.subs.as_slice());
+    if bucket.limit < bucket.entries() + entries {
         return Err(BeginFault::LogFull);
     }
-    bucket.journal.reserve(bucket.owed as usize + 3)?;
+    bucket.journal.reserve(entries as usize)?;
     let beginning = prepare(alloc, bucket, plan)?;
     put_begun(bucket, plan.parent, beginning)?;
     Ok(())
@@ -106,14 +108,15 @@ fn prepare(alloc: Global, bucket: &Bucket, plan: &SplitPlan) -> Result<Beginning
 fn put_begun(bucket: &mut Bucket, parent: SliceId, beginning: Beginning) -> Result<(), AllocError>
     requires sound { IsSound bucket.old }
     requires can { CanBegin bucket.old parent beginning.subs }
-    requires memory { bucket.old.owed + 3 ≤ bucket.old.journal.room }
-    requires room { BucketHasRoom 3 bucket.old }
+    requires memory { bucket.old.owed + entries_of_split beginning.subs ≤ bucket.old.journal.room }
+    requires room { BucketHasRoom (entries_of_split beginning.subs) bucket.old }
     requires prepared { IsPreparedFor bucket.old parent beginning }
     ensures sound { IsSound bucket.new }
     ensures begun { OnOk result (Begins bucket.old parent beginning.subs bucket.new) }
     ensures refused { OnErr result (bucket.new ≡ bucket.old) }
 {
     bucket.replicas.append(beginning.cores)?;
+    bucket.owed += entries_of_split(beginning.subs.as_slice()) - 1;
     bucket.map = beginning.slices;
     bucket.feeds = Feeds::from_vec(beginning.feeds);
     bucket.searchers = beginning.searchers;
@@ -123,8 +126,20 @@ fn put_begun(bucket: &mut Bucket, parent: SliceId, beginning: Beginning) -> Resu
         parent,
         subs: beginning.subs,
     });
-    bucket.owed += 2;
     Ok(())
+}
+
+// How many entries a split into these slices takes: that it begins, its end and that of its parent, and one of each of their followers.
+fn entries_of_split(subs: &[SubSlice]) -> u64
+    requires few { length subs.now ≤ 256 }
+    ensures count { result ≡ entries_of_split subs.now }
+    ensures most { result < 2 ^ 16 }
+{
+    let mut entries = 3;
+    for sub in subs {
+        entries += u64::from(sub.replicas - 1);
+    }
+    entries
 }
 
 // A share of the snapshot that the searcher of this slice looks at.

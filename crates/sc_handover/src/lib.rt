@@ -7,11 +7,12 @@
 //! input and no output.
 //!
 //! Proved: the nine events of a split, each with its condition in `specs/Conditions` and its change in `specs/Events`, keep
-//! `IsSound`: `begin`, with its full log both ways, changes nothing but room if it is refused; `feed_piece` looks at 64 rows
-//! at most and `replay_piece` applies 64 writes at most, of one core; `grow`, refused, has delivered messages and no more;
-//! `switch` leaves every core of each sub with the last write of each id of its range (clause `last`); `abort` leaves the
-//! parent's cores and searchers as they were, and `drop_shard` those of all other slices (`sc_world`'s
-//! `splits_leave_others_alone` says so of all nine). None adds, moves or takes away a write (`entries`).
+//! `IsSound`: `begin`, with its full log both ways, asks for room for an entry of each follower of its slices too, and changes
+//! nothing but room if it is refused; `feed_piece` looks at 64 rows at most and `replay_piece` applies 64 writes at most, of
+//! one core; `grow`, refused, has delivered messages and no more; `switch` leaves every core of each sub with the last write of
+//! each id of its range (clause `last`); `abort` leaves the parent's cores and searchers as they were, and `drop_shard` those
+//! of all other slices (`sc_world`'s `splits_leave_others_alone` says so of all nine). None adds, moves or takes away a write,
+//! or says of a core that it is down (`entries`).
 //!
 //! Neither: speed; that only `begin` and `grow` take memory shows in their signatures.
 #![tactic(auto)]

@@ -1,8 +1,10 @@
-ghost use Rattle.std.specs.Prelude.{◌≡◌, ◌<◌, length, slice_get, Some, true, false, All};
+ghost use Rattle.std.specs.Prelude.{◌≡◌, ◌<◌, length, slice_get, Some, true, false, not, count_by, All, Contains};
 ghost use Rattle.sc_record.specs.declared.slice.SliceId.{SliceId};
+ghost use Rattle.sc_cluster.specs.declared.slice.Slice.{Slice};
 ghost use Rattle.sc_cluster.specs.Slices.{forming};
 ghost use Rattle.sc_cluster.specs.Changes.{Change, after};
 ghost use Rattle.sc_replica.specs.Core.{Core};
+ghost use Rattle.sc_journal.specs.Down.{is_down, follower_keys};
 ghost use Rattle.sc_bucket.specs.Sound.{IsSound};
 ghost use Rattle.sc_bucket.specs.Events.{DeliversAllTo};
 ghost use Rattle.sc_handover.specs.Conditions.{CanSwitch};
@@ -78,9 +80,30 @@ fn put_switch(bucket: &mut Bucket, parent: SliceId)
     ensures switched { PutsSwitch bucket.old parent bucket.new }
     ensures last { HaveLastWrites bucket.new (forming bucket.old.map) }
 {
+    bucket.owed -= 1 + followers_up(bucket, parent);
     bucket.map.switched(parent);
     bucket.searchers = bucket.spares.take().unwrap();
     bucket.phase = Phase::Idle;
     bucket.journal.append(Entry::Switched { parent });
-    bucket.owed -= 1;
+}
+
+// How many of the slice's followers are not down.
+fn followers_up(bucket: &Bucket, slice: SliceId) -> u64
+    requires sound { IsSound bucket.now }
+    requires there { (one : Slice) × Contains bucket.now.map one × (one.id ≡ slice) }
+    ensures { (one : Slice) → Contains bucket.now.map one → one.id ≡ slice
+        → result ≡ count_by (λ key. not (is_down bucket.now.journal.entries key)) (follower_keys one) }
+{
+    let replicas = bucket.map.by_id(slice).unwrap().replicas;
+    let mut count = 0;
+    for below in 1..replicas {
+        let core = CoreId {
+            slice,
+            replica: below + 1,
+        };
+        if !bucket.is_down(core) {
+            count += 1;
+        }
+    }
+    count
 }

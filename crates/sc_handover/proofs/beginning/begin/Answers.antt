@@ -4,7 +4,7 @@ use Rattle.sc_record.specs.declared.slice.SliceId.{SliceId}
 use Rattle.sc_record.specs.declared.slice.SubSlice.{SubSlice}
 use Rattle.sc_record.specs.declared.entry.Entry.{Entry}
 use Rattle.sc_record.specs.declared.entry.Entry.TheVariants as entry
-use Rattle.sc_journal.specs.Splits.{owed}
+use Rattle.sc_journal.specs.Splits.{owed, entries_of_split}
 use Rattle.sc_bucket.specs.Kept.{JournalState}
 use Rattle.sc_bucket.specs.Searchers.{AreTaken}
 use Rattle.sc_bucket.specs.declared.bucket.Bucket.{Bucket}
@@ -22,7 +22,7 @@ Begins-reserved : (b new : Bucket) (journal : JournalState) (parent : SliceId) (
 Begins-reserved b new journal parent subs others same same_subs is =
     subst (λ (these : List SubSlice). Begins b parent these new) same_subs (record {
       name = record { first = is.name.first; limit = is.name.limit };
-      room = subst (λ (entries : List Entry). length entries + owed b.first entries + 3 ≤ b.limit) same is.room;
+      room = subst (λ (entries : List Entry). length entries + owed b.first entries + entries_of_split subs ≤ b.limit) same is.room;
       map_is = is.map_is;
       entries = is.entries ∙ ap (λ (entries : List Entry). entries ++ entry.Begun parent subs ∷ []) same;
       phase_is = is.phase_is;

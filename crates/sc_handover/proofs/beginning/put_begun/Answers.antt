@@ -2,6 +2,7 @@
 use Rattle.std.proofs.Common.{◌∙◌, List, refl, sym, ap, subst, arith}
 use Rattle.sc_replica.specs.Core.{Core}
 use Rattle.std.specs.List.{AllZip}
+use Rattle.sc_journal.specs.Splits.{entries_of_split}
 use Rattle.sc_bucket.specs.Kept.{JournalState, FeedState}
 use Rattle.sc_bucket.specs.Sound.{IsSound}
 use Rattle.sc_bucket.specs.Events.{AreSameCores}
@@ -38,12 +39,13 @@ returns-clause-begun c =
 pub returns-clause-sound : goal.returns-clause-sound
 returns-clause-sound c =
     let left = ap (λ (journal : JournalState). journal.room) c.append-2.ensures in
+    let count = c.entries_of_split.ensures.count ∙ ap entries_of_split c.as_slice.ensures in
     IsSound-begun c.args.bucket.now _ c.args.parent c.args.beginning.subs c.args.beginning.cores.items c.requires.sound c.requires.can
     (returns-clause-begun c)
     (record {
       unsettled_are = refl;
-      owed_is = refl;
-      room = omega (arith, left, c.requires.memory);
+      owed_is = omega (arith, count);
+      room = omega (arith, left, c.requires.memory, count);
       replicas_are = c.in_ok-append.ensures.ok;
       made_are = c.requires.prepared.cores_are;
       roomy = subst (λ (feeds : List FeedState). AllZip IsRoomyFor feeds c.args.beginning.cores.items) (sym c.from_vec.ensures)

@@ -32,7 +32,7 @@ IsSound-ready b parent sound is led =
       prepared = subst (λ phase. ArePrepared phase b.map b.searchers b.spares) is sound.prepared;
       messages = AreSent-same b new refl refl refl sound.messages;
       room = sound.room;
-      cores = HasCores-alike b new refl refl sound.cores;
+      cores = HasCores-alike b new refl refl sound.cores.down sound.cores;
       feeds = AreFeeds-alike b new refl refl refl sound.feeds;
       phase = (IsOpen-same b new parent refl refl (subst (IsInPhase b) is sound.phase), led);
     }

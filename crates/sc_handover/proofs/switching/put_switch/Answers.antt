@@ -2,7 +2,7 @@
 use Rattle.std.proofs.Common.{refl, sym, ap, ◌∙◌, arith}
 use Rattle.sc_bucket.specs.Kept.{JournalState}
 use Rattle.sc_handover.proofs.SubLemmas.{none_is_fed}
-use Rattle.sc_handover.proofs.SwitchedMapLemmas.{split_is_open, owes_two}
+use Rattle.sc_handover.proofs.SwitchedMapLemmas.{split_is_open, owes_switched}
 use Rattle.sc_handover.proofs.HandedOnLemmas.{handed_on}
 use Rattle.sc_handover.proofs.SwitchedLemmas.{IsSound-switched, HaveLastWrites-switched}
 use Rattle.sc_handover.proofs.switching.put_switch.Goals as goal
@@ -22,19 +22,38 @@ returns-clause-switched c =
           (sym c.take.ensures.value ∙ c.unwrap.ensures);
     }
 
+pub followers_up-requires-clause-there : goal.followers_up-requires-clause-there
+followers_up-requires-clause-there c =
+    let split = (split_is_open c.args.bucket.now c.args.parent c.requires.sound c.requires.can.recovering).0.split in
+    (split.0, split.2.there, split.1)
+
+pub overflow_add-bucket : goal.overflow_add-bucket
+overflow_add-bucket c =
+    let (slice, there, named, owes) = owes_switched c.args.bucket.now c.args.parent c.requires.sound c.requires.can.recovering in
+    let journal = c.requires.sound.journal in
+    omega (arith, owes, c.followers_up.ensures slice there named, journal.within, journal.limit_to)
+
+pub overflow_sub-bucket : goal.overflow_sub-bucket
+overflow_sub-bucket c =
+    let (slice, there, named, owes) = owes_switched c.args.bucket.now c.args.parent c.requires.sound c.requires.can.recovering in
+    omega (arith, owes, c.followers_up.ensures slice there named)
+
 pub returns-clause-sound : goal.returns-clause-sound
 returns-clause-sound c =
     let old = c.args.bucket.now in
-    let split = (split_is_open old c.args.parent c.requires.sound c.requires.can.recovering).0 in
-    let two = owes_two old c.args.parent c.requires.sound.journal split in
+    let (slice, there, named, owes) = owes_switched old c.args.parent c.requires.sound c.requires.can.recovering in
+    let up = c.followers_up.ensures slice there named in
     let left = ap (λ (journal : JournalState). journal.room) c.append.ensures in
     IsSound-switched old _ c.args.parent
     (record { sound = c.requires.sound; can = c.requires.can; settled = c.requires.settled; quiet = c.requires.quiet })
     (returns-clause-switched c)
     (record {
       unsettled_are = refl;
-      owed_is = omega (arith, two);
-      room = omega (arith, left, c.requires.sound.journal.room);
+      slice = slice;
+      slice_there = there;
+      slice_is = named;
+      owed_is = omega (arith, owes, up);
+      room = omega (arith, left, c.requires.sound.journal.room, owes, up);
       spares_are = c.take.ensures.after;
     })
 

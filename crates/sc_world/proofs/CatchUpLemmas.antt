@@ -1,5 +1,5 @@
 -- A follower of an active slice for which nothing is pending has the cells of its leader.
-use Rattle.std.proofs.Common.{◌≡◌, ◌⊎◌, inl, inr, ◌∙◌, ℕ, suc, Bool, true, false, cond, not, IsTrue, List, [], ◌∷◌, find, Option, Some, None, Contains, refl, sym, ap, subst, arith}
+use Rattle.std.proofs.Common.{◌≡◌, ◌⊎◌, inl, inr, ◌∙◌, ℕ, suc, Bool, true, false, cond, not, ◌&&◌, IsTrue, List, [], ◌∷◌, find, Option, Some, None, Contains, refl, sym, ap, subst, arith}
 use Rattle.std.proofs.lemmas.List.Elements.{All-contains}
 use Rattle.std.proofs.lemmas.Option.{none-some, same_Some}
 use Rattle.sc_hash.specs.Range.{IsWithin}
@@ -12,10 +12,11 @@ use Rattle.sc_cluster.proofs.ListLemmas.{Contains-filter}
 use Rattle.sc_replica.specs.Core.{Core}
 use Rattle.sc_replica.proofs.ConvergeLemmas.{same-cells}
 use Rattle.sc_journal.specs.Journal.{writes, writes_of, last_write}
-use Rattle.sc_journal.specs.Splits.{is_inactive_state}
+use Rattle.sc_cluster.specs.Slices.{is_inactive_state}
 use Rattle.sc_journal.proofs.JournalLemmas.{id_from_is_of, last_write_none}
 use Rattle.sc_journal.proofs.LegalLemmas.{legal_hash}
-use Rattle.sc_bucket.specs.Cores.{is_attached, IsCoreWithoutRoom}
+use Rattle.sc_journal.specs.Down.{is_down}
+use Rattle.sc_bucket.specs.Cores.{core_key, is_attached, IsCoreWithoutRoom}
 use Rattle.sc_bucket.specs.Pending.{pending}
 use Rattle.sc_bucket.specs.Sound.{Serves, HasLastWrites, AreWritten, HasOrAwaits, AreInRange, IsInRange, IsSound}
 use Rattle.sc_bucket.specs.declared.bucket.Bucket.{Bucket}
@@ -56,12 +57,15 @@ id_is_within b slice core id cell sound of is =
     subst (IsWithin slice.range.min slice.range.max)
     (legal_hash b.first b.journal.entries cell sound.journal.legal written.0 ∙ ap route_hash (id_from_is_of id cell written.1)) within
 
--- with nothing pending the core of an active slice has the last writes
+-- with nothing pending the core of an active slice, which is not down, has the last writes
 has_last_writes : (b : Bucket) (slice : Slice) (core : Core) → IsSound b → IsOfSlice b slice core → slice.state ≡ states.Active
-    → pending b.flight.messages b.feeds core ≡ [] → HasLastWrites b.journal.entries slice core
-has_last_writes b slice core sound of active nothing id within = by (last_write b.journal.entries id) refl where
-  attached : IsTrue (is_attached slice)
-  attached = ap (λ state. not (is_inactive_state state)) active
+    → is_down b.journal.entries (core_key core) ≡ false → pending b.flight.messages b.feeds core ≡ []
+    → HasLastWrites b.journal.entries slice core
+has_last_writes b slice core sound of active up nothing id within = by (last_write b.journal.entries id) refl where
+  attached : IsTrue (is_attached slice core)
+  attached =
+      ap (λ state. not (is_inactive_state state) && not core.down) active
+      ∙ ap not (All-contains (λ (c : Core). c.down ≡ is_down b.journal.entries (core_key c)) b.replicas core sound.cores.down of.core_there ∙ up)
 
   held : HasOrAwaits b.journal.entries b.flight.messages b.feeds slice core
   held =
@@ -88,7 +92,7 @@ has_last_writes b slice core sound of active nothing id within = by (last_write 
   by None is = no_cell (write_of core.cells id) refl is ∙ sym is
 
 pub followers_catch_up : FollowersCatchUp
-followers_catch_up b slice leader follower sound there active leader_there leads follower_there follows nothing =
+followers_catch_up b slice leader follower sound there active leader_there leads follower_there follows up nothing =
     same-cells follower.cells leader.cells
     (All-contains IsCoreWithoutRoom b.replicas follower sound.in_order follower_there).ascends
     (All-contains IsCoreWithoutRoom b.replicas leader sound.in_order leader_there).ascends
@@ -106,7 +110,7 @@ followers_catch_up b slice leader follower sound there active leader_there leads
         b.replicas leader sound.leaders leader_there slice there (sym leads.0) active leads.1).1
 
     alike : (id : List ℕ) → IsWithin slice.range.min slice.range.max (route_hash id) → write_of follower.cells id ≡ write_of leader.cells id
-    alike id within = has_last_writes b slice follower sound of_follower active nothing id within ∙ sym (has id within)
+    alike id within = has_last_writes b slice follower sound of_follower active up nothing id within ∙ sym (has id within)
 
     by : (id : List ℕ) (mine theirs : Option Write) → write_of follower.cells id ≡ mine → write_of leader.cells id ≡ theirs
         → write_of follower.cells id ≡ write_of leader.cells id

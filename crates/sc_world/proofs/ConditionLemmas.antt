@@ -25,7 +25,8 @@ use Rattle.sc_ulog.specs.contracts.mode.Mode as modes
 use Rattle.sc_ulog.specs.declared.mode.Mode.TheVariants.{Active, Buffering, Replaying}
 use Rattle.sc_replica.specs.Core.{Core}
 use Rattle.sc_bucket.specs.Kept.{FeedState}
-use Rattle.sc_bucket.specs.Cores.{core_key, slice_keys, is_core, core_number, CoresAscend}
+use Rattle.sc_record.specs.Names.{is_core}
+use Rattle.sc_bucket.specs.Cores.{core_key, slice_keys, core_number, CoresAscend}
 use Rattle.sc_bucket.specs.Pending.{is_feed_of}
 use Rattle.sc_bucket.specs.Sound.{HasJournal, HasCores, AreLedActively}
 use Rattle.sc_bucket.specs.declared.bucket.Bucket.{Bucket}

@@ -59,6 +59,7 @@ goes_on-done parent old (events.Deliver place) added new is can ends (none, inr 
     goes_on parent old new is done.delivers.split.phase done.delivers.map_is
 goes_on-done parent old (events.Settle place) added new is can ends (none, done) = goes_on parent old new is done.split.phase done.map_is
 goes_on-done parent old events.Commit added new is can ends (none, done) = goes_on parent old new is done.split.phase done.map_is
+goes_on-done parent old (events.Detach core) added new is can ends (none, done) = goes_on parent old new is done.split.phase done.map_is
 goes_on-done parent old (events.Begin plan) added new is can ends done = not_idle parent old is can.0
 goes_on-done parent old (events.Feed core) added new is can ends (none, (last, done)) =
     goes_on parent old new is done.rest.phase_is done.rest.map_is

@@ -1,4 +1,4 @@
--- An event of a split changes no core and no searcher but those of its own slices.
+-- An event of a split changes no core and no searcher but those of its own slices, and a detach no core but its own.
 use Rattle.std.proofs.Common.{◌≡◌, ◌≢◌, ◌≤◌, ◌<◌, ℕ, zero, suc, nat_lt, nat_eq, eqb, Bool, true, false, not, cond, List, [], ◌∷◌, ◌++◌, map, filter, set, take, slice_get, Some, All, Contains, refl, sym, ap, ◌∙◌, subst, arith}
 use Rattle.std.proofs.lemmas.Bool.{false≢true, not-true, eqb-true}
 use Rattle.std.proofs.lemmas.List.{append-nil}
@@ -19,8 +19,9 @@ use Rattle.sc_ulog.specs.declared.mode.Mode.TheVariants.{Active, Buffering, Repl
 use Rattle.sc_replica.specs.Core.{Core, fed_all, received, replay_limit, replayed}
 use Rattle.sc_replica.specs.Deliveries.{received_all, replaying}
 use Rattle.sc_bucket.specs.Kept.{Sent, FeedState}
-use Rattle.sc_bucket.specs.Cores.{core_number, is_core, is_of_one, put_by_name, without_room}
-use Rattle.sc_bucket.specs.Events.{AreSameCores}
+use Rattle.sc_record.specs.Names.{is_core}
+use Rattle.sc_bucket.specs.Cores.{core_number, is_of_one, put_by_name, without_room}
+use Rattle.sc_bucket.specs.Events.{AreSameCores, detached}
 use Rattle.sc_bucket.specs.Flight.{in_flight, arrived}
 use Rattle.sc_bucket.specs.Searchers.{StandingState, standing_of, cut_to}
 use Rattle.sc_bucket.specs.Sound.{IsFeed, IsSound}
@@ -39,7 +40,7 @@ use Rattle.sc_handover.proofs.FedLemmas.{name-fed_all}
 use Rattle.sc_handover.proofs.KeptLemmas.{same_number, slice_of_one, is_of_one-there}
 use Rattle.sc_handover.proofs.PlanLemmas.{sub_above}
 use Rattle.sc_handover.proofs.SubLemmas.{slice_of_core, of_sub_where_forming}
-use Rattle.sc_world.specs.Others.{cores_apart, searchers_apart, SplitsLeaveOthersAlone}
+use Rattle.sc_world.specs.Others.{cores_apart, searchers_apart, SplitsLeaveOthersAlone, DetachesLeaveOthersAlone}
 
 -- the core is of none of the slices
 abbrev is_apart : List Slice → Core → Bool
@@ -345,3 +346,22 @@ splits_leave_others_alone old new sound = record {
   aborts = λ parent aborts. record { cores = aborted_apart old new parent sound aborts; searchers = aborts.searchers_are };
   drops = λ slice drops. record { cores = dropped_apart old new slice sound drops; searchers = drops.searchers_are };
 }
+
+-- a core that is marked as down leaves the others
+pub detaches_leave_others_alone : DetachesLeaveOthersAlone
+detaches_leave_others_alone old new name detaches = record {
+  cores = ap (filter is_other_core) detaches.cores ∙ filter-map_apart is_other_core (detached name) kept fixed old.replicas;
+  searchers = detaches.searchers_are;
+} where
+  is_other_core : Core → Bool
+  is_other_core core = not (is_core name core.core)
+
+  kept : (core : Core) → is_other_core (detached name core) ≡ is_other_core core
+  kept core = by (is_core name core.core) where
+    by : (b : Bool) → is_other_core (cond b (record core { down = true }) core) ≡ is_other_core core
+    by true = refl
+    by false = refl
+
+  fixed : (core : Core) → is_other_core core ≡ true → detached name core ≡ core
+  fixed core other =
+      ap (λ b. cond b (record core { down = true }) core) (not-true (is_core name core.core) other)

@@ -1,5 +1,5 @@
 -- The events that make the entries which a bucket owes, one after another, bring it to rest.
-use Rattle.std.proofs.Common.{◌≡◌, inl, inr, ℕ, zero, suc, ◌+◌, ◌≤◌, true, false, List, [], ◌∷◌, ◌++◌, length, None, All, Contains, refl, sym, ap, ◌∙◌, subst, arith, length-append}
+use Rattle.std.proofs.Common.{◌≡◌, inl, inr, ℕ, zero, suc, ◌+◌, ◌≤◌, true, List, [], ◌∷◌, ◌++◌, length, None, All, Contains, refl, sym, ap, ◌∙◌, subst, arith, length-append}
 use Rattle.std.specs.Prelude.{IsSome}
 use Rattle.std.proofs.lemmas.Bool.{false≢true}
 use Rattle.std.proofs.lemmas.List.Elements.{All-nil, All-cons, All-contains, Contains-append_right}
@@ -15,7 +15,7 @@ use Rattle.sc_journal.specs.Splits.{map_after, open_split, owed}
 use Rattle.sc_journal.specs.Legal.{MayFollow, IsLegal}
 use Rattle.sc_journal.specs.Laws.{IsAtRest}
 use Rattle.sc_journal.proofs.LegalLemmas.{IsLegal-push}
-use Rattle.sc_journal.proofs.RestLemmas.{OwesLess, owes_less, owes_nothing_at_rest}
+use Rattle.sc_journal.proofs.RestLemmas.{owed_to_rest, owed_is, OwesLess, owes_less, owes_nothing_at_rest}
 use Rattle.sc_journal.proofs.SplitLemmas.{map_after-push, map_after-left, open_split-push, open_split-left, LeavesSlices-settled}
 use Rattle.sc_bucket.specs.Sound.{IsInPhase, IsSound}
 use Rattle.sc_bucket.specs.declared.bucket.Bucket.{Bucket}
@@ -128,6 +128,9 @@ makes_owed first journal (entry.Write cell) owes = absurd (false≢true owes.clo
 makes_owed first journal entry.Committed owes = absurd (false≢true owes.closing)
 makes_owed first journal (entry.Begun parent subs) owes = absurd (false≢true owes.closing)
 makes_owed first journal (entry.Switched parent) owes = absurd (false≢true owes.closing)
+makes_owed first journal (entry.Down core) owes = absurd (false≢true owes.closing)
+makes_owed first journal (entry.Up core) owes = absurd (false≢true owes.closing)
+makes_owed first journal (entry.Led core) owes = absurd (false≢true owes.closing)
 
 -- such an event is not refused
 never_refused : (old : Bucket) (event : Event) (new : Bucket) → is_closing event ≡ true → IsRefused old event new → ⊥
@@ -138,6 +141,7 @@ never_refused old (events.Accept order now) new close refused = false≢true clo
 never_refused old (events.DeliverNth k) new close refused = refused
 never_refused old (events.Deliver place) new close refused = refused
 never_refused old events.Commit new close refused = false≢true close
+never_refused old (events.Detach core) new close refused = refused
 never_refused old (events.Begin plan) new close refused = false≢true close
 never_refused old (events.Feed core) new close refused = refused
 never_refused old (events.StartReplay core) new close refused = refused
@@ -155,6 +159,7 @@ never_out old (events.Accept order now) new close out = false≢true close
 never_out old (events.DeliverNth k) new close out = out
 never_out old (events.Deliver place) new close out = out
 never_out old events.Commit new close out = false≢true close
+never_out old (events.Detach core) new close out = out
 never_out old (events.Begin plan) new close out = false≢true close
 never_out old (events.Feed core) new close out = out
 never_out old (events.StartReplay core) new close out = out
@@ -190,12 +195,12 @@ record IsRested (first : List Slice) (journal : List Entry) (count : ℕ) (new :
 -- these events bring each bucket with this history to rest
 record Closing (first : List Slice) (journal : List Entry) (closing : List Event) : Type 0 where
   pub close : All (λ (event : Event). is_closing event ≡ true) closing
-  pub few : length closing ≤ owed first journal
+  pub few : length closing ≤ owed_to_rest first journal
   pub rested : (old : Bucket) (added : List Write) (new : Bucket) → HasHistory first journal old → Runs old closing added new
       → IsRested first journal (length closing) new
 
--- none where nothing is owed
-none_closing : (first : List Slice) (journal : List Entry) → owed first journal ≡ 0 → Closing first journal []
+-- none where nothing is left to be done
+none_closing : (first : List Slice) (journal : List Entry) → owed_to_rest first journal ≡ 0 → Closing first journal []
 none_closing first journal nothing = record {
   close = All-nil (λ (event : Event). is_closing event ≡ true);
   few = omega arith;
@@ -204,7 +209,7 @@ none_closing first journal nothing = record {
       record {
         first_is = ap (λ (b : Bucket). b.first) runs.1 ∙ has.first_is;
         longer = let alike = ap length same in omega (arith, alike);
-        at_rest = subst (IsAtRest first) (sym same) ((owes_nothing_at_rest first journal).0 nothing);
+        at_rest = subst (IsAtRest first) (sym same) ((owes_nothing_at_rest first journal).0 (omega (arith, nothing, owed_is first journal)));
       };
 }
 
@@ -227,12 +232,12 @@ more_closing first journal one event closing owes makes rest = record {
 }
 
 -- So there are events that bring it to rest.
-closing_from : (n : ℕ) (first : List Slice) (journal : List Entry) → owed first journal ≤ n → IsLegal first journal
+closing_from : (n : ℕ) (first : List Slice) (journal : List Entry) → owed_to_rest first journal ≤ n → IsLegal first journal
     → (closing : List Event) × Closing first journal closing
 closing_from zero first journal most legal = ([], none_closing first journal (omega (arith, most)))
-closing_from (suc n) first journal most legal = by (closing_from n first) (owed first journal) refl where
-  by : ((longer : List Entry) → owed first longer ≤ n → IsLegal first longer → (closing : List Event) × Closing first longer closing)
-      → (m : ℕ) → owed first journal ≡ m → (closing : List Event) × Closing first journal closing
+closing_from (suc n) first journal most legal = by (closing_from n first) (owed_to_rest first journal) refl where
+  by : ((longer : List Entry) → owed_to_rest first longer ≤ n → IsLegal first longer → (closing : List Event) × Closing first longer closing)
+      → (m : ℕ) → owed_to_rest first journal ≡ m → (closing : List Event) × Closing first journal closing
   by later zero is = ([], none_closing first journal is)
   by later (suc m) is =
       let (one, owes) = owes_less first journal (omega (arith, is)) in
@@ -244,16 +249,17 @@ closing_from (suc n) first journal most legal = by (closing_from n first) (owed 
 
 pub buckets_come_to_rest : BucketsComeToRest
 buckets_come_to_rest old sound =
-    let (closing, all) = closing_from (owed old.first old.journal.entries) old.first old.journal.entries (omega arith) sound.journal.legal in
-    let has = sound_history old sound in (
+    let (closing, all) = closing_from (owed_to_rest old.first old.journal.entries) old.first old.journal.entries (omega arith) sound.journal.legal in
+    let has = sound_history old sound in
+    let few : length closing ≤ owed old.first old.journal.entries =
+    let least = all.few in omega (arith, least, owed_is old.first old.journal.entries) in (
       closing,
       record {
         close = all.close;
-        few = all.few;
+        few = few;
         in_memory = λ added new. never_runs_out old closing added new all.close;
         within = λ added new runs.
             let longer = (all.rested old added new has runs).longer in
-            let few = all.few in
             let within = sound.journal.within in
             let owes = sound.journal.owed_is in
             omega (arith, longer, few, within, owes);

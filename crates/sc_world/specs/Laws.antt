@@ -8,7 +8,8 @@ use Rattle.sc_cluster.specs.declared.slice.State.TheVariants as states
 use Rattle.sc_cluster.specs.declared.slice.Slice.{Slice}
 use Rattle.sc_replica.specs.Core.{Core}
 use Rattle.sc_journal.specs.Journal.{writes_of, last_of, last_write}
-use Rattle.sc_bucket.specs.Cores.{IsLeaderOf}
+use Rattle.sc_journal.specs.Down.{is_down}
+use Rattle.sc_bucket.specs.Cores.{core_key, IsLeaderOf}
 use Rattle.sc_bucket.specs.Pending.{pending}
 use Rattle.sc_bucket.specs.Sound.{HasLastWrites, IsSound}
 use Rattle.sc_bucket.specs.declared.bucket.Bucket.{Bucket}
@@ -53,9 +54,10 @@ LeavesNothing = (old begun last new : Bucket) (plan : SplitPlan) (between : List
     → IsLeaderOf slice.id leader → HasLastWrites new.journal.entries slice leader)
     × ((id : List ℕ) → last_write new.journal.entries id ≡ last_of (writes_of old.journal.entries id ++ filter (is_of id) added))
 
--- A follower of an active slice, and so of a sub once its split was switched, has the cells of its leader once nothing is pending for it.
+-- A follower of an active slice, and so of a sub once its split was switched, has the cells of its leader once nothing is pending for
+-- it, unless it is down.
 abbrev pub FollowersCatchUp : Type 0
 FollowersCatchUp = (b : Bucket) (slice : Slice) (leader follower : Core) → IsSound b → Contains b.map slice → slice.state ≡ states.Active
     → Contains b.replicas leader → IsLeaderOf slice.id leader
-    → Contains b.replicas follower → follower.core.slice ≡ slice.id → pending b.flight.messages b.feeds follower ≡ []
+    → Contains b.replicas follower → follower.core.slice ≡ slice.id → is_down b.journal.entries (core_key follower) ≡ false → pending b.flight.messages b.feeds follower ≡ []
     → follower.cells ≡ leader.cells

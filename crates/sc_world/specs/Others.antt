@@ -1,5 +1,7 @@
--- What the events of a split leave alone: the cores and the searchers of the slices that it is not about.
+-- What events leave alone: those of a split the cores and the searchers of the slices that it is not about, and a detach every core but
+-- its own.
 use Rattle.std.specs.Prelude.{◌≡◌, Bool, not, List, [], ◌∷◌, map, filter}
+use Rattle.sc_record.specs.Names.{is_core}
 use Rattle.sc_record.specs.declared.slice.SliceId.{SliceId}
 use Rattle.sc_record.specs.declared.slice.SubSlice.{SubSlice}
 use Rattle.sc_record.specs.declared.slice.CoreId.{CoreId}
@@ -7,7 +9,7 @@ use Rattle.sc_cluster.specs.declared.slice.Slice.{Slice}
 use Rattle.sc_cluster.specs.Slices.{forming}
 use Rattle.sc_replica.specs.Core.{Core}
 use Rattle.sc_bucket.specs.Cores.{is_of_one}
-use Rattle.sc_bucket.specs.Events.{AreSameCores}
+use Rattle.sc_bucket.specs.Events.{AreSameCores, Detaches}
 use Rattle.sc_bucket.specs.Searchers.{StandingState, standing_of}
 use Rattle.sc_bucket.specs.Sound.{IsSound}
 use Rattle.sc_bucket.specs.declared.bucket.Bucket.{Bucket}
@@ -55,6 +57,19 @@ pub record LeaveOthersAlone (old new : Bucket) : Type 0 where
   pub aborts : (parent : SliceId) → Aborts old parent new → LeavesAlone (forming old.map) old new
   pub drops : (slice : Slice) → Drops old slice.id new → LeavesAlone (slice ∷ []) old new
 
+-- the cores of other names
+abbrev pub cores_but : CoreId → Bucket → List Core
+cores_but name b = filter (λ (core : Core). not (is_core name core.core)) b.replicas
+
+-- each core of another name stays as it was, and so does each searcher
+pub record LeavesAloneButCore (name : CoreId) (old new : Bucket) : Type 0 where
+  pub cores : cores_but name new ≡ cores_but name old
+  pub searchers : new.searchers ≡ old.searchers
+
 -- on a sound bucket an event of a split leaves alone the cores and the searchers of all slices that it is not about
 abbrev pub SplitsLeaveOthersAlone : Type 0
 SplitsLeaveOthersAlone = (old new : Bucket) → IsSound old → LeaveOthersAlone old new
+
+-- a core that is marked as down leaves every other core alone, and all searchers
+abbrev pub DetachesLeaveOthersAlone : Type 0
+DetachesLeaveOthersAlone = (old new : Bucket) (name : CoreId) → Detaches old name new → LeavesAloneButCore name old new

@@ -6,9 +6,10 @@ use Rattle.sc_record.specs.declared.write.Write.{Write}
 use Rattle.sc_cluster.specs.declared.slice.Slice.{Slice}
 use Rattle.sc_cluster.specs.Slices.{forming}
 use Rattle.sc_journal.specs.Journal.{write_at, is_settled}
+use Rattle.sc_journal.specs.Splits.{entries_of_split}
 use Rattle.sc_journal.specs.Outcomes.{Outcome, accepted, conflict, partial, log_full, out_of_memory, IsOutcome, IsMet}
 use Rattle.sc_bucket.specs.Kept.{Sent}
-use Rattle.sc_bucket.specs.Events.{IsSameButRoom, Accepts, Delivers, DeliversFirst, DeliversAllTo, Settles, Commits}
+use Rattle.sc_bucket.specs.Events.{IsSameButRoom, Accepts, Delivers, DeliversFirst, DeliversAllTo, Settles, Commits, CanDetach, Detaches}
 use Rattle.sc_bucket.specs.Room.{BucketIsFull}
 use Rattle.sc_bucket.specs.declared.bucket.Bucket.{Bucket}
 use Rattle.sc_handover.specs.Conditions.{CanBegin, CanFeed, CanStartReplay, CanReplay, CanBeReady, CanGrow, CanSwitch, CanAbort, CanDrop}
@@ -24,6 +25,7 @@ Can b (events.DeliverNth k) = ⊤
 Can b (events.Deliver place) = ⊤
 Can b (events.Settle place) = IsSome (write_at b.journal.entries place) × (is_settled b.journal.entries place ≡ false)
 Can b events.Commit = ⊤
+Can b (events.Detach core) = CanDetach b core
 Can b (events.Begin plan) = CanBegin b plan.parent plan.subs
 Can b (events.Feed core) = CanFeed b core
 Can b (events.StartReplay core) = CanStartReplay b core
@@ -44,6 +46,7 @@ IsDoneWithoutWrite old (events.Deliver place) new =
     ⊎ ((core : CoreId) × DeliversFirst old place core new)
 IsDoneWithoutWrite old (events.Settle place) new = Settles old place new
 IsDoneWithoutWrite old events.Commit new = Commits old new
+IsDoneWithoutWrite old (events.Detach core) new = Detaches old core new
 IsDoneWithoutWrite old (events.Begin plan) new = Begins old plan.parent plan.subs new
 IsDoneWithoutWrite old (events.Feed core) new = (is_last : Bool) × FeedsPiece old core is_last new
 IsDoneWithoutWrite old (events.StartReplay core) new = StartsReplay old core new
@@ -75,7 +78,7 @@ IsRefused old (events.Accept order now) new =
     (outcome : Outcome) × IsRefusal outcome
     × IsOutcome old.limit old.first old.journal.entries order now outcome old.journal.entries × IsSameButRoom old new
 IsRefused old events.Commit new = IsSameButRoom old new × BucketIsFull 1 old
-IsRefused old (events.Begin plan) new = IsSameButRoom old new × BucketIsFull 3 old
+IsRefused old (events.Begin plan) new = IsSameButRoom old new × BucketIsFull (entries_of_split plan.subs) old
 IsRefused old _ new = ⊥
 
 -- memory ran out at the event: the bucket is as it was, but that what was in flight to a follower's leader was delivered

@@ -23,6 +23,7 @@ pub fn can(bucket: &Bucket, event: &Event) -> bool
         Event::Accept { .. } | Event::DeliverNth { .. } | Event::Deliver { .. } | Event::Commit =>
             true,
         Event::Settle { place } => bucket.unsettled.contains(*place),
+        Event::Detach { core } => bucket.can_detach(*core),
         Event::Begin { plan } => bucket.phase == Phase::Idle && bucket.map.allows(plan),
         Event::Feed { core } => has_feed(bucket, *core),
         Event::StartReplay { core } => {

@@ -14,6 +14,8 @@ pub enum Event {
     Settle { place: u64 },
     /// All is committed.
     Commit,
+    /// The core is marked as down.
+    Detach { core: CoreId },
     /// A split begins.
     Begin { plan: SplitPlan },
     /// The core is fed a piece.

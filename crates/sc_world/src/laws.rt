@@ -1,7 +1,7 @@
 //! What lists of events come to.
 
 ghost use Rattle.sc_world.specs.Laws.{KeepsTheTable, StaysWithoutOrders, LeavesNothing, FollowersCatchUp};
-ghost use Rattle.sc_world.specs.Others.{SplitsLeaveOthersAlone};
+ghost use Rattle.sc_world.specs.Others.{SplitsLeaveOthersAlone, DetachesLeaveOthersAlone};
 ghost use Rattle.sc_world.specs.Rests.{BucketsComeToRest};
 
 /// No event of a split makes, moves or takes away a write.
@@ -23,6 +23,11 @@ pub fn followers_catch_up()
 /// An event of a split changes nothing of the slices that it is not about.
 pub fn splits_leave_others_alone()
     ensures { SplitsLeaveOthersAlone }
+{}
+
+/// A core that is marked as down changes nothing of another.
+pub fn detaches_leave_others_alone()
+    ensures { DetachesLeaveOthersAlone }
 {}
 
 /// What a bucket owes is enough to end all that was begun.

@@ -1,5 +1,6 @@
-//! Everything that may happen to a bucket, as a list of events: updates, deliveries, commits and the steps of splits, in any order.
-//! Over every such list a bucket stays sound, and no write comes to its journal but those of the orders that were accepted.
+//! Everything that may happen to a bucket, as a list of events: updates, deliveries, commits, followers that are marked as
+//! down, and the steps of splits, in any order. Over every such list a bucket stays sound, and no write comes to its journal
+//! but those of the orders that were accepted.
 //!
 //! It depends on `sc_bucket` and `sc_handover`, and does no input and no output. `can` says whether an event's condition holds,
 //! `run_events` has the events of a list come.
@@ -7,8 +8,9 @@
 //! Proved: `can` is true exactly if an event's condition holds; `run_events` has each event of a list come whose condition
 //! holds, passes over the others, stops if memory runs out, and keeps `IsSound`, and the journal gains just the writes of the
 //! accepted orders, in order and each once (`Runs`). Laws in `specs/Laws`: `splits_keep_the_table`,
-//! `given_up_splits_leave_nothing`, `followers_catch_up`, `splits_leave_others_alone` (an event of a split leaves the cores
-//! and searchers of all slices alone that it is not about), `buckets_come_to_rest` (a sound bucket can settle each write, end
+//! `given_up_splits_leave_nothing`, `followers_catch_up` (those that are not down), `splits_leave_others_alone` (an event of a
+//! split leaves the cores and searchers of all slices alone that it is not about), `detaches_leave_others_alone` (a core that
+//! is marked as down changes no other core and no searcher), `buckets_come_to_rest` (a sound bucket can settle each write, end
 //! its split and drop its inactive slices within the entries that it owes).
 //!
 //! Tested alone: worked splits of one shard; 21 lists of 2,875 events, drawn from fixed seeds (`sc_scenarios`): after each
@@ -29,7 +31,7 @@ mod laws;
 pub use condition::can;
 pub use event::Event;
 pub use laws::{
-    buckets_come_to_rest, followers_catch_up, given_up_splits_leave_nothing, splits_keep_the_table,
-    splits_leave_others_alone,
+    buckets_come_to_rest, detaches_leave_others_alone, followers_catch_up,
+    given_up_splits_leave_nothing, splits_keep_the_table, splits_leave_others_alone,
 };
 pub use run::run_events;

@@ -39,6 +39,10 @@ pub(crate) fn step(alloc: Global, bucket: &mut Bucket, event: &Event) -> Result<
             Ok(())
         }
         Event::Commit => commit_bucket(alloc, bucket),
+        Event::Detach { core } => {
+            bucket.detach(*core);
+            Ok(())
+        }
         Event::Begin { plan } => begin_split(alloc, bucket, plan),
         Event::Feed { core } => {
             let _is_done = feed_piece(bucket, *core);

@@ -1,5 +1,6 @@
 -- What the proofs of this crate share.
 pub mod SlotLemmas
+pub mod FollowerLemmas
 pub mod PlaceLemmas
 pub mod AloneLemmas
 pub mod HoldLemmas

@@ -1,5 +1,5 @@
 -- Which places one event of a bucket adds to those of its journal's entries.
-use Rattle.std.proofs.Common.{◌≡◌, ℕ, zero, suc, ◌+◌, true, cond, ltb, List, [], ◌∷◌, ◌++◌, length, refl, sym, ap, ◌∙◌, arith, zero-add}
+use Rattle.std.proofs.Common.{◌≡◌, ℕ, zero, suc, ◌+◌, true, cond, ltb, List, [], ◌∷◌, ◌++◌, length, sym, ap, ◌∙◌, arith, zero-add}
 use Rattle.std.specs.List.{range_with_len}
 use Rattle.std.proofs.lemmas.Bool.{lt-ltb, le-ltb}
 use Rattle.std.proofs.lemmas.List.{append-nil, length_push}
@@ -63,3 +63,4 @@ step_places held given step = by step where
   by (IsStep.delivers delivered) = unchanged given.journal.entries delivered.entries
   by (IsStep.settles {place = place} written still settled) = pushed given.journal.entries (entry.Settled place) settled.entries
   by (IsStep.commits committed) = pushed given.journal.entries entry.Committed committed.entries
+  by (IsStep.detaches {name = name} can detached) = pushed given.journal.entries (entry.Down name) detached.entries

@@ -9,6 +9,7 @@ pub struct Shape {
     pub replicas: u8,
     /// Over how many buckets the ids are spread: a power of two from 1 to 256.
     pub buckets: u32,
-    /// How many entries the journal of a bucket may have, from 16 to 2^24.
+    /// How many entries the journal of a bucket may have: at least 16 and one for each replica of a shard above the first, and at
+    /// most 2^24.
     pub log_limit: u64,
 }

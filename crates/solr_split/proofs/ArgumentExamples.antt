@@ -37,6 +37,12 @@ twenty_digits = refl
 pub least_numbers : script_of (words_of (codes "script --nodes=1 --shards=1 --replicas 1 --buckets=1 --log-limit=16")) ≡ script 1 1 1 1 16 None
 least_numbers = refl
 
+pub least_limit_of_two_replicas : script_of (words_of (codes "script --replicas 2 --log-limit 17")) ≡ script 1 1 2 64 17 None
+least_limit_of_two_replicas = refl
+
+pub least_limit_of_most_followers : script_of (words_of (codes "script --shards=64 --replicas=4 --log-limit=208")) ≡ script 1 64 4 64 208 None
+least_limit_of_most_followers = refl
+
 pub greatest_numbers : script_of (words_of (codes "script --nodes=16 --shards 64 --replicas=4 --buckets=256 --log-limit 16777216 --clock=18446744073709551615"))
     ≡ script 16 64 4 256 16777216 (Some (2 ^ 64 - 1))
 greatest_numbers = refl
@@ -54,7 +60,8 @@ refused =
     ∷ codes "script --clock=1=1" ∷ codes "script --clock 18446744073709551616" ∷ codes "script --clock 000000000000000000001"
     ∷ codes "script --nodes=0" ∷ codes "script --nodes=17" ∷ codes "script --shards=0" ∷ codes "script --shards=65"
     ∷ codes "script --buckets=0" ∷ codes "script --buckets=3" ∷ codes "script --buckets=512"
-    ∷ codes "script --log-limit=15" ∷ codes "script --log-limit=16777217" ∷ []
+    ∷ codes "script --log-limit=15" ∷ codes "script --log-limit=16777217" ∷ codes "script --replicas 2 --log-limit 16"
+    ∷ codes "script --shards=64 --replicas=4 --log-limit=207" ∷ []
 
 pub refused_lines : map (λ line. script_of (words_of line)) refused ≡ map (λ line. None) refused
 refused_lines = refl

@@ -5,7 +5,7 @@ use Rattle.std.proofs.lemmas.List.{take_all, drop_all}
 use Rattle.std.specs.Prelude.{is_some}
 use Rattle.std.specs.Option.{option_copied}
 use Rattle.std.specs.Str.{bytes_eq}
-use Rattle.solr_split.specs.Arguments.{Setting, is_equals_sign, is_number, parts, settings, option_names, option_value, are_options}
+use Rattle.solr_split.specs.Arguments.{Setting, is_equals_sign, is_number, setting_of, settings, option_names, option_value, are_options}
 
 any_at : (word : List ℕ) → position_or_len is_equals_sign word < length word → list_any is_equals_sign word ≡ true
 any_at [] h = absurd (omega arith)
@@ -21,7 +21,7 @@ none_at (byte ∷ word) h = by (is_equals_sign byte) h (none_at word) where
   by true h rest = absurd (omega arith)
   by false h rest = rest (omega arith)
 
-pub of_one_word : (word : List ℕ) (words : List (List ℕ)) → position_or_len is_equals_sign word < length word → settings (word ∷ words) ≡ parts word ∷ settings words
+pub of_one_word : (word : List ℕ) (words : List (List ℕ)) → position_or_len is_equals_sign word < length word → settings (word ∷ words) ≡ setting_of word ∷ settings words
 of_one_word word [] h = refl
 of_one_word word (value ∷ words) h = rw (any_at word h) refl
 

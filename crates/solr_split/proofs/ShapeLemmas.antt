@@ -1,10 +1,10 @@
 -- The numbers that a shape may have are those that its options may have.
-use Rattle.std.proofs.Common.{◌≡◌, ◌≤◌, ℕ, Bool, true, false, ◌||◌, List, [], ◌∷◌, Some, None, cond, refl, subst, arith}
+use Rattle.std.proofs.Common.{◌≡◌, ℕ, Bool, true, false, ◌||◌, List, [], ◌∷◌, Some, None, cond, refl, subst, arith}
 use Rattle.std.specs.Prelude.{◌==◌}
 use Rattle.std.specs.List.{list_any, AllByRecursion}
 use Rattle.std.proofs.lemmas.Bool.Decides.{nat_tests}
 use Rattle.sc_router.specs.Route.{IsBucketCount}
-use Rattle.solr_split.specs.Arguments.{is_in_option_range, is_bucket_count}
+use Rattle.solr_split.specs.Arguments.{is_bucket_count}
 
 -- what holds of each number of a list holds of one that is among them
 holds_of : (P : ℕ → Type 0) (number : ℕ) (numbers : List ℕ) → AllByRecursion P numbers → list_any (λ other. number == other) numbers ≡ true → P number
@@ -26,12 +26,4 @@ count_of number n e = by (is_bucket_count number) refl e where
   by true h e =
       let same : number ≡ n = cc in
       subst IsBucketCount same (count number h)
-  by false h e = absurd (cc)
-
-pub range_of : (least most number n : ℕ) → cond (is_in_option_range least most number) (Some number) None ≡ Some n → (least ≤ n) × (n ≤ most)
-range_of least most number n e = by (is_in_option_range least most number) refl e where
-  by : (t : Bool) → is_in_option_range least most number ≡ t → cond t (Some number) None ≡ Some n → (least ≤ n) × (n ≤ most)
-  by true h e =
-      let same : number ≡ n = cc in
-      subst (λ (n : ℕ). (least ≤ n) × (n ≤ most)) same (grind (arith, nat_tests), grind (arith, nat_tests))
   by false h e = absurd (cc)

@@ -6,6 +6,7 @@ use Rattle.std.specs.Option.{unwrap_or}
 use Rattle.std.specs.Str.{bytes_eq}
 use Rattle.std.specs.Str.Parse.{digits_value}
 use Rattle.sc_collection.specs.declared.shape.Shape.{Shape}
+use Rattle.sc_collection.specs.Shapes.{least_limit}
 use Rattle.solr_split.specs.declared.arguments.Script.{Script}
 
 -- an option, and the value that it is given
@@ -17,14 +18,14 @@ abbrev pub is_equals_sign : ℕ → Bool
 is_equals_sign byte = byte == 61
 
 -- an option and its value in one word, round its first `=`; where there is none, the value is empty
-abbrev pub parts : List ℕ → Setting
-parts word = (before_first is_equals_sign word, after_first is_equals_sign word)
+abbrev pub setting_of : List ℕ → Setting
+setting_of word = (before_first is_equals_sign word, after_first is_equals_sign word)
 
 -- The options among words: each is one word with `=`, or two words. One at the end that lacks its value has an empty one.
 abbrev pub settings : List (List ℕ) → List Setting
 settings [] = []
-settings (word ∷ []) = parts word ∷ []
-settings (word ∷ value ∷ words) = if list_any is_equals_sign word then parts word ∷ settings (value ∷ words) else (word, value) ∷ settings words
+settings (word ∷ []) = setting_of word ∷ []
+settings (word ∷ value ∷ words) = if list_any is_equals_sign word then setting_of word ∷ settings (value ∷ words) else (word, value) ∷ settings words
 
 -- one to twenty decimal digits whose number has 64 bits
 abbrev pub is_number : List ℕ → Bool
@@ -75,7 +76,7 @@ is_bucket_count number = list_any (λ count. number == count) (1 ∷ 2 ∷ 4 ∷
 
 -- each number of the shape is one that its option may have
 abbrev pub is_shape : Shape → Bool
-is_shape shape = is_in_option_range 1 16 shape.nodes && is_in_option_range 1 64 shape.shards && is_in_option_range 1 4 shape.replicas && is_bucket_count shape.buckets && is_in_option_range 16 16777216 shape.log_limit
+is_shape shape = is_in_option_range 1 16 shape.nodes && is_in_option_range 1 64 shape.shards && is_in_option_range 1 4 shape.replicas && is_bucket_count shape.buckets && is_in_option_range (least_limit shape) 16777216 shape.log_limit
 
 -- what options ask for; a clock may stand still at any timestamp
 abbrev pub script_by : List Setting → Option Script

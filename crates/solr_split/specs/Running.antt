@@ -66,5 +66,5 @@ pub record RunsScript {C : Type 0} (script : Script) (gives : C → ℕ → C �
   pub status_is : status ≡ exit_status end
 
 -- a script was run; or memory ran out before it began, and all was left as it was
-abbrev pub Runs : {C : Type 0} → Script → (C → ℕ → C → Type 0) → (before after : Outside C) → (untouched : Type 0) → ℕ → Type 0
-Runs script gives before after untouched status = RunsScript script gives before after status ⊎ ((status ≡ 6) × untouched)
+abbrev pub RunsOrFails : {C : Type 0} → Script → (C → ℕ → C → Type 0) → (before after : Outside C) → (untouched : Type 0) → ℕ → Type 0
+RunsOrFails script gives before after untouched status = RunsScript script gives before after status ⊎ ((status ≡ 6) × untouched)

@@ -13,7 +13,8 @@ usage =
     ++ codes "  --shards     1 to 64 shards (1)\n"
     ++ codes "  --replicas   1 to 4 replicas of each shard (1)\n"
     ++ codes "  --buckets    a power of two from 1 to 256 (64)\n"
-    ++ codes "  --log-limit  16 to 16777216 entries in the journal of a bucket (1048576)\n"
+    ++ codes "  --log-limit  16 to 16777216 entries in the journal of a bucket (1048576);\n"
+    ++ codes "               with R replicas of each of S shards at least 16 + S * (R - 1)\n"
     ++ codes "  --clock      a timestamp from 0 to 18446744073709551615, in milliseconds, at which the clock stands still (the machine's clock)\n"
     ++ codes "as in: solr_split " ++ example ++ codes " < requests"
 

@@ -1,4 +1,4 @@
-ghost use Rattle.std.specs.Prelude.{◌≡◌, ◌<◌, ◌^◌, map, length, nat_lt, true, string_bytes, if◌then◌else◌, Some, None, [], ◌∷◌, MatchOption, IfSome};
+ghost use Rattle.std.specs.Prelude.{◌≡◌, ◌<◌, ◌≤◌, ◌^◌, map, length, nat_lt, true, string_bytes, if◌then◌else◌, Some, None, [], ◌∷◌, MatchOption, IfSome};
 ghost use Rattle.std.specs.Char.{is_ascii_digit};
 ghost use Rattle.std.specs.List.{list_all, list_any};
 ghost use Rattle.std.specs.Str.{bytes_eq};
@@ -53,18 +53,29 @@ fn shape_of(options: &[String]) -> Option<Shape>
         if asked.is_shape shape then Some shape else None) }
     ensures shape { IfSome result IsShape }
 {
+    let nodes = within(number_or(1, options, "--nodes"), 1, 16)?;
+    let shards = within(number_or(1, options, "--shards"), 1, 64)?;
+    let replicas = within(number_or(1, options, "--replicas"), 1, 4)?;
+    let buckets = bucket_count(number_or(64, options, "--buckets"))?;
+    let least = 16 + shards * (replicas - 1);
+    let limit = within(
+        number_or(1_048_576, options, "--log-limit"),
+        least,
+        16_777_216,
+    )?;
     Some(Shape {
-        nodes: within(number_or(1, options, "--nodes"), 1, 16)?,
-        shards: within(number_or(1, options, "--shards"), 1, 64)?,
-        replicas: within(number_or(1, options, "--replicas"), 1, 4)? as u8,
-        buckets: bucket_count(number_or(64, options, "--buckets"))?,
-        log_limit: u64::from(within(number_or(1_048_576, options, "--log-limit"), 16, 16_777_216)?),
+        nodes,
+        shards,
+        replicas: replicas as u8,
+        buckets,
+        log_limit: u64::from(limit),
     })
 }
 
 /// The number, where it is in the range.
 fn within(number: u64, least: u32, most: u32) -> Option<u32>
-    ensures { result ≡ (if asked.is_in_option_range least most number then Some number else None) }
+    ensures asked { result ≡ (if asked.is_in_option_range least most number then Some number else None) }
+    ensures range { IfSome result (λ number. (least ≤ number) × (number ≤ most)) }
 {
     if u64::from(least) <= number && number <= u64::from(most) {
         Some(number as u32)

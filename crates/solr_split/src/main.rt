@@ -37,7 +37,8 @@ const USAGE: &str = "usage: solr_split script [OPTION VALUE | OPTION=VALUE]...
   --shards     1 to 64 shards (1)
   --replicas   1 to 4 replicas of each shard (1)
   --buckets    a power of two from 1 to 256 (64)
-  --log-limit  16 to 16777216 entries in the journal of a bucket (1048576)
+  --log-limit  16 to 16777216 entries in the journal of a bucket (1048576);
+               with R replicas of each of S shards at least 16 + S * (R - 1)
   --clock      a timestamp from 0 to 18446744073709551615, in milliseconds, at which the clock stands still (the machine's clock)
 as in: solr_split script --buckets=1 --clock 1000 < requests";
 

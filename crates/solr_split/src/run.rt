@@ -2,7 +2,7 @@ ghost use Rattle.std.specs.Prelude.{◌≡◌, ◌<◌, ◌↔◌, map, IfOk, If
 ghost use Rattle.sc_session.specs.Served.{IsServed};
 ghost use Rattle.sc_collection.specs.Alone.{seen_of};
 ghost use Rattle.sc_collection.specs.Shapes.{IsShape, HasShape, SeesNothing};
-ghost use Rattle.solr_split.specs.Running.{Runs, clock_of, state_of, none_kept, exit_status};
+ghost use Rattle.solr_split.specs.Running.{RunsOrFails, clock_of, state_of, none_kept, exit_status};
 ghost use Rattle.solr_split.specs.Arguments.{script_of};
 
 use crate::arguments::script_of;
@@ -31,7 +31,7 @@ pub fn run<S: Source, W: Sink, C: Clock>(
     ensures nothing_done { script_of (map string_bytes arguments.now) ≡ None → (source.new ≡ source.old) × (sink.new ≡ sink.old) × (clock.new ≡ clock.old) }
 
     // A script serves one connection, unless memory ran out before it began.
-    ensures script { IfSome (script_of (map string_bytes arguments.now)) (λ script. Runs script C.gives
+    ensures script { IfSome (script_of (map string_bytes arguments.now)) (λ script. RunsOrFails script C.gives
         (record { clock = clock.old; unread = S.rest source.old; written = W.written sink.old; read_faults = S.faults source.old; write_faults = W.faults sink.old })
         (record { clock = clock.new; unread = S.rest source.new; written = W.written sink.new; read_faults = S.faults source.new; write_faults = W.faults sink.new })
         ((source.new ≡ source.old) × (sink.new ≡ sink.old) × (clock.new ≡ clock.old)) result) }

@@ -1,8 +1,15 @@
 -- A desk of new buckets, on which nothing happened.
-use Rattle.std.proofs.Common.{sym, subst}
+use Rattle.std.proofs.Common.{sym, subst, arith}
 use Rattle.sc_router.specs.Route.{IsBucketCount}
 use Rattle.sc_collection.proofs.AloneLemmas.{new_is_desk, new_sees_nothing}
+use Rattle.sc_collection.proofs.FollowerLemmas.{first_followers}
 use Rattle.sc_collection.proofs.alone.Alone.new.Goals as goal
+
+pub new_slots-requires-clause-least : goal.new_slots-requires-clause-least
+new_slots-requires-clause-least c =
+    let few = first_followers _ _ _ c.in_ok-first.first c.in_ok-first.ensures.slices in
+    let limit = c.requires.limit_from in
+    omega (arith, few, limit)
 
 pub invariant_of-result : goal.invariant_of-result
 invariant_of-result c =

@@ -34,8 +34,8 @@ def draw(dice, bucket):
         return "deliver" if kind == 7 else "settle", dice.below(len(bucket.entries))
     if kind == 10:
         return draw_any(dice, bucket)
-    if kind == 11 and dice.below(2) == 0:
-        return ("commit",)
+    if kind == 11:
+        return ("commit",) if dice.below(2) == 0 else draw_detach(dice, bucket)
     return draw_next(dice, bucket)
 
 
@@ -59,6 +59,13 @@ def draw_any(dice, bucket):
 
 def draw_core(dice, bucket):
     return bucket.slices[dice.below(len(bucket.slices))].id, dice.below(3) + 1
+
+
+def draw_detach(dice, bucket):
+    """A core that is there is marked as down, most often a follower."""
+    followers = [core for core in bucket.cores if core.name[1] > 1]
+    cores = followers if followers and dice.below(4) > 0 else bucket.cores
+    return "detach", *cores[dice.below(len(cores))].name
 
 
 def draw_begin(dice, bucket):

@@ -67,6 +67,7 @@ class Core:
     slice: Slice
     mode: str
     clock: int = 0
+    down: bool = False
     cells: dict = field(default_factory=dict)
     buffer: list = field(default_factory=list)
     rows: list = None  # those that it is still to be fed, where it is fed
@@ -119,7 +120,14 @@ class Bucket:
     def owed(self):
         settled = sum(e[0] == "settled" for e in self.entries)
         inactive = sum(s.state == "Inactive" for s in self.slices)
-        return len(self.writes()) - settled + (2 if self.parent is not None else 0) + inactive
+        return len(self.writes()) - settled + (2 if self.parent is not None else 0) + inactive + self.followers_up()
+
+    def followers_up(self):
+        named = [(s.id, k + 1) for s in self.slices if s.state != "Inactive" for k in range(1, s.replicas)]
+        return sum(not self.is_down(name) for name in named)
+
+    def is_down(self, name):
+        return ("down", "%d/%d" % name) in self.entries
 
     def has_room(self, more):
         return len(self.entries) + self.owed() + more <= self.limit
@@ -141,9 +149,12 @@ class Bucket:
 
     def can(self, name, *words):
         slice = self.slice(words[0]) if words else None
-        core = self.core(*words) if name in ("feed", "start", "replay", "grow") else None
+        core = self.core(*words) if name in ("detach", "feed", "start", "replay", "grow") else None
         if name == "settle":
             return self.written(words[0]) and not self.is_settled(words[0])
+        if name == "detach":
+            follows = slice is not None and slice.state == "Active" and 1 < words[1] <= slice.replicas
+            return follows and not self.is_down(words)
         if name == "begin":
             ends = slice and (slice.least <= words[1] < words[2] <= slice.most and words[1] + 1 == words[2])
             return self.phase == "Idle" and slice is not None and slice.state == "Active" and ends
@@ -189,7 +200,8 @@ class Bucket:
         leader.apply(write)
         for slice in self.slices:
             for k in range(slice.replicas if slice.takes(number) else 0):
-                if self.core(slice.id, k + 1) not in (None, leader):
+                core = self.core(slice.id, k + 1)
+                if core not in (None, leader) and not core.down:
                     self.flight.append(((slice.id, k + 1), write))
         self.entries.append(("write", write))
         return f"{shown(write)} at {write.place}"
@@ -237,11 +249,16 @@ class Bucket:
             self.prepare()
         self.entries.append(("committed",))
 
+    def detach(self, *name):
+        self.core(*name).down = True
+        self.flight = [sent for sent in self.flight if sent[0] != name]
+        self.entries.append(("down", "%d/%d" % name))
+
     def begin(self, parent, last, first):
-        if not self.has_room(3):
+        old, next_id = self.slice(parent), max(s.id for s in self.slices) + 1
+        if not self.has_room(3 + 2 * (old.replicas - 1)):
             return
         self.take_searchers()
-        old, next_id = self.slice(parent), max(s.id for s in self.slices) + 1
         for n, (least, most) in enumerate([(old.least, last), (first, old.most)]):
             self.slices.append(Slice(next_id + n, least, most, old.replicas))
             self.join((next_id + n, 1), self.slices[-1], self.core(parent))
@@ -321,7 +338,7 @@ class Bucket:
             text += f" | {s.id} {s.state} {s.least}..{s.most} {s.replicas}"
         feeds = sum(c.rows is not None for c in self.cores)
         for c in sorted(self.cores, key=lambda c: c.name):
-            text += " | %d/%d" % c.name + f" {c.mode} {c.clock} {len(c.buffer)} {feeds}"
+            text += " | %d/%d" % c.name + (" down" if c.down else "") + f" {c.mode} {c.clock} {len(c.buffer)} {feeds}"
             text += f" {len(c.rows)} {len(c.awaits()) - len(c.buffer)}" if c.rows is not None else ""
             text += "".join(str(c.cells[id]) for id in sorted(c.cells))
         text += " |" + "".join(" %d/%d<%d" % (*to, write.place) + str(write) for to, write in self.flight)
@@ -351,7 +368,8 @@ def hold(bucket):
         assert core.clock in clocks and all(write.version <= core.clock for write in kept)
         assert core.rows is None or (core.mode == "Buffering" and core.slice in bucket.subs())
         assert core.mode != "Active" or not core.buffer
-        for write in last.values():
+        assert core.down == bucket.is_down(core.name) and not (core.down and (core.name[1] == 1 or sent))
+        for write in last.values() if not core.down else []:
             pending = core.awaits() + sent
             assert not core.slice.takes(write.hash) or core.cells.get(write.id) == write or write in pending
     marks = [at for at, e in enumerate(bucket.entries) if e[0] in ("committed", "begun")]

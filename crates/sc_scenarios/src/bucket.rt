@@ -1,7 +1,7 @@
 ghost use Rattle.std.specs.Prelude.{IfOk};
 ghost use Rattle.sc_bucket.specs.Sound.{IsSound};
 
-use crate::words::{number, word};
+use crate::words::{log_limit, number, word};
 use sc_bucket::{Accepted, Bucket};
 use sc_cluster::ClusterMap;
 use sc_record::{Id, List, Order};
@@ -14,7 +14,7 @@ pub fn new_bucket(alloc: Global, words: &[&str]) -> Result<Bucket, AllocError>
 {
     let shards = number(words, 1).clamp(1, 256) as u32;
     let replicas = number(words, 2).clamp(1, 4) as u8;
-    let limit = number(words, 3).clamp(16, 16_777_216);
+    let limit = log_limit(words, 3, shards, replicas);
     let map = ClusterMap::new(alloc, shards, replicas, 1)?;
     Bucket::new(alloc, &map, limit)
 }

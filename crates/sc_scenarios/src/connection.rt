@@ -1,7 +1,7 @@
 ghost use Rattle.std.specs.Prelude.{◌≡◌, None, IfOk};
 ghost use Rattle.sc_router.specs.Route.{IsBucketCount};
 
-use crate::words::number;
+use crate::words::{log_limit, number};
 use sc_collection::{Alone, Shape, Trail};
 use sc_io::{Fixed, MemSink, MemSource};
 use sc_record::List;
@@ -12,12 +12,14 @@ use std::alloc::{AllocError, Global};
 pub fn new_collection(alloc: Global, words: &[&str]) -> Result<Alone, AllocError>
     ensures { IfOk result (λ desk. desk.out ≡ None) }
 {
+    let shards = number(words, 1).clamp(1, 64) as u32;
+    let replicas = number(words, 2).clamp(1, 4) as u8;
     let shape = Shape {
         nodes: 2,
-        shards: number(words, 1).clamp(1, 64) as u32,
-        replicas: number(words, 2).clamp(1, 4) as u8,
+        shards,
+        replicas,
         buckets: bucket_count(number(words, 3)),
-        log_limit: number(words, 4).clamp(16, 16_777_216),
+        log_limit: log_limit(words, 4, shards, replicas),
     };
     Alone::new(alloc, &shape)
 }

@@ -14,6 +14,7 @@ use std::alloc::{AllocError, Global};
 ///     deliver PLACE                  the first message of the write at this place
 ///     settle PLACE
 ///     commit
+///     detach SLICE REPLICA           the core is marked as down
 ///     begin SLICE LAST FIRST         a split in two: to this hash, and from that one
 ///     feed SLICE REPLICA             the core is fed a piece
 ///     start SLICE REPLICA            it begins to replay
@@ -43,6 +44,7 @@ pub fn event_of(
             place: number(words, 1),
         }),
         "commit" => Some(Event::Commit),
+        "detach" => Some(Event::Detach { core: core(words) }),
         "begin" => Some(Event::Begin {
             plan: plan_of(alloc, bucket, words)?,
         }),

@@ -51,21 +51,25 @@ fn push_entries(alloc: Global, text: &mut String, bucket: &Bucket) -> Result<(),
                 text.push_str(format!(in alloc; " settled:{place}")?.as_str())?;
             }
             EntryRef::Committed => text.push_str(" committed")?,
-            EntryRef::Split(split) => push_split(alloc, text, split)?,
+            EntryRef::Other(other) => push_other(alloc, text, other)?,
         }
     }
     Ok(())
 }
 
-fn push_split(alloc: Global, text: &mut String, split: &Entry) -> Result<(), AllocError> {
-    let (name, slice) = match split {
-        Entry::Begun { parent, .. } => (" begun", *parent),
-        Entry::Switched { parent } => (" switched", *parent),
-        Entry::Failed { parent } => (" failed", *parent),
-        Entry::Dropped { slice } => (" dropped", *slice),
+/// An entry of a split with its slice, or of a core with its name.
+fn push_other(alloc: Global, text: &mut String, entry: &Entry) -> Result<(), AllocError> {
+    let shown = match entry {
+        Entry::Begun { parent, .. } => format!(in alloc; " begun:{}", parent.0)?,
+        Entry::Switched { parent } => format!(in alloc; " switched:{}", parent.0)?,
+        Entry::Failed { parent } => format!(in alloc; " failed:{}", parent.0)?,
+        Entry::Dropped { slice } => format!(in alloc; " dropped:{}", slice.0)?,
+        Entry::Down { core } => format!(in alloc; " down:{}/{}", core.slice.0, core.replica)?,
+        Entry::Up { core } => format!(in alloc; " up:{}/{}", core.slice.0, core.replica)?,
+        Entry::Led { core } => format!(in alloc; " led:{}/{}", core.slice.0, core.replica)?,
         _ => return Ok(()),
     };
-    text.push_str(format!(in alloc; "{name}:{}", slice.0)?.as_str())
+    text.push_str(shown.as_str())
 }
 
 fn push_slices(alloc: Global, text: &mut String, bucket: &Bucket) -> Result<(), AllocError> {
@@ -82,14 +86,15 @@ fn push_slices(alloc: Global, text: &mut String, bucket: &Bucket) -> Result<(), 
     Ok(())
 }
 
-/// The cores; of each its mode, its clock, how many writes it buffers and how many feeds there are, the rows that its feed has left and those of
+/// The cores; of each whether it is down, its mode, its clock, how many writes it buffers and how many feeds there are, the rows that its feed has left and those of
 /// them that it will take, and its cells.
 fn push_cores(alloc: Global, text: &mut String, bucket: &Bucket) -> Result<(), AllocError> {
     for at in 0..bucket.replicas.len() {
         let replica = bucket.replicas.get(at);
         let core = replica.core();
+        let mark = if replica.is_down() { "down " } else { "" };
         let shown = format!(in alloc;
-            " | {}/{} {:?} {} {} {}",
+            " | {}/{} {mark}{:?} {} {} {}",
             core.slice.0,
             core.replica,
             replica.mode(),

@@ -4,3 +4,4 @@ pub mod Views
 pub mod Invariant
 pub mod Steps
 pub mod Tokens
+pub mod Calls

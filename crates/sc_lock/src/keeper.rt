@@ -1,8 +1,8 @@
 //! Who holds the lock and may change the keeper's part.
-ghost use Rattle.std.specs.Prelude.{◌≡◌, ◌⊎◌, ℕ, Some};
-ghost use mathlib.Core.List.{IsPrefix};
-ghost use Rattle.sc_lock.specs.Journal.{places_after, OwnsPlaceOf, MayAppend, GrowsByAtMostOne, IsLongest};
-ghost use Rattle.sc_lock.specs.Tokens.{lock_id, lock_name, IsPassOf, IsFree, seen, own_places, splits_left, IsKeeperOf, IsFreeKeeper, keeper_seen, keeper_places, keeper_part, IsTurnOfKeeper, handed};
+ghost use Rattle.std.specs.Prelude.{◌≡◌, Some};
+ghost use Rattle.sc_lock.specs.Journal.{places_after, IsLongest};
+ghost use Rattle.sc_lock.specs.Tokens.{lock_id, IsPassOf, IsFree, seen, own_places, splits_left, IsKeeperOf, IsFreeKeeper, keeper_seen, keeper_places, keeper_part, IsTurnOfKeeper, handed};
+ghost use Rattle.sc_lock.specs.Calls.{KeeperKnowsTheSame, IsFoundBy, MayBeGiven};
 
 use crate::kept::Kept;
 use crate::lock::Lock;
@@ -22,20 +22,13 @@ pub struct Keeper<K: Kept> {
 impl<K: Kept> Lock<K> {
     /// Waits for the lock and hands out the value, whose part is the one that the keeper left.
     pub fn hold_keeper<R: Wait>(&self, rt: &R, keeper: &mut Keeper<K>) -> (K, Turn<K>)
-        requires keeper { IsKeeperOf (lock_id self.now) keeper.old }
-        requires free { IsFreeKeeper keeper.old }
-        ensures sound { K.sound result.0 }
-        ensures name { K.name result.0 ≡ lock_name K.name self.now }
-        ensures seen_is_prefix { IsPrefix (keeper_seen keeper.old) (K.journal result.0) }
-        ensures owner { OwnsPlaceOf K.owned (keeper_seen keeper.old) (keeper_places keeper.old)
-            → K.journal result.0 ≡ keeper_seen keeper.old }
+        requires keeper { IsKeeperOf (lock_id self.now) keeper.old × IsFreeKeeper keeper.old }
+        ensures found { IsFoundBy K.Kept self.now (keeper_seen keeper.old) (keeper_places keeper.old) result.0 }
         ensures left { keeper_part keeper.old ≡ Some (K.part result.0) }
         ensures turn { IsTurnOfKeeper K.name keeper.new result.1 }
         ensures handed { handed result.1 ≡ result.0 }
         ensures keeper { IsKeeperOf (lock_id self.now) keeper.new }
-        ensures seen { keeper_seen keeper.new ≡ keeper_seen keeper.old }
-        ensures places { keeper_places keeper.new ≡ keeper_places keeper.old }
-        ensures part { keeper_part keeper.new ≡ keeper_part keeper.old }
+        ensures same { KeeperKnowsTheSame keeper.old keeper.new }
     {
         self.take_turn(rt, &mut keeper.seat)
     }
@@ -44,12 +37,8 @@ impl<K: Kept> Lock<K> {
     pub fn give_keeper(&self, keeper: &mut Keeper<K>, turn: Turn<K>, value: K)
         requires keeper { IsKeeperOf (lock_id self.now) keeper.old }
         requires turn { IsTurnOfKeeper K.name keeper.old turn }
-        requires sound { K.sound value }
-        requires step { (value ≡ handed turn) ⊎ K.step (handed turn) value }
-        requires grows { GrowsByAtMostOne (K.journal (handed turn)) (K.journal value) }
-        requires owner { MayAppend K.owned (keeper_places keeper.old) (K.journal (handed turn)) (K.journal value) }
-        ensures keeper { IsKeeperOf (lock_id self.now) keeper.new }
-        ensures free { IsFreeKeeper keeper.new }
+        requires value { MayBeGiven K.Kept (keeper_places keeper.old) (handed turn) value }
+        ensures keeper { IsKeeperOf (lock_id self.now) keeper.new × IsFreeKeeper keeper.new }
         ensures seen { keeper_seen keeper.new ≡ K.journal value }
         ensures places { keeper_places keeper.new
             ≡ places_after (keeper_places keeper.old) (K.journal (handed turn)) (K.journal value) }
@@ -66,11 +55,9 @@ impl<K: Kept> Lock<K> {
         ensures same { keeper_seen keeper.new ≡ seen pass.new }
         ensures seen { IsLongest (seen pass.old) (keeper_seen keeper.old) (seen pass.new) }
         ensures pass { IsPassOf (lock_id self.now) pass.new × IsFree pass.new }
-        ensures places { own_places pass.new ≡ own_places pass.old }
-        ensures splits { splits_left pass.new ≡ splits_left pass.old }
+        ensures pass_rest { (own_places pass.new ≡ own_places pass.old) × (splits_left pass.new ≡ splits_left pass.old) }
         ensures keeper { IsKeeperOf (lock_id self.now) keeper.new × IsFreeKeeper keeper.new }
-        ensures keeper_places { keeper_places keeper.new ≡ keeper_places keeper.old }
-        ensures part { keeper_part keeper.new ≡ keeper_part keeper.old }
+        ensures keeper_rest { (keeper_places keeper.new ≡ keeper_places keeper.old) × (keeper_part keeper.new ≡ keeper_part keeper.old) }
     {
         // Each passes on what it has seen by a seat that is split off it.
         let from_pass = self.table.shared.split_seat::<SplitSeen>(&mut pass.seat);

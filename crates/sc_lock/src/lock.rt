@@ -24,8 +24,9 @@ pub struct Lock<K: Kept> {
 }
 
 impl<K: Kept + Drop> Lock<K> {
-    ghost use Rattle.std.specs.Prelude.{◌^◌, [], IfOk, Some};
-    ghost use Rattle.sc_lock.specs.Tokens.{lock_id, lock_name, IsPassOf, IsFree, seen, own_places, splits_left, IsKeeperOf, IsFreeKeeper, keeper_seen, keeper_places, keeper_part};
+    ghost use Rattle.std.specs.Prelude.{◌^◌, IfOk};
+    ghost use Rattle.sc_lock.specs.Tokens.{lock_id, lock_name};
+    ghost use Rattle.sc_lock.specs.Calls.{IsNewPassOf, IsNewKeeperOf};
 
     /// Puts a value behind a lock of its own, with the first pass and the one keeper.
     ///
@@ -33,14 +34,8 @@ impl<K: Kept + Drop> Lock<K> {
     pub fn new(alloc: Global, value: K) -> Result<(Lock<K>, Pass<K>, Keeper<K>), AllocError>
         requires sound { K.sound value }
         ensures name { IfOk result (λ r. lock_name K.name r.0 ≡ K.name value) }
-        ensures pass { IfOk result (λ r. IsPassOf (lock_id r.0) r.1 × IsFree r.1) }
-        ensures seen { IfOk result (λ r. seen r.1 ≡ K.journal value) }
-        ensures places { IfOk result (λ r. own_places r.1 ≡ []) }
-        ensures splits { IfOk result (λ r. splits_left r.1 ≡ 2 ^ 31) }
-        ensures keeper { IfOk result (λ r. IsKeeperOf (lock_id r.0) r.2 × IsFreeKeeper r.2) }
-        ensures keeper_seen { IfOk result (λ r. keeper_seen r.2 ≡ K.journal value) }
-        ensures keeper_places { IfOk result (λ r. keeper_places r.2 ≡ []) }
-        ensures part { IfOk result (λ r. keeper_part r.2 ≡ Some (K.part value)) }
+        ensures pass { IfOk result (λ r. IsNewPassOf (lock_id r.0) (K.journal value) (2 ^ 31) r.1) }
+        ensures keeper { IfOk result (λ r. IsNewKeeperOf (lock_id r.0) (K.journal value) (K.part value) r.2) }
     {
         // The snapshot has no bytes: by it proofs name the value that the lock was made with.
         let origin = Snapshot::of(&value);
@@ -57,22 +52,17 @@ impl<K: Kept + Drop> Lock<K> {
 }
 
 impl<K: Kept> Lock<K> {
-    ghost use Rattle.std.specs.Prelude.{◌^◌, [], Some};
+    ghost use Rattle.std.specs.Prelude.{◌^◌, []};
     ghost use Rattle.sc_lock.specs.Views.{first_view};
-    ghost use Rattle.sc_lock.specs.Tokens.{origin_of, lock_id, IsOfTable, IsPassOf, IsFree, seen, own_places, splits_left, IsKeeperOf, IsFreeKeeper, keeper_seen, keeper_places, keeper_part};
+    ghost use Rattle.sc_lock.specs.Tokens.{origin_of, lock_id, IsOfTable};
+    ghost use Rattle.sc_lock.specs.Calls.{IsNewPassOf, IsNewKeeperOf};
 
     // Splits the first seat in two: the keeper's, and the pass's with all splits.
     fn split_first(&self, mut seat: LockSeat<K>) -> (Pass<K>, Keeper<K>)
         requires lock { IsOfTable self.now seat }
         requires first { seat.me ≡ (first_view K.Kept (origin_of self.now), []) }
-        ensures pass { IsPassOf (lock_id self.now) result.0 × IsFree result.0 }
-        ensures seen { seen result.0 ≡ K.journal (origin_of self.now) }
-        ensures places { own_places result.0 ≡ [] }
-        ensures splits { splits_left result.0 ≡ 2 ^ 31 }
-        ensures keeper { IsKeeperOf (lock_id self.now) result.1 × IsFreeKeeper result.1 }
-        ensures keeper_seen { keeper_seen result.1 ≡ K.journal (origin_of self.now) }
-        ensures keeper_places { keeper_places result.1 ≡ [] }
-        ensures part { keeper_part result.1 ≡ Some (K.part (origin_of self.now)) }
+        ensures pass { IsNewPassOf (lock_id self.now) (K.journal (origin_of self.now)) (2 ^ 31) result.0 }
+        ensures keeper { IsNewKeeperOf (lock_id self.now) (K.journal (origin_of self.now)) (K.part (origin_of self.now)) result.1 }
     {
         let plain = self.table.shared.split_seat::<SplitFirst>(&mut seat);
         (Pass { seat: plain }, Keeper { seat })

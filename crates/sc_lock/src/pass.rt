@@ -1,8 +1,8 @@
 //! Those who hold the lock and leave the keeper's part as it is.
-ghost use Rattle.std.specs.Prelude.{◌≡◌, ◌⊎◌, ℕ, ◌+◌, ◌<◌, [], Some};
-ghost use mathlib.Core.List.{IsPrefix};
-ghost use Rattle.sc_lock.specs.Journal.{AreDisjoint, merged, places_after, OwnsPlaceOf, MayAppend, GrowsByAtMostOne, IsLongest};
-ghost use Rattle.sc_lock.specs.Tokens.{lock_id, lock_name, IsPassOf, IsFree, seen, own_places, splits_left, IsTurnOf, handed};
+ghost use Rattle.std.specs.Prelude.{◌≡◌, ◌+◌, ◌<◌};
+ghost use Rattle.sc_lock.specs.Journal.{AreDisjoint, merged, places_after, IsLongest};
+ghost use Rattle.sc_lock.specs.Tokens.{lock_id, IsPassOf, IsFree, seen, own_places, splits_left, IsTurnOf, handed};
+ghost use Rattle.sc_lock.specs.Calls.{IsNewPassOf, PassKnowsTheSame, IsFoundBy, MayBeGiven};
 
 use crate::kept::Kept;
 use crate::lock::Lock;
@@ -21,18 +21,12 @@ pub struct Pass<K: Kept> {
 impl<K: Kept> Lock<K> {
     /// Waits for the lock and hands out the value.
     pub fn hold<R: Wait>(&self, rt: &R, pass: &mut Pass<K>) -> (K, Turn<K>)
-        requires pass { IsPassOf (lock_id self.now) pass.old }
-        requires free { IsFree pass.old }
-        ensures sound { K.sound result.0 }
-        ensures name { K.name result.0 ≡ lock_name K.name self.now }
-        ensures seen_is_prefix { IsPrefix (seen pass.old) (K.journal result.0) }
-        ensures owner { OwnsPlaceOf K.owned (seen pass.old) (own_places pass.old) → K.journal result.0 ≡ seen pass.old }
+        requires pass { IsPassOf (lock_id self.now) pass.old × IsFree pass.old }
+        ensures found { IsFoundBy K.Kept self.now (seen pass.old) (own_places pass.old) result.0 }
         ensures turn { IsTurnOf K.name pass.new result.1 }
         ensures handed { handed result.1 ≡ result.0 }
         ensures pass { IsPassOf (lock_id self.now) pass.new }
-        ensures seen { seen pass.new ≡ seen pass.old }
-        ensures places { own_places pass.new ≡ own_places pass.old }
-        ensures splits { splits_left pass.new ≡ splits_left pass.old }
+        ensures same { PassKnowsTheSame pass.old pass.new }
     {
         self.take_turn(rt, &mut pass.seat)
     }
@@ -41,13 +35,9 @@ impl<K: Kept> Lock<K> {
     pub fn give(&self, pass: &mut Pass<K>, turn: Turn<K>, value: K)
         requires pass { IsPassOf (lock_id self.now) pass.old }
         requires turn { IsTurnOf K.name pass.old turn }
-        requires sound { K.sound value }
-        requires step { (value ≡ handed turn) ⊎ K.step (handed turn) value }
-        requires grows { GrowsByAtMostOne (K.journal (handed turn)) (K.journal value) }
+        requires value { MayBeGiven K.Kept (own_places pass.old) (handed turn) value }
         requires part { K.part value ≡ K.part (handed turn) }
-        requires owner { MayAppend K.owned (own_places pass.old) (K.journal (handed turn)) (K.journal value) }
-        ensures pass { IsPassOf (lock_id self.now) pass.new }
-        ensures free { IsFree pass.new }
+        ensures pass { IsPassOf (lock_id self.now) pass.new × IsFree pass.new }
         ensures seen { seen pass.new ≡ K.journal value }
         ensures places { own_places pass.new
             ≡ places_after (own_places pass.old) (K.journal (handed turn)) (K.journal value) }
@@ -58,17 +48,13 @@ impl<K: Kept> Lock<K> {
 
     /// Splits a pass off, for another thread, in one atomic step. It takes no memory.
     pub fn split_pass(&self, pass: &mut Pass<K>) -> Pass<K>
-        requires pass { IsPassOf (lock_id self.now) pass.old }
-        requires free { IsFree pass.old }
+        requires pass { IsPassOf (lock_id self.now) pass.old × IsFree pass.old }
         requires left { 0 < splits_left pass.old }
         ensures pass { IsPassOf (lock_id self.now) pass.new × IsFree pass.new }
         ensures seen { seen pass.new ≡ seen pass.old }
         ensures places { own_places pass.new ≡ own_places pass.old }
         ensures splits { splits_left pass.new + 1 ≡ splits_left pass.old }
-        ensures new { IsPassOf (lock_id self.now) result × IsFree result }
-        ensures new_seen { seen result ≡ seen pass.old }
-        ensures new_places { own_places result ≡ [] }
-        ensures new_splits { splits_left result ≡ 0 }
+        ensures new { IsNewPassOf (lock_id self.now) (seen pass.old) 0 result }
     {
         let seat = self.table.shared.split_seat::<SplitPass>(&mut pass.seat);
         Pass { seat }

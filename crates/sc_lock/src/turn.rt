@@ -1,10 +1,10 @@
 //! The right to give back what was handed out, and what a pass and the keeper have in common: how
 //! a seat holds the lock and gives the value back.
-ghost use Rattle.std.specs.Prelude.{◌≡◌, ◌⊎◌, ℕ, None, Some};
-ghost use mathlib.Core.List.{IsPrefix};
-ghost use Rattle.sc_lock.specs.Journal.{places_after, OwnsPlaceOf, MayAppend, GrowsByAtMostOne};
+ghost use Rattle.std.specs.Prelude.{◌≡◌, None, Some};
+ghost use Rattle.sc_lock.specs.Journal.{places_after};
 ghost use Rattle.sc_lock.specs.Views.{part_after};
-ghost use Rattle.sc_lock.specs.Tokens.{lock_id, lock_name, seat_seen, seat_places, seat_part, seat_weight, IsIdle, IsSeatOf, IsTurnAt, handed};
+ghost use Rattle.sc_lock.specs.Tokens.{lock_id, seat_seen, seat_places, seat_part, seat_weight, IsIdle, IsSeatOf, IsTurnAt, handed};
+ghost use Rattle.sc_lock.specs.Calls.{SeatKnowsTheSame, IsFoundBy, MayBeGiven};
 
 use crate::kept::Kept;
 use crate::lock::Lock;
@@ -23,19 +23,12 @@ impl<K: Kept> Lock<K> {
     // Draws a ticket, waits until it is served, and hands out the value.
     pub(crate) fn take_turn<R: Wait>(&self, rt: &R, seat: &mut LockSeat<K>) -> (K, Turn<K>)
         requires seat { IsSeatOf (lock_id self.now) seat.old × IsIdle seat.old }
-        ensures sound { K.sound result.0 }
-        ensures name { K.name result.0 ≡ lock_name K.name self.now }
-        ensures seen_is_prefix { IsPrefix (seat_seen seat.old) (K.journal result.0) }
-        ensures owner { OwnsPlaceOf K.owned (seat_seen seat.old) (seat_places seat.old)
-            → K.journal result.0 ≡ seat_seen seat.old }
+        ensures found { IsFoundBy K.Kept self.now (seat_seen seat.old) (seat_places seat.old) result.0 }
         ensures left { (p : K.Part) → seat_part seat.old ≡ Some p → K.part result.0 ≡ p }
         ensures turn { IsTurnAt K.name seat.new result.1 }
         ensures handed { handed result.1 ≡ result.0 }
         ensures seat { IsSeatOf (lock_id self.now) seat.new }
-        ensures seen { seat_seen seat.new ≡ seat_seen seat.old }
-        ensures places { seat_places seat.new ≡ seat_places seat.old }
-        ensures part { seat_part seat.new ≡ seat_part seat.old }
-        ensures weight { seat_weight seat.new ≡ seat_weight seat.old }
+        ensures same { SeatKnowsTheSame seat.old seat.new }
     {
         let ticket = self.draw(seat);
         let value = self.wait(rt, seat, ticket);
@@ -51,13 +44,9 @@ impl<K: Kept> Lock<K> {
     pub(crate) fn give_back(&self, seat: &mut LockSeat<K>, turn: Turn<K>, value: K)
         requires seat { IsSeatOf (lock_id self.now) seat.old }
         requires turn { IsTurnAt K.name seat.old turn }
-        requires sound { K.sound value }
-        requires step { (value ≡ handed turn) ⊎ K.step (handed turn) value }
-        requires grows { GrowsByAtMostOne (K.journal (handed turn)) (K.journal value) }
+        requires value { MayBeGiven K.Kept (seat_places seat.old) (handed turn) value }
         requires part { seat_part seat.old ≡ None → K.part value ≡ K.part (handed turn) }
-        requires owner { MayAppend K.owned (seat_places seat.old) (K.journal (handed turn)) (K.journal value) }
-        ensures seat { IsSeatOf (lock_id self.now) seat.new }
-        ensures idle { IsIdle seat.new }
+        ensures seat { IsSeatOf (lock_id self.now) seat.new × IsIdle seat.new }
         ensures seen { seat_seen seat.new ≡ K.journal value }
         ensures places { seat_places seat.new
             ≡ places_after (seat_places seat.old) (K.journal (handed turn)) (K.journal value) }

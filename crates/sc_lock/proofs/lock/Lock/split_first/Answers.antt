@@ -15,14 +15,18 @@ pub returns-clause-keeper : goal.returns-clause-keeper
 returns-clause-keeper g c =
     let split = c.split_seat-plain.ensures in
     let first = c.requires.first in
-    let now = split.2 ∙ (λ k. (with_weight 1 (first k).0, (first k).1)) in (
-      record {
+    let now = split.2 ∙ (λ k. (with_weight 1 (first k).0, (first k).1)) in
+    record {
+      of_lock = record {
         seat = record {
           of_lock = λ k. ((split.0 ∙ c.requires.lock) k, (now k).0.origin);
           own = subst (λ m. ArePlacesIn m.0.places m.0.seen) (sym now) (ArePlacesIn-none _);
           weighs = subst (λ m. 0 < m.0.weight) (sym now) (omega arith);
         };
         has_part = (g.K.Kept.part c.args.self.now.table.shared.key.value, ap (λ m. m.0.part) now);
-      },
-      (ap (λ m. m.0.stage) now, ap (λ m. m.1) now),
-    )
+      };
+      free = (ap (λ m. m.0.stage) now, ap (λ m. m.1) now);
+      seen_is = ap (λ m. m.0.seen) now;
+      no_places = ap (λ m. m.0.places) now;
+      part_is = ap (λ m. m.0.part) now;
+    }

@@ -5,4 +5,4 @@ use Rattle.sc_lock.proofs.SeatLemmas.{split_keeps}
 
 pub split_seat-seat-requires : goal.split_seat-seat-requires
 split_seat-seat-requires g c =
-    (search rules, search rules, split_keeps _ _ _ _ _ 1 c.requires.free.0 (search rules))
+    (search rules, search rules, split_keeps _ _ _ _ _ 1 c.requires.pass.1.0 (search rules))

@@ -2,6 +2,7 @@
 use Rattle.std.specs.Prelude.{◌≡◌, ℕ, ◌<◌, ◌≤◌, ℤ, List, length, Some, option_map, Ok, IsTrue, ⊤}
 use Rattle.std.specs.List.{AllByRecursion}
 use Rattle.sc_record.specs.Fields.{IsDocument}
+use Rattle.sc_record.specs.Ids.{id_limit}
 use Rattle.sc_record.specs.Orders.{is_int, is_long}
 use Rattle.sc_record.specs.declared.document.Field.{Field}
 use Rattle.sc_record.specs.declared.order.Change.TheVariants.{Whole}
@@ -22,10 +23,10 @@ HasItsBits (values.Flag b) = ⊤
 abbrev pub IsFieldInRange : Field → Type 0
 IsFieldInRange field = AllByRecursion HasItsBits field.values
 
--- a document as it is kept, with its id of 1 to 512 bytes and its version of 64 bits
+-- a document as it is kept, with its id, which may be so long, and its version of 64 bits
 pub record IsStoredDocument (id : List ℕ) (version : ℤ) (fields : List Field) : Type 0 where
   pub named : 0 < length id
-  pub short : length id ≤ 512
+  pub short : length id ≤ id_limit
   pub long : IsTrue (is_long version)
   pub document : IsDocument fields
   pub numbers : AllByRecursion IsFieldInRange fields

@@ -30,9 +30,13 @@ kind_by_ending name =
     else (if has_ending name (codes "_txt") then Some (kinds.Words, true)
     else None)))))))))
 
--- the kind of a dynamic field, whose name has at most 256 bytes
+-- the most bytes of the name of a field
+abbrev pub name_limit : ℕ
+name_limit = 256
+
+-- the kind of a dynamic field
 unfoldable pub kind_of : List ℕ → Option (Kind × Bool)
-kind_of name = if nat_lt 256 (length name) then None else kind_by_ending name
+kind_of name = if nat_lt name_limit (length name) then None else kind_by_ending name
 
 -- the value is one that a field of the kind keeps: Words keep their text
 abbrev pub fits_kind : Kind → Value → Bool

@@ -1,5 +1,5 @@
 ghost use Rattle.std.specs.Prelude.{◌≡◌, Some, refl, ◌≤◌, ◌<◌, ◌↔◌, length, IfOk};
-ghost use Rattle.sc_record.specs.declared.id.TheConstants.{MAX_ID_LENGTH};
+ghost use Rattle.sc_record.specs.Ids.{id_limit};
 ghost use Rattle.std.specs.Cmp.{partial_equiv_from_equiv};
 ghost use Rattle.std.specs.Cmp.Lexicographic.{slice_cmp, texts_po, texts_ties, nat_list_cmp_total, nat_list_eq_equiv};
 ghost use Rattle.std.specs.Ordering.{nat_cmp};
@@ -34,14 +34,14 @@ pub enum IdFault {
 
 impl Model for Id {
     ghost use Rattle.std.specs.Prelude.{List, ℕ, length, ◌≤◌, ◌<◌};
-    ghost use Rattle.sc_record.specs.declared.id.TheConstants.{MAX_ID_LENGTH};
+    ghost use Rattle.sc_record.specs.Ids.{id_limit};
 
     ghost Value = { List ℕ };
 
     ghost view = { λ a. a.text };
 
     ghost invariant = { λ a.
-        (0 < length a.text) × (length a.text ≤ MAX_ID_LENGTH) };
+        (0 < length a.text) × (length a.text ≤ id_limit) };
 }
 
 impl Id {
@@ -49,7 +49,7 @@ impl Id {
     pub fn new(alloc: Global, text: &str) -> Result<Id, IdFault>
         ensures value { IfOk result (λ id. id ≡ text.now) }
         ensures empty { (result ≡ Err IdFault.Empty) ↔ (length text.now ≡ 0) }
-        ensures too_long { (result ≡ Err IdFault.TooLong) ↔ (MAX_ID_LENGTH < length text.now) }
+        ensures too_long { (result ≡ Err IdFault.TooLong) ↔ (id_limit < length text.now) }
     {
         if text.is_empty() {
             return Err(IdFault::Empty);
@@ -66,7 +66,7 @@ impl Id {
     pub fn as_str(&self) -> &str
         ensures value { result.now ≡ self.now }
         ensures not_empty { 0 < length self.now }
-        ensures bounded { length self.now ≤ MAX_ID_LENGTH }
+        ensures bounded { length self.now ≤ id_limit }
     {
         self.text.as_str()
     }

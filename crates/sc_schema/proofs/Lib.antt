@@ -1,5 +1,9 @@
 -- Facts on values and on changes of fields.
 pub mod FitLemmas
 pub mod FoldLemmas
+pub mod KeyLemmas
 pub mod PartLemmas
+pub mod PlaceLemmas
+pub mod RunLemmas
+pub mod ScanLemmas
 pub mod ValueLemmas

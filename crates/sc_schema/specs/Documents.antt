@@ -3,6 +3,7 @@ use Rattle.std.specs.Prelude.{◌≡◌, ◌⊎◌, ℕ, Bool, true, false, not,
 use Rattle.std.specs.List.{list_any}
 use Rattle.std.specs.Fmt.{signed_decimal}
 use Rattle.sc_record.specs.Fields.{kind_of}
+use Rattle.sc_record.specs.Ids.{id_limit}
 use Rattle.sc_record.specs.declared.value.Kind.{Kind}
 use Rattle.sc_record.specs.declared.document.Field.{Field}
 use Rattle.sc_record.specs.declared.order.How.{How}
@@ -40,9 +41,9 @@ abbrev pub member : List RawField → List ℕ → Option RawValue
 member [] name = None
 member (field ∷ fields) name = if bytes_eq field.name name then Some field.value else member fields name
 
--- a text as an id: it has 1 to 512 bytes
+-- a text as an id: it has a byte, and no more than an id may have
 abbrev pub id_text : List ℕ → Result (List ℕ) DocFault
-id_text text = if nat_eq (length text) 0 then Err faults.NoId else (if nat_lt 512 (length text) then Err faults.IdTooLong else Ok text)
+id_text text = if nat_eq (length text) 0 then Err faults.NoId else (if nat_lt id_limit (length text) then Err faults.IdTooLong else Ok text)
 
 -- the id of a document: a text, or a whole number as its decimal text
 abbrev pub id_of : Option RawValue → Result (List ℕ) DocFault

@@ -1,5 +1,7 @@
 -- What a document's members may be, and the order that they ask for.
 pub mod Documents
+pub mod Keys
 pub mod Raw
+pub mod Runs
 pub mod Terms
 pub mod Values

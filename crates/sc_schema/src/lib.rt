@@ -7,8 +7,9 @@
 //! document, and the key that a query's leaf asks for.
 //!
 //! Proved: `check_doc` gives the order that a document's members ask for, or the first of its faults (`specs/Documents`), for
-//! ten kinds of fields and five kinds of change; `terms_of` gives exactly the terms of a document, ascending and each once;
-//! `fold_word`; `key_of`, the key that a query's text asks for in a field of each kind.
+//! ten kinds of fields and five kinds of change; `terms_of` gives exactly the terms of a document, ascending and each once,
+//! also where the words of a plain ASCII text are found without Unicode's tables (`specs/Runs`); `fold_word`; `key_of`, the key
+//! that a query's text asks for in a field of each kind.
 //!
 //! Tested alone: texts by the rules of Unicode's word breaks and by its case folding; the worked documents; that a megabyte
 //! of words ends in time.

@@ -1,11 +1,12 @@
-ghost use Rattle.std.specs.Prelude.{◌≡◌, ◌∷◌, [], ◌++◌, map, IfOk, OnOk, IsAscii};
+ghost use Rattle.std.specs.Prelude.{◌≡◌, ◌++◌, map, true, IfOk, OnOk, IsAscii};
 ghost use Rattle.unicode_segmentation.specs.Word.{words};
 ghost use Rattle.std.specs.Char.{is_ascii_uppercase, to_ascii_lowercase};
-ghost use Rattle.std.specs.List.{list_any};
-ghost use Rattle.sc_schema.specs.Terms.{folded, only_word, term};
+ghost use Rattle.std.specs.List.{list_all, list_any};
+ghost use Rattle.sc_schema.specs.Terms.{folded, only_word};
+ghost use Rattle.sc_schema.specs.Runs.{is_plain, closed, runs};
 
 use caseless::default_case_fold_str;
-use sc_record::{List, Term, Text};
+use sc_record::Text;
 use std::alloc::{AllocError, Global};
 use unicode_segmentation::UnicodeSegmentation;
 
@@ -58,30 +59,87 @@ fn lowered(alloc: Global, text: &str) -> Result<Text, AllocError>
 fn has_capital(text: &str) -> bool
     ensures { result ≡ list_any is_ascii_uppercase text.now }
 {
-    text.as_bytes().iter().any(|byte| byte.is_ascii_uppercase())
+    let mut capital = false;
+    for byte in text.as_bytes() {
+        capital |= byte.is_ascii_uppercase();
+    }
+    capital
 }
 
-/// Puts a term for each word of the text at the end.
-pub fn push_words(
-    alloc: Global,
-    terms: &mut List<Term>,
-    field: &Text,
-    text: &str,
-) -> Result<(), AllocError>
-    ensures { OnOk result (terms.new ≡ terms.old ++ map (term field.now) (map folded (words text.now))) }
+/// Puts each word of the text, folded, at the end.
+pub fn push_words(alloc: Global, keys: &mut Vec<Text>, text: &str) -> Result<(), AllocError>
+    ensures { OnOk result (keys.new.items ≡ keys.old.items ++ map folded (words text.now)) }
 {
+    if is_plain(text) {
+        return push_plain_words(alloc, keys, text);
+    }
     for word in text.unicode_words() {
-        push_term(terms, field, folded(alloc, word)?)?;
+        keys.push(folded(alloc, word)?)?;
     }
     Ok(())
 }
 
-/// Puts a term at the end.
-pub fn push_term(terms: &mut List<Term>, field: &Text, key: Text) -> Result<(), AllocError>
-    ensures { OnOk result (terms.new ≡ terms.old ++ term field.now key ∷ []) }
+/// Whether the words of the text are just the runs of its letters and digits.
+fn is_plain(text: &str) -> bool
+    ensures { result ≡ list_all is_plain text.now }
 {
-    terms.push(Term {
-        field: field.clone()?,
-        key,
-    })
+    let mut plain = true;
+    for byte in text.as_bytes() {
+        plain &= is_plain_byte(*byte);
+    }
+    plain
+}
+
+/// Whether the byte is a space, or an ASCII letter, digit or sign that no rule of word breaks joins with another.
+fn is_plain_byte(byte: u8) -> bool
+    ensures { result ≡ is_plain byte }
+{
+    (byte > 31)
+        & (byte < 127)
+        & (byte != 34)
+        & (byte != 39)
+        & (byte != 44)
+        & (byte != 46)
+        & (byte != 58)
+        & (byte != 59)
+        & (byte != 95)
+}
+
+/// Puts each word of a plain text, folded, at the end.
+fn push_plain_words(alloc: Global, keys: &mut Vec<Text>, text: &str) -> Result<(), AllocError>
+    requires { list_all is_plain text.now ≡ true }
+    ensures { OnOk result (keys.new.items ≡ keys.old.items ++ map folded (words text.now)) }
+{
+    if has_capital(text) {
+        let mut lower = String::from_str(alloc, text)?;
+        lower.make_ascii_lowercase();
+        return push_runs(alloc, keys, lower.as_str());
+    }
+    push_runs(alloc, keys, text)
+}
+
+/// Puts each run of letters and digits of an ASCII text at the end.
+fn push_runs(alloc: Global, keys: &mut Vec<Text>, text: &str) -> Result<(), AllocError>
+    requires { IsAscii text.now }
+    ensures { OnOk result (keys.new.items ≡ keys.old.items ++ runs text.now) }
+{
+    let bytes = text.as_bytes();
+    let mut start = 0;
+    for at in 0..bytes.len() {
+        if !bytes[at].is_ascii_alphanumeric() {
+            push_run(alloc, keys, &text[start..at])?;
+            start = at + 1;
+        }
+    }
+    push_run(alloc, keys, &text[start..])
+}
+
+/// Puts a run at the end, where it has a byte.
+fn push_run(alloc: Global, keys: &mut Vec<Text>, run: &str) -> Result<(), AllocError>
+    ensures { OnOk result (keys.new.items ≡ keys.old.items ++ closed run.now) }
+{
+    if run.is_empty() {
+        return Ok(());
+    }
+    Ok(keys.push(Text::new(alloc, run)?)?)
 }

@@ -9,10 +9,12 @@ use Rattle.sc_ulog.specs.declared.mode.Mode.TheVariants.{Active, Buffering, Repl
 use Rattle.sc_ulog.specs.LogState.{IsEmptyWhereActive}
 use Rattle.sc_replica.specs.Cells.{put, applied, spare_after}
 
--- a core as contracts see it: its name, its cells, its log (the oldest write first), its clock, whether it is marked as down, and
--- how many more ids the cells and how many more writes the buffer have room for
+-- a core as contracts see it: its name, which is the seat that it sits in; its own number among the slice's cores; its cells, its log
+-- (the oldest write first), its clock, whether it is marked as down, and how many more ids the cells and how many more writes the
+-- buffer have room for
 pub record Core : Type 0 where
   pub core : CoreId
+  pub number : ℕ
   pub cells : List Write
   pub mode : Mode
   pub buffer : List Write

@@ -8,6 +8,7 @@ use Rattle.sc_replica.specs.declared.replica.Replica.TheInside.{Inside}
 abbrev pub core_of : Inside → Core
 core_of a = record {
   core = a.core;
+  number = a.number;
   cells = a.cells.writes;
   mode = a.log.mode;
   buffer = map arc_value a.log.entries;

@@ -9,10 +9,11 @@
 //! are `led`, `received`, `fed` and `replayed`; a write that is fed, replayed, or received by a core that does not buffer
 //! is dropped if its version isn't greater than that of its id's cell; the room that is left after each; a `reserve` that
 //! finds no memory changes nothing; `mark_down` marks the core as down and leaves all that it has, and `is_down` says
-//! whether it is marked; ids ascend, and no cell is above the clock (`IsCore`). `cores_keep_the_greatest`: so the cell of
-//! an id is the greatest of the writes of it that came, in any order and with repeats; active cores without cells that
-//! were given the same writes, no two of one id and version, have the same cells; one that buffers writes and replays
-//! them has those cells too; a put changes one cell, and a dropped write nothing.
+//! whether it is marked; `take_seat` gives it another name and mark, `set_number` another number, which `number` says, and both
+//! leave the rest; ids ascend, and no cell is above the clock (`IsCore`). `cores_keep_the_greatest`: so the cell of an id is the
+//! greatest of the writes of it that came, in any order and with repeats; active cores without cells that were given the same
+//! writes, no two of one id and version, have the same cells; one that buffers writes and replays them has those cells too; a
+//! put changes one cell, and a dropped write nothing.
 //!
 //! Tested alone: the worked writes; a replay of 70; that threads may share a core.
 //!

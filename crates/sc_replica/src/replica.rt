@@ -16,11 +16,13 @@ use std::marker::Model;
 /// How many writes a replay applies at most.
 const REPLAY_LIMIT: usize = 64;
 
-/// One core: its cells, its update log, its clock, and whether it is marked as down, which contracts see as a `Core`. All calls
-/// but `reserve` take no memory.
+/// One core: its cells, its update log, its clock, and whether it is marked as down, which contracts see as a `Core`. Its name is the
+/// seat that it sits in, and its number is its own: the two part where another core takes the lead. All calls but `reserve` take no
+/// memory.
 #[derive(Drop)]
 pub struct Replica {
     core: CoreId,
+    number: u8,
     cells: Cells,
     log: Log<Cell>,
     clock: i64,
@@ -40,10 +42,12 @@ impl Model for Replica {
 }
 
 impl Replica {
-    /// A core without cells, with an empty log in this mode and with its clock at 0. It takes no memory.
+    /// The core that sits in this seat from the first on: without cells, with an empty log in this mode and with its clock at 0. It
+    /// takes no memory.
     pub fn new(alloc: Global, core: CoreId, mode: Mode) -> Replica
         ensures value { result ≡ record {
           core = core;
+          number = core.replica;
           cells = [];
           mode = mode;
           buffer = [];
@@ -56,6 +60,7 @@ impl Replica {
     {
         Replica {
             core,
+            number: core.replica,
             cells: Cells::new(alloc),
             log: Log::new(alloc, mode),
             clock: 0,
@@ -99,6 +104,31 @@ impl Replica {
         ensures core { IsCore self.new }
     {
         self.down = true;
+    }
+
+    /// Its own number among the slice's cores, from 1.
+    pub fn number(&self) -> u8
+        ensures value { result ≡ self.now.number }
+        ensures core { IsCore self.now }
+    {
+        self.number
+    }
+
+    /// Gives it this number.
+    pub fn set_number(&mut self, number: u8)
+        ensures value { self.new ≡ record self.old { number = number } }
+        ensures core { IsCore self.new }
+    {
+        self.number = number;
+    }
+
+    /// Has it sit in this seat, which is down or not: it keeps all that it has.
+    pub fn take_seat(&mut self, seat: CoreId, down: bool)
+        ensures value { self.new ≡ record self.old { core = seat; down = down } }
+        ensures core { IsCore self.new }
+    {
+        self.core = seat;
+        self.down = down;
     }
 
     pub fn cells(&self) -> &Cells

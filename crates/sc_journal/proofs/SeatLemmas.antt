@@ -25,7 +25,7 @@ use Rattle.sc_cluster.proofs.PairLemmas.{Contains-from_map}
 use Rattle.sc_cluster.proofs.StateLemmas.{is_settled, is_other, active_settled, is_forming-switched, switched_keeps}
 use Rattle.sc_journal.specs.Seats.{exchanged, seats_after, seats}
 use Rattle.sc_journal.specs.Legal.{MayFollow, IsLegal}
-use Rattle.sc_journal.specs.Laws.{SeatsAreExchanged}
+use Rattle.sc_journal.specs.Laws.{SeatsAreExchanged, SeatsBeginInOrder}
 use Rattle.sc_journal.specs.Splits.{map_after}
 use Rattle.sc_journal.proofs.FollowerLemmas.{follower_is}
 use Rattle.sc_journal.proofs.LegalLemmas.{legal_induction}
@@ -36,6 +36,28 @@ use Rattle.sc_journal.proofs.SplitLemmas.{map_after-push, map_after-left, Leaves
 pub seats-push : (journal : List Entry) (one : Entry) (slice : SliceId)
     → seats (journal ++ one ∷ []) slice ≡ seats_after slice (seats journal slice) one
 seats-push journal one slice = fold-append (seats_after slice) (λ (seat : ℕ). seat) journal (one ∷ [])
+
+-- the entry moves no core, which is so of each but one by which a core takes the lead and one that drops a slice
+abbrev pub LeavesSeats : Entry → Type 0
+LeavesSeats one = (slice : SliceId) (core_in : ℕ → ℕ) → seats_after slice core_in one ≡ core_in
+
+-- after such an entry the same cores sit in the seats
+pub seats-left : (journal : List Entry) (one : Entry) (slice : SliceId) → LeavesSeats one
+    → seats (journal ++ one ∷ []) slice ≡ seats journal slice
+seats-left journal one slice leaves = seats-push journal one slice ∙ leaves slice (seats journal slice)
+
+-- after a drop each core of the slice sits in the seat of its number, and those of other slices sit where they sat
+pub seats-push_dropped : (journal : List Entry) (dropped id : SliceId) (t : Bool) → eqb dropped.0 id.0 ≡ t
+    → seats (journal ++ entry.Dropped dropped ∷ []) id ≡ cond t (λ (seat : ℕ). seat) (seats journal id)
+seats-push_dropped journal dropped id t is =
+    seats-push journal (entry.Dropped dropped) id ∙ ap (λ b. cond b (λ (seat : ℕ). seat) (seats journal id)) is
+
+-- once a core took the lead, it and the core that led before changed seats, and those of other slices sit where they sat
+pub seats-push_led : (journal : List Entry) (core : CoreId) (id : SliceId) (t : Bool) → eqb core.slice.0 id.0 ≡ t
+    → seats (journal ++ entry.Led core ∷ []) id ≡ cond t (exchanged core.replica (seats journal id)) (seats journal id)
+seats-push_led journal core id t is =
+    seats-push journal (entry.Led core) id
+    ∙ ap (λ b. cond b (exchanged core.replica (seats journal id)) (seats journal id)) is
 
 -- the cores of so many seats
 abbrev seated : (ℕ → ℕ) → ℕ → List ℕ
@@ -144,21 +166,20 @@ seated_same journal longer id replicas same =
 
 -- after an entry that changes no seats, where each settled slice was settled before, or there is none of its id
 fit_kept : (slices slices_after : List Slice) (journal : List Entry) (one : Entry)
-    → ((id : SliceId) (core_in : ℕ → ℕ) → seats_after id core_in one ≡ core_in)
+    → LeavesSeats one
     → ((id : SliceId) → IsNone slices_after id → IsNone slices id)
     → ((slice : Slice) → Contains slices_after slice → is_forming slice ≡ false → IsSeated journal slice.id slice.replicas)
     → SeatFit slices journal → SeatFit slices_after (journal ++ one ∷ [])
 fit_kept slices slices_after journal one same none each fit = record {
-  first = λ id absent. stays id ∙ fit.first id (none id absent);
+  first = λ id absent. seats-left journal one id same ∙ fit.first id (none id absent);
   seated = λ slice there settled.
-      seated_same journal (journal ++ one ∷ []) slice.id slice.replicas (stays slice.id) (each slice there settled);
-} where
-  stays : (id : SliceId) → seats (journal ++ one ∷ []) id ≡ seats journal id
-  stays id = seats-push journal one id ∙ same id (seats journal id)
+      seated_same journal (journal ++ one ∷ []) slice.id slice.replicas (seats-left journal one slice.id same)
+      (each slice there settled);
+}
 
 -- after an entry that changes neither slices nor seats
 fit_left : (first : List Slice) (journal : List Entry) (one : Entry) → LeavesSlices one
-    → ((id : SliceId) (core_in : ℕ → ℕ) → seats_after id core_in one ≡ core_in)
+    → LeavesSeats one
     → SeatFit (map_after first journal) journal → SeatFit (map_after first (journal ++ one ∷ [])) (journal ++ one ∷ [])
 fit_left first journal one leaves same fit =
     let slices = map_after first journal in
@@ -239,13 +260,8 @@ fit_dropped slices journal dropped fit = record {
   longer : List Entry
   longer = journal ++ entry.Dropped dropped ∷ []
 
-  after_drop : (id : SliceId) (t : Bool) → eqb dropped.0 id.0 ≡ t
-      → seats longer id ≡ cond t (λ (seat : ℕ). seat) (seats journal id)
-  after_drop id t is =
-      seats-push journal (entry.Dropped dropped) id ∙ ap (λ b. cond b (λ (seat : ℕ). seat) (seats journal id)) is
-
   stays : (id : SliceId) → dropped.0 ≢ id.0 → seats longer id ≡ seats journal id
-  stays id other = after_drop id false (ne_eqb dropped.0 id.0 other)
+  stays id other = seats-push_dropped journal dropped id false (ne_eqb dropped.0 id.0 other)
 
   apart : (slice : Slice) → is_other dropped slice ≡ true → dropped.0 ≢ slice.id.0
   apart slice other own =
@@ -254,9 +270,9 @@ fit_dropped slices journal dropped fit = record {
 
   first : (id : SliceId) → IsNone (filter (is_other dropped) slices) id → (t : Bool) → eqb dropped.0 id.0 ≡ t
       → seats longer id ≡ (λ (seat : ℕ). seat)
-  first id absent true is = after_drop id true is
+  first id absent true is = seats-push_dropped journal dropped id true is
   first id absent false is =
-      after_drop id false is ∙ fit.first id (λ slice there settled own.
+      seats-push_dropped journal dropped id false is ∙ fit.first id (λ slice there settled own.
       let other : is_other dropped slice ≡ true =
       ap not (ne_eqb slice.id.0 dropped.0 (λ same. false≢true (sym is ∙ eq-eqb dropped.0 id.0 (sym same ∙ own)))) in
       absent slice (Contains-filter (is_other dropped) slices slice there other) settled own)
@@ -268,23 +284,17 @@ fit_led : (slices : List Slice) (journal : List Entry) (core : CoreId) → IsMap
     → SeatFit slices journal → SeatFit slices (journal ++ entry.Led core ∷ [])
 fit_led slices journal core is_map slice inside settled of_slice low high fit = record {
   first = λ id absent.
-      after_led id false (ne_eqb core.slice.0 id.0 (λ own. absent slice inside settled (sym of_slice ∙ own)))
+      seats-push_led journal core id false (ne_eqb core.slice.0 id.0 (λ own. absent slice inside settled (sym of_slice ∙ own)))
       ∙ fit.first id absent;
   seated = λ other there other_settled. seated_then other there other_settled (eqb core.slice.0 other.id.0) refl;
 } where
   longer : List Entry
   longer = journal ++ entry.Led core ∷ []
 
-  after_led : (id : SliceId) (t : Bool) → eqb core.slice.0 id.0 ≡ t
-      → seats longer id ≡ cond t (exchanged core.replica (seats journal id)) (seats journal id)
-  after_led id t is =
-      seats-push journal (entry.Led core) id
-      ∙ ap (λ b. cond b (exchanged core.replica (seats journal id)) (seats journal id)) is
-
   seated_then : (other : Slice) → Contains slices other → is_forming other ≡ false → (t : Bool)
       → eqb core.slice.0 other.id.0 ≡ t → IsSeated longer other.id other.replicas
   seated_then other there other_settled false is =
-      seated_same journal longer other.id other.replicas (after_led other.id false is)
+      seated_same journal longer other.id other.replicas (seats-push_led journal core other.id false is)
       (fit.seated other there other_settled)
   seated_then other there other_settled true is =
       let same : other ≡ slice = same_from_rising_key id_of slices other slice is_map.ids there inside
@@ -292,7 +302,7 @@ fit_led slices journal core is_map slice inside settled of_slice low high fit = 
       let within : core.replica ≤ other.replicas =
       subst (λ (s : Slice). core.replica ≤ s.replicas) (sym same) high in
       subst (λ (core_in : ℕ → ℕ). IsPermutation (seated core_in other.replicas) (range_with_len 1 other.replicas))
-      (sym (after_led other.id true is))
+      (sym (seats-push_led journal core other.id true is))
       (IsPermutation-trans (seated (exchanged core.replica (seats journal other.id)) other.replicas)
       (seated (seats journal other.id) other.replicas) (range_with_len 1 other.replicas)
       (seated_exchanged core.replica (seats journal other.id) other.replicas low within)
@@ -358,3 +368,10 @@ seats_are_exchanged first journal slice is_map idle legal there = by (is_forming
       let same : other ≡ slice =
       same_from_rising_key id_of slices other slice (legal_fits first journal is_map idle legal).is_map.ids inside there own in
       false≢true (sym settled ∙ ap is_forming same ∙ is)))
+
+pub seats_begin_in_order : SeatsBeginInOrder
+seats_begin_in_order first journal id is_map idle legal forms seat =
+    let make : ℕ → SliceId = λ n. record { 0 = n } in
+    ap (λ (core_in : ℕ → ℕ). core_in seat)
+    ((legal_seats first journal is_map idle legal).first id
+    (λ slice there settled own. false≢true (sym settled ∙ forms slice there (ap make own))))

@@ -13,7 +13,7 @@ use Rattle.sc_record.specs.declared.order.Change.TheVariants as changes
 use Rattle.sc_router.specs.Route.{bucket_of}
 use Rattle.sc_journal.specs.Journal.{write_at, is_settled}
 use Rattle.sc_journal.specs.Outcomes.{Outcome, accepted, conflict, partial, log_full, out_of_memory, IsOutcome}
-use Rattle.sc_journal.specs.Seen.{Layout, Seen, journal_at}
+use Rattle.sc_journal.specs.Seen.{Layout, Seen, basis_of, journal_at}
 use Rattle.sc_journal.specs.declared.stop.Stop.{Stop}
 
 -- an order with the timestamp that was read for it, its stops and its outcome
@@ -43,7 +43,7 @@ HasStops seen out_of_memory stops first = (first.made ≡ false) × (stops ≡ f
 pub record IsOrderAnswer (layout : Layout) (seen : Seen) (answer : OrderAnswer) : Type 0 where
   pub first : Stop
   pub lock : first.lock ≡ bucket_of answer.order.id layout.buckets
-  pub outcome : IsOutcome layout.limit layout.first (journal_at seen first) answer.order answer.timestamp answer.outcome (seen.journals first.lock)
+  pub outcome : IsOutcome (basis_of layout) (journal_at seen first) answer.order answer.timestamp answer.outcome (seen.journals first.lock)
   pub stops : HasStops seen answer.outcome answer.stops first
 
 -- orders go on after this outcome: the order was accepted, or its conflict is passed over

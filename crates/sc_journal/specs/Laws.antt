@@ -93,6 +93,12 @@ SeatsAreExchanged = (first : List Slice) (journal : List Entry) (slice : Slice) 
     → IsLegal first journal → Contains (map_after first journal) slice
     → IsPermutation (map (seats journal slice.id) (range_with_len 1 slice.replicas)) (range_with_len 1 slice.replicas)
 
+-- at first the cores of a slice sit in the seats of their numbers, and they do until there is a slice of this id that no split is making
+abbrev pub SeatsBeginInOrder : Type 0
+SeatsBeginInOrder = (first : List Slice) (journal : List Entry) (id : SliceId) → IsMap first → forming first ≡ [] → IsLegal first journal
+    → ((slice : Slice) → Contains (map_after first journal) slice → slice.id ≡ id → is_forming slice ≡ true)
+    → (seat : ℕ) → seats journal id seat ≡ seat
+
 -- A journal is at rest: each of its writes is settled, no split is open, and no slice is inactive.
 pub record IsAtRest (first : List Slice) (journal : List Entry) : Type 0 where
   pub settled : (place : ℕ) → IsSome (write_at journal place) → is_settled journal place ≡ true

@@ -11,7 +11,7 @@ use Rattle.sc_record.specs.declared.entry.Entry.{Entry}
 use Rattle.sc_cluster.specs.declared.slice.Slice.{Slice}
 use Rattle.sc_partial.specs.Resolved.{IsChanged, first_refused, fields_of}
 use Rattle.sc_journal.specs.Journal.{write_at, writes, last_write, found}
-use Rattle.sc_journal.specs.Splits.{HasRoomFor, IsFullFor}
+use Rattle.sc_journal.specs.Splits.{Basis, HasRoomFor, IsFullFor}
 
 -- what one order was answered
 pub data Outcome : Type 0 where
@@ -67,14 +67,14 @@ pub record IsFitting (journal : List Entry) (order : Order) : Type 0 where
 -- The order at the end of the journal `before`, at the timestamp `now`. The journal `after` has `before` as a prefix, and
 -- then the write where the order was accepted. The first cause that holds is answered; where memory ran out, that may stand
 -- in the place of any other answer but a conflict.
-abbrev pub IsOutcome : ℕ → List Slice → List Entry → Order → ℕ → Outcome → List Entry → Type 0
-IsOutcome limit first before order now (accepted version) after =
-    IsFitting before order × HasRoom limit first before
+abbrev pub IsOutcome : Basis → List Entry → Order → ℕ → Outcome → List Entry → Type 0
+IsOutcome basis before order now (accepted version) after =
+    IsFitting before order × HasRoom basis.limit basis.first before
     × ((write : Write) × (write_at after (length before) ≡ Some write) × IsWriteOf before order now write × (version ≡ shown_version write))
-IsOutcome limit first before order now (conflict version) after =
+IsOutcome basis before order now (conflict version) after =
     (meets order.condition (found before order.id) ≡ false) × (version ≡ found before order.id)
-IsOutcome limit first before order now (partial name) after =
+IsOutcome basis before order now (partial name) after =
     IsMet before order × (refused (last_write before order.id) order.change ≡ Some name)
-IsOutcome limit first before order now log_full after =
-    IsFitting before order × IsFullFor 2 limit first before
-IsOutcome limit first before order now out_of_memory after = IsMet before order
+IsOutcome basis before order now log_full after =
+    IsFitting before order × IsFullFor 2 basis.limit basis.first before
+IsOutcome basis before order now out_of_memory after = IsMet before order

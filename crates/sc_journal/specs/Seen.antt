@@ -5,6 +5,7 @@ use mathlib.Core.List.{IsPrefix}
 use Rattle.sc_record.specs.declared.entry.Entry.{Entry}
 use Rattle.sc_cluster.specs.declared.slice.Slice.{Slice}
 use Rattle.sc_journal.specs.Legal.{IsLegal}
+use Rattle.sc_journal.specs.Splits.{Basis}
 use Rattle.sc_journal.specs.declared.board.BoardEntry.{BoardEntry}
 use Rattle.sc_journal.specs.declared.stop.Stop.{Stop}
 
@@ -15,6 +16,10 @@ pub record Layout : Type 0 where
   pub nodes : ℕ
   pub first : List Slice
   pub limit : ℕ
+
+-- what each bucket's journal is based on
+abbrev pub basis_of : Layout → Basis
+basis_of layout = record { first = layout.first; limit = layout.limit }
 
 -- What was seen: the journal of each bucket, by the number of the lock that guards it, and that of the board, whose lock comes
 -- after those of the buckets; and by lock the places of the entries that are one's own.

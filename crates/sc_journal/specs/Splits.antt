@@ -47,6 +47,11 @@ owed first journal =
     length (unsettled journal) + owed_by_split (open_split journal) + count_by is_inactive (map_after first journal)
     + count_up (map_after first journal) journal
 
+-- what a journal is based on: the map with which it begins, and how many entries it may have
+pub record Basis : Type 0 where
+  pub first : List Slice
+  pub limit : ℕ
+
 -- the journal has room for so many entries more, beside those that it owes
 abbrev pub HasRoomFor : ℕ → ℕ → List Slice → List Entry → Type 0
 HasRoomFor wanted limit first journal = length journal + owed first journal + wanted ≤ limit

@@ -1,6 +1,6 @@
 //! Laws of journals, above their definitions.
 
-ghost use Rattle.sc_journal.specs.Laws.{GrowsByWhatMayFollow, HasLegalPrefixes, AscendsInVersions, OwesOneForAWrite, OwesOneLessSettled, OwesForASplit, OwesLessFailed, OwesLessSwitched, OwesOneLessDropped, OwesOneLessDown, OwesOneForUp, OwesNothingAtRest, ComesToRest, JournalsKeepAMap, DownAreFollowers, SeatsAreExchanged};
+ghost use Rattle.sc_journal.specs.Laws.{GrowsByWhatMayFollow, HasLegalPrefixes, AscendsInVersions, OwesOneForAWrite, OwesOneLessSettled, OwesForASplit, OwesLessFailed, OwesLessSwitched, OwesOneLessDropped, OwesOneLessDown, OwesOneForUp, OwesNothingAtRest, ComesToRest, JournalsKeepAMap, DownAreFollowers, SeatsAreExchanged, SeatsBeginInOrder};
 
 /// Whatever a bucket's journal gets, each entry where it may follow.
 pub fn journals_stay_legal()
@@ -36,4 +36,5 @@ pub fn journals_keep_a_map()
 pub fn journals_seat_cores()
     ensures down { DownAreFollowers }
     ensures seats { SeatsAreExchanged }
+    ensures begin { SeatsBeginInOrder }
 {}

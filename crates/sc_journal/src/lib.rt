@@ -8,7 +8,7 @@
 //! (after an accepted order's second stop its write is settled), `journals_keep_a_map` (the slices after a legal journal are
 //! those of a cluster, and those being made are the subs of the slice whose split is open), `journals_seat_cores` (in a legal
 //! journal a core that is down is a follower of a slice that is there and that no split is making, and the cores of a slice
-//! sit in its seats, each in one).
+//! sit in its seats, each in one, and each in the seat of its number until the slice is there and no split is making it).
 #![tactic(auto)]
 
 mod batches;

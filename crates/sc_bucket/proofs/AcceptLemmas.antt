@@ -26,7 +26,7 @@ use Rattle.sc_journal.specs.Splits.{map_after, open_split, owed}
 use Rattle.sc_journal.specs.Legal.{MayWrite, IsLegal}
 use Rattle.sc_journal.proofs.LegalLemmas.{end_is_open, IsLegal-push, unsettled-push_legal_write, owed-push_legal_write}
 use Rattle.sc_journal.proofs.JournalLemmas.{writes-push_write, write_at-push_end, write_at-append, write_at_within}
-use Rattle.sc_journal.proofs.DownLemmas.{is_down-push}
+use Rattle.sc_journal.proofs.DownLemmas.{LeavesCores-write}
 use Rattle.sc_journal.proofs.SettledLemmas.{is_settled-push_other}
 use Rattle.sc_journal.proofs.MapLemmas.{keeps_a_map}
 use Rattle.sc_journal.proofs.SplitLemmas.{LeavesSlices-write, map_after-left, open_split-left}
@@ -37,9 +37,9 @@ use Rattle.sc_bucket.specs.Kept.{Sent, FeedState}
 use Rattle.sc_bucket.specs.Cores.{core_key, followers, IsLeaderAt, IsCoreWithoutRoom}
 use Rattle.sc_bucket.specs.Flight.{sent_to, is_same_message}
 use Rattle.sc_bucket.specs.Pending.{pending}
-use Rattle.sc_bucket.specs.Sound.{AreActive, HasJournal, IsSent, AreSent, HasSpare, HasSearchers, IsInPhase, IsSound}
+use Rattle.sc_bucket.specs.Sound.{AreActive, HasJournal, IsSent, AreSent, HasSpare, HasSearchers, IsMarked, is_idle, IsInPhase, IsSound}
 use Rattle.sc_bucket.proofs.CoreLemmas.{name_of, AreApart-from_ascending}
-use Rattle.sc_bucket.proofs.SoundLemmas.{All-slice_get, AreAlike, AreAlike-set, name_and_mark, set-kept, AreMarked, AreMarked-left, names-alike, HasCores-alike, AreFeeds-alike, IsInPhase-alike, ArePrepared-same}
+use Rattle.sc_bucket.proofs.SoundLemmas.{All-slice_get, AreAlike, AreAlike-set, name_and_mark, set-kept, AreMarked, SaysSame, SaysSame-push, AreMarked-left, names-alike, HasCores-alike, AreFeeds-alike, IsInPhase-alike, ArePrepared-same}
 use Rattle.sc_bucket.proofs.SearcherLemmas.{HasSearchers-grown}
 use Rattle.sc_bucket.proofs.PlaceLemmas.{All-set_apart}
 use Rattle.sc_bucket.proofs.FollowerLemmas.{IsFollower, are_followers, follower_is_there, followers_apart, IsDistinct-append, sent_apart, sent_later}
@@ -95,11 +95,11 @@ bucket_has_map b journal =
 abbrev pub sent_by : Bucket → Write → CoreId → List Sent
 sent_by b write leader = sent_to (length b.journal.entries) write (followers b.map b.replicas write.hash leader)
 
--- a write says of no core that it is down
-down-put : (old new : Bucket) (cell : Arc Write Global) → new.journal.entries ≡ old.journal.entries ++ entry.Write cell ∷ []
-    → (key : ℕ × ℕ) → is_down new.journal.entries key ≡ is_down old.journal.entries key
-down-put old new cell entries key =
-    ap (λ journal. is_down journal key) entries ∙ is_down-push old.journal.entries (entry.Write cell) key
+-- a write says nothing of any core
+says-put : (old new : Bucket) (cell : Arc Write Global) → new.journal.entries ≡ old.journal.entries ++ entry.Write cell ∷ []
+    → SaysSame old.journal.entries new.journal.entries
+says-put old new cell entries =
+    SaysSame-push old.journal.entries new.journal.entries (entry.Write cell) entries (LeavesCores-write cell) (λ slice core_in. refl)
 
 -- an earlier message is still of a write that is not settled, and to a core that is there and not down
 IsSent-put : (old new : Bucket) (cell : Arc Write Global) (message : Sent) → new.journal.entries ≡ old.journal.entries ++ entry.Write cell ∷ []
@@ -112,7 +112,7 @@ IsSent-put old new cell message entries names sent =
       unsettled = ap (λ journal. is_settled journal message.place) entries
           ∙ is_settled-push_other old.journal.entries (entry.Write cell) message.place (λ _. refl) ∙ sent.unsettled;
       core = subst (λ (ids : List CoreId). Contains ids message.core) (sym names) sent.core;
-      up = down-put old new cell entries (key_of_core message.core) ∙ sent.up;
+      up = (says-put old new cell entries).down (key_of_core message.core) ∙ sent.up;
     }
 
 -- and so is a message of the new write
@@ -123,8 +123,7 @@ IsSent-new : (old new : Bucket) (cell : Arc Write Global) (leader name : CoreId)
 IsSent-new old new cell leader name entries names journal marked follower =
     let place = length old.journal.entries in
     let down : follower.core.down ≡ is_down old.journal.entries (core_key follower.core) =
-    All-contains (λ (core : Core). core.down ≡ is_down old.journal.entries (core_key core)) old.replicas follower.core marked
-    follower.core_there in
+    (All-contains (IsMarked old.journal.entries) old.replicas follower.core marked follower.core_there).down in
     record {
       write = ap (λ journal. write_at journal place) entries ∙ write_at-push_end old.journal.entries (entry.Write cell);
       unsettled = ap (λ journal. is_settled journal place) entries
@@ -132,7 +131,7 @@ IsSent-new old new cell leader name entries names journal marked follower =
           ∙ end_is_open old.first old.journal.entries journal.legal;
       core = subst (λ (ids : List CoreId). Contains ids name) (sym names)
           (follower_is_there old.map old.replicas cell.value.hash leader name follower);
-      up = down-put old new cell entries (key_of_core name)
+      up = (says-put old new cell entries).down (key_of_core name)
           ∙ ap (λ (id : CoreId). is_down old.journal.entries (key_of_core id)) (sym follower.core_is) ∙ sym down ∙ follower.up;
     }
 
@@ -155,7 +154,7 @@ AreSent-put old new cell leader entries names messages sound =
           (All-map (IsSent new) (λ (name : CoreId). record { place = length old.journal.entries; core = name; write = cell.value }) to
           (All-weaker (IsFollower old.map old.replicas cell.value.hash leader)
           (λ (name : CoreId). IsSent new (record { place = length old.journal.entries; core = name; write = cell.value }))
-          (λ name. IsSent-new old new cell leader name entries names sound.journal sound.cores.down) to follow)));
+          (λ name. IsSent-new old new cell leader name entries names sound.journal sound.cores.marked) to follow)));
       once = subst (IsDistinct is_same_message) (sym messages)
           (IsDistinct-append is_same_message old.flight.messages (sent_by old cell.value leader) sound.messages.once
           (sent_apart place cell.value to (followers_apart old.map old.replicas cell.value.hash leader is_map
@@ -220,6 +219,7 @@ IsSound-put old new cell at messages put same_spares may has_room memory leader 
     ∙ set-kept name_and_mark old.replicas at leader.core (led leader.core cell.value) leader.found refl in
     let same_split : open_split new.journal.entries ≡ open_split old.journal.entries =
     ap open_split put.entries ∙ open_split-left old.journal.entries (entry.Write cell) (LeavesSlices-write cell) in
+    let same_idle : is_idle new.phase ≡ is_idle old.phase = ap is_idle put.split.phase in
     record {
       journal = HasJournal-put old new cell at messages put may has_room sound.journal;
       leaders = sound_cores.leaders;
@@ -241,10 +241,10 @@ IsSound-put old new cell at messages put same_spares may has_room memory leader 
           (subst (All (HasSpare (old.flight.messages ++ messages) old.feeds)) (sym exactly)
           (spares-put old.replicas (old.flight.messages ++ messages) old.feeds at leader.core cell.value leader.found
           memory.cores (memory.one_more leader.core leader.found))));
-      cores = HasCores-alike old new put.map_is alike
+      cores = HasCores-alike old new same_idle put.map_is alike
           (AreMarked-left old.journal.entries new.journal.entries old.replicas new.replicas marks
-          (down-put old new cell put.entries) sound.cores.down) sound.cores;
-      feeds = AreFeeds-alike old new put.map_is put.split.feeds alike sound.feeds;
+          (says-put old new cell put.entries) sound.cores.marked) sound.cores;
+      feeds = AreFeeds-alike old new same_idle put.map_is put.split.feeds alike sound.feeds;
       phase = subst (IsInPhase new) (sym put.split.phase)
           (IsInPhase-alike old new old.phase same_split put.map_is alike sound.phase);
     }

@@ -22,13 +22,12 @@ use Rattle.sc_cluster.proofs.LeaderLemmas.{same_from_id}
 use Rattle.sc_cluster.proofs.ListLemmas.{Contains-map, Contains-filter, Contains-from_filter}
 use Rattle.sc_replica.specs.Core.{Core, IsCore}
 use Rattle.sc_journal.specs.Journal.{as_write, writes, last_write, write_at, is_settled, unsettled}
-use Rattle.sc_journal.specs.Down.{is_down}
 use Rattle.sc_journal.specs.Splits.{map_after, open_split, owed}
 use Rattle.sc_journal.specs.Legal.{IsLegal}
 use Rattle.sc_journal.specs.Committed.{commits, committed, last_commit}
 use Rattle.sc_journal.proofs.JournalLemmas.{length-writes, writes-push_other, write_at-append, write_at_within}
 use Rattle.sc_journal.proofs.CommittedLemmas.{committed-push_commit, last_commit-push_commit}
-use Rattle.sc_journal.proofs.DownLemmas.{is_down-push}
+use Rattle.sc_journal.proofs.DownLemmas.{LeavesCores-committed}
 use Rattle.sc_journal.proofs.SettledLemmas.{unsettled-push_other, is_settled-push_other}
 use Rattle.sc_journal.proofs.SplitLemmas.{map_after-left, open_split-left, owed-push_committed, LeavesSlices-committed}
 use Rattle.sc_journal.proofs.LegalLemmas.{IsLegal-push}
@@ -41,7 +40,7 @@ use Rattle.sc_bucket.specs.Events.{Commits}
 use Rattle.sc_bucket.specs.declared.bucket.Bucket.{Bucket}
 use Rattle.sc_bucket.specs.declared.standing.Standing.{Standing}
 use Rattle.sc_bucket.proofs.CoreLemmas.{element_from_map}
-use Rattle.sc_bucket.proofs.SoundLemmas.{IsSent-left, IsSound-left}
+use Rattle.sc_bucket.proofs.SoundLemmas.{SaysSame, SaysSame-push, IsSent-left, IsSound-left}
 use Rattle.sc_bucket.proofs.TakenLemmas.{Contains-slice_get}
 use Rattle.sc_bucket.proofs.AcceptLemmas.{bucket_has_map}
 use Rattle.sc_bucket.proofs.SearcherLemmas.{IsAt, AreAt-taken}
@@ -187,11 +186,10 @@ HasSearchers-taken old new one sound entries takes = record {
       (sym entries)
       (shows_written old one new.map new.searchers searcher slice sound takes is there same)
 
--- no other core is down
-down-committed : (old new : Bucket) → Commits old new
-    → (key : ℕ × ℕ) → is_down new.journal.entries key ≡ is_down old.journal.entries key
-down-committed old new commits key =
-    ap (λ entries. is_down entries key) commits.entries ∙ is_down-push old.journal.entries entry.Committed key
+-- nothing is said of any core
+says-committed : (old new : Bucket) → Commits old new → SaysSame old.journal.entries new.journal.entries
+says-committed old new commits =
+    SaysSame-push old.journal.entries new.journal.entries entry.Committed commits.entries LeavesCores-committed (λ slice core_in. refl)
 
 -- a message is still of a write that is not settled, and to a core that is there and not down
 sent_still : (old new : Bucket) (message : Sent) → Commits old new → IsSent old message → IsSent new message
@@ -203,7 +201,7 @@ sent_still old new message commits sent =
     ∙ write_at-append old.journal.entries (one ∷ []) message.place (write_at_within old.journal.entries message.place written))
     (ap (λ entries. is_settled entries message.place) commits.entries
     ∙ is_settled-push_other old.journal.entries one message.place (λ place. refl))
-    (down-committed old new commits (key_of_core message.core))
+    ((says-committed old new commits).down (key_of_core message.core))
     sent
 
 -- so the bucket is sound
@@ -215,7 +213,7 @@ IsSound-committed old new sound commits parts =
     (ap (map without_room) commits.cores)
     (ap writes commits.entries ∙ writes-push_other old.journal.entries one refl)
     (ap open_split commits.entries ∙ open_split-left old.journal.entries one LeavesSlices-committed)
-    (down-committed old new commits)
+    (says-committed old new commits)
     commits.messages
     (record {
       each = subst (All (IsSent new)) (sym commits.messages)

@@ -1,11 +1,10 @@
 -- A bucket is sound once a message in flight was delivered.
-use Rattle.std.proofs.Common.{◌≡◌, ℕ, zero, suc, ◌<◌, Bool, true, false, cond, List, [], ◌∷◌, ◌++◌, length, get_or, map, set, take, drop, slice_get, Option, Some, All, Contains, refl, sym, ap, ◌∙◌, subst, arith}
-use Rattle.std.specs.List.{AllByRecursion, IsDistinct, remove}
-use Rattle.std.proofs.lemmas.List.{length-map, get_or-map}
-use Rattle.std.proofs.lemmas.List.Elements.{All-append, All-drop, All-from_recursion, All-map, All-take, All-weaker}
+use Rattle.std.proofs.Common.{◌≡◌, ℕ, suc, ◌<◌, Bool, true, false, cond, List, [], ◌∷◌, ◌++◌, length, get_or, map, set, take, drop, slice_get, Option, Some, All, Contains, refl, sym, ap, ◌∙◌, subst, arith}
+use Rattle.std.specs.List.{IsDistinct, remove}
+use Rattle.std.proofs.lemmas.List.Elements.{All-append, All-drop, All-map, All-take, All-weaker}
 use Rattle.std.proofs.lemmas.List.Quantifiers.{all_pairs_remove}
 use Rattle.std.proofs.lemmas.Map.Keys.{apart_from_distinct, IsDistinct-from_apart}
-use Rattle.std.proofs.lemmas.Option.{slice_get_within, none-some, same_Some}
+use Rattle.std.proofs.lemmas.Option.{slice_get_within, same_Some}
 use Rattle.sc_record.specs.declared.slice.CoreId.{CoreId}
 use Rattle.sc_record.specs.declared.write.Write.{Write}
 use Rattle.sc_cluster.proofs.ListLemmas.{map-map_kept}
@@ -24,7 +23,7 @@ use Rattle.sc_bucket.proofs.CoreLemmas.{name_of, is_core-Decides, IsCoreFound, A
 use Rattle.sc_bucket.proofs.ChangedLemmas.{changed_at}
 use Rattle.sc_bucket.proofs.PendingLemmas.{length-pending}
 use Rattle.sc_bucket.proofs.SearcherLemmas.{HasSearchers-same}
-use Rattle.sc_bucket.proofs.SoundLemmas.{All-slice_get, name_and_mode, AreAlike, AreAlike-map, name_and_mark, AreMarked-left, names-alike, HasCores-alike, AreFeeds-alike, IsInPhase-alike}
+use Rattle.sc_bucket.proofs.SoundLemmas.{All-slice_get, name_and_mode, AreAlike, AreAlike-map, name_and_mark, SaysSame-same, AreMarked-left, names-alike, HasCores-alike, AreFeeds-alike, IsInPhase-alike}
 use Rattle.sc_bucket.proofs.FlightLemmas.{IsOneLess, one_less-append, taken-own, taken-other}
 use Rattle.sc_bucket.proofs.DeliveredLemmas.{IsSoundCore, fed_is_sound, buffered_is_sound, AreSame-append, AreSame-moved}
 use Rattle.sc_bucket.proofs.InOrderLemmas.{in_order-received}
@@ -227,10 +226,10 @@ IsSound-delivered b at message flight sound found left =
       messages = AreSent-left b at flight cores (slice_get_within b.flight.messages at message found) left
           (names-alike b.replicas cores alike) sound.messages;
       room = λ k d below. record { cells = (sound_cores k d below).cell_room; buffer = (sound_cores k d below).buffer_room };
-      cores = HasCores-alike b new refl alike
+      cores = HasCores-alike b new refl refl alike
           (AreMarked-left b.journal.entries b.journal.entries b.replicas cores (marks-delivered message b.replicas)
-          (λ key. refl) sound.cores.down) sound.cores;
-      feeds = AreFeeds-alike b new refl refl alike sound.feeds;
+          (SaysSame-same b.journal.entries b.journal.entries refl) sound.cores.marked) sound.cores;
+      feeds = AreFeeds-alike b new refl refl refl alike sound.feeds;
       phase = IsInPhase-alike b new b.phase refl refl alike sound.phase;
     }
 

@@ -4,9 +4,7 @@ use Rattle.std.specs.List.{IsDistinct}
 use Rattle.std.proofs.lemmas.Bool.{and_parts}
 use Rattle.std.proofs.lemmas.List.{length_push}
 use Rattle.std.proofs.lemmas.List.Elements.{All-contains, All-map, All-weaker}
-use Rattle.sc_hash.specs.Range.{IsWithin}
-use Rattle.sc_router.specs.Route.{route_hash}
-use Rattle.sc_record.specs.Names.{key_of_core, is_key, is_core}
+use Rattle.sc_record.specs.Names.{key_of_core, is_core}
 use Rattle.sc_record.specs.Writes.{write_of}
 use Rattle.sc_record.specs.declared.slice.CoreId.{CoreId}
 use Rattle.sc_record.specs.declared.write.Write.{Write}
@@ -15,28 +13,30 @@ use Rattle.sc_record.specs.declared.entry.Entry.TheVariants as entry
 use Rattle.sc_cluster.specs.declared.slice.Slice.{Slice}
 use Rattle.sc_cluster.specs.Map.{IsMap}
 use Rattle.sc_cluster.specs.Slices.{is_inactive}
-use Rattle.sc_cluster.proofs.ListLemmas.{map-map_kept, Contains-from_filter}
+use Rattle.sc_cluster.proofs.ListLemmas.{Contains-from_filter}
 use Rattle.sc_replica.specs.Core.{Core}
-use Rattle.sc_journal.specs.Journal.{writes, write_at, last_write, is_settled, unsettled}
+use Rattle.sc_journal.specs.Journal.{writes, write_at, is_settled, unsettled}
 use Rattle.sc_journal.specs.Committed.{committed, last_commit}
 use Rattle.sc_journal.specs.Down.{is_down, IsFollower}
+use Rattle.sc_journal.specs.Seats.{seats}
 use Rattle.sc_journal.specs.Splits.{map_after, open_split, owed}
 use Rattle.sc_journal.specs.Legal.{MayGoDown, IsLegal}
 use Rattle.sc_journal.proofs.JournalLemmas.{writes-push_other, write_at-append, write_at_within}
 use Rattle.sc_journal.proofs.CommittedLemmas.{committed-push_other, last_commit-push_other}
 use Rattle.sc_journal.proofs.SettledLemmas.{unsettled-push_other, is_settled-push_other}
 use Rattle.sc_journal.proofs.DownLemmas.{is_down-push_down, is_down-push_down_other}
+use Rattle.sc_journal.proofs.SeatLemmas.{seats-left}
 use Rattle.sc_journal.proofs.SplitLemmas.{LeavesSlices-down, map_after-left, open_split-left}
 use Rattle.sc_journal.proofs.LegalLemmas.{IsLegal-push}
 use Rattle.sc_journal.proofs.OwedLemmas.{owed-push_down}
 use Rattle.sc_bucket.specs.declared.bucket.Bucket.{Bucket}
 use Rattle.sc_bucket.specs.Kept.{JournalState, Sent, FlightState, FeedState}
-use Rattle.sc_bucket.specs.Cores.{core_key, is_attached, IsCoreWithoutRoom}
+use Rattle.sc_bucket.specs.Cores.{core_key, IsCoreWithoutRoom}
 use Rattle.sc_bucket.specs.Flight.{is_to, is_same_message}
 use Rattle.sc_bucket.specs.Pending.{pending}
-use Rattle.sc_bucket.specs.Sound.{AreActive, HasJournal, IsInRange, IsSent, AreSent, HasSpare, IsInPhase, IsSound}
+use Rattle.sc_bucket.specs.Sound.{AreActive, HasJournal, IsInRange, IsSent, AreSent, HasSpare, IsMarked, is_idle, IsInPhase, IsSound}
 use Rattle.sc_bucket.specs.Events.{CanDetach, detached, Detaches}
-use Rattle.sc_bucket.proofs.CoreLemmas.{name_of, is_core-Decides, IsCoreFound, AreApart-from_ascending}
+use Rattle.sc_bucket.proofs.CoreLemmas.{is_core-Decides, IsCoreFound, AreApart-from_ascending}
 use Rattle.sc_bucket.proofs.SearcherLemmas.{HasSearchers-grown}
 use Rattle.sc_bucket.proofs.FollowerLemmas.{IsDistinct-filter, All-from_contains, negated}
 use Rattle.sc_bucket.proofs.AcceptLemmas.{bucket_has_map}
@@ -133,19 +133,29 @@ AreAlike-detached name cores =
 AreMarked-detached : (name : CoreId) (journal : List Entry) (cores : List Core) → AreMarked journal cores
     → AreMarked (journal ++ entry.Down name ∷ []) (map (detached name) cores)
 AreMarked-detached name journal cores are =
-    all_detached (λ (core : Core). core.down ≡ is_down journal (core_key core))
-    (λ (core : Core). core.down ≡ is_down (journal ++ entry.Down name ∷ []) (core_key core)) name cores
-    (λ core is. (own core, other core is)) are
+    all_detached (IsMarked journal) (IsMarked longer) name cores (λ core is. (own core is, other core is)) are
   where
-    own : (core : Core) → is_core name core.core ≡ true → true ≡ is_down (journal ++ entry.Down name ∷ []) (core_key core)
-    own core same =
-        sym (is_down-push_down journal name)
-        ∙ ap (λ (id : CoreId). is_down (journal ++ entry.Down name ∷ []) (key_of_core id)) ((is_core-Decides name core.core).0 same)
+    longer : List Entry
+    longer = journal ++ entry.Down name ∷ []
 
-    other : (core : Core) → core.down ≡ is_down journal (core_key core) → is_core name core.core ≡ false
-        → core.down ≡ is_down (journal ++ entry.Down name ∷ []) (core_key core)
-    other core is apart =
-        is ∙ sym (is_down-push_down_other journal name (core_key core) (apart_too name core.core apart))
+    number : (core : Core) → IsMarked journal core → core.number ≡ seats longer core.core.slice core.core.replica
+    number core is =
+        is.number
+        ∙ ap (λ (core_in : ℕ → ℕ). core_in core.core.replica)
+        (sym (seats-left journal (entry.Down name) core.core.slice (λ slice core_in. refl)))
+
+    own : (core : Core) → IsMarked journal core → is_core name core.core ≡ true → IsMarked longer (marked core)
+    own core is same = record {
+      down = sym (is_down-push_down journal name)
+          ∙ ap (λ (id : CoreId). is_down longer (key_of_core id)) ((is_core-Decides name core.core).0 same);
+      number = number core is;
+    }
+
+    other : (core : Core) → IsMarked journal core → is_core name core.core ≡ false → IsMarked longer core
+    other core is apart = record {
+      down = is.down ∙ sym (is_down-push_down_other journal name (core_key core) (apart_too name core.core apart));
+      number = number core is;
+    }
 
 -- what is true of the writes of a core and of those that are pending for it stays true
 written_detached : (P : Write → Type 0) (name : CoreId) (messages : List Sent) (feeds : List FeedState) (core : Core)
@@ -232,7 +242,8 @@ IsSound-detached old name new sound can detaches parts =
     let marks : AreMarked new.journal.entries new.replicas =
     subst (λ entries. AreMarked entries new.replicas) (sym detaches.entries)
     (subst (AreMarked (old.journal.entries ++ one ∷ [])) (sym detaches.cores)
-    (AreMarked-detached name old.journal.entries old.replicas sound.cores.down)) in
+    (AreMarked-detached name old.journal.entries old.replicas sound.cores.marked)) in
+    let same_idle : is_idle new.phase ≡ is_idle old.phase = ap is_idle detaches.split.phase in
     record {
       journal = HasJournal-detached old name new sound.journal can detaches parts;
       leaders = all_left (λ slices these _ _. ServesBy slices these) old.map new.map all (writes new.journal.entries)
@@ -277,8 +288,8 @@ IsSound-detached old name new sound can detaches parts =
           (all_detached (HasSpare old.flight.messages old.feeds) (HasSpare left old.feeds) name old.replicas
           (λ core is. let after = HasSpare-left_out name old.flight.messages old.feeds core is in
           (λ own. spare_marked left old.feeds core after, λ other. after)) sound.room)));
-      cores = HasCores-alike old new detaches.map_is alike marks sound.cores;
-      feeds = AreFeeds-alike old new detaches.map_is detaches.split.feeds alike sound.feeds;
+      cores = HasCores-alike old new same_idle detaches.map_is alike marks sound.cores;
+      feeds = AreFeeds-alike old new same_idle detaches.map_is detaches.split.feeds alike sound.feeds;
       phase = subst (IsInPhase new) (sym detaches.split.phase)
           (IsInPhase-alike old new old.phase same_split detaches.map_is alike sound.phase);
     }

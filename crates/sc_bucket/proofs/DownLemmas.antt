@@ -3,7 +3,6 @@ use Rattle.std.proofs.Common.{◌≡◌, ◌≢◌, ◌∙◌, ◌↔◌, ◌≤
 use Rattle.std.specs.List.{range_with_len}
 use Rattle.std.proofs.lemmas.List.Elements.{All-contains}
 use Rattle.std.proofs.lemmas.List.FromFn.{length-range_with_len, get_or-range_with_len}
-use Rattle.std.proofs.lemmas.Option.{slice_get_within, get_or_from_slice_get}
 use Rattle.sc_record.specs.Names.{key_of_core, is_core}
 use Rattle.sc_record.specs.declared.slice.SliceId.{SliceId}
 use Rattle.sc_record.specs.declared.slice.CoreId.{CoreId}
@@ -14,12 +13,12 @@ use Rattle.sc_cluster.proofs.LeaderLemmas.{same_from_id}
 use Rattle.sc_cluster.proofs.ListLemmas.{Contains-map}
 use Rattle.sc_cluster.proofs.StateLemmas.{active_settled}
 use Rattle.sc_replica.specs.Core.{Core}
-use Rattle.sc_journal.specs.Down.{is_down, follower_keys, IsFollower}
+use Rattle.sc_journal.specs.Down.{is_down, follower_keys}
 use Rattle.sc_journal.proofs.FollowerLemmas.{follower_is}
 use Rattle.sc_journal.proofs.LegalDownLemmas.{legal_down}
 use Rattle.sc_bucket.specs.declared.bucket.Bucket.{Bucket}
 use Rattle.sc_bucket.specs.Cores.{core_key, slice_keys}
-use Rattle.sc_bucket.specs.Sound.{HasCores, IsSound}
+use Rattle.sc_bucket.specs.Sound.{IsMarked, HasCores, IsSound}
 use Rattle.sc_bucket.specs.Events.{CanDetach}
 use Rattle.sc_bucket.proofs.CoreLemmas.{name_of, same_name_by, is_core-Decides, element_from_map}
 use Rattle.sc_bucket.proofs.SoundLemmas.{All-slice_get}
@@ -52,7 +51,7 @@ follower_key slice replica least most =
 pub mark_found : (b : Bucket) (name : CoreId) (at : ℕ) (core : Core) → HasCores b → slice_get b.replicas at ≡ Some core
     → is_core name core.core ≡ true → core.down ≡ is_down b.journal.entries (key_of_core name)
 mark_found b name at core cores there named =
-    All-slice_get (λ (one : Core). one.down ≡ is_down b.journal.entries (core_key one)) b.replicas at core cores.down there
+    (All-slice_get (IsMarked b.journal.entries) b.replicas at core cores.marked there).down
     ∙ ap (λ (id : CoreId). is_down b.journal.entries (key_of_core id)) (sym ((is_core-Decides name core.core).0 named))
 
 -- a follower of a slice that no split is making is there

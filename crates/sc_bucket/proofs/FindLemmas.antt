@@ -1,5 +1,5 @@
 -- What a search through a list finds, and the first elements of a list with one more.
-use Rattle.std.proofs.Common.{◌≡◌, ◌∙◌, ℕ, ◌+◌, ◌<◌, Bool, true, false, List, [], ◌∷◌, ◌++◌, length, map, filter, take, slice_get, Some, None, Option, All, MatchOption, sym, ap, subst, arith, length-take}
+use Rattle.std.proofs.Common.{◌≡◌, ◌∙◌, ℕ, ◌+◌, ◌<◌, Bool, true, false, List, [], ◌∷◌, ◌++◌, length, map, filter, take, slice_get, Some, None, Option, All, Contains, MatchOption, sym, ap, subst, arith, length-take}
 use Rattle.std.specs.List.{AllWithin, HoldsAt, take-map}
 use Rattle.std.specs.Option.{option_map}
 use Rattle.std.proofs.lemmas.List.{get_or-take, take_more}
@@ -40,6 +40,16 @@ first-mapped p f xs (Some at) (x, there, passes, before) = (
   passes,
   subst (All (λ y. p y ≡ false)) (sym (take-map f at xs)) (All-map (λ y. p y ≡ false) f (take at xs) before),
 )
+
+-- what a search gives where it finds an element: one that is there and passes the test
+pub found_passes : {A B : Type 0} (v : A → B) (p : B → Bool) (xs : List B) (found : Option A) (a : A)
+    → MatchOption found (AllWithin (λ x. p x ≡ false) xs 0 (length xs))
+    (λ x. (p (v x) ≡ true) × (i : ℕ) × (i < length xs) × HoldsAt (λ y. y ≡ v x) xs i × AllWithin (λ y. p y ≡ false) xs 0 i)
+    → found ≡ Some a → Contains xs (v a) × (p (v a) ≡ true)
+found_passes v p xs found a searched is =
+    let here = subst (λ result. MatchOption result (AllWithin (λ x. p x ≡ false) xs 0 (length xs))
+    (λ x. (p (v x) ≡ true) × (i : ℕ) × (i < length xs) × HoldsAt (λ y. y ≡ v x) xs i × AllWithin (λ y. p y ≡ false) xs 0 i)) is searched in
+    ((here.1, here.2, here.3 (v a)), here.0)
 
 -- the first elements and the next
 pub take-next : {A : Type 0} (xs : List A) (at : ℕ) (x : A) → slice_get xs at ≡ Some x → take (at + 1) xs ≡ take at xs ++ x ∷ []

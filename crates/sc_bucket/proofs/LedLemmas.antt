@@ -1,10 +1,10 @@
 -- What is true of the cores of a bucket once the one that leads a hash led a write.
-use Rattle.std.proofs.Common.{◌≡◌, ◌≢◌, ℕ, ℤ, Bool, true, false, cond, List, [], ◌∷◌, ◌++◌, map, set, Some, refl, sym, ap, ◌∙◌, subst, All, Contains, IsTrue, slice_get, ◌⊎◌, inl, inr, arith}
+use Rattle.std.proofs.Common.{◌≡◌, ◌≢◌, ℕ, ℤ, Bool, true, false, cond, List, [], ◌∷◌, ◌++◌, set, Some, refl, sym, ap, ◌∙◌, subst, All, Contains, IsTrue, slice_get, ◌⊎◌, inl, inr, arith}
 use Rattle.std.specs.declared.sync.Arc.{Arc}
 use Rattle.std.specs.declared.alloc.Global.{Global}
 use Rattle.std.proofs.lemmas.List.Elements.{All-contains, All-weaker, Contains-append_left, Contains-push}
 use Rattle.std.proofs.lemmas.Bool.Decides.{not_from_Decides}
-use Rattle.std.proofs.lemmas.Option.{slice_get_within, get_or_from_slice_get, same_Some}
+use Rattle.std.proofs.lemmas.Option.{same_Some}
 use Rattle.sc_hash.specs.Bounds.{contains}
 use Rattle.sc_hash.specs.Range.{IsWithin}
 use Rattle.sc_hash.proofs.BoundsLemmas.{contains-Decides}
@@ -19,7 +19,6 @@ use Rattle.sc_cluster.specs.declared.slice.Slice.{Slice}
 use Rattle.sc_cluster.specs.Slices.{is_active}
 use Rattle.sc_cluster.specs.Map.{least_hash, greatest_hash, IsMap, Leads}
 use Rattle.sc_cluster.proofs.ItemLemmas.{count_by-positive}
-use Rattle.sc_cluster.proofs.ListLemmas.{Contains-map}
 use Rattle.sc_cluster.proofs.LeaderLemmas.{is_leader, leads_alone, same_from_id}
 use Rattle.sc_cluster.proofs.TileLemmas.{holders-filter}
 use Rattle.sc_replica.specs.Cells.{put}
@@ -36,7 +35,7 @@ use Rattle.sc_bucket.specs.Cores.{is_attached, followers, AreApart, IsLeaderAt}
 use Rattle.sc_bucket.specs.Flight.{sent_to}
 use Rattle.sc_bucket.specs.Pending.{pending}
 use Rattle.sc_bucket.specs.Sound.{Serves, AreWritten, HasOrAwaits, IsInRange, AreInRange}
-use Rattle.sc_bucket.proofs.CoreLemmas.{same_name_by, is_core-Decides, core_alone, name_of}
+use Rattle.sc_bucket.proofs.CoreLemmas.{same_name_by, is_core-Decides, core_alone}
 use Rattle.sc_bucket.proofs.SoundLemmas.{All-slice_get}
 use Rattle.sc_bucket.proofs.PlaceLemmas.{All-set_apart}
 use Rattle.sc_bucket.proofs.TakenLemmas.{Contains-slice_get}

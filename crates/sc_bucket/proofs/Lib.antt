@@ -4,6 +4,7 @@ pub mod CoreLemmas
 pub mod InOrderLemmas
 pub mod SearcherLemmas
 pub mod SoundLemmas
+pub mod CatchUpLemmas
 pub mod PlaceLemmas
 pub mod SendLemmas
 pub mod PendingLemmas
@@ -27,8 +28,10 @@ pub mod ArrivedLemmas
 pub mod FeedLemmas
 pub mod FindLemmas
 pub mod ReplicasLemmas
+pub mod ExchangeLemmas
 pub mod SpareLemmas
 pub mod LeftOutLemmas
 pub mod DetachLemmas
 pub mod DownLemmas
 pub mod CountLemmas
+pub mod SeatLemmas

@@ -18,6 +18,7 @@ use Rattle.sc_cluster.proofs.PairLemmas.{AllPairs-append, AllPairs-from_map, All
 use Rattle.sc_replica.specs.Core.{Core}
 use Rattle.sc_journal.specs.Journal.{writes, unsettled}
 use Rattle.sc_journal.specs.Down.{is_down, all_followers, count_up}
+use Rattle.sc_journal.specs.Seats.{seats}
 use Rattle.sc_journal.specs.Splits.{map_after, open_split, owed}
 use Rattle.sc_journal.proofs.LegalLemmas.{IsLegal-none}
 use Rattle.sc_bucket.specs.Kept.{Sent, FeedState}
@@ -248,9 +249,12 @@ HasCores-new b first limit is_map made =
           (slice_keys slice) (All-contains_itself (slice_keys slice)))
           b.map (All-contains_itself b.map);
       active = λ k d below slice there same whole. (made.new k d below).active;
-      down = λ k d below.
-          (made.new k d below).up
-          ∙ ap (λ entries. is_down entries (core_key (get_or b.replicas k d))) (sym made.entries);
+      marked = λ k d below. record {
+        down = (made.new k d below).up
+            ∙ ap (λ entries. is_down entries (core_key (get_or b.replicas k d))) (sym made.entries);
+        number = (made.new k d below).number
+            ∙ ap (λ entries. seats entries (get_or b.replicas k d).core.slice (get_or b.replicas k d).core.replica) (sym made.entries);
+      };
     }
 
 -- and so the bucket is sound

@@ -21,6 +21,7 @@ use Rattle.sc_partial.specs.Resolved.{IsRefusalOf}
 use Rattle.sc_partial.specs.declared.fault.PartialFault.{PartialFault}
 use Rattle.sc_partial.specs.declared.fault.PartialFault.TheVariants as partial
 use Rattle.sc_journal.specs.Journal.{write_at, is_settled, last_write, found}
+use Rattle.sc_journal.specs.Splits.{Basis}
 use Rattle.sc_journal.specs.Outcomes.{accepted, refused, IsMet, IsFitting, IsWriteOf, IsOutcome}
 use Rattle.sc_journal.proofs.JournalLemmas.{write_at-push_end}
 use Rattle.sc_journal.proofs.SettledLemmas.{is_settled-push_other}
@@ -33,7 +34,7 @@ use Rattle.sc_bucket.specs.Accepting.{accept_fault, IsPut}
 use Rattle.sc_bucket.specs.Cores.{follows, followers, IsLeaderAt, without_room}
 use Rattle.sc_bucket.specs.Flight.{sent_to}
 use Rattle.sc_bucket.specs.Events.{AreSameCores, IsSameButRoom, Accepts, outcome_of}
-use Rattle.sc_bucket.specs.Room.{BucketHasRoom}
+use Rattle.sc_bucket.specs.Room.{basis, BucketHasRoom}
 use Rattle.sc_bucket.specs.Sound.{IsSound}
 use Rattle.sc_bucket.proofs.SoundLemmas.{leader_reads}
 use Rattle.sc_bucket.proofs.CoreLemmas.{name_of}
@@ -54,18 +55,18 @@ condition_tested b order hash at core last condition version met sound hashed le
     (last_is, ap (λ c. meets c (found b.journal.entries order.id)) (sym condition_is) ∙ ap (meets condition) (sym found_is) ∙ sym tested)
 
 -- an order whose change makes no document is refused by the name of the field, or since memory ran out
-pub partial_outcome : (limit : ℕ) (first : List Slice) (before after : List Entry) (order : Order) (now : ℕ) (last : Option Write)
+pub partial_outcome : (basis : Basis) (before after : List Entry) (order : Order) (now : ℕ) (last : Option Write)
     (refusal : PartialFault) (fault : AcceptFault) → last ≡ last_write before order.id → IsMet before order
     → IsRefusalOf (refused last order.change) refusal → fault ≡ accept_fault refusal
-    → IsOutcome limit first before order now (outcome_of (Err fault)) after
-partial_outcome limit first before after order now last (partial.Field name) fault last_is met refusal is =
+    → IsOutcome basis before order now (outcome_of (Err fault)) after
+partial_outcome basis before after order now last (partial.Field name) fault last_is met refusal is =
     rw is (met, ap (λ (w : Option Write). refused w order.change) (sym last_is) ∙ refusal)
-partial_outcome limit first before after order now last partial.Memory fault last_is met refusal is = rw is met
+partial_outcome basis before after order now last partial.Memory fault last_is met refusal is = rw is met
 
 -- memory may run out where the condition is met
-pub memory_outcome : (limit : ℕ) (first : List Slice) (before after : List Entry) (order : Order) (now : ℕ) (fault : AcceptFault)
-    → IsMet before order → fault ≡ faults.Memory → IsOutcome limit first before order now (outcome_of (Err fault)) after
-memory_outcome limit first before after order now fault met is = rw is met
+pub memory_outcome : (basis : Basis) (before after : List Entry) (order : Order) (now : ℕ) (fault : AcceptFault)
+    → IsMet before order → fault ≡ faults.Memory → IsOutcome basis before order now (outcome_of (Err fault)) after
+memory_outcome basis before after order now fault met is = rw is met
 
 -- the names of those of the cores that pass a test that doesn't speak of their room
 names-bare : (p : Core → Bool) (cores : List Core)
@@ -136,7 +137,7 @@ sent_by-same old roomy write at sent same within made core found =
 
 -- and so it is answered
 pub accepted_outcome : (old new : Bucket) (order : Order) (now : ℕ) (version : ℤ) → Accepts old order now version new
-    → IsOutcome old.limit old.first old.journal.entries order now (accepted version) new.journal.entries
+    → IsOutcome (basis old) old.journal.entries order now (accepted version) new.journal.entries
 accepted_outcome old new order now version accepts =
     let at_end : write_at new.journal.entries (length old.journal.entries) ≡ Some accepts.cell.value =
     ap (λ journal. write_at journal (length old.journal.entries)) accepts.entries

@@ -10,7 +10,6 @@ use Rattle.sc_cluster.specs.Map.{IsMap}
 use Rattle.sc_cluster.proofs.ListLemmas.{All-from_slice_get}
 use Rattle.sc_replica.specs.Core.{Core}
 use Rattle.sc_journal.specs.Journal.{writes, unsettled}
-use Rattle.sc_journal.specs.Down.{is_down}
 use Rattle.sc_journal.specs.Splits.{map_after, open_split, owed, HasRoomFor}
 use Rattle.sc_journal.specs.Legal.{IsLegal}
 use Rattle.sc_bucket.specs.declared.bucket.Bucket.{Bucket}
@@ -25,7 +24,7 @@ use Rattle.sc_bucket.specs.Room.{BucketHasRoom}
 use Rattle.sc_bucket.specs.Sound.{AreActive, HasJournal, HasSpare, IsSound}
 use Rattle.sc_bucket.proofs.CoreLemmas.{is_core-Decides}
 use Rattle.sc_bucket.proofs.SearcherLemmas.{HasSearchers-same}
-use Rattle.sc_bucket.proofs.SoundLemmas.{All-slice_get, ArePrepared-same, AreSent-same, IsSound-left}
+use Rattle.sc_bucket.proofs.SoundLemmas.{All-slice_get, SaysSame-same, ArePrepared-same, AreSent-same, IsSound-left}
 use Rattle.sc_bucket.proofs.PendingLemmas.{goes_to, in_flight-append, length-in_flight, in_flight-none, in_flight-once, in_flight-cases, length-pending, length-pending_more}
 use Rattle.sc_bucket.proofs.RoomierLemmas.{same-roomier, spares-roomier}
 
@@ -61,7 +60,7 @@ pub IsSound-same : (old new : Bucket) → IsSameButRoom old new → new.unsettle
 IsSound-same old new same places owed_is room same_spares spares sound =
     IsSound-left old new sound same.split
     (HasJournal-same old new same.name same.map_is same.entries places owed_is room sound.journal) same.map_is same.cores
-    (ap writes same.entries) (ap open_split same.entries) (λ key. ap (λ entries. is_down entries key) same.entries) same.messages
+    (ap writes same.entries) (ap open_split same.entries) (SaysSame-same old.journal.entries new.journal.entries same.entries) same.messages
     (AreSent-same old new same.cores same.entries same.messages sound.messages) spares
     (HasSearchers-same old new same.map_is same.searchers_are same.entries sound.searchers)
     (ArePrepared-same old new same.split.phase same.map_is same.searchers_are same_spares sound.prepared)

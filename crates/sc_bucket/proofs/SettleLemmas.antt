@@ -13,11 +13,10 @@ use Rattle.sc_cluster.specs.Map.{IsMap}
 use Rattle.sc_journal.specs.Journal.{write_at, is_settled, unsettled, writes}
 use Rattle.sc_journal.specs.Committed.{committed, last_commit}
 use Rattle.sc_journal.proofs.CommittedLemmas.{committed-push_other, last_commit-push_other}
-use Rattle.sc_journal.specs.Down.{is_down}
 use Rattle.sc_journal.specs.Splits.{map_after, open_split, owed}
 use Rattle.sc_journal.specs.Legal.{IsLegal}
 use Rattle.sc_journal.proofs.JournalLemmas.{writes-push_other, write_at-append, write_at_within}
-use Rattle.sc_journal.proofs.DownLemmas.{is_down-push}
+use Rattle.sc_journal.proofs.DownLemmas.{LeavesCores-settled}
 use Rattle.sc_journal.proofs.SettledLemmas.{unsettled_is, unsettled_from, unsettled-push_settled, is_settled-push}
 use Rattle.sc_journal.proofs.SplitLemmas.{map_after-left, open_split-left, owed-push_settled, LeavesSlices-settled}
 use Rattle.sc_journal.proofs.LegalLemmas.{IsLegal-push}
@@ -28,7 +27,7 @@ use Rattle.sc_bucket.specs.Sound.{AreActive, HasJournal, IsSent, HasSpare, IsSou
 use Rattle.sc_bucket.specs.Events.{DeliversFirst, Settles, Notes}
 use Rattle.sc_bucket.specs.declared.bucket.Bucket.{Bucket}
 use Rattle.sc_bucket.proofs.SearcherLemmas.{HasSearchers-grown}
-use Rattle.sc_bucket.proofs.SoundLemmas.{IsSent-left, ArePrepared-same, IsSound-left}
+use Rattle.sc_bucket.proofs.SoundLemmas.{SaysSame, SaysSame-push, IsSent-left, ArePrepared-same, IsSound-left}
 use Rattle.sc_bucket.proofs.DeliverAllLemmas.{NoneMeets, DeliversAll, DeliversAll-first}
 
 -- a write is settled where its place isn't among those that are not settled
@@ -95,11 +94,11 @@ HasJournal-settled old place new journal written still settled parts =
       limit_to = subst (λ limit. limit ≤ 2 ^ 24) (sym settled.name.limit) journal.limit_to;
     }
 
--- no other core is down
-down-settled : (old : Bucket) (place : ℕ) (new : Bucket) → Notes old place new
-    → (key : ℕ × ℕ) → is_down new.journal.entries key ≡ is_down old.journal.entries key
-down-settled old place new noted key =
-    ap (λ entries. is_down entries key) noted.entries ∙ is_down-push old.journal.entries (entry.Settled place) key
+-- nothing is said of any core
+says-settled : (old : Bucket) (place : ℕ) (new : Bucket) → Notes old place new → SaysSame old.journal.entries new.journal.entries
+says-settled old place new noted =
+    SaysSame-push old.journal.entries new.journal.entries (entry.Settled place) noted.entries (LeavesCores-settled place)
+    (λ slice core_in. refl)
 
 -- a message of another write is of a write that is not settled still
 sent_still : (old : Bucket) (place : ℕ) (new : Bucket) (message : Sent) → Notes old place new → message.place ≢ place → IsSent old message
@@ -113,7 +112,7 @@ sent_still old place new message noted other sent =
     ∙ is_settled-push old.journal.entries (entry.Settled place) message.place
     ∙ ap (λ b. is_settled old.journal.entries message.place || b) (apart_places place message.place (λ same. other (sym same)))
     ∙ or_false (is_settled old.journal.entries message.place))
-    (down-settled old place new noted (key_of_core message.core))
+    ((says-settled old place new noted).down (key_of_core message.core))
     sent
 
 -- and so the bucket is sound, where no message of the write is in flight
@@ -130,7 +129,7 @@ IsSound-settled old place new sound written still delivered noted parts =
     (ap (map without_room) noted.cores)
     (ap writes noted.entries ∙ writes-push_other old.journal.entries one refl)
     (ap open_split noted.entries ∙ open_split-left old.journal.entries one (LeavesSlices-settled place))
-    (down-settled old place new noted)
+    (says-settled old place new noted)
     messages
     (record { each = subst (All (IsSent new)) (sym messages) each; once = subst (IsDistinct is_same_message) (sym messages) sound.messages.once })
     (subst (λ these. All (HasSpare these new.feeds) new.replicas) (sym messages)

@@ -1,5 +1,5 @@
 -- A look into a bucket is one into its journal; and what is true of it stays true where its journal gets no write.
-use Rattle.std.proofs.Common.{◌<◌, ◌^◌, ℤ, pos, ◌≡◌, ◌⊎◌, ◌∙◌, ◌∷◌, ◌++◌, [], ℕ, Bool, not, true, false, List, map, filter, slice_get, slice_set, Some, IsTrue, All, Contains, refl, sym, ap, subst, arith}
+use Rattle.std.proofs.Common.{◌<◌, ◌^◌, ℤ, pos, ◌≡◌, ◌⊎◌, ◌∙◌, ◌∷◌, ◌++◌, [], ℕ, Bool, ◌&&◌, ◌||◌, not, nat_eq, true, false, List, map, filter, get_or, slice_get, slice_set, Some, IsTrue, All, Contains, sym, ap, subst, arith}
 use Rattle.std.specs.List.{IsDistinct}
 use Rattle.std.proofs.lemmas.Option.{slice_get_within, get_or_from_slice_get, same_Some}
 use Rattle.std.proofs.lemmas.List.{length-map, get_or-map}
@@ -15,7 +15,7 @@ use Rattle.sc_record.specs.declared.slice.CoreId.{CoreId}
 use Rattle.sc_record.specs.declared.entry.Entry.{Entry}
 use Rattle.sc_cluster.specs.declared.slice.State.TheVariants as states
 use Rattle.sc_cluster.specs.declared.slice.Slice.{Slice}
-use Rattle.sc_cluster.specs.Slices.{is_forming, forming}
+use Rattle.sc_cluster.specs.Slices.{is_active, is_forming, forming}
 use Rattle.sc_cluster.specs.Changes.{IsSplit}
 use Rattle.sc_cluster.proofs.ListLemmas.{map-map_kept, Contains-map}
 use Rattle.sc_cluster.proofs.PairLemmas.{Contains-from_map}
@@ -24,14 +24,17 @@ use Rattle.sc_ulog.specs.declared.mode.Mode.TheVariants.{Active}
 use Rattle.sc_replica.specs.Core.{Core, IsCore}
 use Rattle.sc_journal.specs.Journal.{writes, write_at, is_settled, last_of, last_write}
 use Rattle.sc_journal.specs.Down.{is_down}
+use Rattle.sc_journal.specs.Seats.{seats}
 use Rattle.sc_journal.specs.Splits.{open_split}
+use Rattle.sc_journal.proofs.DownLemmas.{LeavesCores, is_down-left}
+use Rattle.sc_journal.proofs.SeatLemmas.{LeavesSeats, seats-left}
 use Rattle.sc_bucket.specs.Kept.{Sent, FeedState}
 use Rattle.sc_record.specs.Names.{key_of_core, is_core}
 use Rattle.sc_bucket.specs.Cores.{core_key, core_keys, slice_keys, is_attached, IsLeaderAt, without_room}
 use Rattle.sc_bucket.specs.Searchers.{ArePrepared}
 use Rattle.sc_bucket.specs.Flight.{is_same_message}
 use Rattle.sc_bucket.specs.Pending.{pending}
-use Rattle.sc_bucket.specs.Sound.{HasJournal, OfEachCore, HasLastWrites, Serves, AreInRange, IsSent, AreSent, HasSpare, HasSearchers, HasCores, IsFeed, AreFeeds, IsIdle, IsOpen, IsInPhase, IsSound}
+use Rattle.sc_bucket.specs.Sound.{HasJournal, OfEachCore, HasLastWrites, Serves, AreInRange, IsSent, AreSent, HasSpare, HasSearchers, IsMarked, is_idle, may_catch_up, HasCores, IsFeed, AreFeeds, IsIdle, IsOpen, IsInPhase, IsSound}
 use Rattle.sc_bucket.specs.Events.{AreSameCores, HasSameSplit}
 use Rattle.sc_bucket.specs.declared.bucket.Bucket.{Bucket}
 use Rattle.sc_bucket.specs.declared.phase.Phase.{Phase}
@@ -110,21 +113,52 @@ pub AreAlike-set : (cores : List Core) (at : ℕ) (core new : Core) → slice_ge
     → name_and_mode new ≡ name_and_mode core → AreAlike cores (slice_set cores at new)
 AreAlike-set cores at core new there keeps = set-kept name_and_mode cores at core new there keeps
 
--- the name of a core, and whether it is marked as down
-abbrev pub name_and_mark : Core → CoreId × Bool
-name_and_mark core = (core.core, core.down)
+-- the name of a core, whether it is marked as down, and its number
+abbrev pub name_and_mark : Core → CoreId × Bool × ℕ
+name_and_mark core = (core.core, core.down, core.number)
 
--- those cores are marked as down that the journal says are down
+-- each core has the mark and the number that the journal gives it
 abbrev pub AreMarked : List Entry → List Core → Type 0
-AreMarked journal cores = All (λ (core : Core). core.down ≡ is_down journal (core_key core)) cores
+AreMarked journal cores = All (IsMarked journal) cores
 
--- they are marked so still, where their names and their marks stay, and the journal says the same
+-- another journal says of each core the same: whether it is down, and in which seat it sits
+pub record SaysSame (old new : List Entry) : Type 0 where
+  pub down : (key : ℕ × ℕ) → is_down new key ≡ is_down old key
+  pub seated : (slice : SliceId) → seats new slice ≡ seats old slice
+
+-- so does the same journal, and one with an entry more that says nothing of any core and moves none
+pub SaysSame-same : (old new : List Entry) → new ≡ old → SaysSame old new
+SaysSame-same old new same = record {
+  down = λ key. ap (λ entries. is_down entries key) same;
+  seated = λ slice. ap (λ entries. seats entries slice) same;
+}
+
+pub SaysSame-push : (old new : List Entry) (one : Entry) → new ≡ old ++ one ∷ [] → LeavesCores one → LeavesSeats one → SaysSame old new
+SaysSame-push old new one longer leaves stay = record {
+  down = λ key. ap (λ entries. is_down entries key) longer ∙ is_down-left old one key leaves;
+  seated = λ slice. ap (λ entries. seats entries slice) longer ∙ seats-left old one slice stay;
+}
+
+-- the same of a core's name, mark and number
+abbrev IsMarkedBy : List Entry → CoreId × Bool × ℕ → Type 0
+IsMarkedBy journal mark =
+    (mark.1 ≡ is_down journal (key_of_core mark.0)) × (mark.2 ≡ seats journal mark.0.slice mark.0.replica)
+
+-- they have them still, where their names, marks and numbers stay, and the journal says the same
 pub AreMarked-left : (old new : List Entry) (cores others : List Core) → map name_and_mark others ≡ map name_and_mark cores
-    → ((key : ℕ × ℕ) → is_down new key ≡ is_down old key) → AreMarked old cores → AreMarked new others
+    → SaysSame old new → AreMarked old cores → AreMarked new others
 AreMarked-left old new cores others same says marked =
-    All-weaker (λ (core : Core). core.down ≡ is_down old (core_key core)) (λ core. core.down ≡ is_down new (core_key core))
-    (λ core is. is ∙ sym (says (core_key core))) others
-    (All-alike name_and_mark (λ pair. pair.1 ≡ is_down old (key_of_core pair.0)) cores others same marked)
+    let before : All (λ (core : Core). IsMarkedBy old (name_and_mark core)) cores =
+    All-weaker (IsMarked old) (λ core. IsMarkedBy old (name_and_mark core)) (λ core is. (is.down, is.number)) cores marked in
+    let after : All (λ (core : Core). IsMarkedBy old (name_and_mark core)) others =
+    All-alike name_and_mark (IsMarkedBy old) cores others same before in
+    All-weaker (λ (core : Core). IsMarkedBy old (name_and_mark core)) (IsMarked new) still others after
+  where
+    still : (core : Core) → IsMarkedBy old (name_and_mark core) → IsMarked new core
+    still core is = record {
+      down = is.0 ∙ sym (says.down (core_key core));
+      number = is.1 ∙ ap (λ (core_in : ℕ → ℕ). core_in core.core.replica) (sym (says.seated core.core.slice));
+    }
 
 -- their names are the same
 pub names-alike : (old new : List Core) → AreAlike old new → map name_of new ≡ map name_of old
@@ -177,10 +211,10 @@ all_left P old_map new_map old_writes new_writes old_messages new_messages old_f
 abbrev IsWhole : List (ℕ × ℕ) → Slice → Type 0
 IsWhole keys slice = is_forming slice ≡ false → All (Contains keys) (slice_keys slice)
 
--- The cores are those that have to be there, where they have the same names and the map stays, those of slices that no
--- split is making are active, and those are marked that are down.
+-- The cores are those that have to be there, where they have the same names and the map stays, those that are not still
+-- catching up are active, and each has the mark and the number that the journal gives it.
 pub HasCores-named : (old new : Bucket) → new.map ≡ old.map → map name_of new.replicas ≡ map name_of old.replicas
-    → OfEachCore new (λ (slice : Slice) (core : Core). is_forming slice ≡ false → core.mode ≡ Active)
+    → OfEachCore new (λ (slice : Slice) (core : Core). may_catch_up new.phase slice core.core ≡ false → core.mode ≡ Active)
     → AreMarked new.journal.entries new.replicas → HasCores old → HasCores new
 HasCores-named old new same_map same active marked has =
     let keys : map core_key new.replicas ≡ map core_key old.replicas = keys-named old.replicas new.replicas same in
@@ -195,7 +229,7 @@ HasCores-named old new same_map same active marked has =
       whole = subst (All (IsWhole (map core_key new.replicas))) (sym same_map)
           (subst (λ (these : List (ℕ × ℕ)). All (IsWhole these) old.map) (sym keys) has.whole);
       active = active;
-      down = marked;
+      marked = marked;
     }
 
 -- what is said of each core's name and mode and of its slice stays true where they do
@@ -209,17 +243,25 @@ OfEachCore-alike P old new same_map alike each =
     subst (λ slices. All (λ (core : Core). Of slices (name_and_mode core)) new.replicas) (sym same_map)
     (All-alike name_and_mode (Of old.map) old.replicas new.replicas alike each)
 
--- so the cores are those that have to be there, where those are marked that are down
-pub HasCores-alike : (old new : Bucket) → new.map ≡ old.map → AreAlike old.replicas new.replicas
+-- which cores may still be catching up stays, where no split is open as before
+pub may_catch_up-left : (old new : Phase) (slice : Slice) (core : CoreId) → is_idle new ≡ is_idle old
+    → may_catch_up new slice core ≡ may_catch_up old slice core
+may_catch_up-left old new slice core same =
+    ap (λ (idle : Bool). is_forming slice || (idle && is_active slice && not (nat_eq core.replica 1))) same
+
+-- so the cores are those that have to be there, where each has the mark and the number that the journal gives it
+pub HasCores-alike : (old new : Bucket) → is_idle new.phase ≡ is_idle old.phase → new.map ≡ old.map → AreAlike old.replicas new.replicas
     → AreMarked new.journal.entries new.replicas → HasCores old → HasCores new
-HasCores-alike old new same_map alike marked has =
+HasCores-alike old new same_idle same_map alike marked has =
     HasCores-named old new same_map (names-alike old.replicas new.replicas alike)
-    (OfEachCore-alike (λ slice pair. is_forming slice ≡ false → pair.1 ≡ Active) old new same_map alike has.active) marked has
+    (OfEachCore-alike (λ slice pair. may_catch_up new.phase slice pair.0 ≡ false → pair.1 ≡ Active) old new same_map alike
+    (λ k d below slice there named caught_up. has.active k d below slice there named
+    (sym (may_catch_up-left old.phase new.phase slice (get_or old.replicas k d).core same_idle) ∙ caught_up))) marked has
 
 -- and a feed is still of a core that buffers
-pub IsFeed-alike : (old new : Bucket) (feed : FeedState) → new.map ≡ old.map → AreAlike old.replicas new.replicas
-    → IsFeed old feed → IsFeed new feed
-IsFeed-alike old new feed same_map alike is =
+pub IsFeed-alike : (old new : Bucket) (feed : FeedState) → is_idle new.phase ≡ is_idle old.phase → new.map ≡ old.map
+    → AreAlike old.replicas new.replicas → IsFeed old feed → IsFeed new feed
+IsFeed-alike old new feed same_idle same_map alike is =
     let there : Contains (map name_and_mode new.replicas) (name_and_mode is.core) =
     subst (λ pairs. Contains pairs (name_and_mode is.core)) (sym alike)
     (Contains-map name_and_mode old.replicas is.core is.core_there) in
@@ -227,7 +269,7 @@ IsFeed-alike old new feed same_map alike is =
     record {
       slice = is.slice;
       there = subst (λ slices. Contains slices is.slice) (sym same_map) is.there;
-      forming = is.forming;
+      catches_up = may_catch_up-left old.phase new.phase is.slice feed.core same_idle ∙ is.catches_up;
       of_slice = is.of_slice;
       range_is = is.range_is;
       core = core;
@@ -238,11 +280,11 @@ IsFeed-alike old new feed same_map alike is =
     }
 
 -- so the feeds are
-pub AreFeeds-alike : (old new : Bucket) → new.map ≡ old.map → new.feeds ≡ old.feeds
+pub AreFeeds-alike : (old new : Bucket) → is_idle new.phase ≡ is_idle old.phase → new.map ≡ old.map → new.feeds ≡ old.feeds
     → AreAlike old.replicas new.replicas → AreFeeds old → AreFeeds new
-AreFeeds-alike old new same_map same_feeds alike are = record {
+AreFeeds-alike old new same_idle same_map same_feeds alike are = record {
   each = subst (All (IsFeed new)) (sym same_feeds)
-      (All-weaker (IsFeed old) (IsFeed new) (λ feed. IsFeed-alike old new feed same_map alike) old.feeds are.each);
+      (All-weaker (IsFeed old) (IsFeed new) (λ feed. IsFeed-alike old new feed same_idle same_map alike) old.feeds are.each);
   once = subst (λ (feeds : List FeedState). IsDistinct is_core (map (λ (feed : FeedState). feed.core) feeds))
       (sym same_feeds) are.once;
 }
@@ -315,22 +357,23 @@ AreSent-same old new same_cores same_entries same_messages sent = record {
 }
 
 -- A bucket stays sound where nothing of a split changes, its journal, which is as it has to be, has the same writes, says
--- that the same cores are down and that the same split is open, its messages are the same, its cores change only their room, and it has its searchers and what a
+-- the same of each core and that the same split is open, its messages are the same, its cores change only their room, and it has its searchers and what a
 -- switch leaves of them.
 pub IsSound-left : (old new : Bucket) → IsSound old → HasSameSplit old new → HasJournal new → new.map ≡ old.map
     → AreSameCores old.replicas new.replicas
     → writes new.journal.entries ≡ writes old.journal.entries
     → open_split new.journal.entries ≡ open_split old.journal.entries
-    → ((key : ℕ × ℕ) → is_down new.journal.entries key ≡ is_down old.journal.entries key)
+    → SaysSame old.journal.entries new.journal.entries
     → new.flight.messages ≡ old.flight.messages → AreSent new
     → All (HasSpare new.flight.messages new.feeds) new.replicas → HasSearchers new → ArePrepared new.phase new.map new.searchers new.spares
     → IsSound new
-IsSound-left old new sound same journal same_map same_cores same_writes same_split same_down same_messages sent spares searchers
+IsSound-left old new sound same journal same_map same_cores same_writes same_split says_same same_messages sent spares searchers
     prepared =
     let all : List Write = writes old.journal.entries in
     let messages : List Sent = old.flight.messages in
     let feeds : List FeedState = old.feeds in
     let alike : AreAlike old.replicas new.replicas = AreAlike-same_cores old.replicas new.replicas same_cores in
+    let same_idle : is_idle new.phase ≡ is_idle old.phase = ap is_idle same.phase in
     record {
       journal = journal;
       leaders = all_left (λ slices these _ _. ServesBy slices these) old.map new.map all (writes new.journal.entries)
@@ -353,10 +396,10 @@ IsSound-left old new sound same journal same_map same_cores same_writes same_spl
       prepared = prepared;
       messages = sent;
       room = spares;
-      cores = HasCores-alike old new same_map alike
+      cores = HasCores-alike old new same_idle same_map alike
           (AreMarked-left old.journal.entries new.journal.entries old.replicas new.replicas
-          (map-same_cores name_and_mark old.replicas new.replicas same_cores) same_down sound.cores.down) sound.cores;
-      feeds = AreFeeds-alike old new same_map same.feeds alike sound.feeds;
+          (map-same_cores name_and_mark old.replicas new.replicas same_cores) says_same sound.cores.marked) sound.cores;
+      feeds = AreFeeds-alike old new same_idle same_map same.feeds alike sound.feeds;
       phase = subst (IsInPhase new) (sym same.phase)
           (IsInPhase-alike old new old.phase same_split same_map alike sound.phase);
     }

@@ -1,5 +1,5 @@
 -- The cores of a bucket, by their names.
-use Rattle.std.specs.Prelude.{◌≡◌, ◌<◌, ℕ, ◌+◌, ◌*◌, ◌^◌, ℤ, Bool, ◌&&◌, not, nat_eq, nat_lt, int_le, if◌then◌else◌, List, [], ◌∷◌, map, filter, max, pos, slice_get, Some, false}
+use Rattle.std.specs.Prelude.{◌≡◌, ◌<◌, ◌≤◌, Contains, ℕ, ◌+◌, ◌*◌, ◌^◌, ℤ, Bool, ◌&&◌, not, nat_eq, nat_lt, int_le, if◌then◌else◌, List, [], ◌∷◌, map, filter, max, pos, slice_get, Some, false}
 use Rattle.std.specs.List.{IsDistinct, flat_map, list_any, range_with_len}
 use Rattle.std.specs.List.Sorted.{IsStrictlyIncreasing}
 use Rattle.sc_record.specs.declared.slice.SliceId.{SliceId}
@@ -88,6 +88,20 @@ pub record IsNewCore (core : Core) : Type 0 where
   pub active : core.mode ≡ Active
   pub clock : core.clock ≡ pos 0
   pub up : core.down ≡ false
+  pub number : core.number ≡ core.core.replica
+
+-- the core once it sits in this seat, which is down or not
+abbrev pub seated : CoreId → Bool → Core → Core
+seated seat down core = record core { core = seat; down = down }
+
+-- the core is the slice's core of this number
+abbrev pub is_number : SliceId → ℕ → Core → Bool
+is_number slice number core = nat_eq slice.0 core.core.slice.0 && nat_eq number core.number
+
+-- the slice is there, and has a core of this number
+abbrev pub HasCore : List Slice → SliceId → ℕ → Type 0
+HasCore slices id number =
+    (slice : Slice) × Contains slices slice × (slice.id ≡ id) × (0 < number) × (number ≤ slice.replicas)
 
 -- the core with room for at least n more writes
 abbrev pub with_room : ℕ → Core → Core

@@ -1,9 +1,10 @@
 -- What is true of a bucket before and after each of its events.
-use Rattle.std.specs.Prelude.{◌≡◌, ◌≤◌, ◌⊎◌, ℕ, ◌+◌, ◌^◌, Some, None, List, [], ◌++◌, length, map, filter, not, true, false, IsTrue, All, Contains}
+use Rattle.std.specs.Prelude.{◌≡◌, ◌≤◌, ◌⊎◌, ℕ, ◌+◌, Some, None, Bool, ◌&&◌, ◌||◌, nat_eq, List, [], ◌++◌, length, map, filter, not, true, false, IsTrue, All, Contains}
 use Rattle.std.specs.List.{IsDistinct}
 use Rattle.std.specs.Arc.{arc_value}
 use Rattle.sc_record.specs.Writes.{write_of}
 use Rattle.sc_record.specs.declared.slice.SliceId.{SliceId}
+use Rattle.sc_record.specs.declared.slice.CoreId.{CoreId}
 use Rattle.sc_record.specs.declared.write.Write.{Write}
 use Rattle.sc_record.specs.declared.entry.Entry.{Entry}
 use Rattle.sc_hash.specs.Range.{IsWithin}
@@ -11,12 +12,14 @@ use Rattle.sc_router.specs.Route.{route_hash}
 use Rattle.sc_cluster.specs.declared.slice.State.TheVariants as states
 use Rattle.sc_cluster.specs.declared.slice.Slice.{Slice}
 use Rattle.sc_cluster.specs.Map.{IsMap}
-use Rattle.sc_cluster.specs.Slices.{is_forming, forming}
+use Rattle.sc_cluster.specs.Slices.{is_active, is_forming, forming}
 use Rattle.sc_cluster.specs.Changes.{IsSplit}
 use Rattle.sc_ulog.specs.declared.mode.Mode.TheVariants.{Active, Buffering}
 use Rattle.sc_replica.specs.Core.{Core}
 use Rattle.sc_journal.specs.Journal.{writes, write_at, last_write, is_settled, unsettled}
+use Rattle.sc_journal.specs.Limits.{least_journal, greatest_journal}
 use Rattle.sc_journal.specs.Down.{is_down}
+use Rattle.sc_journal.specs.Seats.{seats}
 use Rattle.sc_journal.specs.Splits.{map_after, open_split, owed}
 use Rattle.sc_journal.specs.Legal.{IsLegal}
 use Rattle.sc_journal.specs.Outcomes.{IsClock}
@@ -47,8 +50,8 @@ pub record HasJournal (b : Bucket) : Type 0 where
   pub owed_is : b.owed ≡ owed b.first b.journal.entries
   pub room : b.owed ≤ b.journal.room
   pub within : length b.journal.entries + b.owed ≤ b.limit
-  pub limit_from : 16 ≤ b.limit
-  pub limit_to : b.limit ≤ 2 ^ 24
+  pub limit_from : least_journal ≤ b.limit
+  pub limit_to : b.limit ≤ greatest_journal
 
 -- it is true of each core and its slice
 abbrev pub OfEachCore : Bucket → (Slice → Core → Type 0) → Type 0
@@ -109,22 +112,38 @@ pub record HasSpare (messages : List Sent) (feeds : List FeedState) (core : Core
   pub cells : length (pending messages feeds core) ≤ core.cell_spare
   pub buffer : length (in_flight messages core.core) ≤ core.buffer_spare
 
+-- what the journal says of a core: whether it is down, and which of the slice's cores sits in its seat
+pub record IsMarked (journal : List Entry) (core : Core) : Type 0 where
+  pub down : core.down ≡ is_down journal (core_key core)
+  pub number : core.number ≡ seats journal core.core.slice core.core.replica
+
+-- no split is open in this phase
+abbrev pub is_idle : Phase → Bool
+is_idle phases.Idle = true
+is_idle _ = false
+
+-- the core may still be getting what was written before: it is of a slice that a split is making, or, while no split is open, it is
+-- a follower of an active slice
+abbrev pub may_catch_up : Phase → Slice → CoreId → Bool
+may_catch_up phase slice core = is_forming slice || (is_idle phase && is_active slice && not (nat_eq core.replica 1))
+
 -- The cores that are there, in the order of their names: each is of a slice of the map, and each slice's leader is among them. Of a
--- slice that no split is making each replica is there, and active. Those that the journal says are down are marked so.
+-- slice that no split is making each replica is there. Each core that is not still catching up is active. Each has the mark and the
+-- number that the journal gives it.
 pub record HasCores (b : Bucket) : Type 0 where
   pub counted : All IsCounted b.replicas
   pub ascend : CoresAscend b.replicas
   pub of_map : All (Contains (core_keys b.map)) (map core_key b.replicas)
   pub leaders : All (λ (slice : Slice). Contains (map core_key b.replicas) (slice.id.0, 1)) b.map
   pub whole : All (λ (slice : Slice). is_forming slice ≡ false → All (Contains (map core_key b.replicas)) (slice_keys slice)) b.map
-  pub active : OfEachCore b (λ (slice : Slice) (core : Core). is_forming slice ≡ false → core.mode ≡ Active)
-  pub down : All (λ (core : Core). core.down ≡ is_down b.journal.entries (core_key core)) b.replicas
+  pub active : OfEachCore b (λ (slice : Slice) (core : Core). may_catch_up b.phase slice core.core ≡ false → core.mode ≡ Active)
+  pub marked : All (IsMarked b.journal.entries) b.replicas
 
--- A feed is of a core that buffers what comes, of a slice that a split is making, and has that slice's range.
+-- A feed is of a core that may still be catching up and that buffers what comes, and has its slice's range.
 pub record IsFeed (b : Bucket) (feed : FeedState) : Type 0 where
   pub slice : Slice
   pub there : Contains b.map slice
-  pub forming : is_forming slice ≡ true
+  pub catches_up : may_catch_up b.phase slice feed.core ≡ true
   pub of_slice : feed.core.slice ≡ slice.id
   pub range_is : feed.range ≡ slice.range
   pub core : Core

@@ -14,7 +14,7 @@ ghost use Rattle.sc_record.specs.Names.{is_core};
 ghost use Rattle.sc_bucket.specs.Cores.{has_hash, CoresAscend, follows, followers, IsLeaderAt};
 ghost use Rattle.sc_bucket.specs.Kept.{FeedState};
 ghost use Rattle.sc_bucket.specs.Flight.{sent_of, sent_to};
-ghost use Rattle.sc_bucket.specs.Room.{BucketHasRoom};
+ghost use Rattle.sc_bucket.specs.Room.{basis, BucketHasRoom};
 ghost use Rattle.sc_bucket.specs.Sound.{IsSound};
 ghost use Rattle.sc_bucket.specs.Events.{Accepts, IsSameButRoom, outcome_of};
 ghost use Rattle.sc_bucket.specs.Accepting.{IsRoomier, HasMore, HasMoreAt, HasMemory, IsPut};
@@ -98,7 +98,7 @@ impl Bucket {
         ensures accepted { IfOk result (λ accepted. Accepts self.old order.now now accepted.version self.new) }
         ensures place { IfOk result (λ accepted. accepted.place ≡ length self.old.journal.entries) }
         ensures refused { OnErr result (IsSameButRoom self.old self.new) }
-        ensures outcome { IsOutcome self.old.limit self.old.first self.old.journal.entries order.now now (outcome_of result) self.new.journal.entries }
+        ensures outcome { IsOutcome (basis self.old) self.old.journal.entries order.now now (outcome_of result) self.new.journal.entries }
     {
         let hash = route_hash(order.id.as_str());
         let leader = self.leader(hash);
@@ -133,7 +133,7 @@ impl Bucket {
         ensures next { IfOk result (MayWrite self.now.journal.entries) }
         ensures hash { IfOk result (λ write. write.hash ≡ hash) }
         ensures version { IfOk result (λ write. (core : Core) → slice_get self.now.replicas leader ≡ Some core → write.version ≡ version_after now core.clock) }
-        ensures refused { IfErr result (λ fault. IsOutcome self.now.limit self.now.first self.now.journal.entries order.now now (outcome_of (Err fault)) self.now.journal.entries) }
+        ensures refused { IfErr result (λ fault. IsOutcome (basis self.now) self.now.journal.entries order.now now (outcome_of (Err fault)) self.now.journal.entries) }
     {
         let replica = self.replicas.get(leader);
         let last = replica.cell(&order.id);

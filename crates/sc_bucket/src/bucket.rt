@@ -34,7 +34,7 @@ pub struct Bucket {
     pub searchers: List<Standing>,
     /// How far its split has come.
     pub phase: Phase,
-    /// What the cores that a split makes are fed from.
+    /// What the cores that are catching up are fed from: those that a split makes, and followers while no split is open.
     pub feeds: Feeds,
     /// The searchers as the switch will leave them; None where no split is open.
     pub spares: Option<List<Standing>>,
@@ -45,10 +45,11 @@ pub struct Bucket {
 }
 
 impl Bucket {
-    ghost use Rattle.std.specs.Prelude.{◌≡◌, ◌<◌, ◌≤◌, ◌+◌, ◌^◌, [], length, IfOk, IsSome, option_copied};
+    ghost use Rattle.std.specs.Prelude.{◌≡◌, ◌<◌, ◌≤◌, ◌+◌, [], length, IfOk, IsSome, option_copied};
     ghost use Rattle.std.specs.Option.{option_map};
     ghost use Rattle.std.specs.Arc.{arc_value};
     ghost use Rattle.sc_journal.specs.Journal.{last_write, write_at, is_settled};
+    ghost use Rattle.sc_journal.specs.Limits.{least_journal, greatest_journal};
     ghost use Rattle.sc_journal.specs.Down.{all_followers};
     ghost use Rattle.sc_bucket.specs.Cores.{IsLeaderAt};
     ghost use Rattle.sc_bucket.specs.Sound.{AreActive, IsSound};
@@ -57,8 +58,8 @@ impl Bucket {
     /// entries, of which each follower is owed one. An error means out of memory.
     pub fn new(alloc: Global, map: &ClusterMap, limit: u64) -> Result<Bucket, AllocError>
         requires active { AreActive map.now }
-        requires least { 16 + length (all_followers map.now) ≤ limit }
-        requires most { limit ≤ 2 ^ 24 }
+        requires least { least_journal + length (all_followers map.now) ≤ limit }
+        requires most { limit ≤ greatest_journal }
         ensures sound { IfOk result IsSound }
         ensures first { IfOk result (λ bucket. bucket.first ≡ map.now) }
         ensures map_is { IfOk result (λ bucket. bucket.map ≡ map.now) }
@@ -80,7 +81,7 @@ impl Bucket {
     /// How many entries the journal has.
     pub fn entries(&self) -> u64
         ensures count { result ≡ length self.now.journal.entries }
-        ensures few { IsSound self.now → result ≤ 2 ^ 24 }
+        ensures few { IsSound self.now → result ≤ greatest_journal }
     {
         self.journal.len()
     }

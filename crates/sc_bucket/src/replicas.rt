@@ -1,13 +1,13 @@
-ghost use Rattle.std.specs.Prelude.{◌≡◌, [], ◌++◌, true, false, ◌<◌, ◌≤◌, ◌<ℤ◌, length, map, filter, slice_get, slice_set, Some, MatchOption, IfOk, OnOk, OnErr, IsTrue, All, ◌↔◌, ◌≢◌};
+ghost use Rattle.std.specs.Prelude.{◌≡◌, [], ◌++◌, true, false, ◌<◌, ◌≤◌, ◌<ℤ◌, length, map, filter, slice_get, slice_set, Some, MatchOption, IfOk, OnOk, OnErr, IsTrue, All, Contains, ◌↔◌, ◌≢◌};
 ghost use Rattle.std.specs.Arc.{arc_value};
 ghost use Rattle.std.specs.List.{insert};
 ghost use Rattle.sc_replica.specs.Core.{Core, led, received, fed, replayed};
 ghost use Rattle.sc_replica.specs.Deliveries.{replaying};
 ghost use Rattle.sc_record.specs.Names.{is_core};
-ghost use Rattle.sc_bucket.specs.Cores.{core_key, core_keys, slice_keys, core_number, put_by_name, is_of_one, IsCounted, IsNewCore, with_room};
+ghost use Rattle.sc_bucket.specs.Cores.{core_key, core_keys, slice_keys, core_number, put_by_name, is_of_one, IsCounted, IsNewCore, is_number, seated, with_room};
 
 use sc_cluster::{ClusterMap, Slice};
-use sc_record::{Cell, CoreId};
+use sc_record::{Cell, CoreId, SliceId};
 use sc_replica::Replica;
 use sc_ulog::Mode;
 use std::alloc::{AllocError, Global};
@@ -130,6 +130,39 @@ impl Replicas {
         ensures { (core : Core) → slice_get self.old at ≡ Some core → self.new ≡ slice_set self.old at (record core { down = true }) }
     {
         self.replicas[at].mark_down();
+    }
+
+    /// The seat of the slice's core of this number; None where it is not there.
+    pub fn seat_of(&self, slice: SliceId, number: u8) -> Option<u8>
+        ensures { MatchOption result (All (λ (core : Core). is_number slice number core ≡ false) self.now)
+            (λ seat. (core : Core) × Contains self.now core × (core.core.replica ≡ seat) × (is_number slice number core ≡ true)) }
+    {
+        let replica = self.replicas.iter().find(|replica| replica.core().slice == slice
+            && replica.number() == number)?;
+        Some(replica.core().replica)
+    }
+
+    /// Has the cores at these two places change seats. The first seat is up then, and the second down.
+    pub fn exchange(&mut self, first: usize, second: usize)
+        requires first { first < length self.old }
+        requires second { second < length self.old }
+        ensures { (one other : Core) → slice_get self.old first ≡ Some one → slice_get self.old second ≡ Some other
+            → self.new ≡ slice_set (slice_set self.old first (seated one.core false other)) second (seated other.core true one) }
+    {
+        let seat = self.replicas[first].core();
+        let other = self.replicas[second].core();
+        self.replicas.swap(first, second);
+        self.replicas[first].take_seat(seat, false);
+        self.replicas[second].take_seat(other, true);
+    }
+
+    /// Puts a new core in the place of the one at this place, whose number it takes.
+    pub fn renew(&mut self, at: usize, mut fresh: Replica)
+        requires { at < length self.old }
+        ensures { (core : Core) → slice_get self.old at ≡ Some core → self.new ≡ slice_set self.old at (record fresh { number = core.number }) }
+    {
+        fresh.set_number(self.replicas[at].number());
+        self.replicas[at] = fresh;
     }
 
     /// From here on the core at this place replays what it buffered, and applies what comes.

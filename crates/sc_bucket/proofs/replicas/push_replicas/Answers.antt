@@ -16,6 +16,8 @@ loop-below-preserved c =
       active = ap (λ (core : Core). core.mode) c.new.ensures.value;
       clock = ap (λ (core : Core). core.clock) c.new.ensures.value;
       up = ap (λ (core : Core). core.down) c.new.ensures.value;
+      number = ap (λ (core : Core). core.number) c.new.ensures.value
+          ∙ ap (λ (core : Core). core.core.replica) (sym c.new.ensures.value);
     } in
     let inv = c.new.type_inv in
     let named = c.new.ensures.core in

@@ -12,6 +12,7 @@ use Rattle.sc_replica.specs.Core.{Core}
 use Rattle.sc_journal.specs.Journal.{last_write}
 use Rattle.sc_journal.specs.Legal.{HasTerms}
 use Rattle.sc_journal.specs.Outcomes.{Makes, refused}
+use Rattle.sc_bucket.specs.Room.{basis}
 use Rattle.sc_bucket.proofs.WriteLemmas.{write_may_follow, clock_can_rise, core_clock}
 use Rattle.sc_bucket.proofs.SoundLemmas.{leader_reads}
 use Rattle.sc_bucket.proofs.OutcomeLemmas.{condition_tested, partial_outcome, memory_outcome}
@@ -34,7 +35,7 @@ returns-in_err-doc-clause-refused c =
     c.requires.hash c.requires.leader c.get-replica.ensures c.cell-last.ensures.value condition (back ∙ c.found-found.ensures)
     (sym c.if-not-meets.false ∙ c.meets.ensures) in
     let p = err_from_is_err_and c.from_residual.result c.from_residual.ensures.1 in
-    rw p.1 (partial_outcome c.args.self.now.limit c.args.self.now.first c.args.self.now.journal.entries c.args.self.now.journal.entries
+    rw p.1 (partial_outcome (basis c.args.self.now) c.args.self.now.journal.entries c.args.self.now.journal.entries
     c.args.order.now c.args.now _ c.in_err-doc.field-0.0 p.0 known.0 known.1 c.in_err-doc.ensures.refused p.2)
 
 pub returns-then-self-entries-clause-refused : goal.returns-then-self-entries-clause-refused
@@ -56,7 +57,7 @@ returns-in_err-clone_in-clause-refused c =
     c.requires.hash c.requires.leader c.get-replica.ensures c.cell-last.ensures.value condition (back ∙ c.found-found.ensures)
     (sym c.if-not-meets.false ∙ c.meets.ensures) in
     let p = err_from_is_err_and c.from_residual-in_err-clone_in.result c.from_residual-in_err-clone_in.ensures.1 in
-    rw p.1 (memory_outcome c.args.self.now.limit c.args.self.now.first c.args.self.now.journal.entries c.args.self.now.journal.entries
+    rw p.1 (memory_outcome (basis c.args.self.now) c.args.self.now.journal.entries c.args.self.now.journal.entries
     c.args.order.now c.args.now p.0 known.1 p.2)
 
 pub next_version-requires-clause-can_rise : goal.next_version-requires-clause-can_rise
@@ -74,7 +75,7 @@ returns-in_err-terms_for-clause-refused c =
     c.requires.hash c.requires.leader c.get-replica.ensures c.cell-last.ensures.value condition (back ∙ c.found-found.ensures)
     (sym c.if-not-meets.false ∙ c.meets.ensures) in
     let p = err_from_is_err_and c.from_residual-in_err-terms_for.result c.from_residual-in_err-terms_for.ensures.1 in
-    rw p.1 (memory_outcome c.args.self.now.limit c.args.self.now.first c.args.self.now.journal.entries c.args.self.now.journal.entries
+    rw p.1 (memory_outcome (basis c.args.self.now) c.args.self.now.journal.entries c.args.self.now.journal.entries
     c.args.order.now c.args.now p.0 known.1 p.2)
 
 pub invariant_of-result : goal.invariant_of-result

@@ -27,7 +27,6 @@ use Rattle.sc_handover.specs.Conditions.{CanBegin}
 use Rattle.sc_handover.specs.Made.{first_feed, IsRoomyFor, first_core, cells_now}
 use Rattle.sc_handover.specs.Events.{Begins}
 use Rattle.sc_handover.proofs.EachCoreLemmas.{IsSoundWith, each_with, IsSound-each}
-use Rattle.sc_handover.proofs.NoFeedLemmas.{no_feeds}
 use Rattle.sc_handover.proofs.MadeLemmas.{made_core, IsMade, All-made, in_order-made}
 use Rattle.sc_handover.proofs.BegunJournalLemmas.{active-begun, HasJournal-begun, IsOpen-begun}
 use Rattle.sc_handover.proofs.BegunCoreLemmas.{begun_map, longer, core_below, old_is_sound, made_is_sound}
@@ -46,18 +45,17 @@ pub record BeginsParts (old : Bucket) (parent : SliceId) (subs : List SubSlice) 
 
 -- each core is sound
 pub cores_are_sound : (old : Bucket) (parent : SliceId) (subs : List SubSlice) (leader : Core) (made : List Core)
-    → IsSound old → CanBegin old parent subs → IsIdle old → Contains old.replicas leader
+    → IsSound old → CanBegin old parent subs → Contains old.replicas leader
     → IsLeaderOf parent leader → IsMap (begun_map old subs) → All (IsMade (cells_now old leader) subs) made
     → All (IsSoundWith (begun_map old subs) (longer old (entry.Begun parent subs)) old.flight.messages
     (map (first_feed (cells_now old leader)) subs)) (old.replicas ++ made)
-cores_are_sound old parent subs leader made sound can idle there leads is_map each =
+cores_are_sound old parent subs leader made sound can there leads is_map each =
     All-append IsNow old.replicas made
-    (λ k d below. old_is_sound old parent subs (cells_now old leader) one (get_or old.replicas k d) can.1
-    (no_feeds old idle sound.feeds.each) refl
+    (λ k d below. old_is_sound old parent subs (cells_now old leader) one (get_or old.replicas k d) can.plan can.unfed refl
     (core_below old (get_or old.replicas k d) sound.cores (Contains-get_or old.replicas k d below))
     (core_is_sound old k d below sound))
     (All-weaker (IsMade (cells_now old leader) subs) IsNow
-    (λ core is. made_is_sound old parent subs leader one core sound can.1 is_map refl there leads is) made each)
+    (λ core is. made_is_sound old parent subs leader one core sound can.plan is_map refl there leads is) made each)
   where
     one : Entry
     one = entry.Begun parent subs
@@ -84,28 +82,28 @@ IsSound-begun old new parent subs made sound can begins parts =
     (subst (λ phase. ArePrepared phase new.map new.searchers new.spares) (sym begins.phase_is) parts.prepared)
     (AreSent-more old new one made sound.messages begins.entries (λ _. refl) (LeavesCores-begun parent subs) parts.replicas_are
     begins.messages)
-    (HasCores-begun old new parent subs (cells_now old begins.leader) made sound.journal sound.cores can.1 is_map begins.map_is
+    (HasCores-begun old new parent subs (cells_now old begins.leader) made sound.journal sound.cores can.active can.plan is_map begins.map_is
     begins.entries parts.replicas_are parts.made_are made_for)
-    (AreFeeds-begun new old.map parent subs (cells_now old begins.leader) old.replicas made can.1 begins.map_is
+    (AreFeeds-begun new old.map parent subs (cells_now old begins.leader) old.replicas made can.plan begins.map_is
     parts.replicas_are begins.feeds_are parts.made_are)
-    (subst (IsInPhase new) (sym begins.phase_is) (IsOpen-begun old new parent subs sound.journal idle can.1 begins))
+    (subst (IsInPhase new) (sym begins.phase_is) (IsOpen-begun old new parent subs sound.journal idle can.plan begins))
   where
     one : Entry
     one = entry.Begun parent subs
 
     idle : IsIdle old
-    idle = subst (IsInPhase old) can.0 sound.phase
+    idle = subst (IsInPhase old) can.idle sound.phase
 
     journal : HasJournal new
     journal =
-        HasJournal-begun old new parent subs sound.journal idle can.1 begins parts.unsettled_are parts.owed_is parts.room
+        HasJournal-begun old new parent subs sound.journal idle can.plan begins parts.unsettled_are parts.owed_is parts.room
 
     is_map : IsMap (begun_map old subs)
-    is_map = change_is_map old.map (Change.Begun parent subs) (bucket_has_map old sound.journal) can.1
+    is_map = change_is_map old.map (Change.Begun parent subs) (bucket_has_map old sound.journal) can.plan
 
     made_for : All (IsMade (cells_now old begins.leader) subs) made
     made_for =
-        All-made old.map parent subs (cells_now old begins.leader) made can.1 parts.made_are
+        All-made old.map parent subs (cells_now old begins.leader) made can.plan parts.made_are
         (subst (λ (feeds : List FeedState). AllZip IsRoomyFor feeds made) begins.feeds_are parts.roomy)
 
     each : All (IsSoundIn new new.flight.messages) new.replicas
@@ -113,5 +111,5 @@ IsSound-begun old new parent subs made sound can begins parts =
         each_with new (begun_map old subs) (longer old one) old.flight.messages
         (map (first_feed (cells_now old begins.leader)) subs) (old.replicas ++ made) begins.map_is begins.entries begins.messages
         begins.feeds_are parts.replicas_are
-        (cores_are_sound old parent subs begins.leader made sound can idle begins.leader_there begins.leader_is is_map
+        (cores_are_sound old parent subs begins.leader made sound can begins.leader_there begins.leader_is is_map
         made_for)

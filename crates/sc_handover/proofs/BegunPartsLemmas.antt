@@ -8,10 +8,10 @@ use Rattle.std.proofs.lemmas.List.Elements.{All-map, All-weaker, All-contains, A
 use Rattle.sc_record.specs.declared.slice.SliceId.{SliceId}
 use Rattle.sc_record.specs.declared.slice.SubSlice.{SubSlice}
 use Rattle.sc_record.specs.declared.slice.CoreId.{CoreId}
-use Rattle.sc_record.specs.declared.entry.Entry.{Entry}
 use Rattle.sc_record.specs.declared.entry.Entry.TheVariants as entry
 use Rattle.sc_cluster.specs.declared.slice.Slice.{Slice}
 use Rattle.sc_cluster.specs.Slices.{is_forming, greatest_id}
+use Rattle.sc_cluster.proofs.IdLemmas.{id_of, greatest_id-bounds}
 use Rattle.sc_cluster.specs.Map.{IsMap}
 use Rattle.sc_cluster.specs.Plans.{IsPlan}
 use Rattle.sc_cluster.specs.Changes.{begun_slice}
@@ -21,19 +21,23 @@ use Rattle.sc_cluster.proofs.PairLemmas.{Contains-from_map}
 use Rattle.sc_ulog.specs.declared.mode.Mode.TheVariants.{Active}
 use Rattle.sc_replica.specs.Core.{Core}
 use Rattle.sc_journal.specs.Down.{is_down}
-use Rattle.sc_journal.proofs.DownLemmas.{LeavesCores-begun, is_down-left}
+use Rattle.sc_journal.specs.Seats.{seats}
+use Rattle.sc_journal.proofs.DownLemmas.{LeavesCores-begun}
 use Rattle.sc_journal.proofs.LegalDownLemmas.{leader_is_up}
+use Rattle.sc_journal.proofs.SeatLemmas.{seats_begin_in_order}
 use Rattle.sc_bucket.specs.Kept.{FeedState}
-use Rattle.sc_record.specs.Names.{is_core}
+use Rattle.sc_record.specs.Names.{key_of_core, is_core}
 use Rattle.sc_bucket.specs.Cores.{core_key, core_keys, slice_keys, core_number, IsCounted, without_room}
-use Rattle.sc_bucket.specs.Sound.{HasJournal, HasCores, IsFeed, AreFeeds}
+use Rattle.sc_bucket.specs.Sound.{HasJournal, IsMarked, may_catch_up, HasCores, IsFeed, AreFeeds}
 use Rattle.sc_bucket.specs.declared.bucket.Bucket.{Bucket}
 use Rattle.sc_bucket.proofs.CoreLemmas.{keys_among}
 use Rattle.sc_bucket.proofs.FeedLemmas.{fed_core}
-use Rattle.sc_handover.specs.Made.{first_feed}
-use Rattle.sc_handover.proofs.PlanLemmas.{leader_number, leaders_rise, sub_above, was_there, is_begun}
+use Rattle.sc_bucket.proofs.SoundLemmas.{SaysSame, SaysSame-push, AreMarked-left}
+use Rattle.sc_handover.specs.Made.{first_core, first_feed}
+use Rattle.sc_handover.proofs.PlanLemmas.{leader_number, leaders_rise, sub_above, is_begun}
 use Rattle.sc_handover.proofs.MadeLemmas.{made_core, IsMade, map-made, feeds_apart, first_key}
 use Rattle.sc_handover.proofs.BegunCoreLemmas.{core_below}
+use Rattle.sc_handover.proofs.PushedLemmas.{first_is_idle}
 use Rattle.sc_snapshot.specs.Rows.{SnapshotState}
 
 -- the number of a core's name
@@ -66,11 +70,12 @@ ascend-begun old parent subs made has plan same =
 
 -- the cores are those that have to be there
 pub HasCores-begun : (old new : Bucket) (parent : SliceId) (subs : List SubSlice) (snapshot : SnapshotState) (made : List Core)
-    → HasJournal old → HasCores old → IsPlan old.map parent subs → IsMap (old.map ++ map begun_slice subs)
+    → HasJournal old → HasCores old → All (λ (core : Core). core.mode ≡ Active) old.replicas → IsPlan old.map parent subs
+    → IsMap (old.map ++ map begun_slice subs)
     → new.map ≡ old.map ++ map begun_slice subs → new.journal.entries ≡ old.journal.entries ++ entry.Begun parent subs ∷ []
     → new.replicas ≡ old.replicas ++ made
     → map without_room made ≡ map made_core subs → All (IsMade snapshot subs) made → HasCores new
-HasCores-begun old new parent subs snapshot made journal has plan is_map map_is entries replicas_are same each = record {
+HasCores-begun old new parent subs snapshot made journal has all_active plan is_map map_is entries replicas_are same each = record {
   counted = subst (All IsCounted) (sym replicas_are)
       (All-append IsCounted old.replicas made has.counted (All-weaker (IsMade snapshot subs) IsCounted counted made each));
   ascend = subst (λ (cores : List Core). IsStrictlyIncreasing (map number_of cores)) (sym replicas_are)
@@ -100,14 +105,13 @@ HasCores-begun old new parent subs snapshot made journal has plan is_map map_is 
   active = subst (All (IsActiveOf new.map)) (sym replicas_are)
       (subst (λ (slices : List Slice). All (IsActiveOf slices) (old.replicas ++ made)) (sym map_is)
       (All-append (IsActiveOf others) old.replicas made
-      (All-weaker (Contains old.replicas) (IsActiveOf others) still_active old.replicas
-      (All-contains_itself old.replicas))
+      (All-weaker (λ (core : Core). core.mode ≡ Active) (IsActiveOf others)
+      (λ core active slice there named caught_up. active) old.replicas all_active)
       (All-weaker (IsMade snapshot subs) (IsActiveOf others) no_matter made each)));
-  down = subst (All IsMarked) (sym replicas_are)
-      (All-append IsMarked old.replicas made
-      (All-weaker (λ (core : Core). core.down ≡ is_down old.journal.entries (core_key core)) IsMarked
-      (λ core is. is ∙ sym (same_down (core_key core))) old.replicas has.down)
-      (All-weaker (IsMade snapshot subs) IsMarked up made each));
+  marked = subst (All (IsMarked new.journal.entries)) (sym replicas_are)
+      (All-append (IsMarked new.journal.entries) old.replicas made
+      (AreMarked-left old.journal.entries new.journal.entries old.replicas old.replicas refl says_same has.marked)
+      (All-weaker (IsMade snapshot subs) (IsMarked new.journal.entries) marked made each));
 } where
   others : List Slice
   others = old.map ++ map begun_slice subs
@@ -126,22 +130,36 @@ HasCores-begun old new parent subs snapshot made journal has plan is_map map_is 
 
   IsActiveOf : List Slice → Core → Type 0
   IsActiveOf slices core = (slice : Slice) → Contains slices slice → slice.id ≡ core.core.slice
-      → is_forming slice ≡ false → core.mode ≡ Active
+      → may_catch_up new.phase slice core.core ≡ false → core.mode ≡ Active
 
-  IsMarked : Core → Type 0
-  IsMarked core = core.down ≡ is_down new.journal.entries (core_key core)
+  says_same : SaysSame old.journal.entries new.journal.entries
+  says_same =
+      SaysSame-push old.journal.entries new.journal.entries (entry.Begun parent subs) entries (LeavesCores-begun parent subs)
+      (λ _ _. refl)
 
-  same_down : (key : ℕ × ℕ) → is_down new.journal.entries key ≡ is_down old.journal.entries key
-  same_down key =
-      ap (λ (these : List Entry). is_down these key) entries
-      ∙ is_down-left old.journal.entries (entry.Begun parent subs) key (LeavesCores-begun parent subs)
+  -- there was no slice of the sub's id, so that its leader is its core 1
+  in_order : (sub : SubSlice) → Contains subs sub → (seat : ℕ) → seats old.journal.entries sub.id seat ≡ seat
+  in_order sub there =
+      seats_begin_in_order old.first old.journal.entries sub.id journal.first (first_is_idle old journal) journal.legal
+      (λ slice inside own.
+      let within : Contains old.map slice = subst (λ (slices : List Slice). Contains slices slice) (sym journal.map_is) inside in
+      let low : slice.id.0 ≤ greatest_id old.map =
+      All-contains (λ (one : Slice). id_of one ≤ greatest_id old.map) old.map slice (greatest_id-bounds old.map) within in
+      let above = sub_above old.map parent subs sub plan there in
+      absurd (omega (arith, low, above, ap (λ (id : SliceId). id.0) own)))
 
-  up : (core : Core) → IsMade snapshot subs core → IsMarked core
-  up core is =
-      let key : core_key core ≡ (is.sub.id.0, 1) = ap core_key is.core_is in
-      ap (λ (c : Core). c.down) is.core_is
-      ∙ sym (same_down (core_key core) ∙ ap (is_down old.journal.entries) key
-      ∙ leader_is_up old.first old.journal.entries is.sub.id.0 journal.legal)
+  marked : (core : Core) → IsMade snapshot subs core → IsMarked new.journal.entries core
+  marked core is =
+      let named : core.core ≡ first_core is.sub = ap (λ (c : Core). c.core) is.core_is in
+      record {
+        down = ap (λ (c : Core). c.down) is.core_is
+            ∙ sym (says_same.down (core_key core) ∙ ap (λ (name : CoreId). is_down old.journal.entries (key_of_core name)) named
+            ∙ leader_is_up old.first old.journal.entries is.sub.id.0 journal.legal);
+        number = ap (λ (c : Core). c.number) is.core_is
+            ∙ sym (ap (λ (core_in : ℕ → ℕ). core_in core.core.replica) (says_same.seated core.core.slice)
+            ∙ ap (λ (name : CoreId). seats old.journal.entries name.slice name.replica) named
+            ∙ in_order is.sub is.there 1);
+      }
 
   keys_are : map core_key new.replicas ≡ old_keys ++ new_keys
   keys_are =
@@ -168,19 +186,12 @@ HasCores-begun old new parent subs snapshot made journal has plan is_map map_is 
       All-weaker (Contains old_keys) (Contains (old_keys ++ new_keys))
       (λ key there. Contains-append_left old_keys new_keys key there) (slice_keys slice) (whole settled)
 
-  still_active : (core : Core) → Contains old.replicas core → IsActiveOf others core
-  still_active core inside slice there named settled =
-      let low : slice.id.0 ≤ greatest_id old.map =
-      subst (λ (id : SliceId). id.0 ≤ greatest_id old.map) (sym named) (core_below old core has inside) in
-      All-contains (IsActiveOf old.map) old.replicas core has.active inside slice
-      (was_there old.map parent subs slice plan low there) named settled
-
   no_matter : (core : Core) → IsMade snapshot subs core → IsActiveOf others core
-  no_matter core is slice there named settled =
+  no_matter core is slice there named caught_up =
       let begun : begun_slice is.sub ≡ slice =
       is_begun old.map subs is.sub slice is_map is.there there
       (named ∙ ap (λ (c : Core). c.core.slice) is.core_is) in
-      let both : true ≡ false = ap is_forming begun ∙ settled in
+      let both : true ≡ false = ap (λ (s : Slice). may_catch_up new.phase s core.core) begun ∙ caught_up in
       absurd (cc)
 
 -- so are the feeds
@@ -207,7 +218,7 @@ AreFeeds-begun new slices parent subs snapshot cores made plan map_is replicas_a
         there = subst (λ (these : List Slice). Contains these (begun_slice sub)) (sym map_is)
             (Contains-append_right slices (map begun_slice subs) (begun_slice sub)
             (Contains-map begun_slice subs sub there));
-        forming = refl;
+        catches_up = refl;
         of_slice = refl;
         range_is = refl;
         core = core;

@@ -16,7 +16,7 @@ use Rattle.sc_record.specs.Names.{is_core}
 use Rattle.sc_bucket.specs.Cores.{IsCoreWithoutRoom}
 use Rattle.sc_bucket.specs.Flight.{in_flight}
 use Rattle.sc_bucket.specs.Pending.{to_feed}
-use Rattle.sc_bucket.specs.Sound.{HasCores, OfEachCore, IsSent, AreSent, IsFeed, AreFeeds, AreLedActively, IsInPhase, IsSound}
+use Rattle.sc_bucket.specs.Sound.{may_catch_up, HasCores, OfEachCore, IsSent, AreSent, IsFeed, AreFeeds, AreLedActively, IsInPhase, IsSound}
 use Rattle.sc_bucket.specs.declared.bucket.Bucket.{Bucket}
 use Rattle.sc_bucket.specs.declared.phase.Phase.{Phase}
 use Rattle.sc_bucket.specs.declared.phase.Phase.TheVariants as phases
@@ -24,7 +24,7 @@ use Rattle.sc_bucket.proofs.CoreLemmas.{name_of, is_core-Decides, AreApart-from_
 use Rattle.sc_bucket.proofs.PlaceLemmas.{All-set_apart}
 use Rattle.sc_bucket.proofs.RoomLemmas.{HasJournal-same}
 use Rattle.sc_bucket.proofs.SearcherLemmas.{HasSearchers-same}
-use Rattle.sc_bucket.proofs.SoundLemmas.{All-slice_get, name_and_mark, AreMarked-left, HasCores-named, IsIdle-same, IsOpen-same}
+use Rattle.sc_bucket.proofs.SoundLemmas.{All-slice_get, name_and_mark, SaysSame-same, AreMarked-left, HasCores-named, IsIdle-same, IsOpen-same}
 use Rattle.sc_bucket.proofs.DeliveredLemmas.{IsSoundCore}
 use Rattle.sc_bucket.proofs.DeliverLemmas.{IsSoundIn, core_is_sound}
 use Rattle.sc_bucket.proofs.TakenLemmas.{Contains-slice_get}
@@ -80,7 +80,7 @@ pub IsFeed-with_fed : (b : Bucket) (feeds : List FeedState) (cores : List Core) 
 IsFeed-with_fed b feeds cores feed next is stays within = record {
   slice = is.slice;
   there = is.there;
-  forming = is.forming;
+  catches_up = is.catches_up;
   of_slice = is.of_slice;
   range_is = is.range_is;
   core = is.core;
@@ -113,24 +113,26 @@ same_phase b feeds cores (phases.Building parent) led is = IsOpen-same b (with_f
 same_phase b feeds cores (phases.Recovering parent) led is =
     (IsOpen-same b (with_fed b feeds cores) parent refl refl is.0, led is.1)
 
--- It is sound where each core is, the cores have the same names and marks and are active where they have to be, and the
+-- It is sound where each core is, the cores have the same names, marks and numbers and are active where they have to be, and the
 -- feeds are as they have to be.
 IsSound-changed : (b : Bucket) (feeds : List FeedState) (cores : List Core) → IsSound b
     → All (IsSoundIn (with_fed b feeds cores) b.flight.messages) cores → All IsCoreWithoutRoom cores
     → map name_and_mark cores ≡ map name_and_mark b.replicas
     → OfEachCore (with_fed b feeds cores)
-    (λ (slice : Slice) (core : Core). is_forming slice ≡ false → core.mode ≡ Active)
+    (λ (slice : Slice) (core : Core). may_catch_up b.phase slice core.core ≡ false → core.mode ≡ Active)
     → (AreLedActively b → AreLedActively (with_fed b feeds cores)) → AreFeeds (with_fed b feeds cores)
     → IsSound (with_fed b feeds cores)
 IsSound-changed b feeds cores sound each in_order marks active led are =
     let new : Bucket = with_fed b feeds cores in
-    let name : CoreId × Bool → CoreId = λ pair. pair.0 in
+    let name : CoreId × Bool × ℕ → CoreId = λ pair. pair.0 in
     let names : map name_of cores ≡ map name_of b.replicas =
     sym (map-map name name_and_mark cores) ∙ ap (map name) marks ∙ map-map name name_and_mark b.replicas in
     IsSound-with_fed b feeds cores sound each in_order
     (λ name. subst (λ (those : List CoreId). Contains those name) (sym names))
     (HasCores-named b new refl names active
-    (AreMarked-left b.journal.entries b.journal.entries b.replicas cores marks (λ key. refl) sound.cores.down) sound.cores) are (same_phase b feeds cores b.phase led sound.phase)
+    (AreMarked-left b.journal.entries b.journal.entries b.replicas cores marks
+    (SaysSame-same b.journal.entries b.journal.entries refl) sound.cores.marked) sound.cores)
+    are (same_phase b feeds cores b.phase led sound.phase)
 
 -- a core for which the same is still to be fed is sound as before
 still_sound : (b : Bucket) (feeds : List FeedState) (cores : List Core) (core : Core)
@@ -165,14 +167,14 @@ changed_of_each P b feeds at core new there named step each =
     Of one = (slice : Slice) → Contains b.map slice → slice.id ≡ one.core.slice → P slice one
 
 -- a core at another place has another name
-apart_from : (b : Bucket) (at k : ℕ) (core other : Core) → IsSound b → slice_get b.replicas at ≡ Some core
+pub apart_from : (b : Bucket) (at k : ℕ) (core other : Core) → IsSound b → slice_get b.replicas at ≡ Some core
     → slice_get b.replicas k ≡ Some other → k ≢ at → is_core other.core core.core ≡ false
 apart_from b at k core other sound there is differ =
     false_from_ne_true (is_core other.core core.core) (λ same.
     differ (core_alone b.replicas k at other core (AreApart-from_ascending b.replicas sound.cores.ascend) is there
     ((is_core-Decides other.core core.core).0 same)))
 
--- It is sound where the core at a place was changed, and perhaps the feeds: that core has its name and its mark, is active where
+-- It is sound where the core at a place was changed, and perhaps the feeds: that core has its name, its mark and its number, is active where
 -- it was, is in order if it was, and is sound with what is pending for it now; each other is still to be fed the same; and the feeds are as
 -- they have to be.
 pub IsSound-core_changed : (b : Bucket) (feeds : List FeedState) (at : ℕ) (core new : Core) → IsSound b
@@ -182,7 +184,7 @@ pub IsSound-core_changed : (b : Bucket) (feeds : List FeedState) (at : ℕ) (cor
     → AreFeeds (with_fed b feeds (set b.replicas at new)) → IsSound (with_fed b feeds (set b.replicas at new))
 IsSound-core_changed b feeds at core new sound there same still in_order own others are =
     let cores : List Core = set b.replicas at new in
-    let named : new.core ≡ core.core = ap (λ (pair : CoreId × Bool). pair.0) same in
+    let named : new.core ≡ core.core = ap (λ (pair : CoreId × Bool × ℕ). pair.0) same in
     IsSound-changed b feeds cores sound
     (All-set_apart (IsSoundIn (with_fed b feeds cores) b.flight.messages) b.replicas at new own
     (λ k other differ is. still_sound b feeds cores other
@@ -193,8 +195,9 @@ IsSound-core_changed b feeds at core new sound there same still in_order own oth
     (λ k other differ is. All-slice_get IsCoreWithoutRoom b.replicas k other sound.in_order is))
     (map-set_same name_and_mark b.replicas at new core
     (same ∙ ap name_and_mark (sym (get_or_from_slice_get b.replicas at core core there))))
-    (changed_of_each (λ slice one. is_forming slice ≡ false → one.mode ≡ Active) b feeds at core new there named
-    (λ slice active free. still (active free)) sound.cores.active)
+    (changed_of_each (λ slice one. may_catch_up b.phase slice one.core ≡ false → one.mode ≡ Active) b feeds at core new
+    there named
+    (λ slice active caught_up. still (active (ap (may_catch_up b.phase slice) (sym named) ∙ caught_up))) sound.cores.active)
     (λ led. changed_of_each (λ slice one. is_forming slice ≡ true → one.core.replica ≡ 1 → one.mode ≡ Active)
     b feeds at core new there named
     (λ slice active forming first. still (active forming (ap (λ (name : CoreId). name.replica) (sym named) ∙ first)))

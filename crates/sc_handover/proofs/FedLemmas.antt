@@ -116,9 +116,9 @@ AreFeeds-moved b at n feed cores are there within alike =
     let is = All-slice_get (IsFeed b) b.feeds at feed are.each there in
     record {
       each = All-set_apart (IsFeed new) b.feeds at (after_rows n feed)
-          (IsFeed-alike b new (after_rows n feed) refl alike
+          (IsFeed-alike b new (after_rows n feed) refl refl alike
           (IsFeed-with_fed b b.feeds b.replicas feed (feed.next + n) is is.core_there within))
-          (λ k other apart at_k. IsFeed-alike b new other refl alike
+          (λ k other apart at_k. IsFeed-alike b new other refl refl alike
           (All-slice_get (IsFeed b) b.feeds k other are.each at_k));
       once = subst (IsDistinct is_core) (sym (names-moved b.feeds at feed (after_rows n feed) there refl)) are.once;
     }
@@ -144,7 +144,7 @@ AreFeeds-removed b at feed are there = record {
   within = omega (arith, slice_get_within b.feeds at feed there, length-map b.feeds fed_core)
 
   each : All (IsFeed new) b.feeds
-  each = All-weaker (IsFeed b) (IsFeed new) (λ one. IsFeed-alike b new one refl refl) b.feeds are.each
+  each = All-weaker (IsFeed b) (IsFeed new) (λ one. IsFeed-alike b new one refl refl refl) b.feeds are.each
 
 -- what a core is still to be fed is what its feed has left
 pub to_feed-at : (b : Bucket) (feed_at core_at : ℕ) (feed : FeedState) (core : Core) → IsSound b

@@ -1,47 +1,40 @@
 -- A bucket is sound once a further replica of a sub joined with its feed.
-use Rattle.std.proofs.Common.{◌≡◌, inl, inr, ℕ, ◌+◌, ◌-◌, ◌<◌, nat_lt, Bool, true, false, cond, List, [], ◌∷◌, ◌++◌, length, map, filter, Some, All, Contains, ◌≢◌, refl, sym, ap, ◌∙◌, subst, arith}
-use Rattle.std.proofs.lemmas.Bool.{false_from_ne_true}
-use Rattle.std.specs.List.{IsDistinct, flat_map, range_with_len, remove}
-use Rattle.std.proofs.lemmas.List.{append-nil, map-append, length_push}
-use Rattle.std.proofs.lemmas.List.Elements.{All-cons, All-contains, All-contains_itself, All-filter, All-map, All-nil, All-push, All-weaker, filter-append}
+use Rattle.std.proofs.Common.{◌≡◌, ℕ, ◌+◌, ◌-◌, ◌<◌, nat_lt, Bool, true, false, cond, List, [], ◌∷◌, ◌++◌, length, map, All, Contains, ◌≢◌, refl, sym, ap, ◌∙◌, subst, arith}
+use Rattle.std.specs.List.{range_with_len, remove}
+use Rattle.std.proofs.lemmas.List.{length_push}
+use Rattle.std.proofs.lemmas.List.Elements.{All-contains, All-contains_itself, All-map, All-weaker}
 use Rattle.std.proofs.lemmas.List.FromFn.{length-range_with_len, get_or-range_with_len}
-use Rattle.std.proofs.lemmas.Map.Keys.{IsDistinct-from_apart}
-use Rattle.sc_hash.proofs.BoundsLemmas.{contains-Decides}
-use Rattle.sc_record.specs.Writes.{is_of, write_of}
 use Rattle.sc_record.specs.declared.slice.SliceId.{SliceId}
 use Rattle.sc_record.specs.declared.slice.CoreId.{CoreId}
-use Rattle.sc_record.specs.declared.write.Write.{Write}
 use Rattle.sc_cluster.specs.declared.slice.Slice.{Slice}
 use Rattle.sc_cluster.specs.Map.{IsMap}
 use Rattle.sc_cluster.specs.Slices.{is_forming}
 use Rattle.sc_cluster.proofs.LeaderLemmas.{same_from_id}
-use Rattle.sc_cluster.proofs.ListLemmas.{Contains-map, Contains-filter, filter-none}
-use Rattle.sc_cluster.proofs.StateLemmas.{active_settled}
+use Rattle.sc_cluster.proofs.ListLemmas.{Contains-map}
 use Rattle.sc_ulog.specs.declared.mode.Mode.TheVariants.{Active}
 use Rattle.sc_replica.specs.Core.{Core}
-use Rattle.sc_journal.specs.Journal.{writes}
 use Rattle.sc_journal.specs.Down.{is_down}
+use Rattle.sc_journal.specs.Seats.{seats}
 use Rattle.sc_journal.proofs.LegalDownLemmas.{forming_is_up}
+use Rattle.sc_journal.proofs.SeatLemmas.{seats_begin_in_order}
 use Rattle.sc_bucket.specs.Kept.{Sent, FeedState}
 use Rattle.sc_record.specs.Names.{is_core}
 use Rattle.sc_bucket.specs.Cores.{core_key, core_keys, slice_keys, core_number, IsCounted, put_by_name, without_room, IsCoreWithoutRoom}
 use Rattle.sc_bucket.specs.Flight.{in_flight, is_to}
-use Rattle.sc_bucket.specs.Pending.{is_within, is_feed_of, left_of, to_feed, pending}
-use Rattle.sc_bucket.specs.Sound.{HasLastWrites, IsInRange, IsSent, HasCores, IsFeed, AreFeeds, IsInPhase, IsSound}
+use Rattle.sc_bucket.specs.Pending.{is_feed_of}
+use Rattle.sc_bucket.specs.Sound.{IsSent, IsMarked, may_catch_up, HasCores, IsFeed, AreFeeds, IsInPhase, IsSound}
 use Rattle.sc_bucket.specs.declared.bucket.Bucket.{Bucket}
 use Rattle.sc_bucket.proofs.AcceptLemmas.{bucket_has_map}
-use Rattle.sc_bucket.proofs.CoreLemmas.{name_of, is_core-Decides, keys_among, element_from_map}
-use Rattle.sc_bucket.proofs.DeliveredLemmas.{IsSoundCore}
-use Rattle.sc_bucket.proofs.FeedLemmas.{fed_core}
-use Rattle.sc_bucket.proofs.FollowerLemmas.{IsDistinct-append}
+use Rattle.sc_bucket.proofs.CoreLemmas.{name_of, keys_among, element_from_map}
 use Rattle.sc_bucket.proofs.SoundLemmas.{IsOpen-same}
 use Rattle.sc_bucket.proofs.TakenLemmas.{Contains-slice_get}
-use Rattle.sc_bucket.proofs.WriteLemmas.{Contains-find}
-use Rattle.sc_handover.proofs.EachCoreLemmas.{core_in}
 use Rattle.sc_handover.specs.Conditions.{CanGrow}
 use Rattle.sc_handover.specs.Made.{empty_core}
-use Rattle.sc_handover.specs.Parts.{IsMade, Joins}
-use Rattle.sc_handover.proofs.ChangedLemmas.{IsFeed-with_fed, IsSound-with_fed}
+use Rattle.sc_handover.specs.Parts.{CanFollow, IsMade, Joins}
+use Rattle.sc_bucket.proofs.CatchUpLemmas.{forming_catches_up}
+use Rattle.sc_handover.proofs.PushedLemmas.{first_is_idle}
+use Rattle.sc_handover.proofs.ChangedLemmas.{IsSound-with_fed}
+use Rattle.sc_handover.proofs.FollowingLemmas.{IsReadyToFollow, core_named, IsSoundFed, other_is_sound, core_is_sound, AreFeeds-followed}
 use Rattle.sc_handover.proofs.SettleSubsLemmas.{in_flight-no_message}
 use Rattle.sc_handover.proofs.SwitchedMapLemmas.{split_is_open}
 use Rattle.sc_handover.proofs.HandedOnLemmas.{All-from_map}
@@ -56,28 +49,14 @@ joined b core feed = record b { replicas = put_by_name core b.replicas; feeds = 
 pub record MayJoin (b : Bucket) (name : CoreId) (sub : Slice) (core : Core) (feed : FeedState) : Type 0 where
   pub sound : IsSound b
   pub can : CanGrow b name sub
+  pub follows : CanFollow b name sub
   pub made : IsMade b name sub core feed
-
--- ---- names
-core_named : (b : Bucket) (name : CoreId) (sub : Slice) (core : Core) (feed : FeedState) → IsMade b name sub core feed
-    → core.core ≡ name
-core_named b name sub core feed made = ap (λ (c : Core). c.core) made.core_is
-
-feed_named : (b : Bucket) (name : CoreId) (sub : Slice) (core : Core) (feed : FeedState) → IsMade b name sub core feed
-    → feed.core ≡ name
-feed_named b name sub core feed made = ap (λ (f : FeedState). f.core) made.feed_is
 
 -- each core that is there has another name
 other_name : (b : Bucket) (name : CoreId) (sub : Slice) (other : Core) → CanGrow b name sub → Contains b.replicas other
     → is_core name other.core ≡ false
 other_name b name sub other can there =
     All-contains (λ (c : Core). is_core name c.core ≡ false) b.replicas other can.missing there
-
--- the test is the same the other way round
-apart_turned : (one other : CoreId) → is_core one other ≡ false → is_core other one ≡ false
-apart_turned one other apart = false_from_ne_true (is_core other one) (λ is.
-    let both : true ≡ false = sym ((is_core-Decides one other).1 (sym ((is_core-Decides other one).0 is))) ∙ apart in
-    cc)
 
 -- so a feed that is there is another's
 other_feed : (b : Bucket) (name : CoreId) (sub : Slice) (feed : FeedState) → CanGrow b name sub → IsFeed b feed
@@ -92,42 +71,6 @@ other_message b name sub message can sent =
     let (k, core, at, is) = element_from_map name_of b.replicas message.core sent.core in
     ap (is_core name) (sym is) ∙ other_name b name sub core can (Contains-slice_get b.replicas k core at)
 
--- ---- what is to be fed
--- to another core what was
-to_feed-other : (feeds : List FeedState) (feed : FeedState) (core : CoreId) → is_feed_of core feed ≡ false
-    → to_feed (feeds ++ feed ∷ []) core ≡ to_feed feeds core
-to_feed-other feeds feed core other =
-    ap (flat_map left_of) (filter-append (is_feed_of core) feeds (feed ∷ [])
-    ∙ ap (λ b. filter (is_feed_of core) feeds ++ cond b (feed ∷ []) []) other
-    ∙ append-nil (filter (is_feed_of core) feeds))
-
--- and to its own what it has left
-to_feed-own : (feeds : List FeedState) (feed : FeedState) (core : CoreId)
-    → All (λ (other : FeedState). is_feed_of core other ≡ false) feeds → is_feed_of core feed ≡ true
-    → to_feed (feeds ++ feed ∷ []) core ≡ left_of feed
-to_feed-own feeds feed core none own =
-    ap (flat_map left_of) (filter-append (is_feed_of core) feeds (feed ∷ [])
-    ∙ ap (λ these. these ++ filter (is_feed_of core) (feed ∷ [])) (filter-none (is_feed_of core) feeds none)
-    ∙ ap (λ b. cond b (feed ∷ []) []) own)
-    ∙ append-nil (left_of feed)
-
--- ---- the cores
--- the core is sound, where these messages are in flight and these are the feeds
-abbrev IsSoundFed : Bucket → List FeedState → Core → Type 0
-IsSoundFed b feeds core =
-    IsSoundCore b.map b.journal.entries (in_flight b.flight.messages core.core) (pending b.flight.messages feeds core) core
-
--- each of the others is
-other_is_sound : (b : Bucket) (name : CoreId) (sub : Slice) (core : Core) (feed : FeedState) (other : Core)
-    → MayJoin b name sub core feed → Contains b.replicas other → IsSoundFed b (b.feeds ++ feed ∷ []) other
-other_is_sound b name sub core feed other may there =
-    let apart : is_feed_of other.core feed ≡ false =
-    ap (is_core other.core) (feed_named b name sub core feed may.made)
-    ∙ apart_turned name other.core (other_name b name sub other may.can there) in
-    subst (λ (left : List Write). IsSoundCore b.map b.journal.entries (in_flight b.flight.messages other.core)
-    (in_flight b.flight.messages other.core ++ other.buffer ++ left) other)
-    (sym (to_feed-other b.feeds feed other.core apart)) (core_in b other may.sound there)
-
 -- nothing is in flight to the new core
 none_in_flight : (b : Bucket) (name : CoreId) (sub : Slice) → IsSound b → CanGrow b name sub → in_flight b.flight.messages name ≡ []
 none_in_flight b name sub sound can =
@@ -135,94 +78,17 @@ none_in_flight b name sub sound can =
     (All-weaker (IsSent b) (λ (message : Sent). is_to name message ≡ false)
     (λ message. other_message b name sub message can) b.flight.messages sound.messages.each)
 
--- and all that is pending for it are its leader's cells
-abbrev rows_for : Slice → Core → List Write
-rows_for sub leader = filter (is_within sub.range) leader.cells
-
-pending_for : (b : Bucket) (name : CoreId) (sub : Slice) (core : Core) (feed : FeedState) → (may : MayJoin b name sub core feed)
-    → pending b.flight.messages (b.feeds ++ feed ∷ []) core ≡ rows_for sub may.made.leader
-pending_for b name sub core feed may =
-    ap (λ (these : List Write). these ++ core.buffer ++ left) sent
-    ∙ ap (λ (these : List Write). these ++ left) (ap (λ (c : Core). c.buffer) may.made.core_is)
-    ∙ fed
-  where
-    named : core.core ≡ name
-    named = core_named b name sub core feed may.made
-
-    left : List Write
-    left = to_feed (b.feeds ++ feed ∷ []) core.core
-
-    sent : in_flight b.flight.messages core.core ≡ []
-    sent = ap (in_flight b.flight.messages) named ∙ none_in_flight b name sub may.sound may.can
-
-    none : All (λ (other : FeedState). is_feed_of core.core other ≡ false) b.feeds
-    none =
-        All-weaker (IsFeed b) (λ (other : FeedState). is_feed_of core.core other ≡ false)
-        (λ other is. ap (λ (n : CoreId). is_core n other.core) named ∙ other_feed b name sub other may.can is)
-        b.feeds may.sound.feeds.each
-
-    own : is_feed_of core.core feed ≡ true
-    own = (is_core-Decides core.core feed.core).1 (named ∙ sym (feed_named b name sub core feed may.made))
-
-    fed : left ≡ rows_for sub may.made.leader
-    fed = to_feed-own b.feeds feed core.core none own ∙ ap left_of may.made.feed_is
-
--- so it is sound too
-core_is_sound : (b : Bucket) (name : CoreId) (sub : Slice) (core : Core) (feed : FeedState) → MayJoin b name sub core feed
-    → IsSoundFed b (b.feeds ++ feed ∷ []) core
-core_is_sound b name sub core feed may =
-    subst (λ these. IsSoundCore b.map b.journal.entries (in_flight b.flight.messages core.core) these core)
-    (sym (pending_for b name sub core feed may)) (record {
-      serves = λ slice there of_core active leads.
-          let same = is_sub slice there of_core in
-          let both : true ≡ false = sym (ap is_forming same ∙ may.can.forming) ∙ active_settled slice active in
-          absurd (cc);
-      written = (
-        no_cells (Contains (writes b.journal.entries)),
-        All-filter (is_within sub.range) (Contains (writes b.journal.entries)) leader.cells leader_sound.written.0,
-      );
-      held = λ slice there of_core attached id write within is.
-          let same = is_sub slice there of_core in
-          let cell : write_of leader.cells id ≡ Some write = last_in slice same id within ∙ is in
-          inr (Contains-filter (is_within sub.range) leader.cells write (Contains-find (is_of id) leader.cells write cell)
-          (inside write (Contains-find (is_of id) leader.cells write cell)));
-      in_range = λ slice there of_core. (
-        no_cells (IsInRange slice),
-        subst (λ s. All (IsInRange s) (rows_for sub leader)) (sym (is_sub slice there of_core))
-            (All-filter (is_within sub.range) (IsInRange sub) leader.cells in_sub),
-      );
-      clock = inl (ap (λ (c : Core). c.clock) may.made.core_is);
-      cell_room = omega (arith, may.made.roomy, ap length (sym (ap left_of may.made.feed_is)));
-      buffer_room = omega (
-        arith,
-        ap length (ap (in_flight b.flight.messages) (core_named b name sub core feed may.made)
-            ∙ none_in_flight b name sub may.sound may.can),
-      );
-    })
-  where
-    leader : Core
-    leader = may.made.leader
-
-    leader_sound : IsSoundFed b b.feeds leader
-    leader_sound = core_in b leader may.sound may.made.leader_there
-
-    in_sub : All (IsInRange sub) leader.cells
-    in_sub = (leader_sound.in_range sub may.can.there (sym may.made.leader_is.0)).0
-
-    inside : (write : Write) → Contains leader.cells write → is_within sub.range write ≡ true
-    inside write there =
-        (contains-Decides write.hash sub.range.min sub.range.max).1 (All-contains (IsInRange sub) leader.cells write in_sub there)
-
-    no_cells : (P : Write → Type 0) → All P core.cells
-    no_cells P = subst (All P) (sym (ap (λ (c : Core). c.cells) may.made.core_is)) (All-nil P)
-
-    is_sub : (slice : Slice) → Contains b.map slice → slice.id ≡ core.core.slice → slice ≡ sub
-    is_sub slice there of_core =
-        same_from_id b.map slice sub (bucket_has_map b may.sound.journal) there may.can.there
-        (of_core ∙ ap (λ (n : CoreId). n.slice) (core_named b name sub core feed may.made) ∙ may.can.of_sub)
-
-    last_in : (slice : Slice) → slice ≡ sub → HasLastWrites b.journal.entries slice leader
-    last_in slice same = subst (λ s. HasLastWrites b.journal.entries s leader) (sym same) may.made.last
+-- so the core is ready to follow its leader
+ready_to_follow : (b : Bucket) (name : CoreId) (sub : Slice) (core : Core) (feed : FeedState) → MayJoin b name sub core feed
+    → IsReadyToFollow b name sub core feed
+ready_to_follow b name sub core feed may = record {
+  sound = may.sound;
+  can = may.follows;
+  made = may.made;
+  unsent = none_in_flight b name sub may.sound may.can;
+  unfed = All-weaker (IsFeed b) (λ (other : FeedState). is_feed_of name other ≡ false)
+      (λ other. other_feed b name sub other may.can) b.feeds may.sound.feeds.each;
+}
 
 -- ---- the names of the cores
 -- the new core's is one of the sub's
@@ -257,16 +123,23 @@ HasCores-joined b name sub core feed may = record {
       (λ (slice : Slice). is_forming slice ≡ false → All (Contains (map core_key (put_by_name core b.replicas))) (slice_keys slice))
       (λ slice all settled. All-weaker (Contains (map core_key b.replicas)) (Contains (map core_key (put_by_name core b.replicas)))
       (λ one there. Contains-map_put core_key core b.replicas one there) (slice_keys slice) (all settled)) b.map has.whole;
-  active = All-put (λ (c : Core). (slice : Slice) → Contains b.map slice → slice.id ≡ c.core.slice → is_forming slice ≡ false → c.mode ≡ Active)
+  active = All-put (λ (c : Core). (slice : Slice) → Contains b.map slice → slice.id ≡ c.core.slice
+      → may_catch_up b.phase slice c.core ≡ false → c.mode ≡ Active)
       core b.replicas
-      (λ slice there of_core settled.
+      (λ slice there of_core caught_up.
       let same : slice ≡ sub = same_from_id b.map slice sub (bucket_has_map b may.sound.journal) there may.can.there
       (of_core ∙ ap (λ (n : CoreId). n.slice) named ∙ may.can.of_sub) in
-      let both : true ≡ false = sym (ap is_forming same ∙ may.can.forming) ∙ settled in
+      let catches : may_catch_up b.phase slice core.core ≡ true =
+      forming_catches_up b.phase slice core.core (ap is_forming same ∙ may.can.forming) in
+      let both : true ≡ false = sym catches ∙ caught_up in
       absurd (cc))
       has.active;
-  down = All-put (λ (c : Core). c.down ≡ is_down b.journal.entries (core_key c)) core b.replicas
-      (ap (λ (c : Core). c.down) may.made.core_is ∙ sym up) has.down;
+  marked = All-put (IsMarked b.journal.entries) core b.replicas
+      (record {
+        down = ap (λ (c : Core). c.down) may.made.core_is ∙ sym up;
+        number = ap (λ (c : Core). c.number) may.made.core_is
+            ∙ sym (ap (λ (n : CoreId). seats b.journal.entries n.slice n.replica) named ∙ in_order name.replica);
+      }) has.marked;
 } where
   has : HasCores b
   has = may.sound.cores
@@ -282,6 +155,15 @@ HasCores-joined b name sub core feed may = record {
       (subst (λ (slices : List Slice). Contains slices sub) journal.map_is may.can.there) may.can.forming
       (ap (λ (id : SliceId). id.0) (ap (λ (n : CoreId). n.slice) named ∙ may.can.of_sub))
 
+  in_order : (seat : ℕ) → seats b.journal.entries name.slice seat ≡ seat
+  in_order =
+      let journal = may.sound.journal in
+      seats_begin_in_order b.first b.journal.entries name.slice journal.first (first_is_idle b journal) journal.legal
+      (λ slice there of_name.
+      let within : Contains b.map slice = subst (λ (slices : List Slice). Contains slices slice) (sym journal.map_is) there in
+      ap is_forming (same_from_id b.map slice sub (bucket_has_map b journal) within may.can.there (of_name ∙ may.can.of_sub))
+      ∙ may.can.forming)
+
   differ : (other : Core) → Contains b.replicas other → core_number other.core ≢ core_number core.core
   differ other there =
       other_number core other may.made.counted (All-contains IsCounted b.replicas other has.counted there)
@@ -295,37 +177,11 @@ HasCores-joined b name sub core feed may = record {
 -- ---- the feeds
 AreFeeds-joined : (b : Bucket) (name : CoreId) (sub : Slice) (core : Core) (feed : FeedState) → MayJoin b name sub core feed
     → AreFeeds (joined b core feed)
-AreFeeds-joined b name sub core feed may = record {
-  each = All-push (IsFeed (joined b core feed)) b.feeds feed
-      (All-weaker (IsFeed b) (IsFeed (joined b core feed)) still b.feeds may.sound.feeds.each) own;
-  once = subst (IsDistinct is_core) (sym (map-append fed_core b.feeds (feed ∷ [])))
-      (IsDistinct-append is_core (map fed_core b.feeds) (feed.core ∷ []) may.sound.feeds.once
-      (IsDistinct-from_apart is_core (feed.core ∷ []) (λ i j d before below. absurd (omega arith)))
-      (All-map (λ (one : CoreId). All (λ (other : CoreId). is_core one other ≡ false) (feed.core ∷ [])) fed_core b.feeds
-      (All-weaker (IsFeed b) (λ (other : FeedState). All (λ (n : CoreId). is_core other.core n ≡ false) (feed.core ∷ []))
-      (λ other is. All-cons (λ (n : CoreId). is_core other.core n ≡ false) feed.core []
-      (ap (is_core other.core) (feed_named b name sub core feed may.made)
-      ∙ apart_turned name other.core (other_feed b name sub other may.can is))
-      (All-nil (λ (n : CoreId). is_core other.core n ≡ false))) b.feeds may.sound.feeds.each)));
-} where
-  still : (other : FeedState) → IsFeed b other → IsFeed (joined b core feed) other
-  still other is =
-      IsFeed-with_fed b (b.feeds ++ feed ∷ []) (put_by_name core b.replicas) other other.next is
-      (Contains-put core b.replicas is.core is.core_there) is.within
-
-  own : IsFeed (joined b core feed) feed
-  own = record {
-    slice = sub;
-    there = may.can.there;
-    forming = may.can.forming;
-    of_slice = ap (λ (n : CoreId). n.slice) (feed_named b name sub core feed may.made) ∙ may.can.of_sub;
-    range_is = ap (λ (f : FeedState). f.range) may.made.feed_is;
-    core = core;
-    core_there = Contains-put_own core b.replicas;
-    core_is = core_named b name sub core feed may.made ∙ sym (feed_named b name sub core feed may.made);
-    buffering = ap (λ (c : Core). c.mode) may.made.core_is;
-    within = omega (arith, ap (λ (f : FeedState). f.next) may.made.feed_is);
-  }
+AreFeeds-joined b name sub core feed may =
+    AreFeeds-followed b name sub core feed (put_by_name core b.replicas) core (ready_to_follow b name sub core feed may)
+    (forming_catches_up b.phase sub name may.can.forming)
+    (λ other there apart. Contains-put core b.replicas other there) (Contains-put_own core b.replicas)
+    (core_named b name sub core feed may.made) (ap (λ (c : Core). c.mode) may.made.core_is)
 
 -- ---- the rest
 phase-joined : (b : Bucket) (name : CoreId) (sub : Slice) (core : Core) (feed : FeedState) → MayJoin b name sub core feed
@@ -347,9 +203,11 @@ IsSound-joined : (b : Bucket) (name : CoreId) (sub : Slice) (core : Core) (feed 
     → IsSound (joined b core feed)
 IsSound-joined b name sub core feed may =
     let cores : All (IsSoundFed b (b.feeds ++ feed ∷ [])) (put_by_name core b.replicas) =
-    All-put (IsSoundFed b (b.feeds ++ feed ∷ [])) core b.replicas (core_is_sound b name sub core feed may)
+    let ready = ready_to_follow b name sub core feed may in
+    All-put (IsSoundFed b (b.feeds ++ feed ∷ [])) core b.replicas (core_is_sound b name sub core feed ready)
     (All-weaker (Contains b.replicas) (IsSoundFed b (b.feeds ++ feed ∷ []))
-    (λ other there. other_is_sound b name sub core feed other may there) b.replicas (All-contains_itself b.replicas)) in
+    (λ other there. other_is_sound b name sub core feed other ready there (other_name b name sub other may.can there)) b.replicas
+    (All-contains_itself b.replicas)) in
     IsSound-with_fed b (b.feeds ++ feed ∷ []) (put_by_name core b.replicas) may.sound cores
     (All-put IsCoreWithoutRoom core b.replicas (in_order-made name core may.made.core_is) may.sound.in_order)
     (λ other. Contains-map_put name_of core b.replicas other) (HasCores-joined b name sub core feed may)

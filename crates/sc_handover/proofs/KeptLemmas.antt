@@ -16,9 +16,12 @@ use Rattle.sc_cluster.proofs.OrderLemmas.{IsStrictlyIncreasing-map-filter}
 use Rattle.sc_cluster.proofs.PairLemmas.{Contains-from_map}
 use Rattle.sc_ulog.specs.declared.mode.Mode.TheVariants.{Active}
 use Rattle.sc_replica.specs.Core.{Core}
+use Rattle.sc_record.specs.Names.{key_of_core}
+use Rattle.sc_record.specs.declared.entry.Entry.{Entry}
 use Rattle.sc_journal.specs.Down.{is_down}
+use Rattle.sc_journal.specs.Seats.{seats}
 use Rattle.sc_bucket.specs.Cores.{core_key, core_keys, slice_keys, core_number, is_of_one, IsCounted}
-use Rattle.sc_bucket.specs.Sound.{HasCores}
+use Rattle.sc_bucket.specs.Sound.{IsMarked, may_catch_up, HasCores}
 use Rattle.sc_bucket.specs.declared.bucket.Bucket.{Bucket}
 use Rattle.sc_bucket.proofs.CoreLemmas.{keys_among}
 
@@ -108,13 +111,25 @@ key_stays slices cores slice key there of_slice inside =
 abbrev IsWhole : List (ℕ × ℕ) → Slice → Type 0
 IsWhole keys slice = is_forming slice ≡ false → All (Contains keys) (slice_keys slice)
 
--- So the cores are those that have to be there, where those that stay are down as before.
+-- the journals say the same of a core: whether it is down, and which of its slice's cores sits in its seat
+pub record SaysTheSame (before after : List Entry) (name : CoreId) : Type 0 where
+  pub down : is_down after (key_of_core name) ≡ is_down before (key_of_core name)
+  pub number : seats after name.slice name.replica ≡ seats before name.slice name.replica
+
+-- so it has the mark and the number that it had to have
+pub still_marked : (before after : List Entry) (core : Core) → SaysTheSame before after core.core → IsMarked before core
+    → IsMarked after core
+still_marked before after core same is = record { down = is.down ∙ sym same.down; number = is.number ∙ sym same.number }
+
+-- So the cores are those that have to be there, where the same is said of those that stay, and none of them may still be catching up
+-- that might not before.
 pub HasCores-kept : (old new : Bucket) → IsMap old.map → AreSome new.map old.map
     → new.replicas ≡ filter (is_kept new.map) old.replicas
-    → ((core : Core) → is_kept new.map core ≡ true
-    → is_down new.journal.entries (core_key core) ≡ is_down old.journal.entries (core_key core))
+    → ((name : CoreId) → is_of_one new.map name ≡ true → SaysTheSame old.journal.entries new.journal.entries name)
+    → ((slice : Slice) (name : CoreId) → Contains new.map slice → may_catch_up new.phase slice name ≡ false
+    → may_catch_up old.phase slice name ≡ false)
     → HasCores old → HasCores new
-HasCores-kept old new is_map some cores same_down has = record {
+HasCores-kept old new is_map some cores same free has = record {
   counted = subst (All IsCounted) (sym cores)
       (All-kept IsCounted kept old.replicas
       (λ core there _. All-contains IsCounted old.replicas core has.counted there));
@@ -132,15 +147,15 @@ HasCores-kept old new is_map some cores same_down has = record {
       (λ slice there done k d below. stays slice (get_or (slice_keys slice) k d) there
       (key_is_of slice (get_or (slice_keys slice) k d) (Contains-get_or (slice_keys slice) k d below))
       (All-contains (IsWhole (map core_key old.replicas)) old.map slice has.whole (some slice there) done k d below));
-  active = subst (All (IsReady new.map)) (sym cores)
-      (All-kept (IsReady new.map) kept old.replicas
-      (λ core there _ slice inside.
-      All-contains (IsReady old.map) old.replicas core has.active there slice (some slice inside)));
-  down = subst (All (λ (core : Core). core.down ≡ is_down new.journal.entries (core_key core))) (sym cores)
-      (All-kept (λ (core : Core). core.down ≡ is_down new.journal.entries (core_key core)) kept old.replicas
-      (λ core there own.
-      All-contains (λ (c : Core). c.down ≡ is_down old.journal.entries (core_key c)) old.replicas core has.down there
-      ∙ sym (same_down core own)));
+  active = subst (All (IsReady new)) (sym cores)
+      (All-kept (IsReady new) kept old.replicas
+      (λ core there _ slice inside named caught_up.
+      All-contains (IsReady old) old.replicas core has.active there slice (some slice inside) named
+      (free slice core.core inside caught_up)));
+  marked = subst (All (IsMarked new.journal.entries)) (sym cores)
+      (All-kept (IsMarked new.journal.entries) kept old.replicas
+      (λ core there own. still_marked old.journal.entries new.journal.entries core (same core.core own)
+      (All-contains (IsMarked old.journal.entries) old.replicas core has.marked there)));
 } where
   kept : Core → Bool
   kept = is_kept new.map
@@ -148,9 +163,9 @@ HasCores-kept old new is_map some cores same_down has = record {
   number : Core → ℕ
   number core = core_number core.core
 
-  IsReady : List Slice → Core → Type 0
-  IsReady slices core = (slice : Slice) → Contains slices slice → slice.id ≡ core.core.slice
-      → is_forming slice ≡ false → core.mode ≡ Active
+  IsReady : Bucket → Core → Type 0
+  IsReady b core = (slice : Slice) → Contains b.map slice → slice.id ≡ core.core.slice
+      → may_catch_up b.phase slice core.core ≡ false → core.mode ≡ Active
 
   in_map : (core : Core) → Contains old.replicas core → Contains (core_keys old.map) (core_key core)
   in_map core there =

@@ -62,7 +62,7 @@ same_from_key cores one other ascend there other_there same =
     (ap (λ (key : ℕ × ℕ). key.0 * 256 + key.1) same)
 
 -- an active core is not fed
-unfed_where_active : (b : Bucket) (core : Core) → IsSound b → Contains b.replicas core → core.mode ≡ Active
+pub unfed_where_active : (b : Bucket) (core : Core) → IsSound b → Contains b.replicas core → core.mode ≡ Active
     → to_feed b.feeds core.core ≡ []
 unfed_where_active b core sound there active =
     to_feed-none b.feeds core.core
@@ -78,7 +78,7 @@ unfed_where_active b core sound there active =
         cc)
 
 -- nothing is pending for a core to which nothing is in flight, whose buffer is empty, and that is not fed
-pending-none : (messages : List Sent) (feeds : List FeedState) (core : Core) → in_flight messages core.core ≡ []
+pub pending-none : (messages : List Sent) (feeds : List FeedState) (core : Core) → in_flight messages core.core ≡ []
     → core.buffer ≡ [] → to_feed feeds core.core ≡ [] → pending messages feeds core ≡ []
 pending-none messages feeds core sent kept left =
     ap (λ these. (these ++ core.buffer) ++ to_feed feeds core.core) sent

@@ -1,34 +1,30 @@
--- A bucket is sound once slices left its map, with their cores, their feeds and the messages to them.
+-- A bucket is sound once slices left its map, with their cores and the messages to them.
 use Rattle.std.proofs.Common.{◌≡◌, ◌⊎◌, ◌∙◌, ℕ, pos, Bool, true, false, List, [], ◌∷◌, ◌++◌, map, filter, None, All, Contains, refl, sym, ap, subst}
 use Rattle.std.specs.List.{IsDistinct}
 use Rattle.std.proofs.lemmas.List.Elements.{All-contains, All-filter, All-weaker}
 use Rattle.std.proofs.lemmas.List.Kept.{AllPairs-filter}
 use Rattle.std.proofs.lemmas.Map.Keys.{apart_from_distinct, IsDistinct-from_apart}
-use Rattle.sc_record.specs.Names.{key_of_core}
 use Rattle.sc_record.specs.Writes.{is_of}
 use Rattle.sc_record.specs.declared.slice.CoreId.{CoreId}
 use Rattle.sc_record.specs.declared.write.Write.{Write}
 use Rattle.sc_record.specs.declared.entry.Entry.{Entry}
 use Rattle.sc_cluster.specs.declared.slice.Slice.{Slice}
-use Rattle.sc_cluster.specs.Map.{IsMap}
-use Rattle.sc_cluster.specs.Slices.{is_active, is_forming, forming}
-use Rattle.sc_cluster.proofs.LeaderLemmas.{same_from_id}
-use Rattle.sc_cluster.proofs.ListLemmas.{filter-filter, none_from_filter, Contains-map, Contains-filter}
+use Rattle.sc_cluster.specs.Slices.{is_active, forming}
+use Rattle.sc_cluster.proofs.ListLemmas.{filter-filter, Contains-map, Contains-filter}
 use Rattle.sc_cluster.proofs.PairLemmas.{Contains-from_map}
 use Rattle.sc_replica.specs.Core.{Core}
 use Rattle.sc_journal.specs.Journal.{as_write, writes, last_of, last_write}
 use Rattle.sc_journal.specs.Committed.{commits, committed, last_commit}
-use Rattle.sc_journal.specs.Down.{is_down}
 use Rattle.sc_journal.specs.Splits.{open_split}
 use Rattle.sc_journal.proofs.CommittedLemmas.{committed-push_other, last_commit-push_other}
 use Rattle.sc_journal.proofs.JournalLemmas.{writes-push_other}
 use Rattle.sc_journal.proofs.SettledLemmas.{SettlesNothing}
-use Rattle.sc_bucket.specs.Kept.{Sent, FeedState}
+use Rattle.sc_bucket.specs.Kept.{Sent}
 use Rattle.sc_bucket.specs.Cores.{is_of_one, IsCoreWithoutRoom}
 use Rattle.sc_bucket.specs.Flight.{in_flight, is_to, is_same_message}
-use Rattle.sc_bucket.specs.Pending.{is_feed_of, to_feed, pending}
+use Rattle.sc_bucket.specs.Pending.{to_feed, pending}
 use Rattle.sc_bucket.specs.Searchers.{ShowsCommitted, rows_of, ArePrepared}
-use Rattle.sc_bucket.specs.Sound.{HasJournal, HasSearchers, IsSent, AreSent, IsFeed, AreFeeds, IsInPhase, IsSound}
+use Rattle.sc_bucket.specs.Sound.{HasJournal, HasSearchers, IsSent, AreSent, AreFeeds, may_catch_up, IsInPhase, IsSound}
 use Rattle.sc_bucket.specs.declared.bucket.Bucket.{Bucket}
 use Rattle.sc_bucket.specs.declared.phase.Phase.TheVariants as phases
 use Rattle.sc_bucket.specs.declared.standing.Standing.{Standing}
@@ -36,22 +32,20 @@ use Rattle.sc_bucket.proofs.AcceptLemmas.{bucket_has_map}
 use Rattle.sc_bucket.proofs.CoreLemmas.{is_core-Decides, name_of}
 use Rattle.sc_bucket.proofs.DeliveredLemmas.{IsSoundCore}
 use Rattle.sc_bucket.proofs.DeliverLemmas.{IsSoundIn}
-use Rattle.sc_bucket.proofs.FeedLemmas.{to_feed-none}
 use Rattle.sc_bucket.proofs.SearcherLemmas.{HasSearchers-grown}
 use Rattle.sc_cluster.specs.Changes.{Change}
 use Rattle.sc_handover.proofs.NotedLemmas.{MayTakeOut, TakesOut, HasJournal-noted}
 use Rattle.sc_handover.proofs.SentLemmas.{IsSent-push}
 use Rattle.sc_handover.proofs.EachCoreLemmas.{core_in, IsSound-each}
-use Rattle.sc_handover.proofs.NoFeedLemmas.{AreFeeds-none}
-use Rattle.sc_handover.proofs.KeptLemmas.{AreSome, is_kept, slice_of_one, All-kept, HasCores-kept}
+use Rattle.sc_handover.proofs.KeptLemmas.{AreSome, is_kept, All-kept, SaysTheSame, HasCores-kept}
 
 -- the message is to a core of one of the slices
 abbrev pub is_kept_message : List Slice → Sent → Bool
 is_kept_message slices message = is_of_one slices message.core
 
 -- Slices left a bucket, and no split is open then: its map has some of its slices, every active one among them. Its
--- cores and its messages are those of these slices, nothing is fed, and its journal got an entry that is no write,
--- commits nothing, settles none, and leaves those cores down as they were.
+-- cores and its messages are those of these slices, each of these cores is still to be fed what it was, and none may still be catching up
+-- that might not before. Its journal got an entry that is no write, commits nothing, settles none, and says the same of those cores.
 record LeavesOut (old : Bucket) (one : Entry) (new : Bucket) : Type 0 where
   pub some : AreSome new.map old.map
   pub same_active : filter is_active new.map ≡ filter is_active old.map
@@ -59,14 +53,17 @@ record LeavesOut (old : Bucket) (one : Entry) (new : Bucket) : Type 0 where
   pub no_write : as_write one ≡ None
   pub no_commit : commits one ≡ false
   pub settles_nothing : SettlesNothing one
-  pub same_down : (name : CoreId) → is_of_one new.map name ≡ true
-      → is_down (old.journal.entries ++ one ∷ []) (key_of_core name) ≡ is_down old.journal.entries (key_of_core name)
+  pub same : (name : CoreId) → is_of_one new.map name ≡ true
+      → SaysTheSame old.journal.entries (old.journal.entries ++ one ∷ []) name
+  pub free : (slice : Slice) (name : CoreId) → Contains new.map slice → may_catch_up new.phase slice name ≡ false
+      → may_catch_up old.phase slice name ≡ false
   pub phase_is : new.phase ≡ phases.Idle
   pub idle : open_split new.journal.entries ≡ None
   pub whole : forming new.map ≡ []
   pub messages : new.flight.messages ≡ filter (is_kept_message new.map) old.flight.messages
   pub cores : new.replicas ≡ filter (is_kept new.map) old.replicas
-  pub feeds_are : new.feeds ≡ []
+  pub fed : (name : CoreId) → is_of_one new.map name ≡ true → to_feed new.feeds name ≡ to_feed old.feeds name
+  pub feeds : AreFeeds new
   pub searchers_are : new.searchers ≡ old.searchers
   pub spares_are : new.spares ≡ None
 
@@ -83,27 +80,6 @@ in_flight-kept slices messages name kept =
   where
     own : (message : Sent) → is_to name message ≡ true → is_kept_message slices message ≡ true
     own message is = subst (λ (n : CoreId). is_of_one slices n ≡ true) ((is_core-Decides name message.core).0 is) kept
-
--- a core of a slice that no split is making isn't fed
-unfed : (b : Bucket) (slices : List Slice) (name : CoreId) → IsMap b.map → AreSome slices b.map → forming slices ≡ []
-    → AreFeeds b → is_of_one slices name ≡ true → to_feed b.feeds name ≡ []
-unfed b slices name is_map some none feeds kept =
-    to_feed-none b.feeds name
-    (All-weaker (IsFeed b) (λ feed. is_feed_of name feed ≡ false) (λ feed is. by feed is (is_feed_of name feed) refl)
-    b.feeds feeds.each)
-  where
-    by : (feed : FeedState) → IsFeed b feed → (own : Bool) → is_feed_of name feed ≡ own → is_feed_of name feed ≡ false
-    by feed is false other = other
-    by feed is true own =
-        let (slice, there, named) = slice_of_one slices name kept in
-        let alike : slice.id ≡ is.slice.id =
-        named ∙ ap (λ (n : CoreId). n.slice) ((is_core-Decides name feed.core).0 own) ∙ is.of_slice in
-        let same : slice ≡ is.slice = same_from_id b.map slice is.slice is_map (some slice there) is.there alike in
-        let settled : is_forming slice ≡ false =
-        All-contains (λ (s : Slice). is_forming s ≡ false) slices slice (none_from_filter is_forming slices none)
-        there in
-        let both : true ≡ false = sym is.forming ∙ ap is_forming (sym same) ∙ settled in
-        absurd (cc)
 
 -- what is true of a core stays true with fewer slices, and with a journal of the same writes
 kept_is_sound : (all some : List Slice) (before after : List Entry) (sent awaited : List Write) (core : Core)
@@ -141,10 +117,7 @@ cores_are_sound old one new sound leaves =
         let sent : in_flight new.flight.messages core.core ≡ in_flight old.flight.messages core.core =
         ap (λ (these : List Sent). in_flight these core.core) leaves.messages
         ∙ in_flight-kept new.map old.flight.messages core.core kept in
-        let fed : to_feed new.feeds core.core ≡ to_feed old.feeds core.core =
-        ap (λ (feeds : List FeedState). to_feed feeds core.core) leaves.feeds_are
-        ∙ sym (unfed old new.map core.core (bucket_has_map old sound.journal) leaves.some leaves.whole sound.feeds
-        kept) in
+        let fed : to_feed new.feeds core.core ≡ to_feed old.feeds core.core = leaves.fed core.core kept in
         let was_sent : List Write = in_flight old.flight.messages core.core in
         let IsSoundWith : List Write → List Write → Type 0 =
         λ these more. IsSoundCore new.map new.journal.entries these (these ++ core.buffer ++ more) core in
@@ -162,7 +135,7 @@ IsSent-kept old one new message leaves kept sent =
     let stays : Contains new.replicas core =
     subst (λ (these : List Core). Contains these core) (sym leaves.cores)
     (Contains-filter (is_kept new.map) old.replicas core there own) in
-    IsSent-push old new one message leaves.entries leaves.settles_nothing (leaves.same_down message.core kept)
+    IsSent-push old new one message leaves.entries leaves.settles_nothing (leaves.same message.core kept).down
     (subst (Contains (map name_of new.replicas)) is (Contains-map name_of new.replicas core stays)) sent
 
 AreSent-kept : (old : Bucket) (one : Entry) (new : Bucket) → LeavesOut old one new → AreSent old → AreSent new
@@ -209,16 +182,24 @@ IsSound-left_out old one new sound journal leaves =
     (subst (λ phase. ArePrepared phase new.map new.searchers new.spares) (sym leaves.phase_is) leaves.spares_are)
     (AreSent-kept old one new leaves sound.messages)
     (HasCores-kept old new (bucket_has_map old sound.journal) leaves.some leaves.cores
-    (λ core kept. ap (λ entries. is_down entries (key_of_core core.core)) leaves.entries ∙ leaves.same_down core.core kept)
-    sound.cores)
-    (AreFeeds-none new leaves.feeds_are)
+    (λ name kept. subst (λ (entries : List Entry). SaysTheSame old.journal.entries entries name) (sym leaves.entries)
+    (leaves.same name kept))
+    leaves.free sound.cores)
+    leaves.feeds
     (subst (IsInPhase new) (sym leaves.phase_is) (record { idle = leaves.idle; whole = leaves.whole }))
 
--- It is sound where slices left its map by an entry that may take them out, and nothing is fed then.
+-- what becomes of the feeds where slices leave the map, and of the cores that may still be catching up
+pub record LeavesFeeds (old new : Bucket) : Type 0 where
+  pub free : (slice : Slice) (name : CoreId) → Contains new.map slice → may_catch_up new.phase slice name ≡ false
+      → may_catch_up old.phase slice name ≡ false
+  pub fed : (name : CoreId) → is_of_one new.map name ≡ true → to_feed new.feeds name ≡ to_feed old.feeds name
+  pub feeds : AreFeeds new
+
+-- It is sound where slices left its map by an entry that may take them out, and the feeds are as they have to be.
 pub IsSound-taken_out : (old : Bucket) (one : Entry) (change : Change) (less : ℕ) (new : Bucket) → IsSound old
-    → MayTakeOut old one change less → TakesOut old one change less new → new.phase ≡ phases.Idle → new.feeds ≡ []
+    → MayTakeOut old one change less → TakesOut old one change less new → new.phase ≡ phases.Idle → LeavesFeeds old new
     → IsSound new
-IsSound-taken_out old one change less new sound may takes idle unfed =
+IsSound-taken_out old one change less new sound may takes idle leaves =
     IsSound-left_out old one new sound (HasJournal-noted old new one change less sound.journal may takes) (record {
       some = subst (λ slices. AreSome slices old.map) (sym takes.loses.map_is) may.among;
       same_active = ap (filter is_active) takes.loses.map_is ∙ may.same_active;
@@ -226,15 +207,17 @@ IsSound-taken_out old one change less new sound may takes idle unfed =
       no_write = may.no_write;
       no_commit = may.no_commit;
       settles_nothing = may.settles_nothing;
-      same_down = subst (λ slices. (name : CoreId) → is_of_one slices name ≡ true
-          → is_down (old.journal.entries ++ one ∷ []) (key_of_core name) ≡ is_down old.journal.entries (key_of_core name))
-          (sym takes.loses.map_is) may.same_down;
+      same = subst (λ slices. (name : CoreId) → is_of_one slices name ≡ true
+          → SaysTheSame old.journal.entries (old.journal.entries ++ one ∷ []) name)
+          (sym takes.loses.map_is) may.same;
+      free = leaves.free;
       phase_is = idle;
       idle = ap open_split takes.loses.entries ∙ may.idle;
       whole = ap forming takes.loses.map_is ∙ may.whole;
       messages = takes.loses.messages;
       cores = takes.loses.cores;
-      feeds_are = unfed;
+      fed = leaves.fed;
+      feeds = leaves.feeds;
       searchers_are = takes.loses.searchers_are;
       spares_are = takes.spares_are;
     })

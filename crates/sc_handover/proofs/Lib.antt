@@ -2,8 +2,10 @@
 pub mod CountLemmas
 pub mod EachCoreLemmas
 pub mod NoFeedLemmas
+pub mod CaughtUpLemmas
 pub mod SentLemmas
 pub mod PushedLemmas
+pub mod ReservedLemmas
 pub mod KeptLemmas
 pub mod NotedLemmas
 pub mod LeftOutLemmas
@@ -28,7 +30,15 @@ pub mod SwitchedMapLemmas
 pub mod HandedOnLemmas
 pub mod SwitchedLemmas
 pub mod SwitchLemmas
+pub mod PlacedLemmas
 pub mod PutLemmas
 pub mod FollowerLemmas
+pub mod FollowingLemmas
 pub mod JoinedLemmas
 pub mod GrowLemmas
+pub mod SeatedLemmas
+pub mod SeatsLemmas
+pub mod LeadLemmas
+pub mod RejoinedLemmas
+pub mod RejoinLemmas
+pub mod EventLemmas

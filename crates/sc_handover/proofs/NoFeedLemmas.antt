@@ -1,13 +1,10 @@
--- Where no split is open a bucket has no feeds, and without feeds they are as they have to be.
-use Rattle.std.proofs.Common.{◌≡◌, List, [], ◌∷◌, map, All, Contains, refl, sym, subst, arith}
+-- Without feeds the feeds of a bucket are as they have to be.
+use Rattle.std.proofs.Common.{◌≡◌, List, [], ◌∷◌, map, All, refl, sym, subst}
 use Rattle.std.specs.List.{IsDistinct}
 use Rattle.std.proofs.lemmas.List.Elements.{All-head, All-nil}
-use Rattle.sc_cluster.specs.declared.slice.Slice.{Slice}
-use Rattle.sc_cluster.specs.Slices.{is_forming}
-use Rattle.sc_cluster.proofs.ListLemmas.{Contains-filter}
 use Rattle.sc_bucket.specs.Kept.{FeedState}
 use Rattle.sc_record.specs.Names.{is_core}
-use Rattle.sc_bucket.specs.Sound.{IsFeed, AreFeeds, IsIdle}
+use Rattle.sc_bucket.specs.Sound.{IsFeed, AreFeeds}
 use Rattle.sc_bucket.specs.declared.bucket.Bucket.{Bucket}
 use Rattle.sc_bucket.proofs.FeedLemmas.{fed_core}
 
@@ -15,14 +12,6 @@ use Rattle.sc_bucket.proofs.FeedLemmas.{fed_core}
 pub none_where : {A : Type 0} (P : A → Type 0) → ((x : A) → P x → ⊥) → (xs : List A) → All P xs → xs ≡ []
 none_where P fails [] each = refl
 none_where P fails (x ∷ xs) each = absurd (fails x (All-head P x xs each))
-
--- with no split open no core has a feed
-pub no_feeds : (b : Bucket) → IsIdle b → All (IsFeed b) b.feeds → b.feeds ≡ []
-no_feeds b idle each =
-    none_where (IsFeed b) (λ feed is.
-    let (k, below, at) = subst (λ (slices : List Slice). Contains slices is.slice) idle.whole
-    (Contains-filter is_forming b.map is.slice is.there is.forming) in
-    omega arith) b.feeds each
 
 -- without feeds they are as they have to be
 pub AreFeeds-none : (b : Bucket) → b.feeds ≡ [] → AreFeeds b

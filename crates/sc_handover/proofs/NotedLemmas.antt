@@ -1,6 +1,5 @@
 -- The journal of a bucket once it has the entry that gives a split up, or the one that drops a slice.
 use Rattle.std.proofs.Common.{◌≡◌, ℕ, ◌+◌, ◌-◌, ◌≤◌, true, false, not, [], ◌∷◌, ◌++◌, filter, Some, None, refl, ap, arith}
-use Rattle.sc_record.specs.Names.{key_of_core}
 use Rattle.sc_record.specs.declared.slice.CoreId.{CoreId}
 use Rattle.sc_record.specs.declared.entry.Entry.{Entry}
 use Rattle.sc_cluster.specs.declared.slice.Slice.{Slice}
@@ -10,7 +9,6 @@ use Rattle.sc_cluster.proofs.LeaderLemmas.{active_from_test}
 use Rattle.sc_cluster.proofs.StateLemmas.{is_settled, active_settled}
 use Rattle.sc_journal.specs.Journal.{as_write}
 use Rattle.sc_journal.specs.Committed.{commits}
-use Rattle.sc_journal.specs.Down.{is_down}
 use Rattle.sc_journal.specs.Legal.{MayFollow}
 use Rattle.sc_journal.specs.Splits.{map_change_of, open_split, owed}
 use Rattle.sc_journal.proofs.SettledLemmas.{SettlesNothing}
@@ -21,15 +19,15 @@ use Rattle.sc_bucket.specs.Events.{HasSameFirstAndLimit}
 use Rattle.sc_bucket.specs.declared.bucket.Bucket.{Bucket}
 use Rattle.sc_handover.specs.Events.{LosesSlices}
 use Rattle.sc_handover.proofs.PushedLemmas.{HasJournal-pushed}
-use Rattle.sc_handover.proofs.KeptLemmas.{AreSome, is_kept}
+use Rattle.sc_handover.proofs.KeptLemmas.{AreSome, is_kept, SaysTheSame}
 
 -- an active slice is none that a split is making
 pub is_settled-active : (slice : Slice) → is_active slice ≡ true → is_settled slice ≡ true
 is_settled-active slice active = ap not (active_settled slice (active_from_test slice.state active))
 
 -- The entry may come next. It says this change of the map, is no write, commits nothing and settles none, and with it so
--- many entries less are owed. By the change slices leave the map, every active one stays, and no split is open then. The cores of those
--- that stay are down as before.
+-- many entries less are owed. By the change slices leave the map, every active one stays, and no split is open then. The same is
+-- said of the cores of those that stay.
 pub record MayTakeOut (old : Bucket) (one : Entry) (change : Change) (less : ℕ) : Type 0 where
   pub may : MayFollow old.first old.journal.entries one
   pub change_is : map_change_of one ≡ Some change
@@ -40,8 +38,8 @@ pub record MayTakeOut (old : Bucket) (one : Entry) (change : Change) (less : ℕ
   pub owed_less : owed old.first (old.journal.entries ++ one ∷ []) + less ≡ owed old.first old.journal.entries
   pub among : AreSome (after old.map change) old.map
   pub same_active : filter is_active (after old.map change) ≡ filter is_active old.map
-  pub same_down : (name : CoreId) → is_of_one (after old.map change) name ≡ true
-      → is_down (old.journal.entries ++ one ∷ []) (key_of_core name) ≡ is_down old.journal.entries (key_of_core name)
+  pub same : (name : CoreId) → is_of_one (after old.map change) name ≡ true
+      → SaysTheSame old.journal.entries (old.journal.entries ++ one ∷ []) name
   pub idle : open_split (old.journal.entries ++ one ∷ []) ≡ None
   pub whole : forming (after old.map change) ≡ []
 

@@ -68,7 +68,7 @@ name_and_mode-arrived messages name core = by (is_core name core.core) where
   by true = name_and_mode-all core (in_flight messages name)
   by false = refl
 
-name-arrived : (messages : List Sent) (name : CoreId) (core : Core) → (arrived messages name core).core ≡ core.core
+pub name-arrived : (messages : List Sent) (name : CoreId) (core : Core) → (arrived messages name core).core ≡ core.core
 name-arrived messages name core = ap (λ (pair : CoreId × Mode). pair.0) (name_and_mode-arrived messages name core)
 
 pub AreAlike-arrived : (messages : List Sent) (name : CoreId) (cores : List Core)

@@ -18,14 +18,14 @@ use Rattle.sc_cluster.proofs.PairLemmas.{Contains-from_map}
 use Rattle.sc_ulog.specs.declared.mode.Mode.{Mode}
 use Rattle.sc_ulog.specs.declared.mode.Mode.TheVariants.{Active, Buffering}
 use Rattle.sc_replica.specs.Core.{Core}
-use Rattle.sc_journal.specs.Down.{is_down}
 use Rattle.sc_journal.proofs.LegalDownLemmas.{forming_is_up}
 use Rattle.sc_bucket.specs.Cores.{core_key, core_keys, slice_keys, is_attached}
-use Rattle.sc_bucket.specs.Sound.{IsFeed, IsSound}
+use Rattle.sc_bucket.specs.Sound.{IsMarked, is_idle, may_catch_up, IsFeed, IsSound}
 use Rattle.sc_bucket.specs.declared.bucket.Bucket.{Bucket}
 use Rattle.sc_bucket.proofs.AcceptLemmas.{bucket_has_map}
 use Rattle.sc_bucket.proofs.SoundLemmas.{AreAlike, name_and_mode}
 use Rattle.sc_handover.proofs.NoFeedLemmas.{none_where}
+use Rattle.sc_bucket.proofs.CatchUpLemmas.{only_forming}
 use Rattle.sc_handover.proofs.KeptLemmas.{is_of_one-there, slice_of_key}
 use Rattle.sc_handover.specs.Conditions.{IsThereActive, CanSwitch}
 use Rattle.sc_handover.specs.Parts.{is_of_sub}
@@ -46,7 +46,7 @@ pub attached_where_forming : (b : Bucket) (slice : Slice) (core : Core) → IsSo
 attached_where_forming b slice core sound in_map named forms there =
     let journal = sound.journal in
     let up : core.down ≡ false =
-    All-contains (λ (c : Core). c.down ≡ is_down b.journal.entries (core_key c)) b.replicas core sound.cores.down there
+    (All-contains (IsMarked b.journal.entries) b.replicas core sound.cores.marked there).down
     ∙ forming_is_up b.first b.journal.entries slice (core_key core) journal.legal
     (subst IsMap journal.map_is (bucket_has_map b journal))
     (subst (λ (slices : List Slice). Contains slices slice) journal.map_is in_map) forms
@@ -75,8 +75,10 @@ all_are_active b parent core sound can there =
     by : (slice : Slice) → Contains b.map slice → slice.id ≡ core.core.slice → Contains (slice_keys slice) (core_key core)
         → (t : Bool) → is_forming slice ≡ t → core.mode ≡ Active
     by slice in_map named key false is =
-        All-contains (λ (c : Core). (s : Slice) → Contains b.map s → s.id ≡ c.core.slice → is_forming s ≡ false → c.mode ≡ Active)
-        b.replicas core sound.cores.active there slice in_map named is
+        All-contains (λ (c : Core). (s : Slice) → Contains b.map s → s.id ≡ c.core.slice
+        → may_catch_up b.phase s c.core ≡ false → c.mode ≡ Active)
+        b.replicas core sound.cores.active there slice in_map named
+        (only_forming b.phase slice core.core (ap is_idle can.recovering) ∙ is)
     by slice in_map named key true is =
         let each = All-contains (λ (s : Slice). is_forming s ≡ true → All (IsThereActive b) (slice_keys s)) b.map slice can.whole in_map is in
         let (other, other_there, same, active) = All-contains (IsThereActive b) (slice_keys slice) (core_key core) each key in

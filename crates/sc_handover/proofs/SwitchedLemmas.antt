@@ -18,9 +18,8 @@ use Rattle.sc_cluster.proofs.PairLemmas.{Contains-from_map}
 use Rattle.sc_cluster.proofs.StateLemmas.{switched_keeps}
 use Rattle.sc_replica.specs.Core.{Core}
 use Rattle.sc_journal.specs.Journal.{writes, last_write}
-use Rattle.sc_journal.specs.Down.{is_down}
 use Rattle.sc_journal.specs.Splits.{open_split}
-use Rattle.sc_journal.proofs.DownLemmas.{LeavesCores-switched, is_down-left}
+use Rattle.sc_journal.proofs.DownLemmas.{LeavesCores-switched}
 use Rattle.sc_journal.proofs.JournalLemmas.{last_write-push_other, writes-push_other}
 use Rattle.sc_journal.proofs.SplitLemmas.{open_split-push}
 use Rattle.sc_bucket.specs.Kept.{FlightState}
@@ -29,7 +28,7 @@ use Rattle.sc_bucket.specs.Pending.{pending}
 use Rattle.sc_bucket.specs.Searchers.{ArePrepared}
 use Rattle.sc_bucket.specs.Sound.{HasLastWrites, HasCores, IsInPhase, IsSound}
 use Rattle.sc_bucket.specs.declared.bucket.Bucket.{Bucket}
-use Rattle.sc_bucket.proofs.SoundLemmas.{name_and_mark, AreMarked-left}
+use Rattle.sc_bucket.proofs.SoundLemmas.{name_and_mark, SaysSame-push, AreMarked-left}
 use Rattle.std.proofs.lemmas.List.{append-nil}
 use Rattle.sc_handover.proofs.SentLemmas.{AreSent-more}
 use Rattle.sc_handover.specs.Conditions.{IsThereActive, CanSwitch}
@@ -155,12 +154,12 @@ HasCores-switched old new parent ready puts = record {
   whole = subst (All Whole) (sym puts.map_is)
       (All-map Whole (switched_slice parent) old.map
       (All-weaker (Contains old.map) (λ slice. Whole (switched_slice parent slice)) whole old.map (All-contains_itself old.map)));
-  active = λ k d below slice in_map named settled.
+  active = λ k d below slice in_map named caught_up.
       all_are_active old parent (get_or new.replicas k d) ready.sound ready.can
       (subst (λ (cores : List Core). Contains cores (get_or new.replicas k d)) puts.cores (inside k d below));
-  down = AreMarked-left old.journal.entries new.journal.entries old.replicas new.replicas (ap (map name_and_mark) puts.cores)
-      (λ key. ap (λ (entries : List Entry). is_down entries key) puts.entries
-      ∙ is_down-left old.journal.entries (entry.Switched parent) key (LeavesCores-switched parent)) has.down;
+  marked = AreMarked-left old.journal.entries new.journal.entries old.replicas new.replicas (ap (map name_and_mark) puts.cores)
+      (SaysSame-push old.journal.entries new.journal.entries (entry.Switched parent) puts.entries (LeavesCores-switched parent)
+      (λ _ _. refl)) has.marked;
 } where
   has : HasCores old
   has = ready.sound.cores

@@ -1,5 +1,5 @@
--- When each event of a split may come to a bucket.
-use Rattle.std.specs.Prelude.{◌≡◌, ◌≤◌, ◌<◌, ℕ, List, Option, Some, None, true, false, All, Contains}
+-- When each event of a split, and each that changes which cores serve, may come to a bucket.
+use Rattle.std.specs.Prelude.{◌≡◌, ◌≤◌, ◌<◌, ℕ, List, [], Option, Some, None, true, false, All, Contains}
 use Rattle.sc_record.specs.declared.slice.SliceId.{SliceId}
 use Rattle.sc_record.specs.declared.slice.SubSlice.{SubSlice}
 use Rattle.sc_record.specs.declared.slice.CoreId.{CoreId}
@@ -11,7 +11,8 @@ use Rattle.sc_ulog.specs.declared.mode.Mode.{Mode}
 use Rattle.sc_ulog.specs.declared.mode.Mode.TheVariants.{Active, Buffering, Replaying}
 use Rattle.sc_replica.specs.Core.{Core}
 use Rattle.sc_bucket.specs.Kept.{FeedState}
-use Rattle.sc_record.specs.Names.{is_core}
+use Rattle.sc_record.specs.Names.{is_core, key_of_core}
+use Rattle.sc_journal.specs.Down.{is_down, IsFollower}
 use Rattle.sc_bucket.specs.Cores.{core_key, slice_keys}
 use Rattle.sc_bucket.specs.Pending.{is_feed_of}
 use Rattle.sc_bucket.specs.Sound.{AreLedActively}
@@ -33,9 +34,12 @@ IsInMode b name mode = (core : Core) × Contains b.replicas core × (core.core �
 abbrev pub IsUnfed : Bucket → CoreId → Type 0
 IsUnfed b name = All (λ (feed : FeedState). is_feed_of name feed ≡ false) b.feeds
 
--- begin: no split is open, and the map allows this one
-abbrev pub CanBegin : Bucket → SliceId → List SubSlice → Type 0
-CanBegin b parent subs = (b.phase ≡ phases.Idle) × IsPlan b.map parent subs
+-- begin: no split is open, the map allows this one, and each core is active and has no feed
+pub record CanBegin (b : Bucket) (parent : SliceId) (subs : List SubSlice) : Type 0 where
+  pub idle : b.phase ≡ phases.Idle
+  pub plan : IsPlan b.map parent subs
+  pub active : All (λ (core : Core). core.mode ≡ Active) b.replicas
+  pub unfed : b.feeds ≡ []
 
 -- feed_piece: the core has a feed
 abbrev pub CanFeed : Bucket → CoreId → Type 0
@@ -80,3 +84,19 @@ CanAbort b parent = split_of b.phase ≡ Some parent
 -- drop_shard: no split is open, and the slice is inactive
 abbrev pub CanDrop : Bucket → SliceId → Type 0
 CanDrop b slice = (b.phase ≡ phases.Idle) × IsInactive b.map slice
+
+-- rejoin: no split is open, and the core is a follower of an active slice that is down, is active, and has no feed
+pub record CanRejoin (b : Bucket) (name : CoreId) : Type 0 where
+  pub idle : b.phase ≡ phases.Idle
+  pub follower : IsFollower b.map name
+  pub down : is_down b.journal.entries (key_of_core name) ≡ true
+  pub active : IsInMode b name Active
+  pub unfed : IsUnfed b name
+
+-- take_lead: no split is open, and the core is a follower of an active slice that is not down, is active, and has no feed
+pub record CanLead (b : Bucket) (name : CoreId) : Type 0 where
+  pub idle : b.phase ≡ phases.Idle
+  pub follower : IsFollower b.map name
+  pub up : is_down b.journal.entries (key_of_core name) ≡ false
+  pub active : IsInMode b name Active
+  pub unfed : IsUnfed b name

@@ -3,5 +3,7 @@ pub mod Conditions
 pub mod Made
 pub mod Preparing
 pub mod Events
+pub mod Seats
+pub mod AnyEvent
 pub mod Feeding
 pub mod Parts

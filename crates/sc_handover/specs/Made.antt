@@ -30,6 +30,7 @@ first_core sub = leader_of sub.id
 abbrev pub empty_core : CoreId → Core
 empty_core name = record {
   core = name;
+  number = name.replica;
   cells = [];
   mode = Buffering;
   buffer = [];

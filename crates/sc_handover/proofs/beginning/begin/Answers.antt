@@ -1,5 +1,5 @@
--- The bucket with more room for its journal is sound, and a split that begins in it begins in the bucket.
-use Rattle.std.proofs.Common.{◌≡◌, ◌≤◌, ◌+◌, ℕ, max, List, [], ◌∷◌, ◌++◌, length, map, refl, sym, ap, ◌∙◌, subst, arith}
+-- A split that begins in the bucket with more room for its journal begins in the bucket.
+use Rattle.std.proofs.Common.{◌≡◌, ◌≤◌, ◌+◌, List, [], ◌∷◌, ◌++◌, length, map, refl, sym, ap, ◌∙◌, subst}
 use Rattle.sc_record.specs.declared.slice.SliceId.{SliceId}
 use Rattle.sc_record.specs.declared.slice.SubSlice.{SubSlice}
 use Rattle.sc_record.specs.declared.entry.Entry.{Entry}
@@ -9,8 +9,7 @@ use Rattle.sc_bucket.specs.Kept.{JournalState}
 use Rattle.sc_bucket.specs.Searchers.{AreTaken}
 use Rattle.sc_bucket.specs.declared.bucket.Bucket.{Bucket}
 use Rattle.sc_bucket.specs.Sound.{IsSound}
-use Rattle.sc_bucket.proofs.RoomLemmas.{IsSound-with_parts}
-use Rattle.sc_bucket.proofs.RoomierLemmas.{roomier-itself}
+use Rattle.sc_handover.proofs.ReservedLemmas.{IsSound-reserved, CanBegin-reserved}
 use Rattle.sc_handover.specs.Events.{Begins}
 use Rattle.sc_handover.proofs.beginning.begin.Goals as goal
 use Rattle.sc_handover.specs.Made.{first_feed}
@@ -42,23 +41,19 @@ returns-in_err-reserve-clause-sound c =
     subst (λ (journal : JournalState). IsSound (record c.args.bucket.now { journal = journal }))
     (sym c.in_err-reserve.ensures.err) c.requires.sound
 
--- it is sound with more room
-IsSound-reserved : (b : Bucket) (journal : JournalState) (n : ℕ) → journal ≡ record b.journal { room = max b.journal.room n } → IsSound b
-    → IsSound (record b { journal = journal })
-IsSound-reserved b journal n is sound =
-    let room = ap (λ (journal : JournalState). journal.room) is in
-    IsSound-with_parts b journal b.unsettled b.flight b.replicas
-    (record {
-      entries = ap (λ (journal : JournalState). journal.entries) is;
-      room = omega (arith, room);
-      places = refl;
-      messages = refl;
-      cores_are = roomier-itself b.replicas;
-    }) sound
-
 pub prepare-requires-clause-sound : goal.prepare-requires-clause-sound
 prepare-requires-clause-sound c =
     IsSound-reserved c.args.bucket.now c.reserve.new.self _ c.in_ok-reserve.ensures.ok c.requires.sound
+
+pub prepare-requires-clause-can : goal.prepare-requires-clause-can
+prepare-requires-clause-can c =
+    CanBegin-reserved c.args.bucket.now c.reserve.new.self c.args.plan.now.parent c.args.plan.now.subs c.args.plan.now.subs refl
+    c.requires.can
+
+pub put_begun-requires-clause-can : goal.put_begun-requires-clause-can
+put_begun-requires-clause-can c =
+    CanBegin-reserved c.args.bucket.now c.reserve.new.self c.args.plan.now.parent c.args.plan.now.subs
+    c.in_ok-beginning.beginning.subs (sym c.in_ok-beginning.ensures.subs) c.requires.can
 
 pub put_begun-requires-clause-sound : goal.put_begun-requires-clause-sound
 put_begun-requires-clause-sound c =

@@ -57,12 +57,12 @@ searchers_at-requires-clause-rows c = AreRows-sound c.args.bucket.now c.requires
 pub snapshot_of-requires : goal.snapshot_of-requires
 snapshot_of-requires c =
     parent_is_searched c.args.bucket.now.map c.args.plan.now.parent c.args.plan.now.subs c.in_ok-searchers.searchers
-    c.requires.can.1 c.in_ok-searchers.ensures.each_slice
+    c.requires.can.plan c.in_ok-searchers.ensures.each_slice
 
 pub hand_on-requires : goal.hand_on-requires
 hand_on-requires c =
     parent_is_searched c.args.bucket.now.map c.args.plan.now.parent c.args.plan.now.subs c.in_ok-searchers.searchers
-    c.requires.can.1 c.in_ok-searchers.ensures.each_slice
+    c.requires.can.plan c.in_ok-searchers.ensures.each_slice
 
 pub returns-clause-prepared : goal.returns-clause-prepared
 returns-clause-prepared c =

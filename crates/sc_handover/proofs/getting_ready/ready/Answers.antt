@@ -1,8 +1,8 @@
 -- Only the phase changes, and the leaders of all subs are active.
-use Rattle.std.proofs.Common.{◌≡◌, refl, subst}
+use Rattle.std.proofs.Common.{◌≡◌, refl, sym, ap, subst}
 use Rattle.sc_record.specs.declared.slice.SliceId.{SliceId}
 use Rattle.sc_bucket.specs.Searchers.{ArePrepared}
-use Rattle.sc_bucket.specs.Sound.{AreLedActively, IsInPhase, IsSound}
+use Rattle.sc_bucket.specs.Sound.{is_idle, AreLedActively, IsInPhase, IsSound}
 use Rattle.sc_bucket.specs.declared.bucket.Bucket.{Bucket}
 use Rattle.sc_bucket.specs.declared.phase.Phase.{Phase}
 use Rattle.sc_bucket.specs.declared.phase.Phase.TheVariants as phases
@@ -19,6 +19,7 @@ IsSound-ready : (b : Bucket) (parent : SliceId) → IsSound b → b.phase ≡ ph
     → IsSound (in_phase b (phases.Recovering parent))
 IsSound-ready b parent sound is led =
     let new : Bucket = in_phase b (phases.Recovering parent) in
+    let same_idle : is_idle new.phase ≡ is_idle b.phase = ap is_idle (sym is) in
     record {
       journal = HasJournal-same b new (record { first = refl; limit = refl }) refl refl refl refl sound.journal.room
           sound.journal;
@@ -32,8 +33,8 @@ IsSound-ready b parent sound is led =
       prepared = subst (λ phase. ArePrepared phase b.map b.searchers b.spares) is sound.prepared;
       messages = AreSent-same b new refl refl refl sound.messages;
       room = sound.room;
-      cores = HasCores-alike b new refl refl sound.cores.down sound.cores;
-      feeds = AreFeeds-alike b new refl refl refl sound.feeds;
+      cores = HasCores-alike b new same_idle refl refl sound.cores.marked sound.cores;
+      feeds = AreFeeds-alike b new same_idle refl refl refl sound.feeds;
       phase = (IsOpen-same b new parent refl refl (subst (IsInPhase b) is sound.phase), led);
     }
 

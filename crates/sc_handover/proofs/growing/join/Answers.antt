@@ -22,10 +22,10 @@ pub returns-clause-sound : goal.returns-clause-sound
 returns-clause-sound c =
     let made = c.requires.made in
     IsSound-put_in c.args.bucket.now made.0 made.1 c.args.replica c.args.feed c.insert.new.self c.push.new.self
-    (record { sound = c.requires.sound; can = made.2; made = made.3 }) c.in_default.ensures.ok c.in_ok-push.ensures.ok
+    (record { sound = c.requires.sound; can = made.2; follows = made.3; made = made.4 }) c.in_default.ensures.ok c.in_ok-push.ensures.ok
 
 pub returns-clause-joined : goal.returns-clause-joined
 returns-clause-joined c =
     let made = c.requires.made in
-    Joins-put_in c.args.bucket.now made.0 made.1 c.args.replica c.args.feed c.insert.new.self c.push.new.self made.3
+    Joins-put_in c.args.bucket.now made.0 made.1 c.args.replica c.args.feed c.insert.new.self c.push.new.self made.4
     c.in_default.ensures.ok c.in_ok-push.ensures.ok

@@ -18,9 +18,9 @@ use Rattle.sc_journal.proofs.LegalLemmas.{legal_hash}
 use Rattle.sc_journal.specs.Down.{is_down}
 use Rattle.sc_bucket.specs.Cores.{core_key, is_attached, IsCoreWithoutRoom}
 use Rattle.sc_bucket.specs.Pending.{pending}
-use Rattle.sc_bucket.specs.Sound.{Serves, HasLastWrites, AreWritten, HasOrAwaits, AreInRange, IsInRange, IsSound}
+use Rattle.sc_bucket.specs.Sound.{Serves, HasLastWrites, AreWritten, HasOrAwaits, AreInRange, IsInRange, IsMarked, IsSound}
 use Rattle.sc_bucket.specs.declared.bucket.Bucket.{Bucket}
-use Rattle.sc_world.specs.Laws.{FollowersCatchUp}
+use Rattle.sc_world.specs.Laws.{FollowersCatchUp, RejoinedCatchUp}
 
 -- what is found is in the list and passes
 find-found : {A : Type 0} (p : A → Bool) (xs : List A) (x : A) → find p xs ≡ Some x → Contains xs x × (p x ≡ true)
@@ -65,7 +65,7 @@ has_last_writes b slice core sound of active up nothing id within = by (last_wri
   attached : IsTrue (is_attached slice core)
   attached =
       ap (λ state. not (is_inactive_state state) && not core.down) active
-      ∙ ap not (All-contains (λ (c : Core). c.down ≡ is_down b.journal.entries (core_key c)) b.replicas core sound.cores.down of.core_there ∙ up)
+      ∙ ap not ((All-contains (IsMarked b.journal.entries) b.replicas core sound.cores.marked of.core_there).down ∙ up)
 
   held : HasOrAwaits b.journal.entries b.flight.messages b.feeds slice core
   held =
@@ -117,3 +117,9 @@ followers_catch_up b slice leader follower sound there active leader_there leads
     by id None None mine theirs = mine ∙ sym theirs
     by id (Some cell) theirs mine is = alike id (id_is_within b slice follower id cell sound of_follower mine)
     by id None (Some cell) mine theirs = alike id (id_is_within b slice leader id cell sound of_leader theirs)
+
+-- so has one that rejoined
+pub rejoined_catch_up : RejoinedCatchUp
+rejoined_catch_up old rejoined last name between added slice leader core can is runs sound there of_name active leader_there leads core_there
+    follows number up nothing =
+    followers_catch_up last slice leader core sound there active leader_there leads core_there follows up nothing

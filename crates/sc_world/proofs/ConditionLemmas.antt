@@ -1,5 +1,5 @@
 -- What the tests of the conditions of events say of a bucket.
-use Rattle.std.proofs.Common.{◌≡◌, ◌↔◌, ◌∙◌, ℕ, nat_eq, ◌&&◌, ◌+◌, ◌*◌, ◌<◌, ◌≤◌, Bool, true, false, not, List, length, map, take, slice_get, Some, None, Option, All, Contains, MatchOption, IsTrue, is_some, IsSome, refl, sym, ap, subst, arith}
+use Rattle.std.proofs.Common.{◌≡◌, ◌≢◌, ◌↔◌, ◌∙◌, ℕ, nat_eq, ◌&&◌, ◌+◌, ◌*◌, ◌<◌, ◌≤◌, Bool, true, false, not, List, length, map, take, slice_get, Some, None, Option, All, Contains, MatchOption, IsTrue, is_some, IsSome, refl, sym, ap, subst, arith}
 use Rattle.std.proofs.lemmas.List.{take_all}
 use Rattle.std.proofs.lemmas.List.Elements.{All-push, All-contains, All-weaker, All-contains_itself}
 use Rattle.std.specs.List.{range_with_len}
@@ -16,6 +16,8 @@ use Rattle.sc_cluster.specs.Map.{IsMap}
 use Rattle.sc_cluster.specs.Changes.{IsInactive}
 use Rattle.sc_cluster.proofs.LeaderLemmas.{same_from_id}
 use Rattle.sc_journal.specs.Journal.{write_at, is_settled}
+use Rattle.sc_journal.specs.Down.{follower_keys, IsFollower}
+use Rattle.sc_journal.proofs.FollowerLemmas.{follower_is}
 use Rattle.sc_journal.proofs.SettledLemmas.{unsettled_is, unsettled_from}
 use Rattle.sc_cluster.specs.Slices.{is_forming}
 use Rattle.sc_cluster.proofs.ListLemmas.{Contains-map}
@@ -25,12 +27,13 @@ use Rattle.sc_ulog.specs.contracts.mode.Mode as modes
 use Rattle.sc_ulog.specs.declared.mode.Mode.TheVariants.{Active, Buffering, Replaying}
 use Rattle.sc_replica.specs.Core.{Core}
 use Rattle.sc_bucket.specs.Kept.{FeedState}
-use Rattle.sc_record.specs.Names.{is_core}
+use Rattle.sc_record.specs.Names.{key_of_core, is_core}
 use Rattle.sc_bucket.specs.Cores.{core_key, slice_keys, core_number, CoresAscend}
 use Rattle.sc_bucket.specs.Pending.{is_feed_of}
 use Rattle.sc_bucket.specs.Sound.{HasJournal, HasCores, AreLedActively}
 use Rattle.sc_bucket.specs.declared.bucket.Bucket.{Bucket}
 use Rattle.sc_bucket.proofs.CoreLemmas.{is_core-Decides, is_core-itself, IsCoreFound, element_from_map, IsLeaderOf-from_key}
+use Rattle.sc_bucket.proofs.DownLemmas.{follower_key}
 use Rattle.sc_bucket.proofs.FindLemmas.{take-next}
 use Rattle.sc_bucket.proofs.TakenLemmas.{Contains-slice_get}
 use Rattle.sc_handover.specs.Conditions.{IsInMode, IsUnfed, IsThereActive, CanFeed, CanGrow, CanSwitch}
@@ -235,6 +238,37 @@ not_missing b name slice test is_map (there, named) says fails = (λ is. false_i
   back (sub, missing) =
       let same : sub ≡ slice = same_from_id b.map sub slice is_map missing.there there (sym missing.of_sub ∙ sym named) in
       says.1 (subst (λ (s : Slice). MayJoin s name.replica) same missing.joins)
+
+-- ---- followers
+-- the core is a follower where the slice that is found is active and has a replica of its number
+pub follower_where_found : (b : Bucket) (name : CoreId) (slice : Slice) (test : Bool) → IsMap b.map → IsSliceFound b name.slice slice
+    → IsTrue test ↔ ((slice.state ≡ states.Active) × (1 < name.replica) × (name.replica ≤ slice.replicas))
+    → IsTrue test ↔ IsFollower b.map name
+follower_where_found b name slice test is_map (there, named) says = (forth, back) where
+  forth : IsTrue test → IsFollower b.map name
+  forth is =
+      let (active, least, most) = says.0 is in (
+        slice,
+        there,
+        active,
+        subst (λ (id : SliceId). Contains (follower_keys slice) (id.0, name.replica)) named (follower_key slice name.replica least most),
+      )
+
+  back : IsFollower b.map name → IsTrue test
+  back (other, other_there, active, follower) =
+      let (of_slice, least, most) = follower_is other (key_of_core name) follower in
+      let same : slice ≡ other = same_from_id b.map slice other is_map there other_there
+      (named ∙ ap (λ (n : ℕ). record { 0 = n }) of_slice) in
+      says.1 (ap (λ (s : Slice). s.state) same ∙ active, omega (arith, least), omega (arith, most, ap (λ (s : Slice). s.replicas) same))
+
+-- and is none where its slice is not there
+pub no_follower : (b : Bucket) (name : CoreId) → All (λ (slice : Slice). slice.id ≢ name.slice) b.map → IsTrue false ↔ IsFollower b.map name
+no_follower b name none = (λ is. false_is_not is, back) where
+  back : IsFollower b.map name → false ≡ true
+  back (other, there, active, follower) =
+      let of_slice = (follower_is other (key_of_core name) follower).0 in
+      absurd (All-contains (λ (slice : Slice). slice.id ≢ name.slice) b.map other none there
+      (ap (λ (n : ℕ). record { 0 = n }) (sym of_slice)))
 
 -- ---- the conditions of events
 -- the place of an unsettled write is kept

@@ -60,7 +60,9 @@ goes_on-done parent old (events.Deliver place) added new is can ends (none, inr 
 goes_on-done parent old (events.Settle place) added new is can ends (none, done) = goes_on parent old new is done.split.phase done.map_is
 goes_on-done parent old events.Commit added new is can ends (none, done) = goes_on parent old new is done.split.phase done.map_is
 goes_on-done parent old (events.Detach core) added new is can ends (none, done) = goes_on parent old new is done.split.phase done.map_is
-goes_on-done parent old (events.Begin plan) added new is can ends done = not_idle parent old is can.0
+goes_on-done parent old (events.Rejoin core) added new is can ends done = not_idle parent old is can.idle
+goes_on-done parent old (events.Lead core) added new is can ends done = not_idle parent old is can.idle
+goes_on-done parent old (events.Begin plan) added new is can ends done = not_idle parent old is can.idle
 goes_on-done parent old (events.Feed core) added new is can ends (none, (last, done)) =
     goes_on parent old new is done.rest.phase_is done.rest.map_is
 goes_on-done parent old (events.StartReplay core) added new is can ends (none, done) =
@@ -102,7 +104,7 @@ leaves_nothing old begun last new plan between added can begins runs ends sound 
     same_map : new.map ≡ old.map
     same_map =
         aborts.map_is ∙ ap (λ slices. after slices (Change.Failed plan.parent)) (stays.1 ∙ begins.map_is)
-        ∙ undoes_a_failed_split old.map plan.parent plan.subs can.1
+        ∙ undoes_a_failed_split old.map plan.parent plan.subs can.plan
 
     serve : (slice : Slice) (leader : Core) → Contains old.map slice → slice.state ≡ states.Active → Contains new.replicas leader
         → IsLeaderOf slice.id leader → HasLastWrites new.journal.entries slice leader

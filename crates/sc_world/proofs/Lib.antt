@@ -5,4 +5,6 @@ pub mod LawLemmas
 pub mod CatchUpLemmas
 pub mod StepLemmas
 pub mod OthersLemmas
+pub mod SeatLemmas
+pub mod EventLemmas
 pub mod RestLemmas

@@ -1,5 +1,6 @@
--- An event of a split changes no core and no searcher but those of its own slices, and a detach no core but its own.
+-- An event of a split changes no core and no searcher but those of its own slices.
 use Rattle.std.proofs.Common.{◌≡◌, ◌≢◌, ◌≤◌, ◌<◌, ℕ, zero, suc, nat_lt, nat_eq, eqb, Bool, true, false, not, cond, List, [], ◌∷◌, ◌++◌, map, filter, set, take, slice_get, Some, All, Contains, refl, sym, ap, ◌∙◌, subst, arith}
+use Rattle.std.proofs.Math.Bool.{or-false}
 use Rattle.std.proofs.lemmas.Bool.{false≢true, not-true, eqb-true}
 use Rattle.std.proofs.lemmas.List.{append-nil}
 use Rattle.std.proofs.lemmas.List.Elements.{All-contains, All-contains_itself, All-map, All-weaker, filter-append}
@@ -21,11 +22,13 @@ use Rattle.sc_replica.specs.Deliveries.{received_all, replaying}
 use Rattle.sc_bucket.specs.Kept.{Sent, FeedState}
 use Rattle.sc_record.specs.Names.{is_core}
 use Rattle.sc_bucket.specs.Cores.{core_number, is_of_one, put_by_name, without_room}
-use Rattle.sc_bucket.specs.Events.{AreSameCores, detached}
+use Rattle.sc_bucket.specs.Events.{AreSameCores}
 use Rattle.sc_bucket.specs.Flight.{in_flight, arrived}
 use Rattle.sc_bucket.specs.Searchers.{StandingState, standing_of, cut_to}
-use Rattle.sc_bucket.specs.Sound.{IsFeed, IsSound}
+use Rattle.sc_bucket.specs.Sound.{may_catch_up, IsFeed, IsSound}
 use Rattle.sc_bucket.specs.declared.bucket.Bucket.{Bucket}
+use Rattle.sc_bucket.specs.declared.phase.Phase.{Phase}
+use Rattle.sc_bucket.specs.declared.phase.Phase.TheVariants as phases
 use Rattle.sc_bucket.specs.declared.standing.Standing.{Standing}
 use Rattle.sc_bucket.proofs.CoreLemmas.{is_core-Decides}
 use Rattle.sc_bucket.proofs.DeliverLemmas.{name-received}
@@ -40,14 +43,14 @@ use Rattle.sc_handover.proofs.FedLemmas.{name-fed_all}
 use Rattle.sc_handover.proofs.KeptLemmas.{same_number, slice_of_one, is_of_one-there}
 use Rattle.sc_handover.proofs.PlanLemmas.{sub_above}
 use Rattle.sc_handover.proofs.SubLemmas.{slice_of_core, of_sub_where_forming}
-use Rattle.sc_world.specs.Others.{cores_apart, searchers_apart, SplitsLeaveOthersAlone, DetachesLeaveOthersAlone}
+use Rattle.sc_world.specs.Others.{cores_apart, searchers_apart, cores_but, SplitsLeaveOthersAlone}
 
 -- the core is of none of the slices
 abbrev is_apart : List Slice → Core → Bool
 is_apart slices core = not (is_of_one slices core.core)
 
 -- a filter passes over an element that was changed, where it leaves out both
-filter-set_apart : {A : Type 0} (p : A → Bool) (xs : List A) (at : ℕ) (x y : A) → slice_get xs at ≡ Some x
+pub filter-set_apart : {A : Type 0} (p : A → Bool) (xs : List A) (at : ℕ) (x y : A) → slice_get xs at ≡ Some x
     → p x ≡ false → p y ≡ false → filter p (set xs at y) ≡ filter p xs
 filter-set_apart p [] zero x y is left out = refl
 filter-set_apart p [] (suc at) x y is left out = refl
@@ -58,7 +61,7 @@ filter-set_apart p (z ∷ xs) (suc at) x y is left out =
     ap (λ rest. cond (p z) (z ∷ rest) rest) (filter-set_apart p xs at x y is left out)
 
 -- and over what a map changed, where that leaves alone what passes
-filter-map_apart : {A : Type 0} (p : A → Bool) (f : A → A) → ((x : A) → p (f x) ≡ p x) → ((x : A) → p x ≡ true → f x ≡ x)
+pub filter-map_apart : {A : Type 0} (p : A → Bool) (f : A → A) → ((x : A) → p (f x) ≡ p x) → ((x : A) → p x ≡ true → f x ≡ x)
     → (xs : List A) → filter p (map f xs) ≡ filter p xs
 filter-map_apart p f kept fixed [] = refl
 filter-map_apart {A} p f kept fixed (x ∷ xs) = by (p x) refl (filter-map_apart p f kept fixed xs) where
@@ -85,46 +88,56 @@ filter-put_apart p core (other ∷ cores) out =
     by false rest = ap (λ these. cond (p other) (other ∷ these) these) rest
 
 -- cores that are the same but for their room are so where some are left out by their names
-same_apart : (slices : List Slice) (old new : List Core) → AreSameCores old new
-    → AreSameCores (filter (is_apart slices) old) (filter (is_apart slices) new)
-same_apart slices old new same =
-    sym (filter-map (is_apart slices) without_room new) ∙ ap (filter (is_apart slices)) same
-    ∙ filter-map (is_apart slices) without_room old
+pub same_where : (p : CoreId → Bool) (old new : List Core) → AreSameCores old new
+    → AreSameCores (filter (λ (core : Core). p core.core) old) (filter (λ (core : Core). p core.core) new)
+same_where p old new same =
+    sym (filter-map (λ (core : Core). p core.core) without_room new) ∙ ap (filter (λ (core : Core). p core.core)) same
+    ∙ filter-map (λ (core : Core). p core.core) without_room old
 
--- a core that has a feed is of a sub
-fed_is_of_sub : (b : Bucket) (at : ℕ) (feed : FeedState) → IsSound b → slice_get b.feeds at ≡ Some feed
-    → is_of_sub b.map feed.core ≡ true
-fed_is_of_sub b at feed sound found =
-    let is : IsFeed b feed = All-slice_get (IsFeed b) b.feeds at feed sound.feeds.each found in
-    of_sub_where_forming b.map feed.core is.slice is.there (sym is.of_slice) is.forming
-
--- and so is one that is not active
-inactive_is_of_sub : (b : Bucket) (name : CoreId) (mode : Mode) → IsSound b → mode ≢ Active → IsInMode b name mode
-    → is_of_sub b.map name ≡ true
-inactive_is_of_sub b name mode sound other (core, there, named, is) =
-    let (slice, in_map, of_slice, key) = slice_of_core b core sound there in
-    by slice in_map of_slice (is_forming slice) refl
-  where
-    by : (slice : Slice) → Contains b.map slice → slice.id ≡ core.core.slice → (t : Bool) → is_forming slice ≡ t
-        → is_of_sub b.map name ≡ true
-    by slice in_map of_slice true forms =
-        subst (λ n. is_of_sub b.map n ≡ true) named (of_sub_where_forming b.map core.core slice in_map of_slice forms)
-    by slice in_map of_slice false settled =
-        let active = All-contains (λ (c : Core). (s : Slice) → Contains b.map s → s.id ≡ c.core.slice → is_forming s ≡ false → c.mode ≡ Active)
-        b.replicas core sound.cores.active there slice in_map of_slice settled in
-        absurd (other (sym is ∙ active))
-
--- a change of a core of a sub that keeps its name
-changed_apart : (old new : Bucket) (name : CoreId) (change : Core → Core) → is_of_sub old.map name ≡ true
-    → ((core : Core) → (change core).core ≡ core.core) → ChangesCore old name change new
-    → cores_apart (forming old.map) new ≡ cores_apart (forming old.map) old
-changed_apart old new name change of_sub keeps changed =
-    ap (filter (is_apart (forming old.map))) changed.cores
-    ∙ filter-set_apart (is_apart (forming old.map)) old.replicas changed.core_at changed.core (change changed.core) changed.core_found
+-- a change of a core that keeps its name leaves the others
+changed_alone : (old new : Bucket) (name : CoreId) (change : Core → Core) → ((core : Core) → (change core).core ≡ core.core)
+    → ChangesCore old name change new → cores_but name new ≡ cores_but name old
+changed_alone old new name change keeps changed =
+    ap (filter is_other) changed.cores
+    ∙ filter-set_apart is_other old.replicas changed.core_at changed.core (change changed.core) changed.core_found
     (own changed.core changed.core_is) (own (change changed.core) (keeps changed.core ∙ changed.core_is))
   where
-    own : (core : Core) → core.core ≡ name → is_apart (forming old.map) core ≡ false
-    own core is = ap (λ n. not (is_of_sub old.map n)) is ∙ ap not of_sub
+    is_other : Core → Bool
+    is_other core = not (is_core name core.core)
+
+    own : (core : Core) → core.core ≡ name → is_other core ≡ false
+    own core is = ap not ((is_core-Decides name core.core).1 (sym is))
+
+-- where a split is open, only cores of its subs may catch up
+of_open_split : (phase : Phase) (slices : List Slice) (slice : Slice) (name : CoreId) → phase ≢ phases.Idle → Contains slices slice
+    → slice.id ≡ name.slice → may_catch_up phase slice name ≡ true → is_of_sub slices name ≡ true
+of_open_split phases.Idle slices slice name opened there named may = absurd (opened refl)
+of_open_split (phases.Building parent) slices slice name opened there named may =
+    of_sub_where_forming slices name slice there named (sym (or-false (is_forming slice)) ∙ may)
+of_open_split (phases.Recovering parent) slices slice name opened there named may =
+    of_sub_where_forming slices name slice there named (sym (or-false (is_forming slice)) ∙ may)
+
+-- so is one that has a feed
+fed_is_of_sub : (b : Bucket) (at : ℕ) (feed : FeedState) → IsSound b → slice_get b.feeds at ≡ Some feed → b.phase ≢ phases.Idle
+    → is_of_sub b.map feed.core ≡ true
+fed_is_of_sub b at feed sound found opened =
+    let is : IsFeed b feed = All-slice_get (IsFeed b) b.feeds at feed sound.feeds.each found in
+    of_open_split b.phase b.map is.slice feed.core opened is.there (sym is.of_slice) is.catches_up
+
+-- and one that is not active
+inactive_is_of_sub : (b : Bucket) (name : CoreId) (mode : Mode) → IsSound b → mode ≢ Active → IsInMode b name mode → b.phase ≢ phases.Idle
+    → is_of_sub b.map name ≡ true
+inactive_is_of_sub b name mode sound other (core, there, named, is) opened =
+    let (slice, in_map, of_slice, key) = slice_of_core b core sound there in
+    subst (λ n. is_of_sub b.map n ≡ true) named (by slice in_map of_slice (may_catch_up b.phase slice core.core) refl)
+  where
+    by : (slice : Slice) → Contains b.map slice → slice.id ≡ core.core.slice → (t : Bool) → may_catch_up b.phase slice core.core ≡ t
+        → is_of_sub b.map core.core ≡ true
+    by slice in_map of_slice true may = of_open_split b.phase b.map slice core.core opened in_map of_slice may
+    by slice in_map of_slice false settled =
+        let active = All-contains (λ (c : Core). (s : Slice) → Contains b.map s → s.id ≡ c.core.slice → may_catch_up b.phase s c.core ≡ false → c.mode ≡ Active)
+        b.replicas core sound.cores.active there slice in_map of_slice settled in
+        absurd (other (sym is ∙ active))
 
 -- what comes to a core keeps its name
 name-received_all : (core : Core) (writes : List Write) → (received_all core writes).core ≡ core.core
@@ -175,7 +188,7 @@ begun_apart : (old new : Bucket) (parent : SliceId) (subs : List SubSlice) → I
     → Begins old parent subs new → AreSameCores old.replicas (cores_apart (forming new.map) new)
 begun_apart old new parent subs sound can begins =
     ap (λ slices. map without_room (filter (is_apart slices) new.replicas)) made
-    ∙ same_apart made_slices (old.replicas ++ leaders) new.replicas begins.cores
+    ∙ same_where (λ (name : CoreId). not (is_of_one made_slices name)) (old.replicas ++ leaders) new.replicas begins.cores
     ∙ ap (map without_room) (filter-append (is_apart made_slices) old.replicas leaders
     ∙ ap (λ these. these ++ filter (is_apart made_slices) leaders) (filter-all (is_apart made_slices) old.replicas before)
     ∙ ap (λ these. old.replicas ++ these) (filter-none (is_apart made_slices) leaders after)
@@ -191,7 +204,7 @@ begun_apart old new parent subs sound can begins =
     leaders = map leader subs
 
     made : forming new.map ≡ made_slices
-    made = ap forming begins.map_is ∙ forming-begun old.map subs can.1.idle
+    made = ap forming begins.map_is ∙ forming-begun old.map subs can.plan.idle
 
     old_is_apart : (core : Core) → Contains old.replicas core → is_apart made_slices core ≡ true
     old_is_apart core there = by (is_of_one made_slices core.core) refl where
@@ -200,7 +213,7 @@ begun_apart old new parent subs sound can begins =
       by true is =
           let (slice, inside, named) = slice_of_one made_slices core.core is in
           let (sub, sub_there, same) = Contains-from_map begun_slice subs slice inside in
-          let above : greatest_id old.map < sub.id.0 = sub_above old.map parent subs sub can.1 sub_there in
+          let above : greatest_id old.map < sub.id.0 = sub_above old.map parent subs sub can.plan sub_there in
           let low : core.core.slice.0 ≤ greatest_id old.map = core_below old core sound.cores there in
           let of_sub : sub.id.0 ≡ core.core.slice.0 =
           ap (λ (s : Slice). s.id.0) same ∙ ap (λ (id : SliceId). id.0) named in
@@ -227,7 +240,7 @@ grown_apart old new name sub can grows =
     let arrive : List Core = map (arrived old.flight.messages grows.leader.core) old.replicas in
     let of_sub = of_sub_where_forming old.map name sub can.there (sym can.of_sub) can.forming in
     let leads = of_sub_where_forming old.map grows.leader.core sub can.there (sym grows.leader_is.0) can.forming in
-    same_apart (forming old.map) (put_by_name (empty_core name) arrive) new.replicas grows.cores
+    same_where (λ (id : CoreId). not (is_of_one (forming old.map) id)) (put_by_name (empty_core name) arrive) new.replicas grows.cores
     ∙ ap (map without_room) (filter-put_apart (is_apart (forming old.map)) (empty_core name) arrive (ap not of_sub)
     ∙ arrived_apart old.map old.flight.messages grows.leader.core old.replicas leads)
 
@@ -319,22 +332,26 @@ pub splits_leave_others_alone : SplitsLeaveOthersAlone
 splits_leave_others_alone old new sound = record {
   begins = λ parent subs can begins. begun_apart old new parent subs sound can begins;
   feeds = λ core is_done feeds. record {
-    cores =
-        changed_apart old new core (λ one. fed_all one (piece_of feeds.feed))
-        (subst (λ name. is_of_sub old.map name ≡ true) feeds.feed_is (fed_is_of_sub old feeds.feed_at feeds.feed sound feeds.feed_found))
-        (λ one. name-fed_all one (piece_of feeds.feed)) feeds.changed;
-    searchers = feeds.rest.searchers_are;
+    alone = record {
+      cores = changed_alone old new core (λ one. fed_all one (piece_of feeds.feed)) (λ one. name-fed_all one (piece_of feeds.feed)) feeds.changed;
+      searchers = feeds.rest.searchers_are;
+    };
+    of_split = λ opened.
+        subst (λ name. is_of_sub old.map name ≡ true) feeds.feed_is (fed_is_of_sub old feeds.feed_at feeds.feed sound feeds.feed_found opened);
   };
   starts = λ core can starts. record {
-    cores =
-        changed_apart old new core replaying (inactive_is_of_sub old core Buffering sound (λ same. cc) can.0) (λ _. refl) starts.changed;
-    searchers = starts.rest.searchers_are;
+    alone = record {
+      cores = changed_alone old new core replaying (λ _. refl) starts.changed;
+      searchers = starts.rest.searchers_are;
+    };
+    of_split = inactive_is_of_sub old core Buffering sound (λ same. cc) can.0;
   };
   replays = λ core is_done can replays. record {
-    cores =
-        changed_apart old new core replayed (inactive_is_of_sub old core Replaying sound (λ same. cc) can) (λ one. name-fed_all one (take replay_limit one.buffer))
-        replays.changed;
-    searchers = replays.rest.searchers_are;
+    alone = record {
+      cores = changed_alone old new core replayed (λ one. name-fed_all one (take replay_limit one.buffer)) replays.changed;
+      searchers = replays.rest.searchers_are;
+    };
+    of_split = inactive_is_of_sub old core Replaying sound (λ same. cc) can;
   };
   gets_ready = λ parent ready. record { cores = ap (filter (is_apart [])) ready.cores; searchers = ready.searchers_are };
   grows = λ core sub can grows. record { cores = grown_apart old new core sub can grows; searchers = grows.searchers_are };
@@ -346,22 +363,3 @@ splits_leave_others_alone old new sound = record {
   aborts = λ parent aborts. record { cores = aborted_apart old new parent sound aborts; searchers = aborts.searchers_are };
   drops = λ slice drops. record { cores = dropped_apart old new slice sound drops; searchers = drops.searchers_are };
 }
-
--- a core that is marked as down leaves the others
-pub detaches_leave_others_alone : DetachesLeaveOthersAlone
-detaches_leave_others_alone old new name detaches = record {
-  cores = ap (filter is_other_core) detaches.cores ∙ filter-map_apart is_other_core (detached name) kept fixed old.replicas;
-  searchers = detaches.searchers_are;
-} where
-  is_other_core : Core → Bool
-  is_other_core core = not (is_core name core.core)
-
-  kept : (core : Core) → is_other_core (detached name core) ≡ is_other_core core
-  kept core = by (is_core name core.core) where
-    by : (b : Bool) → is_other_core (cond b (record core { down = true }) core) ≡ is_other_core core
-    by true = refl
-    by false = refl
-
-  fixed : (core : Core) → is_other_core core ≡ true → detached name core ≡ core
-  fixed core other =
-      ap (λ b. cond b (record core { down = true }) core) (not-true (is_core name core.core) other)

@@ -10,6 +10,7 @@ use Rattle.sc_cluster.specs.declared.slice.Slice.{Slice}
 use Rattle.sc_journal.specs.Journal.{writes}
 use Rattle.sc_journal.specs.Outcomes.{conflict, partial, log_full, IsOutcome}
 use Rattle.sc_bucket.specs.Kept.{Sent}
+use Rattle.sc_bucket.specs.Room.{basis}
 use Rattle.sc_bucket.specs.Events.{IsSameButRoom, Accepts, Delivers, DeliversFirst, outcome_of}
 use Rattle.sc_bucket.specs.declared.bucket.Bucket.{Bucket}
 use Rattle.sc_bucket.specs.declared.accept.Accepted.{Accepted}
@@ -28,7 +29,7 @@ use Rattle.sc_world.proofs.RunLemmas.{Runs-push, Adds-run, Adds-run_out}
 -- an order that is answered, but that memory ran out
 pub accept_step : (old new : Bucket) (order : Order) (now : ℕ) (answered : Result Accepted AcceptFault) → lacks_memory answered ≡ false
     → IfOk answered (λ accepted. Accepts old order now accepted.version new) → OnErr answered (IsSameButRoom old new)
-    → IsOutcome old.limit old.first old.journal.entries order now (outcome_of answered) new.journal.entries
+    → IsOutcome (basis old) old.journal.entries order now (outcome_of answered) new.journal.entries
     → IsStepped old (events.Accept order now) new
 accept_step old new order now (Ok accepted) in_memory is same outcome = (is.cell.value ∷ [], inl (accepted.version, is, refl))
 accept_step old new order now (Err (faults.Conflict found)) in_memory is same outcome =
@@ -41,7 +42,7 @@ accept_step old new order now (Err faults.Memory) in_memory is same outcome = ab
 -- or that it did
 pub accept_out : (old new : Bucket) (order : Order) (now : ℕ) (answered : Result Accepted AcceptFault) → lacks_memory answered ≡ true
     → OnErr answered (IsSameButRoom old new)
-    → IsOutcome old.limit old.first old.journal.entries order now (outcome_of answered) new.journal.entries
+    → IsOutcome (basis old) old.journal.entries order now (outcome_of answered) new.journal.entries
     → FindsNoMemory old (events.Accept order now) new
 accept_out old new order now (Ok accepted) out same outcome = absurd (false≢true out)
 accept_out old new order now (Err (faults.Conflict found)) out same outcome = absurd (false≢true out)

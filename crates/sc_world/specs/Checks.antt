@@ -12,7 +12,9 @@ use Rattle.sc_bucket.specs.declared.accept.Accepted.{Accepted}
 use Rattle.sc_bucket.specs.declared.accept.AcceptFault.{AcceptFault}
 use Rattle.sc_bucket.specs.declared.accept.AcceptFault.TheVariants as faults
 use Rattle.sc_bucket.specs.declared.phase.Phase.TheVariants as phases
-use Rattle.sc_handover.specs.Conditions.{IsThereActive}
+use Rattle.sc_ulog.specs.declared.mode.Mode.TheVariants.{Active}
+use Rattle.sc_journal.specs.Down.{IsFollower}
+use Rattle.sc_handover.specs.Conditions.{IsInMode, IsUnfed, IsThereActive}
 
 -- the leaders of the subs of a split are being made
 abbrev pub IsBuilding : Bucket → Type 0
@@ -40,6 +42,16 @@ pub record IsMissing (b : Bucket) (name : CoreId) (sub : Slice) : Type 0 where
   pub of_sub : name.slice ≡ sub.id
   pub joins : MayJoin sub name.replica
   pub missing : All (λ (core : Core). is_core name core.core ≡ false) b.replicas
+
+-- the core is a follower of an active slice, is active, and has no feed
+pub record IsActiveFollower (b : Bucket) (name : CoreId) : Type 0 where
+  pub follower : IsFollower b.map name
+  pub active : IsInMode b name Active
+  pub unfed : IsUnfed b name
+
+-- so is it, and no split is open
+abbrev pub IsCaughtUp : Bucket → CoreId → Type 0
+IsCaughtUp b name = (b.phase ≡ phases.Idle) × IsActiveFollower b name
 
 -- an order was answered that memory ran out
 abbrev pub lacks_memory : Result Accepted AcceptFault → Bool

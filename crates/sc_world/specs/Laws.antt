@@ -1,8 +1,9 @@
 -- What lists of events come to, in the words of who administers a collection.
-use Rattle.std.specs.Prelude.{◌≡◌, ℕ, Bool, true, false, List, [], ◌++◌, filter, All, Contains}
+use Rattle.std.specs.Prelude.{◌≡◌, ◌⊎◌, ℕ, Bool, true, false, List, [], ◌++◌, filter, All, Contains}
 use Rattle.std.specs.Str.{bytes_eq}
 use Rattle.sc_record.specs.Writes.{is_of}
 use Rattle.sc_record.specs.declared.write.Write.{Write}
+use Rattle.sc_record.specs.declared.slice.CoreId.{CoreId}
 use Rattle.sc_cluster.specs.declared.plan.SplitPlan.{SplitPlan}
 use Rattle.sc_cluster.specs.declared.slice.State.TheVariants as states
 use Rattle.sc_cluster.specs.declared.slice.Slice.{Slice}
@@ -13,11 +14,14 @@ use Rattle.sc_bucket.specs.Cores.{core_key, IsLeaderOf}
 use Rattle.sc_bucket.specs.Pending.{pending}
 use Rattle.sc_bucket.specs.Sound.{HasLastWrites, IsSound}
 use Rattle.sc_bucket.specs.declared.bucket.Bucket.{Bucket}
-use Rattle.sc_handover.specs.Conditions.{CanBegin}
+use Rattle.sc_handover.specs.Conditions.{CanBegin, CanRejoin}
 use Rattle.sc_handover.specs.Events.{Begins, Aborts}
+use Rattle.sc_handover.specs.Seats.{Rejoins}
+use Rattle.sc_handover.specs.AnyEvent.{IsEvent}
 use Rattle.sc_world.specs.declared.event.Event.{Event}
 use Rattle.sc_world.specs.declared.event.Event.TheVariants as events
-use Rattle.sc_world.specs.Runs.{Runs}
+use Rattle.sc_world.specs.Steps.{Can, FindsNoMemory}
+use Rattle.sc_world.specs.Runs.{IsStepped, Runs}
 
 -- Whatever comes, splits that begin, are switched and fail among it, the last write of an id is the last of those that were there and
 -- those that were accepted since.
@@ -61,3 +65,19 @@ FollowersCatchUp = (b : Bucket) (slice : Slice) (leader follower : Core) → IsS
     → Contains b.replicas leader → IsLeaderOf slice.id leader
     → Contains b.replicas follower → follower.core.slice ≡ slice.id → is_down b.journal.entries (core_key follower) ≡ false → pending b.flight.messages b.feeds follower ≡ []
     → follower.cells ≡ leader.cells
+
+-- A core that was down and rejoined has the cells of its leader once nothing is pending for it, whatever events came since and whichever
+-- seat it sits in by then, unless it is down again: it has what was written while it was down.
+abbrev pub RejoinedCatchUp : Type 0
+RejoinedCatchUp = (old rejoined last : Bucket) (name : CoreId) (between : List Event) (added : List Write) (slice : Slice) (leader core : Core)
+    → CanRejoin old name → (is : Rejoins old name rejoined) → Runs rejoined between added last → IsSound last
+    → Contains last.map slice → slice.id ≡ name.slice → slice.state ≡ states.Active
+    → Contains last.replicas leader → IsLeaderOf slice.id leader
+    → Contains last.replicas core → core.core.slice ≡ slice.id → core.number ≡ is.core.number
+    → is_down last.journal.entries (core_key core) ≡ false → pending last.flight.messages last.feeds core ≡ []
+    → core.cells ≡ leader.cells
+
+-- each event that comes, also where it is refused or memory runs out, is one of those that come to any bucket, whoever holds it
+abbrev pub EventsAreOfTheTable : Type 0
+EventsAreOfTheTable = (old new : Bucket) (event : Event) → Can old event → IsStepped old event new ⊎ FindsNoMemory old event new
+    → IsEvent old new

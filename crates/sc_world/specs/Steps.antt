@@ -10,11 +10,12 @@ use Rattle.sc_journal.specs.Splits.{entries_of_split}
 use Rattle.sc_journal.specs.Outcomes.{Outcome, accepted, conflict, partial, log_full, out_of_memory, IsOutcome, IsMet}
 use Rattle.sc_bucket.specs.Kept.{Sent}
 use Rattle.sc_bucket.specs.Events.{IsSameButRoom, Accepts, Delivers, DeliversFirst, DeliversAllTo, Settles, Commits, CanDetach, Detaches}
-use Rattle.sc_bucket.specs.Room.{BucketIsFull}
+use Rattle.sc_bucket.specs.Room.{basis, BucketIsFull}
 use Rattle.sc_bucket.specs.declared.bucket.Bucket.{Bucket}
-use Rattle.sc_handover.specs.Conditions.{CanBegin, CanFeed, CanStartReplay, CanReplay, CanBeReady, CanGrow, CanSwitch, CanAbort, CanDrop}
+use Rattle.sc_handover.specs.Conditions.{CanBegin, CanFeed, CanStartReplay, CanReplay, CanBeReady, CanGrow, CanSwitch, CanAbort, CanDrop, CanRejoin, CanLead}
 use Rattle.sc_handover.specs.Made.{leader_of}
 use Rattle.sc_handover.specs.Events.{Begins, FeedsPiece, StartsReplay, ReplaysPiece, GetsReady, Grows, Switches, HaveLastWrites, Aborts, Drops}
+use Rattle.sc_handover.specs.Seats.{Rejoins, TakesLead, IsLedWhole}
 use Rattle.sc_world.specs.declared.event.Event.{Event}
 use Rattle.sc_world.specs.declared.event.Event.TheVariants as events
 
@@ -26,6 +27,8 @@ Can b (events.Deliver place) = ⊤
 Can b (events.Settle place) = IsSome (write_at b.journal.entries place) × (is_settled b.journal.entries place ≡ false)
 Can b events.Commit = ⊤
 Can b (events.Detach core) = CanDetach b core
+Can b (events.Rejoin core) = CanRejoin b core
+Can b (events.Lead core) = CanLead b core
 Can b (events.Begin plan) = CanBegin b plan.parent plan.subs
 Can b (events.Feed core) = CanFeed b core
 Can b (events.StartReplay core) = CanStartReplay b core
@@ -47,6 +50,8 @@ IsDoneWithoutWrite old (events.Deliver place) new =
 IsDoneWithoutWrite old (events.Settle place) new = Settles old place new
 IsDoneWithoutWrite old events.Commit new = Commits old new
 IsDoneWithoutWrite old (events.Detach core) new = Detaches old core new
+IsDoneWithoutWrite old (events.Rejoin core) new = Rejoins old core new
+IsDoneWithoutWrite old (events.Lead core) new = TakesLead old core new × IsLedWhole new core.slice
 IsDoneWithoutWrite old (events.Begin plan) new = Begins old plan.parent plan.subs new
 IsDoneWithoutWrite old (events.Feed core) new = (is_last : Bool) × FeedsPiece old core is_last new
 IsDoneWithoutWrite old (events.StartReplay core) new = StartsReplay old core new
@@ -76,8 +81,9 @@ IsRefusal out_of_memory = ⊥
 abbrev pub IsRefused : Bucket → Event → Bucket → Type 0
 IsRefused old (events.Accept order now) new =
     (outcome : Outcome) × IsRefusal outcome
-    × IsOutcome old.limit old.first old.journal.entries order now outcome old.journal.entries × IsSameButRoom old new
+    × IsOutcome (basis old) old.journal.entries order now outcome old.journal.entries × IsSameButRoom old new
 IsRefused old events.Commit new = IsSameButRoom old new × BucketIsFull 1 old
+IsRefused old (events.Rejoin core) new = IsSameButRoom old new × BucketIsFull 2 old
 IsRefused old (events.Begin plan) new = IsSameButRoom old new × BucketIsFull (entries_of_split plan.subs) old
 IsRefused old _ new = ⊥
 
@@ -85,6 +91,7 @@ IsRefused old _ new = ⊥
 abbrev pub FindsNoMemory : Bucket → Event → Bucket → Type 0
 FindsNoMemory old (events.Accept order now) new = IsMet old.journal.entries order × IsSameButRoom old new
 FindsNoMemory old events.Commit new = IsSameButRoom old new
+FindsNoMemory old (events.Rejoin core) new = IsSameButRoom old new
 FindsNoMemory old (events.Begin plan) new = IsSameButRoom old new
 FindsNoMemory old (events.Grow core) new = DeliversAllTo old (leader_of core.slice) new
 FindsNoMemory old _ new = ⊥

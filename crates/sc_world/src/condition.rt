@@ -1,16 +1,20 @@
-ghost use Rattle.std.specs.Prelude.{◌≡◌, ◌↔◌, ◌<◌, true, false, not, IsTrue, All};
+ghost use Rattle.std.specs.Prelude.{◌≡◌, ◌↔◌, ◌<◌, ◌≤◌, true, false, not, IsTrue, All};
 ghost use Rattle.sc_record.specs.declared.slice.SliceId.{SliceId};
 ghost use Rattle.sc_cluster.specs.declared.slice.Slice.{Slice};
+ghost use Rattle.sc_cluster.specs.declared.slice.State.TheVariants as states;
 ghost use Rattle.sc_cluster.specs.Changes.{IsInactive};
+ghost use Rattle.sc_ulog.specs.declared.mode.Mode.TheVariants.{Active};
+ghost use Rattle.sc_replica.specs.Core.{Core};
+ghost use Rattle.sc_journal.specs.Down.{IsFollower};
 ghost use Rattle.sc_bucket.specs.Cores.{CoresAscend, slice_keys};
 ghost use Rattle.sc_bucket.specs.Sound.{HasCores, AreLedActively, IsSound};
-ghost use Rattle.sc_handover.specs.Conditions.{IsInMode, IsUnfed, IsThereActive, CanFeed};
+ghost use Rattle.sc_handover.specs.Conditions.{IsInMode, IsUnfed, IsThereActive, CanBegin, CanFeed, CanRejoin, CanLead};
 ghost use Rattle.sc_world.specs.Steps.{Can};
-ghost use Rattle.sc_world.specs.Checks.{IsBuilding, IsRecovering, IsLedActively, IsWhole, MayJoin, IsMissing};
+ghost use Rattle.sc_world.specs.Checks.{IsBuilding, IsRecovering, IsLedActively, IsWhole, MayJoin, IsMissing, IsActiveFollower, IsCaughtUp};
 
 use crate::event::Event;
 use sc_bucket::{Bucket, Phase};
-use sc_cluster::{Slice, State};
+use sc_cluster::{Slice, SplitPlan, State};
 use sc_record::{CoreId, SliceId};
 use sc_ulog::Mode;
 
@@ -24,7 +28,9 @@ pub fn can(bucket: &Bucket, event: &Event) -> bool
             true,
         Event::Settle { place } => bucket.unsettled.contains(*place),
         Event::Detach { core } => bucket.can_detach(*core),
-        Event::Begin { plan } => bucket.phase == Phase::Idle && bucket.map.allows(plan),
+        Event::Rejoin { core } => can_rejoin(bucket, *core),
+        Event::Lead { core } => can_lead(bucket, *core),
+        Event::Begin { plan } => can_begin(bucket, plan),
         Event::Feed { core } => has_feed(bucket, *core),
         Event::StartReplay { core } => {
             is_in_mode(bucket, *core, Mode::Buffering) && !has_feed(bucket, *core)
@@ -36,6 +42,86 @@ pub fn can(bucket: &Bucket, event: &Event) -> bool
         Event::Abort => bucket.phase != Phase::Idle,
         Event::Drop { slice } => bucket.phase == Phase::Idle && is_inactive(bucket, *slice),
     }
+}
+
+// No split is open, the map allows this one, and no core is still catching up.
+fn can_begin(bucket: &Bucket, plan: &SplitPlan) -> bool
+    requires { IsSound bucket.now }
+    ensures { IsTrue result ↔ CanBegin bucket.now plan.now.parent plan.now.subs }
+{
+    bucket.phase == Phase::Idle
+        && bucket.map.allows(plan)
+        && bucket.feeds.len() == 0
+        && are_all_active(bucket)
+}
+
+// Each core is active.
+fn are_all_active(bucket: &Bucket) -> bool
+    ensures { IsTrue result ↔ All (λ (core : Core). core.mode ≡ Active) bucket.now.replicas }
+{
+    for at in 0..bucket.replicas.len() {
+        if bucket.replicas.get(at).mode() != Mode::Active {
+            return false;
+        }
+    }
+    true
+}
+
+// No split is open, and the core is a follower of an active slice that is down, is active, and has no feed.
+fn can_rejoin(bucket: &Bucket, core: CoreId) -> bool
+    requires { IsSound bucket.now }
+    ensures { IsTrue result ↔ CanRejoin bucket.now core }
+{
+    bucket.is_down(core) && is_caught_up(bucket, core)
+}
+
+// No split is open, and the core is a follower of an active slice that is not down, is active, and has no feed.
+fn can_lead(bucket: &Bucket, core: CoreId) -> bool
+    requires { IsSound bucket.now }
+    ensures { IsTrue result ↔ CanLead bucket.now core }
+{
+    !bucket.is_down(core) && is_caught_up(bucket, core)
+}
+
+// No split is open, and the core is a follower of an active slice, is active, and has no feed.
+fn is_caught_up(bucket: &Bucket, core: CoreId) -> bool
+    requires { CoresAscend bucket.now.replicas }
+    ensures { IsTrue result ↔ IsCaughtUp bucket.now core }
+{
+    bucket.phase == Phase::Idle && is_active_follower(bucket, core)
+}
+
+// The core is a follower of an active slice, is active, and has no feed.
+fn is_active_follower(bucket: &Bucket, core: CoreId) -> bool
+    requires { CoresAscend bucket.now.replicas }
+    ensures { IsTrue result ↔ IsActiveFollower bucket.now core }
+{
+    is_follower(bucket, core) && is_unfed_and_active(bucket, core)
+}
+
+// The core is a follower of an active slice.
+fn is_follower(bucket: &Bucket, core: CoreId) -> bool
+    ensures { IsTrue result ↔ IsFollower bucket.now.map core }
+{
+    match bucket.map.by_id(core.slice) {
+        Some(slice) => follows(slice, core.replica),
+        None => false,
+    }
+}
+
+// The slice is active, and has this replica beside its leader.
+fn follows(slice: &Slice, replica: u8) -> bool
+    ensures { IsTrue result ↔ ((slice.now.state ≡ states.Active) × (1 < replica) × (replica ≤ slice.now.replicas)) }
+{
+    slice.state == State::Active && replica > 1 && replica <= slice.replicas
+}
+
+// The core is there, is active, and has no feed.
+fn is_unfed_and_active(bucket: &Bucket, core: CoreId) -> bool
+    requires { CoresAscend bucket.now.replicas }
+    ensures { IsTrue result ↔ (IsInMode bucket.now core Active × IsUnfed bucket.now core) }
+{
+    is_in_mode(bucket, core, Mode::Active) && !has_feed(bucket, core)
 }
 
 // The core has a feed.

@@ -16,6 +16,10 @@ pub enum Event {
     Commit,
     /// The core is marked as down.
     Detach { core: CoreId },
+    /// The core that is down takes part again, as a new one.
+    Rejoin { core: CoreId },
+    /// The core takes the lead of its slice.
+    Lead { core: CoreId },
     /// A split begins.
     Begin { plan: SplitPlan },
     /// The core is fed a piece.

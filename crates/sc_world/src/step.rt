@@ -1,6 +1,6 @@
 ghost use Rattle.std.specs.Prelude.{◌≡◌, OnOk, OnErr};
 ghost use Rattle.sc_bucket.specs.Sound.{IsSound};
-ghost use Rattle.sc_handover.specs.Conditions.{CanBegin};
+ghost use Rattle.sc_handover.specs.Conditions.{CanBegin, CanRejoin};
 ghost use Rattle.sc_world.specs.declared.event.Event.TheVariants as events;
 ghost use Rattle.sc_world.specs.Steps.{Can, FindsNoMemory};
 ghost use Rattle.sc_world.specs.Runs.{IsStepped};
@@ -10,10 +10,10 @@ use crate::event::Event;
 use sc_bucket::{AcceptFault, Accepted, Bucket, CommitFault};
 use sc_cluster::SplitPlan;
 use sc_handover::{
-    BeginFault, abort, begin, drop_shard, feed_piece, grow, ready, replay_piece, start_replay,
-    switch,
+    BeginFault, RejoinFault, abort, begin, drop_shard, feed_piece, grow, ready, rejoin,
+    replay_piece, start_replay, switch, take_lead,
 };
-use sc_record::Order;
+use sc_record::{CoreId, Order};
 use std::alloc::{AllocError, Global};
 
 /// Has the event come, whose condition holds. An error means out of memory.
@@ -41,6 +41,11 @@ pub(crate) fn step(alloc: Global, bucket: &mut Bucket, event: &Event) -> Result<
         Event::Commit => commit_bucket(alloc, bucket),
         Event::Detach { core } => {
             bucket.detach(*core);
+            Ok(())
+        }
+        Event::Rejoin { core } => rejoin_core(alloc, bucket, *core),
+        Event::Lead { core } => {
+            take_lead(bucket, *core);
             Ok(())
         }
         Event::Begin { plan } => begin_split(alloc, bucket, plan),
@@ -127,5 +132,20 @@ fn begin_split(alloc: Global, bucket: &mut Bucket, plan: &SplitPlan) -> Result<(
         Ok(()) => Ok(()),
         Err(BeginFault::LogFull) => Ok(()),
         Err(BeginFault::Memory) => Err(AllocError),
+    }
+}
+
+// Has the core rejoin, or refuses to where the journal is full.
+fn rejoin_core(alloc: Global, bucket: &mut Bucket, core: CoreId) -> Result<(), AllocError>
+    requires sound { IsSound bucket.old }
+    requires can { CanRejoin bucket.old core }
+    ensures sound { IsSound bucket.new }
+    ensures stepped { OnOk result (IsStepped bucket.old (events.Rejoin core) bucket.new) }
+    ensures out { OnErr result (FindsNoMemory bucket.old (events.Rejoin core) bucket.new) }
+{
+    match rejoin(alloc, bucket, core) {
+        Ok(()) => Ok(()),
+        Err(RejoinFault::LogFull) => Ok(()),
+        Err(RejoinFault::Memory) => Err(AllocError),
     }
 }

@@ -1,0 +1,17 @@
+-- The core is not down, and has caught up.
+use Rattle.std.proofs.Common.{◌∙◌, sym}
+use Rattle.sc_world.proofs.condition.can_lead.Goals as goal
+
+pub returns-then-not-is_down : goal.returns-then-not-is_down
+returns-then-not-is_down c = (
+  λ is.
+      let (idle, caught_up) = c.is_caught_up.ensures.0 is in
+      record {
+        idle = idle;
+        follower = caught_up.follower;
+        up = sym c.is_down.ensures ∙ c.if-not-is_down.true;
+        active = caught_up.active;
+        unfed = caught_up.unfed;
+      },
+  λ can. c.is_caught_up.ensures.1 (can.idle, record { follower = can.follower; active = can.active; unfed = can.unfed }),
+)

@@ -1,4 +1,4 @@
--- How many followers the slices of a new collection have.
+-- The slices of a new collection are active, and have few followers.
 use Rattle.std.proofs.Common.{◌≡◌, ◌≤◌, ◌∙◌, ℕ, ◌-◌, ◌*◌, List, length, All, ap, subst, arith}
 use Rattle.std.specs.List.{sum_by}
 use Rattle.std.proofs.lemmas.List.Concat.{length-flat_map}
@@ -11,6 +11,11 @@ use Rattle.sc_journal.specs.Down.{follower_keys, all_followers}
 use Rattle.sc_bucket.specs.Sound.{AreActive}
 use Rattle.sc_bucket.proofs.CountLemmas.{length-follower_keys, all_followers-active}
 
+-- each slice is active
+pub first_active : (shards replicas nodes : ℕ) (slices : List Slice) → AreFirst shards replicas nodes slices → AreActive slices
+first_active shards replicas nodes slices first =
+    All-from_slice_get (λ slice. slice.state ≡ states.Active) slices (λ i slice there. (first.each i slice there).state)
+
 -- each shard has one less than replicas
 pub first_followers : (shards replicas nodes : ℕ) (slices : List Slice) → AreFirst shards replicas nodes slices
     → length (all_followers slices) ≤ shards * (replicas - 1)
@@ -18,8 +23,7 @@ first_followers shards replicas nodes slices first =
     subst (λ n. length (all_followers slices) ≤ n * (replicas - 1)) first.count (omega (arith, all, most))
   where
     active : AreActive slices
-    active =
-        All-from_slice_get (λ slice. slice.state ≡ states.Active) slices (λ i slice there. (first.each i slice there).state)
+    active = first_active shards replicas nodes slices first
 
     of_slice : Slice → ℕ
     of_slice slice = length (follower_keys slice)

@@ -6,7 +6,7 @@ use Rattle.sc_record.specs.declared.entry.Entry.{Entry}
 use Rattle.sc_bucket.specs.declared.bucket.Bucket.{Bucket}
 use Rattle.sc_collection.specs.Desks.{Held, MayReplace, SeesGiven, place_added}
 use Rattle.sc_collection.specs.Alone.{AloneState, desk_of, journal_in, journal_of, seen_of, IsKept, IsDesk, places}
-use Rattle.sc_collection.proofs.PlaceLemmas.{step_places}
+use Rattle.sc_collection.proofs.PlaceLemmas.{event_places}
 use Rattle.sc_collection.proofs.SlotLemmas.{slice_get-set_same, slice_get-set_other}
 use Rattle.sc_collection.specs.declared.alone.Alone.TheInside.{Inside}
 use Rattle.sc_collection.proofs.AloneLemmas.{same_or_other}
@@ -64,7 +64,7 @@ module _ (desk : AloneState) (is : IsDesk desk) (held : Held) (bucket : Bucket)
     others = journal_other;
     board = refl;
     own =
-        ap places journal_back ∙ step_places held.bucket bucket may.step
+        ap places journal_back ∙ event_places held.bucket bucket may.event
         ∙ ap (λ (journal : List Entry). places journal ++ added) (sym journal_out);
     others_own = λ lock other. ap places (journal_other lock other);
   } where

@@ -1,4 +1,5 @@
 -- What the proofs of this crate share.
+pub mod ShapeLemmas
 pub mod SlotLemmas
 pub mod FollowerLemmas
 pub mod PlaceLemmas

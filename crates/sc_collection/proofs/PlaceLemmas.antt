@@ -1,12 +1,12 @@
 -- Which places one event of a bucket adds to those of its journal's entries.
-use Rattle.std.proofs.Common.{◌≡◌, ℕ, zero, suc, ◌+◌, true, cond, ltb, List, [], ◌∷◌, ◌++◌, length, sym, ap, ◌∙◌, arith, zero-add}
+use Rattle.std.proofs.Common.{◌≡◌, inl, inr, ℕ, zero, suc, ◌+◌, true, cond, ltb, List, [], ◌∷◌, ◌++◌, length, sym, ap, ◌∙◌, arith, zero-add}
 use Rattle.std.specs.List.{range_with_len}
 use Rattle.std.proofs.lemmas.Bool.{lt-ltb, le-ltb}
 use Rattle.std.proofs.lemmas.List.{append-nil, length_push}
 use Rattle.sc_record.specs.declared.entry.Entry.{Entry}
-use Rattle.sc_record.specs.declared.entry.Entry.TheVariants as entry
 use Rattle.sc_bucket.specs.declared.bucket.Bucket.{Bucket}
-use Rattle.sc_bucket.specs.Events.{IsStep}
+use Rattle.sc_handover.specs.AnyEvent.{IsEvent}
+use Rattle.sc_handover.proofs.EventLemmas.{AddsAtMostOne, event_adds}
 use Rattle.sc_collection.specs.Desks.{place_added}
 use Rattle.sc_collection.specs.Alone.{places}
 
@@ -38,9 +38,9 @@ place_added-none journal =
     ap (λ b. cond b (length journal ∷ []) []) (le-ltb (length journal) (length journal) (omega arith))
 
 -- an event adds one entry, or nothing
-pub step_places : (held given : Bucket) → IsStep held given
+pub event_places : (held given : Bucket) → IsEvent held given
     → places given.journal.entries ≡ places held.journal.entries ++ place_added held.journal.entries given.journal.entries
-step_places held given step = by step where
+event_places held given event = by (event_adds held given event) where
   before : List Entry
   before = held.journal.entries
 
@@ -57,10 +57,6 @@ step_places held given step = by step where
       ap places is ∙ places-push before one
       ∙ ap (λ more. places before ++ more) (sym (ap (place_added before) is ∙ place_added-push before one))
 
-  by : IsStep held given → IsAdded given.journal.entries
-  by (IsStep.stays same) = unchanged given.journal.entries same.entries
-  by (IsStep.accepts accepted) = pushed given.journal.entries (entry.Write accepted.cell) accepted.entries
-  by (IsStep.delivers delivered) = unchanged given.journal.entries delivered.entries
-  by (IsStep.settles {place = place} written still settled) = pushed given.journal.entries (entry.Settled place) settled.entries
-  by (IsStep.commits committed) = pushed given.journal.entries entry.Committed committed.entries
-  by (IsStep.detaches {name = name} can detached) = pushed given.journal.entries (entry.Down name) detached.entries
+  by : AddsAtMostOne before given.journal.entries → IsAdded given.journal.entries
+  by (inl same) = unchanged given.journal.entries same
+  by (inr (one, is)) = pushed given.journal.entries one is

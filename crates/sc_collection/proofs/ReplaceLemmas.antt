@@ -18,6 +18,7 @@ use Rattle.sc_bucket.specs.declared.bucket.Bucket.{Bucket}
 use Rattle.sc_bucket.specs.Kept.{Sent}
 use Rattle.sc_bucket.specs.Sound.{IsSound}
 use Rattle.sc_bucket.specs.Events.{IsStep, IsSameButRoom, HasSameFirstAndLimit, Accepts, Delivers, Settles, Commits}
+use Rattle.sc_handover.specs.AnyEvent.{IsEvent}
 use Rattle.sc_collection.specs.Desks.{Held, IsBucketOf, MayReplace}
 
 -- the ids of the writes belong to the bucket of this number
@@ -46,7 +47,7 @@ module _ (layout : Layout) (held : Held) (given : Bucket)
   unchanged_may_replace same = record {
     sound = sound;
     is_of = same_bucket same.name (same_ids same.entries);
-    step = IsStep.stays same;
+    event = IsEvent.of_bucket (IsStep.stays same);
   }
 
   -- it is the same bucket
@@ -66,7 +67,7 @@ module _ (layout : Layout) (held : Held) (given : Bucket)
   delivered_may_replace at message delivered = record {
     sound = sound;
     is_of = same_bucket delivered.name (same_ids delivered.entries);
-    step = IsStep.delivers delivered;
+    event = IsEvent.of_bucket (IsStep.delivers delivered);
   }
 
   -- an order of one of the bucket's ids was accepted
@@ -75,7 +76,7 @@ module _ (layout : Layout) (held : Held) (given : Bucket)
   accepted_may_replace order now version own accepted = record {
     sound = sound;
     is_of = same_bucket accepted.name ids;
-    step = IsStep.accepts accepted;
+    event = IsEvent.of_bucket (IsStep.accepts accepted);
   } where
     write : Write
     write = arc_value accepted.cell
@@ -106,7 +107,7 @@ module _ (layout : Layout) (held : Held) (given : Bucket)
   settled_may_replace place written still settled = record {
     sound = sound;
     is_of = same_bucket settled.name ids;
-    step = IsStep.settles written still settled;
+    event = IsEvent.of_bucket (IsStep.settles written still settled);
   } where
     ids : AreOf layout.buckets held.number (writes given.journal.entries)
     ids =
@@ -119,7 +120,7 @@ module _ (layout : Layout) (held : Held) (given : Bucket)
   committed_may_replace committed = record {
     sound = sound;
     is_of = same_bucket committed.name ids;
-    step = IsStep.commits committed;
+    event = IsEvent.of_bucket (IsStep.commits committed);
   } where
     ids : AreOf layout.buckets held.number (writes given.journal.entries)
     ids =

@@ -8,7 +8,7 @@ use Rattle.sc_journal.specs.Journal.{writes}
 use Rattle.sc_journal.specs.Seen.{Layout, Seen, AreLegal}
 use Rattle.sc_bucket.specs.declared.bucket.Bucket.{Bucket}
 use Rattle.sc_bucket.specs.Sound.{IsSound}
-use Rattle.sc_bucket.specs.Events.{IsStep}
+use Rattle.sc_handover.specs.AnyEvent.{IsEvent}
 
 -- the bucket is the one of this number: it began with the layout's map and has its limit, and the ids of its writes belong
 -- to it
@@ -23,12 +23,13 @@ pub record Held : Type 0 where
   pub number : ℕ
   pub bucket : Bucket
 
--- The bucket may be given back in the place of the one that was handed out: it is sound and of the same number, and one event
--- was done at most, which added one entry at most.
+-- The bucket may be given back in the place of the one that was handed out: it is sound and of the same number, and one event of a
+-- bucket was done at most, whoever holds it: one of its own, one of a split, or one that changes which cores serve. It added one entry
+-- at most.
 pub record MayReplace (layout : Layout) (held : Held) (given : Bucket) : Type 0 where
   pub sound : IsSound given
   pub is_of : IsBucketOf layout held.number given
-  pub step : IsStep held.bucket given
+  pub event : IsEvent held.bucket given
 
 -- the place of the entry that was added, if one was
 abbrev pub place_added : List Entry → List Entry → List ℕ

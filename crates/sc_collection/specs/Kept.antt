@@ -1,5 +1,5 @@
 -- What a trail keeps of a connection, and when a connection has had enough.
-use Rattle.std.specs.Prelude.{ℕ, Bool, ◌||◌, List, length, nat_le}
+use Rattle.std.specs.Prelude.{ℕ, ◌+◌, Bool, ◌||◌, List, length, nat_le}
 use Rattle.sc_journal.specs.declared.stop.Stop.{Stop}
 
 -- the stops that were kept, in order, and how many requests were answered
@@ -14,6 +14,14 @@ request_limit = 1000
 -- the number of stops after which a connection takes no further request
 abbrev pub stop_limit : ℕ
 stop_limit = 65536
+
+-- the most stops of one request: two for each order of an update, and one for each bucket
+abbrev pub stops_of_request : ℕ
+stops_of_request = 8448
+
+-- how many stops a trail has room for: those after which no further request is taken, and those of one request more
+abbrev pub trail_room : ℕ
+trail_room = stop_limit + stops_of_request
 
 -- so many requests and stops are as many as a connection may have
 abbrev pub are_enough : (requests stops : ℕ) → Bool

@@ -1,25 +1,32 @@
 -- Which shapes a collection may have, and how it is laid out by one.
-use Rattle.std.specs.Prelude.{◌≡◌, ◌≤◌, ℕ, ◌+◌, ◌-◌, ◌*◌, ◌^◌, []}
-use Rattle.sc_router.specs.Route.{IsBucketCount}
+use Rattle.std.specs.Prelude.{◌≡◌, ◌==◌, ◌&&◌, Bool, true, nat_le, ℕ, ◌+◌, ◌-◌, ◌*◌, [], ◌∷◌}
+use Rattle.std.specs.List.{list_any}
 use Rattle.sc_cluster.specs.Map.{AreFirst}
+use Rattle.sc_journal.specs.Limits.{least_journal, greatest_journal}
 use Rattle.sc_journal.specs.Seen.{Layout, Seen}
 use Rattle.sc_collection.specs.declared.shape.Shape.{Shape}
 
--- the least limit of a journal: 16 entries, and one for each replica of a shard above the first
+-- the least limit of a journal: that of a bucket, and an entry for each replica of a shard above the first
 abbrev pub least_limit : Shape → ℕ
-least_limit shape = 16 + shape.shards * (shape.replicas - 1)
+least_limit shape = least_journal + shape.shards * (shape.replicas - 1)
+
+-- the number is in the range
+abbrev pub is_in_range : (least most : ℕ) → ℕ → Bool
+is_in_range least most number = nat_le least number && nat_le number most
+
+-- a power of two from 1 to 256
+abbrev pub is_bucket_count : ℕ → Bool
+is_bucket_count number = list_any (λ count. number == count) (1 ∷ 2 ∷ 4 ∷ 8 ∷ 16 ∷ 32 ∷ 64 ∷ 128 ∷ 256 ∷ [])
 
 -- each number of the shape is in its range
-pub record IsShape (shape : Shape) : Type 0 where
-  pub nodes_from : 1 ≤ shape.nodes
-  pub nodes_to : shape.nodes ≤ 16
-  pub shards_from : 1 ≤ shape.shards
-  pub shards_to : shape.shards ≤ 64
-  pub replicas_from : 1 ≤ shape.replicas
-  pub replicas_to : shape.replicas ≤ 4
-  pub buckets : IsBucketCount shape.buckets
-  pub limit_from : least_limit shape ≤ shape.log_limit
-  pub limit_to : shape.log_limit ≤ 2 ^ 24
+abbrev pub is_shape : Shape → Bool
+is_shape shape =
+    is_in_range 1 16 shape.nodes && is_in_range 1 64 shape.shards && is_in_range 1 4 shape.replicas && is_bucket_count shape.buckets
+    && is_in_range (least_limit shape) greatest_journal shape.log_limit
+
+-- it is one that a collection may have
+abbrev pub IsShape : Shape → Type 0
+IsShape shape = is_shape shape ≡ true
 
 -- the layout is that of the shape: each bucket begins with the map of its shards
 pub record HasShape (shape : Shape) (layout : Layout) : Type 0 where

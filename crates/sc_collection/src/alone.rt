@@ -1,5 +1,6 @@
-ghost use Rattle.std.specs.Prelude.{◌≡◌, ◌≤◌, ◌+◌, ◌^◌, None, IfOk, length};
+ghost use Rattle.std.specs.Prelude.{◌≡◌, ◌≤◌, ◌+◌, None, IfOk, length};
 ghost use Rattle.sc_cluster.specs.Map.{AreFirst};
+ghost use Rattle.sc_journal.specs.Limits.{least_journal, greatest_journal};
 ghost use Rattle.sc_journal.specs.Down.{all_followers};
 ghost use Rattle.sc_bucket.specs.Sound.{AreActive};
 ghost use Rattle.sc_collection.specs.Alone.{AreNew, seen_of};
@@ -46,8 +47,8 @@ fn new_slots(
     limit: u64,
 ) -> Result<Vec<Option<Bucket>>, AllocError>
     requires active { AreActive first.now }
-    requires least { 16 + length (all_followers first.now) ≤ limit }
-    requires most { limit ≤ 2 ^ 24 }
+    requires least { least_journal + length (all_followers first.now) ≤ limit }
+    requires most { limit ≤ greatest_journal }
     ensures count { IfOk result (λ slots. length slots.items ≡ buckets) }
     ensures each { IfOk result (λ slots. AreNew first.now limit slots.items) }
 {

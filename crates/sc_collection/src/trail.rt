@@ -1,5 +1,5 @@
 ghost use Rattle.std.specs.Prelude.{◌≡◌, ◌+◌, ◌<◌, ◌^◌, [], ◌∷◌, ◌++◌, length, slice_get, IfOk};
-ghost use Rattle.sc_collection.specs.Kept.{Kept, is_full, request_limit};
+ghost use Rattle.sc_collection.specs.Kept.{Kept, is_full, request_limit, trail_room};
 
 use crate::packed::PackedStop;
 use sc_journal::Stop;
@@ -12,9 +12,11 @@ const MAX_REQUESTS: u32 = 1_000;
 /// The number of stops after which a connection takes no further request.
 const MAX_STOPS: usize = 65_536;
 
-/// How many stops a trail has room for: those after which a connection takes no further request, two for each of the 4,096
-/// orders that one update may have, and one for each of 256 buckets.
-pub const ROOM: usize = MAX_STOPS + 2 * 4_096 + 256;
+/// The most stops of one request: two for each of the 4,096 orders that one update may have, and one for each of 256 buckets.
+const STOPS_OF_REQUEST: usize = 2 * 4_096 + 256;
+
+/// How many stops a trail has room for: those after which a connection takes no further request, and those of one request more.
+const ROOM: usize = MAX_STOPS + STOPS_OF_REQUEST;
 
 /// The stops of a connection, in order, and how many requests it has answered. All its memory is taken when it is made.
 #[derive(Debug, Drop)]
@@ -25,15 +27,14 @@ pub struct Trail {
 
 impl Model for Trail {
     ghost use Rattle.std.specs.Prelude.{◌≤◌, map, vec_capacity};
-    ghost use Rattle.sc_collection.specs.Kept.{Kept};
+    ghost use Rattle.sc_collection.specs.Kept.{Kept, trail_room};
     ghost use Rattle.sc_collection.specs.Packed.{unpacked};
-    ghost use Rattle.sc_collection.specs.declared.trail.TheConstants.{ROOM};
 
     ghost Value = { Kept };
 
     ghost view = { λ a. record { stops = map unpacked a.stops.items; requests = a.requests } };
 
-    ghost invariant = { λ a. ROOM ≤ vec_capacity a.stops };
+    ghost invariant = { λ a. trail_room ≤ vec_capacity a.stops };
 }
 
 impl Trail {
@@ -69,13 +70,6 @@ impl Trail {
         self.stops.get(at).map(|packed| packed.unpack())
     }
 
-    /// How many requests were answered.
-    pub fn requests(&self) -> u32
-        ensures { result ≡ self.now.requests }
-    {
-        self.requests
-    }
-
     /// Whether the connection has had its requests or its stops, and takes no further request.
     pub fn is_full(&self) -> bool
         ensures { result ≡ is_full self.now }
@@ -85,7 +79,7 @@ impl Trail {
 
     /// Keeps one more stop.
     pub fn keep(&mut self, stop: Stop)
-        requires room { length self.old.stops < ROOM }
+        requires room { length self.old.stops < trail_room }
         requires place { stop.place < 2 ^ 31 }
         ensures { self.new ≡ record { stops = self.old.stops ++ stop ∷ []; requests = self.old.requests } }
     {

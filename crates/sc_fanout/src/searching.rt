@@ -8,7 +8,7 @@ ghost use Rattle.sc_bucket.specs.Sound.{IsSound};
 ghost use Rattle.sc_bucket.specs.declared.standing.Searcher.{Searcher};
 ghost use Rattle.sc_journal.specs.Moments.{view_of};
 ghost use Rattle.sc_collection.specs.Desks.{IsDeskAtRest};
-ghost use Rattle.sc_collection.specs.declared.trail.TheConstants.{ROOM};
+ghost use Rattle.sc_collection.specs.Kept.{trail_room};
 ghost use Rattle.sc_fanout.specs.Searches.{SearchesBuckets};
 ghost use Rattle.sc_fanout.specs.Steps.{asks_for, is_asked, rows_in, found_in, AreOfSlices, AreAsked, LooksAtOne};
 
@@ -32,7 +32,7 @@ pub fn search<D: Desk>(
     ask: &Ask,
 ) -> Result<Page, AllocError>
     requires nothing_out { D.out desk.old ≡ None }
-    requires room { length trail.old.stops + (D.layout desk.old).buckets ≤ ROOM }
+    requires room { length trail.old.stops + (D.layout desk.old).buckets ≤ trail_room }
     ensures searched { SearchesBuckets (D.layout desk.old) (view_of (D.seen desk.old) trail.old.stops) (view_of (D.seen desk.new) trail.new.stops) ask.now result }
     ensures layout { D.layout desk.new ≡ D.layout desk.old }
     ensures rest { IsDeskAtRest (D.layout desk.new) (D.out desk.new) (D.seen desk.new) }
@@ -56,7 +56,7 @@ fn take_searchers<D: Desk>(
 ) -> Result<Vec<Searcher>, AllocError>
     requires nothing_out { D.out desk.old ≡ None }
     requires within { b < (D.layout desk.old).buckets }
-    requires room { length trail.old.stops < ROOM }
+    requires room { length trail.old.stops < trail_room }
     ensures looks { LooksAtOne (D.layout desk.old) (view_of (D.seen desk.old) trail.old.stops) (view_of (D.seen desk.new) trail.new.stops) b
         (λ journal. IfOk result (λ searchers. AreAsked (D.layout desk.old) b journal route.now searchers.items)) }
     ensures layout { D.layout desk.new ≡ D.layout desk.old }

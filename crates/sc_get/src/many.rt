@@ -1,7 +1,7 @@
 ghost use Rattle.std.specs.Prelude.{◌≡◌, ◌+◌, ◌≤◌, length};
 ghost use Rattle.sc_journal.specs.Moments.{view_of};
 ghost use Rattle.sc_collection.specs.Desks.{IsDeskAtRest};
-ghost use Rattle.sc_collection.specs.declared.trail.TheConstants.{ROOM};
+ghost use Rattle.sc_collection.specs.Kept.{trail_room};
 ghost use Rattle.sc_get.specs.Got.{AreGot};
 
 use crate::one::get_one;
@@ -18,8 +18,7 @@ pub fn get_many<D: Desk>(
     ids: &List<Id>,
 ) -> Result<List<Cell>, AllocError>
     requires rest { IsDeskAtRest (D.layout desk.old) (D.out desk.old) (D.seen desk.old) }
-    requires few { length ids.now ≤ 4096 }
-    requires room { length trail.old.stops + length ids.now ≤ ROOM }
+    requires room { length trail.old.stops + length ids.now ≤ trail_room }
     ensures got { AreGot (D.layout desk.old) (view_of (D.seen desk.old) trail.old.stops) (view_of (D.seen desk.new) trail.new.stops) ids.now result }
     ensures layout { D.layout desk.new ≡ D.layout desk.old }
     ensures rest { IsDeskAtRest (D.layout desk.new) (D.out desk.new) (D.seen desk.new) }

@@ -3,7 +3,7 @@ ghost use Rattle.std.specs.Option.{option_map};
 ghost use Rattle.std.specs.Arc.{arc_value};
 ghost use Rattle.sc_journal.specs.Moments.{view_of};
 ghost use Rattle.sc_collection.specs.Desks.{IsDeskAtRest};
-ghost use Rattle.sc_collection.specs.declared.trail.TheConstants.{ROOM};
+ghost use Rattle.sc_collection.specs.Kept.{trail_room};
 ghost use Rattle.sc_get.specs.Got.{IsGot, live};
 
 use sc_collection::{Desk, Stop, Trail};
@@ -19,7 +19,7 @@ pub fn get_one<D: Desk>(
     id: &Id,
 ) -> Result<Option<Cell>, AllocError>
     requires nothing_out { D.out desk.old ≡ None }
-    requires room { length trail.old.stops < ROOM }
+    requires room { length trail.old.stops < trail_room }
     ensures got { IsGot (D.layout desk.old) (view_of (D.seen desk.old) trail.old.stops) (view_of (D.seen desk.new) trail.new.stops) id.now result }
     ensures layout { D.layout desk.new ≡ D.layout desk.old }
     ensures rest { IsDeskAtRest (D.layout desk.new) (D.out desk.new) (D.seen desk.new) }

@@ -8,7 +8,6 @@ use Rattle.sc_record.specs.declared.slice.CoreId.{CoreId}
 use Rattle.sc_journal.specs.Journal.{write_at}
 use Rattle.sc_journal.specs.Seen.{Layout, Seen, Extends, stops_at, made_at, entries_at}
 use Rattle.sc_journal.specs.declared.stop.Stop.{Stop}
-use Rattle.sc_bucket.specs.Cores.{without_room}
 use Rattle.sc_bucket.specs.declared.bucket.Bucket.{Bucket}
 use Rattle.sc_bucket.specs.Kept.{Sent}
 use Rattle.sc_bucket.specs.Sound.{IsSound}

@@ -9,7 +9,7 @@ use Rattle.sc_record.specs.declared.order.Order.{Order}
 use Rattle.sc_record.specs.declared.write.Write.{Write}
 use Rattle.sc_journal.specs.Journal.{as_write, write_at}
 use Rattle.sc_journal.specs.Outcomes.{Outcome, accepted, conflict, partial, log_full, out_of_memory, IsOutcome}
-use Rattle.sc_journal.specs.Seen.{Layout, Seen, journal_at}
+use Rattle.sc_journal.specs.Seen.{Layout, Seen, basis_of, journal_at}
 use Rattle.sc_journal.specs.Batches.{OrderAnswer, IsOrderAnswer, HasStops, WritesOnce, ack_made, ack_of, ack_written, acknowledged, order_stops}
 use Rattle.sc_journal.specs.declared.stop.Stop.{Stop}
 
@@ -39,7 +39,7 @@ alone seen stops first has =
 
 -- an order has one write where it was accepted, and else none
 one_by : (layout : Layout) (seen : Seen) (order : Order) (timestamp : ℕ) (outcome : Outcome) (stops : List Stop) (first : Stop)
-    → IsOutcome layout.limit layout.first (journal_at seen first) order timestamp outcome (seen.journals first.lock)
+    → IsOutcome (basis_of layout) (journal_at seen first) order timestamp outcome (seen.journals first.lock)
     → HasStops seen outcome stops first
     → filter_map (ack_made seen) stops ≡ cons_option (acknowledged order.id outcome) []
 one_by layout seen order timestamp (accepted version) stops first is has =

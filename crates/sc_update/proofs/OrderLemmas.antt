@@ -1,5 +1,5 @@
 -- What an order is answered at its stops, by what is seen later.
-use Rattle.std.proofs.Common.{◌≡◌, ℕ, ◌+◌, ◌<◌, Bool, true, false, cond, List, [], ◌∷◌, ◌++◌, length, take, Some, Option, Result, Ok, Err, refl, sym, ap, ◌∙◌, subst}
+use Rattle.std.proofs.Common.{◌≡◌, ℕ, ◌<◌, Bool, true, false, cond, List, [], ◌∷◌, ◌++◌, length, take, Some, Option, Result, Ok, Err, refl, sym, ap, ◌∙◌, subst}
 use Rattle.std.specs.Prelude.{IsSome, IfOk, OnErr, is_ok, not, slice_get}
 use Rattle.std.specs.Arc.{arc_value}
 use Rattle.std.proofs.lemmas.List.{append-nil}
@@ -12,7 +12,8 @@ use Rattle.sc_record.specs.declared.order.Order.{Order}
 use Rattle.sc_router.specs.Route.{bucket_of}
 use Rattle.sc_journal.specs.Journal.{write_at, is_settled}
 use Rattle.sc_journal.specs.Outcomes.{Outcome, accepted, conflict, partial, log_full, out_of_memory, IsOutcome}
-use Rattle.sc_journal.specs.Seen.{Layout, Seen}
+use Rattle.sc_journal.specs.Seen.{Layout, Seen, basis_of}
+use Rattle.sc_journal.specs.Splits.{Basis}
 use Rattle.sc_journal.specs.Batches.{IsSettling}
 use Rattle.sc_journal.specs.declared.stop.Stop.{Stop}
 use Rattle.sc_journal.proofs.JournalLemmas.{write_at-push_end, write_at-append, write_at_within}
@@ -20,6 +21,7 @@ use Rattle.sc_journal.proofs.ListLemmas.{slice_get-append_left, slice_get-append
 use Rattle.sc_bucket.specs.declared.bucket.Bucket.{Bucket}
 use Rattle.sc_bucket.specs.declared.accept.Accepted.{Accepted}
 use Rattle.sc_bucket.specs.declared.accept.AcceptFault.{AcceptFault}
+use Rattle.sc_bucket.specs.Room.{basis}
 use Rattle.sc_bucket.specs.Sound.{IsSound}
 use Rattle.sc_bucket.specs.Events.{Accepts, IsSameButRoom, outcome_of}
 use Rattle.sc_collection.specs.Desks.{Held, IsBucketOf, MayReplace, SeesGiven}
@@ -49,17 +51,17 @@ written-later journal later place begins written =
     subst (λ (w : Option Write). IsSome w) (sym (write_at-later journal later place begins (write_at_within journal place written))) written
 
 -- what an order is answered stays so
-outcome-later : (limit : ℕ) (first : _) (before : List Entry) (order : Order) (now : ℕ) (outcome : Outcome) (after later : List Entry)
-    → IsPrefix after later → IsOutcome limit first before order now outcome after → IsOutcome limit first before order now outcome later
-outcome-later limit first before order now (accepted version) after later begins is =
+outcome-later : (base : Basis) (before : List Entry) (order : Order) (now : ℕ) (outcome : Outcome) (after later : List Entry)
+    → IsPrefix after later → IsOutcome base before order now outcome after → IsOutcome base before order now outcome later
+outcome-later base before order now (accepted version) after later begins is =
     let write : Write = is.2.0 in
     let there : write_at after (length before) ≡ Some write = is.2.1 in
     let some : IsSome (write_at after (length before)) = subst (λ (w : Option Write). IsSome w) (sym there) refl in
     (is.0, is.1, (write, write_at-later after later (length before) begins (write_at_within after (length before) some) ∙ there, is.2.2, is.2.3))
-outcome-later limit first before order now (conflict version) after later begins is = is
-outcome-later limit first before order now (partial name) after later begins is = is
-outcome-later limit first before order now log_full after later begins is = is
-outcome-later limit first before order now out_of_memory after later begins is = is
+outcome-later base before order now (conflict version) after later begins is = is
+outcome-later base before order now (partial name) after later begins is = is
+outcome-later base before order now log_full after later begins is = is
+outcome-later base before order now out_of_memory after later begins is = is
 
 -- the entries that an order adds: its write where it is accepted
 pub accepted-entries : (old new : Bucket) (order : Order) (now : ℕ) (answer : Result Accepted AcceptFault)
@@ -68,11 +70,15 @@ pub accepted-entries : (old new : Bucket) (order : Order) (now : ℕ) (answer : 
 accepted-entries old new order now (Ok got) accepts same = (entry.Write accepts.cell ∷ [], accepts.entries, refl)
 accepted-entries old new order now (Err fault) accepts same = ([], same.entries ∙ sym (append-nil old.journal.entries), refl)
 
+-- the journal of a layout's bucket is based on the layout's map and limit
+same_basis : (layout : Layout) (number : ℕ) (bucket : Bucket) → IsBucketOf layout number bucket → basis bucket ≡ basis_of layout
+same_basis layout number bucket of = λ i. record { first = of.first i; limit = of.limit i }
+
 -- and an order is answered at that stop
 pub tries : (layout : Layout) (old new : Seen) (held : Held) (given : Bucket) (order : Order) (now : ℕ) (answer : Result Accepted AcceptFault)
     → IsBucketOf layout held.number held.bucket → held.number ≡ bucket_of order.id layout.buckets
     → IfOk answer (λ accepted. Accepts held.bucket order now accepted.version given) → OnErr answer (IsSameButRoom held.bucket given)
-    → IsOutcome held.bucket.limit held.bucket.first held.bucket.journal.entries order now (outcome_of answer) given.journal.entries
+    → IsOutcome (basis held.bucket) held.bucket.journal.entries order now (outcome_of answer) given.journal.entries
     → SeesGiven held given old new
     → Tries layout new order now (stop_at held.number held.bucket.journal.entries (is_ok answer)) answer
 tries layout old new held given order now answer of of_id accepts same outcome sees =
@@ -84,10 +90,10 @@ tries layout old new held given order now answer of of_id accepts same outcome s
       outcome = λ later more.
           let begins : IsPrefix given.journal.entries (later.journals held.number) = subst (λ (entries : List Entry). IsPrefix entries (later.journals held.number)) sees.journal (more.journals held.number) in
           let before : take (length journal) (later.journals held.number) ≡ journal = take-prefix journal (later.journals held.number) (IsPrefix-then journal given.journal.entries (later.journals held.number) (added.0, sym added.1) begins) in
-          subst (λ (entries : List Entry). IsOutcome layout.limit layout.first entries order now (outcome_of answer) (later.journals held.number)) (sym before)
-          (subst (λ n. IsOutcome n layout.first journal order now (outcome_of answer) (later.journals held.number)) of.limit
-          (subst (λ (slices : _). IsOutcome held.bucket.limit slices journal order now (outcome_of answer) (later.journals held.number)) of.first
-          (outcome-later held.bucket.limit held.bucket.first journal order now (outcome_of answer) given.journal.entries (later.journals held.number) begins outcome)));
+          subst (λ (entries : List Entry). IsOutcome (basis_of layout) entries order now (outcome_of answer) (later.journals held.number)) (sym before)
+          (subst (λ (base : Basis). IsOutcome base journal order now (outcome_of answer) (later.journals held.number))
+          (same_basis layout held.number held.bucket of)
+          (outcome-later (basis held.bucket) journal order now (outcome_of answer) given.journal.entries (later.journals held.number) begins outcome));
     }
   where
     journal : List Entry

@@ -5,7 +5,7 @@ use Rattle.sc_record.specs.declared.order.Order.{Order}
 use Rattle.sc_router.specs.Route.{bucket_of}
 use Rattle.sc_journal.specs.Journal.{write_at, is_settled}
 use Rattle.sc_journal.specs.Outcomes.{Outcome, IsOutcome}
-use Rattle.sc_journal.specs.Seen.{Layout, Seen, FromNowOn, journal_at}
+use Rattle.sc_journal.specs.Seen.{Layout, Seen, FromNowOn, basis_of, journal_at}
 use Rattle.sc_journal.specs.Moments.{View, Moment, Keeps}
 use Rattle.sc_journal.specs.Batches.{OrderAnswer, AnswersOrders, GivesTimestamps, IsSettling, goes_on, deletes, accepted_adds, accepted_deletes, order_stops, order_timestamps}
 use Rattle.sc_journal.specs.Committed.{CommitOutcome, committed_now, commit_full, commit_out_of_memory, IsCommitOutcome, CommitAnswer, AnswersCommits, commit_stops, worst}
@@ -52,7 +52,7 @@ pub record Tries (layout : Layout) (seen : Seen) (order : Order) (now : ℕ) (fi
   pub made : first.made ≡ is_ok answer
   pub written : IfOk answer (λ accepted. IsSome (write_at (seen.journals first.lock) first.place))
   pub outcome : FromNowOn seen
-      (λ later. IsOutcome layout.limit layout.first (journal_at later first) order now (outcome_of answer) (later.journals first.lock))
+      (λ later. IsOutcome (basis_of layout) (journal_at later first) order now (outcome_of answer) (later.journals first.lock))
 
 -- The write at the place is settled: by an entry that was made for it, or it was settled already and nothing changed.
 abbrev pub SettlesWhere : Bool → Bucket → ℕ → Bucket → Type 0

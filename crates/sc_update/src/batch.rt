@@ -3,7 +3,8 @@ ghost use Rattle.sc_journal.specs.Moments.{moment_of};
 ghost use Rattle.sc_journal.specs.Batches.{deletes};
 ghost use Rattle.sc_bucket.specs.Events.{outcome_of};
 ghost use Rattle.sc_collection.specs.Desks.{IsDeskAtRest};
-ghost use Rattle.sc_collection.specs.declared.trail.TheConstants.{ROOM};
+ghost use Rattle.sc_collection.specs.Kept.{trail_room};
+ghost use Rattle.sc_commands.specs.Updates.{order_limit};
 ghost use Rattle.sc_update.specs.Updated.{IsUpdated, order_fault, commit_fault};
 ghost use Rattle.sc_update.specs.Steps.{AnswersAll, Takes, commit_outcome, HasRoomToShowOne, ending};
 
@@ -39,8 +40,8 @@ pub fn update<D: Desk, C: Clock>(
     batch: &Batch,
 ) -> BatchEnd
     requires rest { IsDeskAtRest (D.layout desk.old) (D.out desk.old) (D.seen desk.old) }
-    requires orders { length batch.now.orders ≤ 4096 }
-    requires room { length trail.old.stops + 2 * length batch.now.orders + (D.layout desk.old).buckets ≤ ROOM }
+    requires orders { length batch.now.orders ≤ order_limit }
+    requires room { length trail.old.stops + 2 * length batch.now.orders + (D.layout desk.old).buckets ≤ trail_room }
     ensures updated { IsUpdated C.gives (D.layout desk.old) batch.now
         (moment_of (D.seen desk.old) trail.old.stops clock.old) (moment_of (D.seen desk.new) trail.new.stops clock.new) result }
     ensures layout { D.layout desk.new ≡ D.layout desk.old }
@@ -74,8 +75,8 @@ fn take_orders<D: Desk, C: Clock>(
     batch: &Batch,
 ) -> BatchEnd
     requires rest { IsDeskAtRest (D.layout desk.old) (D.out desk.old) (D.seen desk.old) }
-    requires orders { length batch.now.orders ≤ 4096 }
-    requires room { length trail.old.stops + 2 * length batch.now.orders ≤ ROOM }
+    requires orders { length batch.now.orders ≤ order_limit }
+    requires room { length trail.old.stops + 2 * length batch.now.orders ≤ trail_room }
     ensures answers { AnswersAll C.gives (D.layout desk.old) batch.now
         (moment_of (D.seen desk.old) trail.old.stops clock.old) (moment_of (D.seen desk.new) trail.new.stops clock.new) result }
     ensures layout { D.layout desk.new ≡ D.layout desk.old }
@@ -108,7 +109,7 @@ fn take_order<D: Desk, C: Clock>(
     flags: Flags,
 ) -> Option<AcceptFault>
     requires rest { IsDeskAtRest (D.layout desk.old) (D.out desk.old) (D.seen desk.old) }
-    requires room { length trail.old.stops + 2 ≤ ROOM }
+    requires room { length trail.old.stops + 2 ≤ trail_room }
     requires shows { flags.versions ≡ true → HasRoomToShowOne (deletes order.now.change) shown.old }
     ensures takes { Takes C.gives (D.layout desk.old) flags order.now
         (record { moment = moment_of (D.seen desk.old) trail.old.stops clock.old; shown = shown.old; ended = None })

@@ -1,6 +1,6 @@
 ghost use Rattle.std.specs.Prelude.{◌≡◌, ◌+◌, ◌<◌, ◌≤◌, None, length};
 ghost use Rattle.sc_collection.specs.Desks.{IsDeskAtRest};
-ghost use Rattle.sc_collection.specs.declared.trail.TheConstants.{ROOM};
+ghost use Rattle.sc_collection.specs.Kept.{trail_room};
 ghost use Rattle.sc_journal.specs.Moments.{view_of};
 ghost use Rattle.sc_journal.specs.Committed.{worse};
 ghost use Rattle.sc_update.specs.Steps.{CommitsAll, CommitsOne, commit_outcome};
@@ -16,7 +16,7 @@ pub(crate) fn commit_all<D: Desk>(
     trail: &mut Trail,
 ) -> Option<CommitFault>
     requires nothing_out { D.out desk.old ≡ None }
-    requires room { length trail.old.stops + (D.layout desk.old).buckets ≤ ROOM }
+    requires room { length trail.old.stops + (D.layout desk.old).buckets ≤ trail_room }
     ensures committed { CommitsAll (D.layout desk.old) (D.layout desk.old).buckets
         (view_of (D.seen desk.old) trail.old.stops) (view_of (D.seen desk.new) trail.new.stops) result }
     ensures layout { D.layout desk.new ≡ D.layout desk.old }
@@ -34,7 +34,7 @@ pub(crate) fn commit_all<D: Desk>(
 fn commit_at<D: Desk>(alloc: Global, desk: &mut D, trail: &mut Trail, b: u32) -> Option<CommitFault>
     requires nothing_out { D.out desk.old ≡ None }
     requires within { b < (D.layout desk.old).buckets }
-    requires room { length trail.old.stops < ROOM }
+    requires room { length trail.old.stops < trail_room }
     ensures committed { CommitsOne (D.layout desk.old) (view_of (D.seen desk.old) trail.old.stops) (view_of (D.seen desk.new) trail.new.stops) b result }
     ensures layout { D.layout desk.new ≡ D.layout desk.old }
     ensures rest { IsDeskAtRest (D.layout desk.new) (D.out desk.new) (D.seen desk.new) }

@@ -4,7 +4,7 @@ ghost use Rattle.sc_journal.specs.Journal.{write_at};
 ghost use Rattle.sc_journal.specs.Moments.{view_of, moment_of, Keeps};
 ghost use Rattle.sc_bucket.specs.Sound.{IsSound};
 ghost use Rattle.sc_bucket.specs.Events.{outcome_of};
-ghost use Rattle.sc_collection.specs.declared.trail.TheConstants.{ROOM};
+ghost use Rattle.sc_collection.specs.Kept.{trail_room};
 ghost use Rattle.sc_collection.specs.Desks.{IsDeskAtRest};
 ghost use Rattle.sc_update.specs.Steps.{MakeNoEntry, Holds, HoldsWhereIdle, Tries, SettlesFirst, SettlesWhere, CarriesOut};
 
@@ -31,7 +31,7 @@ fn accept_at<D: Desk>(
     requires nothing_out { D.out desk.old ≡ None }
     requires within { b < (D.layout desk.old).buckets }
     requires bucket { b ≡ bucket_of order.now.id (D.layout desk.old).buckets }
-    requires room { length trail.old.stops < ROOM }
+    requires room { length trail.old.stops < trail_room }
     ensures keeps { Keeps (D.layout desk.old) (view_of (D.seen desk.old) trail.old.stops) (view_of (D.seen desk.new) trail.new.stops) (result.0 ∷ []) }
     ensures tried { Tries (D.layout desk.old) (D.seen desk.new) order.now now result.0 result.1 }
     ensures layout { D.layout desk.new ≡ D.layout desk.old }
@@ -98,7 +98,7 @@ fn settle_at<D: Desk>(desk: &mut D, trail: &mut Trail, first: Stop)
     requires nothing_out { D.out desk.old ≡ None }
     requires within { first.lock < (D.layout desk.old).buckets }
     requires written { IsSome (write_at ((D.seen desk.old).journals first.lock) first.place) }
-    requires room { length trail.old.stops < ROOM }
+    requires room { length trail.old.stops < trail_room }
     ensures settles { SettlesFirst (D.layout desk.old) (view_of (D.seen desk.old) trail.old.stops) (view_of (D.seen desk.new) trail.new.stops) first }
     ensures layout { D.layout desk.new ≡ D.layout desk.old }
     ensures rest { IsDeskAtRest (D.layout desk.new) (D.out desk.new) (D.seen desk.new) }
@@ -138,7 +138,7 @@ pub(crate) fn carry_out<D: Desk, C: Clock>(
     order: &Order,
 ) -> Result<Accepted, AcceptFault>
     requires nothing_out { D.out desk.old ≡ None }
-    requires room { length trail.old.stops + 2 ≤ ROOM }
+    requires room { length trail.old.stops + 2 ≤ trail_room }
     ensures carried { CarriesOut C.gives (D.layout desk.old) order.now
         (moment_of (D.seen desk.old) trail.old.stops clock.old) (moment_of (D.seen desk.new) trail.new.stops clock.new) (outcome_of result) }
     ensures layout { D.layout desk.new ≡ D.layout desk.old }

@@ -11,3 +11,4 @@ pub mod MessageEndLemmas
 pub mod QueryLemmas
 pub mod AskedLemmas
 pub mod OwnWritesLemmas
+pub mod OwnReadsLemmas

@@ -1,5 +1,5 @@
--- A get after an accepted order of the same connection shows the order's version of the id or a later one.
-use Rattle.std.proofs.Common.{◌≡◌, ℕ, zero, suc, ◌+◌, ◌-◌, ◌<◌, ◌≤◌, inl, inr, true, cond, List, [], ◌∷◌, ◌++◌, length, take, drop, Option, Some, None, refl, sym, ap, ◌∙◌, subst, arith, append_assoc, Contains}
+-- The write of an accepted order stands in all that is seen after its exchange, and is the last of its id there or followed by a later one.
+use Rattle.std.proofs.Common.{◌≡◌, ℕ, zero, suc, ◌+◌, ◌-◌, ◌<◌, ◌≤◌, inl, inr, Bool, true, false, cond, List, [], ◌∷◌, ◌++◌, length, take, drop, Option, Some, None, refl, sym, ap, ◌∙◌, subst, arith, append_assoc, Contains}
 use Rattle.std.specs.Prelude.{◌≤ℤ◌, ◌==◌, ℤ, IsSome}
 use Rattle.std.specs.List.{filter, cons_option}
 use Rattle.std.proofs.lemmas.Bool.Decides.{nat_tests}
@@ -13,13 +13,12 @@ use Rattle.sc_record.specs.Writes.{is_of}
 use Rattle.sc_record.specs.declared.entry.Entry.{Entry}
 use Rattle.sc_record.specs.declared.write.Write.{Write}
 use Rattle.sc_router.specs.Route.{bucket_of}
-use Rattle.sc_model.specs.Replies.{Reply}
 use Rattle.sc_commands.specs.declared.batch.Batch.{Batch}
 use Rattle.sc_update.specs.Updated.{UpdateEnd}
 use Rattle.sc_journal.specs.Journal.{write_at, writes_of, last_write}
 use Rattle.sc_journal.specs.Legal.{IsLegal}
 use Rattle.sc_journal.specs.Outcomes.{Outcome, accepted, IsOutcome}
-use Rattle.sc_journal.specs.Seen.{Layout, Seen, SeesMore, IsStopWithin, ComeInOrder, AreLegal, place_after, journal_at, stops_at, entries_at}
+use Rattle.sc_journal.specs.Seen.{Layout, Seen, SeesMore, IsStopWithin, ComeInOrder, AreLegal, basis_of, place_after, journal_at, stops_at, entries_at}
 use Rattle.sc_journal.specs.Batches.{OrderAnswer, IsOrderAnswer, HasStops, order_stops}
 use Rattle.sc_journal.specs.Committed.{commit_stops}
 use Rattle.sc_journal.specs.declared.stop.Stop.{Stop}
@@ -30,9 +29,9 @@ use Rattle.sc_journal.proofs.VersionLemmas.{legal_newest}
 use Rattle.sc_journal.proofs.ExtendsLemmas.{IsPrefix-length, entries-grow, entries-bucket}
 use Rattle.sc_journal.proofs.GoesOnLemmas.{SeesMore-self, SeesMore-then, SeesMore-by}
 use Rattle.sc_session.specs.Requests.{Asked, asked, not_built, refused, update, get, get_ids, select}
-use Rattle.sc_session.specs.Answers.{Answer, replied, ran_out, Trace, IsAnswer, EndsBatch, read_trace, get_reply}
-use Rattle.sc_session.specs.Connection.{Exchange, IsExchange, AreExchanges, exchanges_of}
-use Rattle.sc_session.specs.Laws.{AcceptsOrderFor, IsLastSince, ShowsSince, ExchangesShowOwnWrites, ConnectionsShowOwnWrites}
+use Rattle.sc_session.specs.Answers.{Answer, replied, ran_out, Trace, IsAnswer, EndsBatch, read_trace}
+use Rattle.sc_session.specs.Connection.{Exchange, IsExchange, AreExchanges}
+use Rattle.sc_session.specs.Laws.{AcceptsOrderFor, IsLastSince}
 
 -- what was seen before exchanges is seen after them
 sees_more : (layout : Layout) (old : Seen) (exchanges : List Exchange) (new : Seen) → AreExchanges layout old exchanges new → SeesMore old new
@@ -136,7 +135,7 @@ last_since layout journal id version made legal stands shown = by (last_write jo
   )
 
 -- The write of an order that was accepted, at its place in the journal of the id's bucket: it was seen once the exchange was over.
-record IsMade (layout : Layout) (now later : Seen) (id : List ℕ) (version : ℤ) : Type 0 where
+pub record IsMade (layout : Layout) (now later : Seen) (id : List ℕ) (version : ℤ) : Type 0 where
   pub place : ℕ
   pub write : Write
   pub at : write_at (later.journals (bucket_of id layout.buckets)) place ≡ Some write
@@ -157,11 +156,11 @@ module _ (layout : Layout) (id : List ℕ) (some_bucket : 0 < layout.buckets) wh
       → one.outcome ≡ accepted version → ((stop : Stop) → Contains one.stops stop → IsStopWithin layout now stop) → SeesMore now later
       → IsMade layout now later id version
   order_made now later version one is own outcome within more = by is.first is.lock
-      (subst (λ (o : Outcome). IsOutcome layout.limit layout.first (journal_at later is.first) one.order one.timestamp o (later.journals is.first.lock)) outcome is.outcome)
+      (subst (λ (o : Outcome). IsOutcome (basis_of layout) (journal_at later is.first) one.order one.timestamp o (later.journals is.first.lock)) outcome is.outcome)
       (subst (λ (o : Outcome). HasStops later o one.stops is.first) outcome is.stops)
     where
       by : (first : Stop) → first.lock ≡ bucket_of one.order.id layout.buckets
-          → IsOutcome layout.limit layout.first (journal_at later first) one.order one.timestamp (accepted version) (later.journals first.lock)
+          → IsOutcome (basis_of layout) (journal_at later first) one.order one.timestamp (accepted version) (later.journals first.lock)
           → HasStops later (accepted version) one.stops first
           → IsMade layout now later id version
       by first at_bucket came has =
@@ -207,79 +206,75 @@ module _ (layout : Layout) (id : List ℕ) (some_bucket : 0 < layout.buckets) wh
           (Contains-append_left (order_stops x.trace.answers) (commit_stops x.trace.commits) stop
           (stop_of_order x.trace.answers accepts.answer stop accepts.given there)))
 
-  -- a get has one stop, at the journal of the id's bucket and after all that was seen of it before
-  get_read : (before later : Seen) (x : Exchange) (reply : Reply) → IsExchange layout before x → SeesMore x.seen later
-      → asked x.request ≡ get id → x.answer ≡ replied reply
-      → (stop : Stop) × (x.trace.stops ≡ stop ∷ []) × (stop.lock ≡ lock) × (entries_at layout before lock ≤ stop.place)
-      × (reply ≡ get_reply (last_write (journal_at later stop) id))
-  get_read before later x reply is more asks replies = (stop, stops, here, in_turn.0, told.2) where
-    told : IsAnswer layout later (get id) x.trace (replied reply)
-    told = subst (λ (answer : Answer). IsAnswer layout later (get id) x.trace answer) replies
-        (subst (λ (what : Asked). IsAnswer layout later what x.trace x.answer) asks (is.answered later more))
-
-    stop : Stop
-    stop = told.0
-
-    stops : x.trace.stops ≡ stop ∷ []
-    stops = ap (λ (trace : Trace). trace.stops) told.1.trace_is
-
-    here : stop.lock ≡ lock
-    here = told.1.reads.0.lock
-
-    in_turn : ComeInOrder (entries_at layout before lock) (stop ∷ [])
-    in_turn =
+  -- the stops at the lock come in order from there on, so each of them is there or after it
+  pub from_on : (from : ℕ) (before : List Stop) (stop : Stop) (after : List Stop) → stop.lock ≡ lock
+      → ComeInOrder from (stops_at lock (before ++ stop ∷ after)) → from ≤ stop.place
+  from_on from [] stop after here in_order = first.0 where
+    first : ComeInOrder from (stop ∷ stops_at lock after)
+    first =
         let same : (stop.lock == lock) ≡ true = grind (arith, nat_tests, here) in
-        subst (λ b. ComeInOrder (entries_at layout before lock) (cond b (stop ∷ []) [])) same
-        (subst (λ (ss : List Stop). ComeInOrder (entries_at layout before lock) (stops_at lock ss)) stops (is.goes.extends.ascend lock))
+        subst (λ b. ComeInOrder from (cond b (stop ∷ stops_at lock after) (stops_at lock after))) same in_order
+  from_on from (other ∷ before) stop after here in_order =
+      by (other.lock == lock) (from_on (place_after other) before stop after here) (from_on from before stop after here) in_order
+    where
+      rest : List Stop
+      rest = stops_at lock (before ++ stop ∷ after)
 
-  -- what was made before the stop of a get is shown by it, or a later write
-  shows_since : (old between new : Seen) (x : Exchange) (version : ℤ) (reply : Reply) → AreLegal layout new → IsMade layout old new id version
-      → SeesMore old between → IsExchange layout between x → SeesMore x.seen new → asked x.request ≡ get id → x.answer ≡ replied reply
-      → ShowsSince layout new x id version
-  shows_since old between new x version reply legal made grows is more asks replies = record {
-    stop = stop;
-    last = last.0;
-    stops_are = read.1;
-    lock = read.2;
-    since = last.1;
-    answer_is = replies ∙ ap replied (read.4 ∙ ap get_reply last.1.last_is);
-  } where
-    read : (stop : Stop) × (x.trace.stops ≡ stop ∷ []) × (stop.lock ≡ lock) × (entries_at layout between lock ≤ stop.place)
-        × (reply ≡ get_reply (last_write (journal_at new stop) id))
-    read = get_read between new x reply is more asks replies
+      no_earlier : (made : Bool) → other.place ≤ cond made (other.place + 1) other.place
+      no_earlier true = omega arith
+      no_earlier false = omega arith
 
-    stop : Stop
-    stop = read.0
+      by : (b : Bool) → (ComeInOrder (place_after other) rest → place_after other ≤ stop.place) → (ComeInOrder from rest → from ≤ stop.place)
+          → ComeInOrder from (cond b (other ∷ rest) rest) → from ≤ stop.place
+      by true after_it as_before come =
+          let later : place_after other ≤ stop.place = after_it come.1 in
+          let most : other.place ≤ place_after other = no_earlier other.made in
+          omega (arith, come.0, later, most)
+      by false after_it as_before come = as_before come
 
-    journal : List Entry
-    journal = new.journals lock
+  -- what was made before is the last write of the id at a later stop of its bucket, or a later write is
+  pub since_at : (old between new : Seen) (version : ℤ) (stop : Stop) → AreLegal layout new → IsMade layout old new id version
+      → SeesMore old between → stop.lock ≡ lock → entries_at layout between lock ≤ stop.place
+      → (last : Write) × IsLastSince (journal_at new stop) id version last
+  since_at old between new version stop legal made grows at_lock after =
+      subst (λ n. (last : Write) × IsLastSince (take stop.place (new.journals n)) id version last) (sym at_lock)
+      (last_since layout (take stop.place journal) id version made.write begins_legal
+      (written_before journal made.place stop.place id made.write made.at made.id_is here) made.shown)
+    where
+      journal : List Entry
+      journal = new.journals lock
 
-    here : made.place < stop.place
-    here =
-        let within : made.place < entries_at layout old lock = made.within in
-        let grown : entries_at layout old lock ≤ entries_at layout between lock = entries-grow layout old between grows.journals grows.board lock in
-        let after : entries_at layout between lock ≤ stop.place = read.3 in
-        omega arith
+      here : made.place < stop.place
+      here =
+          let within : made.place < entries_at layout old lock = made.within in
+          let grown : entries_at layout old lock ≤ entries_at layout between lock = entries-grow layout old between grows.journals grows.board lock in
+          omega (arith, within, grown, after)
 
-    begins_legal : IsLegal layout.first (take stop.place journal)
-    begins_legal = IsLegal-prefix layout.first (take stop.place journal) (drop stop.place journal)
-        (subst (IsLegal layout.first) (sym (take-append-drop stop.place journal)) (legal lock is_bucket))
+      begins_legal : IsLegal layout.first (take stop.place journal)
+      begins_legal = IsLegal-prefix layout.first (take stop.place journal) (drop stop.place journal)
+          (subst (IsLegal layout.first) (sym (take-append-drop stop.place journal)) (legal lock is_bucket))
 
-    last : (last : Write) × IsLastSince (journal_at new stop) id version last
-    last = subst (λ n. (last : Write) × IsLastSince (take stop.place (new.journals n)) id version last) (sym read.2)
-        (last_since layout (take stop.place journal) id version made.write begins_legal
-        (written_before journal made.place stop.place id made.write made.at made.id_is here) made.shown)
+-- an exchange comes after one that accepted an order for the id: when it came the order's write was made, and it was seen
+pub record ReadsAfter (layout : Layout) (new : Seen) (writing reading : Exchange) (id : List ℕ) (version : ℤ) : Type 0 where
+  pub between : Seen
+  pub made : IsMade layout writing.seen new id version
+  pub grows : SeesMore writing.seen between
+  pub is : IsExchange layout between reading
+  pub more : SeesMore reading.seen new
 
-pub exchanges_show_own_writes : ExchangesShowOwnWrites
-exchanges_show_own_writes layout old new exchanges some_bucket are legal before between after writing reading id version reply is accepts asks replies =
-    let one = one_of layout old before writing (between ++ reading ∷ after) new (subst (λ (xs : List Exchange). AreExchanges layout old xs new) (is ∙ append_assoc before (writing ∷ between) (reading ∷ after)) are) in
+-- so does each later one of several exchanges
+pub reads_after : (layout : Layout) (old new : Seen) (exchanges before between after : List Exchange) (writing reading : Exchange) (id : List ℕ) (version : ℤ)
+    → 0 < layout.buckets → AreExchanges layout old exchanges new → exchanges ≡ before ++ writing ∷ between ++ reading ∷ after
+    → AcceptsOrderFor writing id version → ReadsAfter layout new writing reading id version
+reads_after layout old new exchanges before between after writing reading id version some_bucket are is accepts =
+    let one = one_of layout old before writing (between ++ reading ∷ after) new
+    (subst (λ (xs : List Exchange). AreExchanges layout old xs new) (is ∙ append_assoc before (writing ∷ between) (reading ∷ after)) are) in
     let two = one_of layout writing.seen between reading after new one.3 in
-    let made = exchange_made layout id some_bucket one.0 new writing version one.2 accepts
-    (sees_more layout writing.seen (between ++ reading ∷ after) new one.3) in
-    shows_since layout id some_bucket writing.seen two.0 new reading version reply legal made two.1 two.2
-    (sees_more layout reading.seen after new two.3) asks replies
-
-pub connections_show_own_writes : {C : Type 0} (gives : C → ℕ → C → Type 0) → ConnectionsShowOwnWrites gives
-connections_show_own_writes gives layout before after end some_bucket served =
-    exchanges_show_own_writes layout before.moment.view.seen after.moment.view.seen (served.exchanges ++ exchanges_of served.last) some_bucket
-    served.traces.each served.legal
+    record {
+      between = two.0;
+      made = exchange_made layout id some_bucket one.0 new writing version one.2 accepts
+          (sees_more layout writing.seen (between ++ reading ∷ after) new one.3);
+      grows = two.1;
+      is = two.2;
+      more = sees_more layout reading.seen after new two.3;
+    }

@@ -1,5 +1,5 @@
 -- Laws of a connection's exchanges, above their definitions.
-use Rattle.std.specs.Prelude.{◌≡◌, ◌<◌, ◌≤ℤ◌, ℕ, ℤ, List, [], ◌∷◌, ◌++◌, Some, Contains}
+use Rattle.std.specs.Prelude.{◌≡◌, ◌<◌, ◌≤ℤ◌, ℕ, ℤ, List, [], ◌∷◌, ◌++◌, length, Some, option_to_list, Contains}
 use Rattle.sc_record.specs.Versions.{shown_version}
 use Rattle.sc_record.specs.declared.write.Write.{Write}
 use Rattle.sc_record.specs.declared.entry.Entry.{Entry}
@@ -10,8 +10,9 @@ use Rattle.sc_journal.specs.Outcomes.{accepted}
 use Rattle.sc_journal.specs.Seen.{Layout, Seen, AreLegal, journal_at}
 use Rattle.sc_journal.specs.Batches.{OrderAnswer}
 use Rattle.sc_journal.specs.declared.stop.Stop.{Stop}
-use Rattle.sc_session.specs.Requests.{asked, get}
-use Rattle.sc_session.specs.Answers.{replied, get_reply}
+use Rattle.sc_get.specs.Got.{live, live_writes}
+use Rattle.sc_session.specs.Requests.{asked, get, get_ids}
+use Rattle.sc_session.specs.Answers.{replied, get_reply, ids_reply}
 use Rattle.sc_session.specs.Connection.{Exchange, AreExchanges, exchanges_of}
 use Rattle.sc_session.specs.States.{ConnectionState}
 use Rattle.sc_session.specs.Served.{IsServed}
@@ -50,13 +51,35 @@ GetsShowOwnWrites layout seen exchanges =
     → AcceptsOrderFor writing id version → asked reading.request ≡ get id → reading.answer ≡ replied reply
     → ShowsSince layout seen reading id version
 
--- so it is of exchanges one after another, where the journals are legal
-abbrev pub ExchangesShowOwnWrites : Type 0
-ExchangesShowOwnWrites = (layout : Layout) (old new : Seen) (exchanges : List Exchange) → 0 < layout.buckets
-    → AreExchanges layout old exchanges new → AreLegal layout new → GetsShowOwnWrites layout new exchanges
+-- The exchange's get of several ids shows that version of the id that comes after the ids `prior`, or a later one. It has a stop
+-- for each id; at the id's, which is at the journal of its bucket, the last write is that one or a later one. What is shown is what
+-- is live of the ids before, then that write, unless it is a deletion, and then what is live of the ids `further`.
+pub record ShowsAmongSince (layout : Layout) (seen : Seen) (x : Exchange) (prior : List (List ℕ)) (id : List ℕ) (further : List (List ℕ)) (version : ℤ) : Type 0 where
+  pub before : List Stop
+  pub stop : Stop
+  pub after : List Stop
+  pub last : Write
+  pub stops_are : x.trace.stops ≡ before ++ stop ∷ after
+  pub one_each : length before ≡ length prior
+  pub lock : stop.lock ≡ bucket_of id layout.buckets
+  pub since : IsLastSince (journal_at seen stop) id version last
+  pub answer_is : x.answer ≡ replied (ids_reply (live_writes seen prior before ++ option_to_list (live (Some last)) ++ live_writes seen further after))
 
--- and of those of a connection that was served, whatever its clock gives
-abbrev pub ConnectionsShowOwnWrites : {C : Type 0} → (C → ℕ → C → Type 0) → Type 0
-ConnectionsShowOwnWrites {C} gives = (layout : Layout) (before after : ConnectionState C) (end : End) → 0 < layout.buckets
-    → (served : IsServed gives layout before after end)
-    → GetsShowOwnWrites layout after.moment.view.seen (served.exchanges ++ exchanges_of served.last)
+-- of these exchanges, a get of several ids after one that accepted an order for one of them shows that version or a later one of
+-- it, where it is replied
+abbrev pub GetsOfIdsShowOwnWrites : Layout → Seen → List Exchange → Type 0
+GetsOfIdsShowOwnWrites layout seen exchanges =
+    (before between after : List Exchange) (writing reading : Exchange) (prior further : List (List ℕ)) (id : List ℕ) (version : ℤ) (reply : Reply)
+    → exchanges ≡ before ++ writing ∷ between ++ reading ∷ after
+    → AcceptsOrderFor writing id version → asked reading.request ≡ get_ids (prior ++ id ∷ further) → reading.answer ≡ replied reply
+    → ShowsAmongSince layout seen reading prior id further version
+
+-- such a law holds of exchanges one after another, where the journals are legal
+abbrev pub HoldsOfExchanges : (Layout → Seen → List Exchange → Type 0) → Type 0
+HoldsOfExchanges Law = (layout : Layout) (old new : Seen) (exchanges : List Exchange) → 0 < layout.buckets
+    → AreExchanges layout old exchanges new → AreLegal layout new → Law layout new exchanges
+
+-- it holds of the exchanges of a connection that was served, whatever its clock gives
+abbrev pub HoldsOfConnections : {C : Type 0} → (C → ℕ → C → Type 0) → (Layout → Seen → List Exchange → Type 0) → Type 0
+HoldsOfConnections {C} gives Law = (layout : Layout) (before after : ConnectionState C) (end : End) → 0 < layout.buckets
+    → (served : IsServed gives layout before after end) → Law layout after.moment.view.seen (served.exchanges ++ exchanges_of served.last)

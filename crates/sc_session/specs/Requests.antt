@@ -2,6 +2,7 @@
 use Rattle.std.specs.Prelude.{ℕ, ◌-◌, ◌==◌, Bool, true, false, not, ◌&&◌, ◌||◌, List, [], ◌∷◌, length, codes, nat_lt, nat_le, if◌then◌else◌, Option, Some, None, is_some, Result, Ok, Err}
 use Rattle.std.specs.List.{list_any, list_all, slice_split}
 use Rattle.std.specs.Str.{bytes_eq}
+use Rattle.sc_record.specs.Ids.{id_limit}
 use Rattle.sc_schema.specs.declared.fault.DocFault.{DocFault}
 use Rattle.sc_schema.specs.declared.fault.DocFault.TheVariants as documents
 use Rattle.sc_commands.specs.declared.batch.Flags.{Flags}
@@ -80,10 +81,6 @@ asked_update request =
     then asked_batch (asked_by (flags_of request.params) request.body)
     else not_built
 
--- the most bytes of an id
-abbrev pub id_limit : ℕ
-id_limit = 512
-
 -- the text is an id
 abbrev pub is_id : List ℕ → Bool
 is_id text = nat_lt 0 (length text) && nat_le (length text) id_limit
@@ -121,13 +118,15 @@ asked_params params = by_id params (parameter (codes "id") params) (parameter (c
 abbrev pub asked_get : Incoming → Asked
 asked_get request = if is_get request.method && not request.encoded then asked_params request.params else not_built
 
--- the most rows of a page, the number of rows where none is given, and the end of the last page
+-- the most rows of a page
 abbrev pub most_rows : ℕ
 most_rows = 1000
 
+-- the number of rows where none is given
 abbrev pub usual_rows : ℕ
 usual_rows = 10
 
+-- the end of the last page
 abbrev pub last_row : ℕ
 last_row = 100000
 

@@ -5,7 +5,7 @@ ghost use Rattle.sc_router.specs.Route.{IsBucketCount};
 ghost use Rattle.sc_model.specs.Replies as replies;
 ghost use Rattle.sc_reply.specs.Bodies as bodies;
 ghost use Rattle.sc_reply.specs.Causes as causes;
-ghost use Rattle.sc_collection.specs.declared.trail.TheConstants.{ROOM};
+ghost use Rattle.sc_collection.specs.Kept.{stops_of_request, trail_room};
 ghost use Rattle.sc_collection.specs.Desks.{IsDeskAtRest};
 ghost use Rattle.sc_journal.specs.Moments.{moment_of};
 ghost use Rattle.sc_session.specs.Queries.{IsRouteOf};
@@ -42,7 +42,7 @@ pub(crate) fn answer<D: Desk, C: Clock>(
 ) -> Result<Reply, AllocError>
     requires rest { IsDeskAtRest (D.layout desk.old) (D.out desk.old) (D.seen desk.old) }
     requires buckets { IsBucketCount (D.layout desk.old).buckets }
-    requires room { length trail.old.stops + 2 * 4096 + 256 ≤ ROOM }
+    requires room { length trail.old.stops + stops_of_request ≤ trail_room }
     ensures answers { AnswersAsked C.gives (D.layout desk.old) (asking.asked request.now)
         (moment_of (D.seen desk.old) trail.old.stops clock.old) (moment_of (D.seen desk.new) trail.new.stops clock.new) (answer_of result) }
     ensures status { IfOk result (λ reply. IsSome (replies.reason_of reply.status)) }
@@ -74,7 +74,7 @@ fn get<D: Desk>(
     id: &Id,
 ) -> Result<Reply, AllocError>
     requires rest { IsDeskAtRest (D.layout desk.old) (D.out desk.old) (D.seen desk.old) }
-    requires room { length trail.old.stops + 1 ≤ ROOM }
+    requires room { length trail.old.stops + stops_of_request ≤ trail_room }
     ensures answers { AnswersAsked unread (D.layout desk.old) (asking.get id.now)
         (moment_of (D.seen desk.old) trail.old.stops tt) (moment_of (D.seen desk.new) trail.new.stops tt) (answer_of result) }
     ensures status { IfOk result (λ reply. IsSome (replies.reason_of reply.status)) }
@@ -94,8 +94,8 @@ fn get_ids<D: Desk>(
     ids: &List<Id>,
 ) -> Result<Reply, AllocError>
     requires rest { IsDeskAtRest (D.layout desk.old) (D.out desk.old) (D.seen desk.old) }
-    requires room { length trail.old.stops + length ids.now ≤ ROOM }
-    requires few { length ids.now ≤ 4096 }
+    requires room { length trail.old.stops + stops_of_request ≤ trail_room }
+    requires within { IsWithinLimits (asks.GetIds ids.now) }
     ensures answers { AnswersAsked unread (D.layout desk.old) (asking.get_ids ids.now)
         (moment_of (D.seen desk.old) trail.old.stops tt) (moment_of (D.seen desk.new) trail.new.stops tt) (answer_of result) }
     ensures status { IfOk result (λ reply. IsSome (replies.reason_of reply.status)) }
@@ -116,7 +116,7 @@ fn select<D: Desk>(
 ) -> Result<Reply, AllocError>
     requires rest { IsDeskAtRest (D.layout desk.old) (D.out desk.old) (D.seen desk.old) }
     requires buckets { IsBucketCount (D.layout desk.old).buckets }
-    requires room { length trail.old.stops + 256 ≤ ROOM }
+    requires room { length trail.old.stops + stops_of_request ≤ trail_room }
     requires within { IsWithinLimits (asks.Select asked.now) }
     ensures answers { AnswersAsked unread (D.layout desk.old) (asking.select (select_of asked.now))
         (moment_of (D.seen desk.old) trail.old.stops tt) (moment_of (D.seen desk.new) trail.new.stops tt) (answer_of result) }

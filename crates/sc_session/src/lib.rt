@@ -6,8 +6,8 @@
 //! requests that the bytes read are.
 //!
 //! Proved: `serve`: the promise over any desk (`IsServed`), with the cause of each read and write fault, both ways; each
-//! request's meaning (`asked`) and each reply's text. Law `gets_show_own_writes`: a get after an accepted order of the same
-//! connection shows that version of the id or a later one, of the same journal.
+//! request's meaning (`asked`) and each reply's text. Laws `gets_show_own_writes`, `gets_of_ids_show_own_writes`: a get of one or
+//! of several ids after an accepted order of the same connection shows that version of the id or a later one, of the same journal.
 //!
 //! Tested alone: a table of requests.
 //!
@@ -32,4 +32,4 @@ mod laws;
 
 pub use connection::serve;
 pub use end::End;
-pub use laws::gets_show_own_writes;
+pub use laws::{gets_of_ids_show_own_writes, gets_show_own_writes, limits_are_as_defined};

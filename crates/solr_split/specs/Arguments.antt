@@ -6,7 +6,7 @@ use Rattle.std.specs.Option.{unwrap_or}
 use Rattle.std.specs.Str.{bytes_eq}
 use Rattle.std.specs.Str.Parse.{digits_value}
 use Rattle.sc_collection.specs.declared.shape.Shape.{Shape}
-use Rattle.sc_collection.specs.Shapes.{least_limit}
+use Rattle.sc_collection.specs.Shapes.{is_shape}
 use Rattle.solr_split.specs.declared.arguments.Script.{Script}
 
 -- an option, and the value that it is given
@@ -65,18 +65,6 @@ shape_of given = record {
   buckets = number_or 64 (codes "--buckets") given;
   log_limit = number_or 1048576 (codes "--log-limit") given;
 }
-
--- the number is in the range
-abbrev pub is_in_option_range : ℕ → ℕ → ℕ → Bool
-is_in_option_range least most number = nat_le least number && nat_le number most
-
--- a power of two from 1 to 256
-abbrev pub is_bucket_count : ℕ → Bool
-is_bucket_count number = list_any (λ count. number == count) (1 ∷ 2 ∷ 4 ∷ 8 ∷ 16 ∷ 32 ∷ 64 ∷ 128 ∷ 256 ∷ [])
-
--- each number of the shape is one that its option may have
-abbrev pub is_shape : Shape → Bool
-is_shape shape = is_in_option_range 1 16 shape.nodes && is_in_option_range 1 64 shape.shards && is_in_option_range 1 4 shape.replicas && is_bucket_count shape.buckets && is_in_option_range (least_limit shape) 16777216 shape.log_limit
 
 -- what options ask for; a clock may stand still at any timestamp
 abbrev pub script_by : List Setting → Option Script

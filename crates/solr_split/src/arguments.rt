@@ -4,7 +4,7 @@ ghost use Rattle.std.specs.List.{list_all, list_any};
 ghost use Rattle.std.specs.Str.{bytes_eq};
 ghost use Rattle.std.specs.Str.Parse.{digits_value};
 ghost use Rattle.std.specs.Option.{option_copied};
-ghost use Rattle.sc_collection.specs.Shapes.{IsShape};
+ghost use Rattle.sc_collection.specs.Shapes.{IsShape, is_shape, is_in_range, is_bucket_count};
 ghost use Rattle.solr_split.specs.Arguments as asked;
 
 use sc_collection::Shape;
@@ -49,9 +49,8 @@ fn are_options(options: &[String]) -> bool
 
 /// The shape that options ask for, where each of its numbers is in its range.
 fn shape_of(options: &[String]) -> Option<Shape>
-    ensures asked { result ≡ (let shape = asked.shape_of (asked.settings (map string_bytes options.now)) in
-        if asked.is_shape shape then Some shape else None) }
-    ensures shape { IfSome result IsShape }
+    ensures { result ≡ (let shape = asked.shape_of (asked.settings (map string_bytes options.now)) in
+        if is_shape shape then Some shape else None) }
 {
     let nodes = within(number_or(1, options, "--nodes"), 1, 16)?;
     let shards = within(number_or(1, options, "--shards"), 1, 64)?;
@@ -74,7 +73,7 @@ fn shape_of(options: &[String]) -> Option<Shape>
 
 /// The number, where it is in the range.
 fn within(number: u64, least: u32, most: u32) -> Option<u32>
-    ensures asked { result ≡ (if asked.is_in_option_range least most number then Some number else None) }
+    ensures asked { result ≡ (if is_in_range least most number then Some number else None) }
     ensures range { IfSome result (λ number. (least ≤ number) × (number ≤ most)) }
 {
     if u64::from(least) <= number && number <= u64::from(most) {
@@ -86,7 +85,7 @@ fn within(number: u64, least: u32, most: u32) -> Option<u32>
 
 /// The number, where it is a power of two from 1 to 256.
 fn bucket_count(number: u64) -> Option<u32>
-    ensures { result ≡ (if asked.is_bucket_count number then Some number else None) }
+    ensures { result ≡ (if is_bucket_count number then Some number else None) }
 {
     match number {
         1 | 2 | 4 | 8 | 16 | 32 | 64 | 128 | 256 => Some(number as u32),

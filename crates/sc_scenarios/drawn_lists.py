@@ -35,8 +35,25 @@ def draw(dice, bucket):
     if kind == 10:
         return draw_any(dice, bucket)
     if kind == 11:
-        return ("commit",) if dice.below(2) == 0 else draw_detach(dice, bucket)
+        return ("commit",) if dice.below(2) == 0 else ("detach", *draw_there(dice, bucket))
+    if kind == 12:
+        return draw_seat(dice, bucket)
     return draw_next(dice, bucket)
+
+
+def draw_of_seats(dice, bucket):
+    """An event among which most are of cores that go down, rejoin, catch up and take the lead."""
+    kind = dice.below(10)
+    if kind == 0:
+        return draw(dice, bucket)
+    if kind < 4:
+        return draw_write(dice, bucket)
+    if kind == 4:
+        return "nth", dice.below(len(bucket.flight) + 1)
+    if bucket.phase != "Idle":
+        return draw_next(dice, bucket)
+    late = [core for core in bucket.cores if core.catches_up()]
+    return draw_piece(late[dice.below(len(late))]) if late and kind < 8 else draw_seat(dice, bucket)
 
 
 def draw_write(dice, bucket):
@@ -61,11 +78,20 @@ def draw_core(dice, bucket):
     return bucket.slices[dice.below(len(bucket.slices))].id, dice.below(3) + 1
 
 
-def draw_detach(dice, bucket):
-    """A core that is there is marked as down, most often a follower."""
+def draw_there(dice, bucket):
+    """A core that is there, most often a follower."""
     followers = [core for core in bucket.cores if core.name[1] > 1]
     cores = followers if followers and dice.below(4) > 0 else bucket.cores
-    return "detach", *cores[dice.below(len(cores))].name
+    return cores[dice.below(len(cores))].name
+
+
+def draw_seat(dice, bucket):
+    """A core goes down, takes the lead, or rejoins, most often one that is down."""
+    kind = dice.below(6)
+    if kind < 3:
+        return "detach" if kind == 0 else "lead", *draw_there(dice, bucket)
+    down = [core for core in bucket.cores if core.down]
+    return "rejoin", *(down[dice.below(len(down))].name if down and dice.below(4) > 0 else draw_there(dice, bucket))
 
 
 def draw_begin(dice, bucket):
@@ -82,15 +108,21 @@ def draw_next(dice, bucket):
         for slice in bucket.slices:
             if slice.state == "Inactive" and dice.below(3) == 0:
                 return "drop", slice.id
-        return draw_begin(dice, bucket)
+        late = [core for core in bucket.cores if core.catches_up()]
+        return draw_piece(late[dice.below(len(late))]) if late and dice.below(4) > 0 else draw_begin(dice, bucket)
     if dice.below(100) == 0:
         return ("abort",)
     core = bucket.cores[dice.below(len(bucket.cores))]
-    if core.rows is not None or core.mode != "Active":
-        return "feed" if core.rows is not None else "start" if core.mode == "Buffering" else "replay", *core.name
+    if core.catches_up():
+        return draw_piece(core)
     if bucket.phase == "Building":
         return ("ready",)
     return ("switch",) if dice.below(3) == 0 else ("grow", *draw_core(dice, bucket))
+
+
+def draw_piece(core):
+    """What the core comes to next that catches up."""
+    return "feed" if core.rows is not None else "start" if core.mode == "Buffering" else "replay", *core.name
 
 
 def adds(bucket, count):
@@ -110,14 +142,15 @@ def crowd(bucket, count):
 
 def lists():
     """The lists: the lines that make a bucket and have the events come, each with its answer."""
-    shapes = [(seed, 20, 4, 0, 120, seed * 40) for seed in range(1, 21)] + [(21, 75, 70, 65, 40, 1000)]
-    for seed, count, before, during, events, limit in shapes:
+    shapes = [(seed, draw, 20, 4, 0, 120, seed * 40) for seed in range(1, 21)] + [(21, draw, 75, 70, 65, 40, 1000)]
+    shapes += [(seed, draw_of_seats, 20, 4, 0, 120, seed % 3 * 200 + 40) for seed in range(22, 34)]
+    for seed, drawn, count, before, during, events, limit in shapes:
         dice = Dice(seed)
-        replicas, limit = dice.below(3) + 1, max(limit, 16)
+        replicas, limit = dice.below(3) + (1 if drawn is draw else 2), max(limit, 20)
         bucket = Bucket(replicas, limit, count)
         yield f"bucket 1 {replicas} {limit}", "done"
         parts = [adds(bucket, before), crowd(bucket, during) if during else []]
-        parts.append(draw(dice, bucket) for _ in range(events))
+        parts.append(drawn(dice, bucket) for _ in range(events))
         for part in parts:
             for event in part:
                 yield " ".join(map(str, event)), bucket.come(*event)

@@ -63,7 +63,8 @@ class Slice:
 
 @dataclass
 class Core:
-    name: tuple
+    name: tuple  # the slice's id, and the seat that the core sits in
+    number: int
     slice: Slice
     mode: str
     clock: int = 0
@@ -83,6 +84,9 @@ class Core:
         else:
             self.apply(write)
 
+    def catches_up(self):
+        return self.mode != "Active" or self.rows is not None
+
     def awaits(self):
         return self.buffer + [row for row in self.rows or [] if self.slice.has(row.hash)]
 
@@ -99,7 +103,7 @@ class Bucket:
         first = Slice(0, LEAST, MOST, replicas, "Active")
         self.ids, self.limit, self.phase, self.parent = [f"{n:03}" for n in range(count)], limit, "Idle", None
         self.slices, self.entries, self.flight, self.spares = [first], [], [], None
-        self.cores = [Core((0, k + 1), first, "Active") for k in range(replicas)]
+        self.cores = [Core((0, k + 1), k + 1, first, "Active") for k in range(replicas)]
         self.searchers = [Searcher(first, 0, [])]
 
     # What there is.
@@ -127,7 +131,17 @@ class Bucket:
         return sum(not self.is_down(name) for name in named)
 
     def is_down(self, name):
-        return ("down", "%d/%d" % name) in self.entries
+        marks = [e[0] for e in self.entries if e[0] in ("down", "up", "led") and e[1] == "%d/%d" % name]
+        return marks != [] and marks[-1] != "up"
+
+    def number_in(self, name):
+        """Which of the slice's cores sits in the seat, by the entries."""
+        slice, seat = name
+        for e in reversed(self.entries):
+            if e[0] == "led" and e[1].startswith(f"{slice}/"):
+                other = int(e[1].split("/")[1])
+                seat = {1: other, other: 1}.get(seat, seat)
+        return seat
 
     def has_room(self, more):
         return len(self.entries) + self.owed() + more <= self.limit
@@ -149,15 +163,18 @@ class Bucket:
 
     def can(self, name, *words):
         slice = self.slice(words[0]) if words else None
-        core = self.core(*words) if name in ("detach", "feed", "start", "replay", "grow") else None
+        of_core = name in ("detach", "rejoin", "lead", "feed", "start", "replay", "grow")
+        core = self.core(*words) if of_core else None
         if name == "settle":
             return self.written(words[0]) and not self.is_settled(words[0])
-        if name == "detach":
+        if name in ("detach", "rejoin", "lead"):
             follows = slice is not None and slice.state == "Active" and 1 < words[1] <= slice.replicas
-            return follows and not self.is_down(words)
+            settled = name == "detach" or (self.phase == "Idle" and core is not None and not core.catches_up())
+            return follows and settled and self.is_down(words) == (name == "rejoin")
         if name == "begin":
             ends = slice and (slice.least <= words[1] < words[2] <= slice.most and words[1] + 1 == words[2])
-            return self.phase == "Idle" and slice is not None and slice.state == "Active" and ends
+            settled = self.phase == "Idle" and not any(c.catches_up() for c in self.cores)
+            return settled and slice is not None and slice.state == "Active" and ends
         if name == "feed":
             return core is not None and core.rows is not None
         if name == "start":
@@ -254,6 +271,22 @@ class Bucket:
         self.flight = [sent for sent in self.flight if sent[0] != name]
         self.entries.append(("down", "%d/%d" % name))
 
+    def rejoin(self, *name):
+        if not self.has_room(2):
+            return
+        old = self.core(*name)
+        self.cores = [core for core in self.cores if core is not old]
+        self.join(name, old.number, old.slice, self.core(name[0]))
+        self.entries.append(("up", "%d/%d" % name))
+
+    def lead(self, *name):
+        self.deliver_all(name)
+        core, leader = self.core(*name), self.core(name[0])
+        self.flight = [sent for sent in self.flight if sent[0] != leader.name]
+        core.name, leader.name = leader.name, core.name
+        leader.down = True
+        self.entries.append(("led", "%d/%d" % name))
+
     def begin(self, parent, last, first):
         old, next_id = self.slice(parent), max(s.id for s in self.slices) + 1
         if not self.has_room(3 + 2 * (old.replicas - 1)):
@@ -261,14 +294,14 @@ class Bucket:
         self.take_searchers()
         for n, (least, most) in enumerate([(old.least, last), (first, old.most)]):
             self.slices.append(Slice(next_id + n, least, most, old.replicas))
-            self.join((next_id + n, 1), self.slices[-1], self.core(parent))
+            self.join((next_id + n, 1), 1, self.slices[-1], self.core(parent))
         self.phase, self.parent = "Building", parent
         self.prepare()
         self.entries.append(("begun", parent))
 
-    def join(self, name, slice, source):
+    def join(self, name, number, slice, source):
         rows = sorted(source.cells.values(), key=lambda w: w.id)
-        self.cores.append(Core(name, slice, "Buffering", rows=rows))
+        self.cores.append(Core(name, number, slice, "Buffering", rows=rows))
 
     def feed(self, *name):
         core = self.core(*name)
@@ -292,7 +325,7 @@ class Bucket:
 
     def grow(self, *name):
         self.deliver_all((name[0], 1))
-        self.join(name, self.slice(name[0]), self.core(name[0]))
+        self.join(name, name[1], self.slice(name[0]), self.core(name[0]))
 
     def switch(self):
         for core in self.cores:
@@ -338,7 +371,8 @@ class Bucket:
             text += f" | {s.id} {s.state} {s.least}..{s.most} {s.replicas}"
         feeds = sum(c.rows is not None for c in self.cores)
         for c in sorted(self.cores, key=lambda c: c.name):
-            text += " | %d/%d" % c.name + (" down" if c.down else "") + f" {c.mode} {c.clock} {len(c.buffer)} {feeds}"
+            text += " | %d/%d" % c.name + (f" core:{c.number}" if c.number != c.name[1] else "") + (" down" if c.down else "")
+            text += f" {c.mode} {c.clock} {len(c.buffer)} {feeds}"
             text += f" {len(c.rows)} {len(c.awaits()) - len(c.buffer)}" if c.rows is not None else ""
             text += "".join(str(c.cells[id]) for id in sorted(c.cells))
         text += " |" + "".join(" %d/%d<%d" % (*to, write.place) + str(write) for to, write in self.flight)
@@ -366,9 +400,12 @@ def hold(bucket):
         kept = list(core.cells.values())
         assert all(write in writes and core.slice.has(write.hash) for write in kept + core.buffer + sent)
         assert core.clock in clocks and all(write.version <= core.clock for write in kept)
-        assert core.rows is None or (core.mode == "Buffering" and core.slice in bucket.subs())
+        assert core.rows is None or core.mode == "Buffering"
+        late = bucket.phase == "Idle" and core.slice.state == "Active" and core.name[1] > 1
+        assert late or core.slice in bucket.subs() or not core.catches_up()
         assert core.mode != "Active" or not core.buffer
         assert core.down == bucket.is_down(core.name) and not (core.down and (core.name[1] == 1 or sent))
+        assert core.number == bucket.number_in(core.name)
         for write in last.values() if not core.down else []:
             pending = core.awaits() + sent
             assert not core.slice.takes(write.hash) or core.cells.get(write.id) == write or write in pending
@@ -381,7 +418,7 @@ def hold(bucket):
         assert own == [found[id] for id in sorted(found) if searcher.slice.has(found[id].hash)]
     for slice in bucket.slices:
         leader = bucket.core(slice.id)
-        assert slice in bucket.subs() or all(bucket.is_active(slice, k + 1) for k in range(slice.replicas))
+        assert slice in bucket.subs() or all(bucket.core(slice.id, k + 1) for k in range(slice.replicas))
         for id, write in last.items() if slice in active else []:
             assert leader.cells.get(id) == write or not slice.has(write.hash)
     assert all(not bucket.is_settled(write.place) and bucket.core(*to) for to, write in bucket.flight)

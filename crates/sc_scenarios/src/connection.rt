@@ -1,5 +1,5 @@
-ghost use Rattle.std.specs.Prelude.{◌≡◌, None, IfOk};
-ghost use Rattle.sc_router.specs.Route.{IsBucketCount};
+ghost use Rattle.std.specs.Prelude.{◌≡◌, None, true, IfOk};
+ghost use Rattle.sc_collection.specs.Shapes.{is_bucket_count};
 
 use crate::words::{log_limit, number};
 use sc_collection::{Alone, Shape, Trail};
@@ -26,7 +26,7 @@ pub fn new_collection(alloc: Global, words: &[&str]) -> Result<Alone, AllocError
 
 /// One bucket, or two.
 fn bucket_count(count: u64) -> u32
-    ensures { IsBucketCount result }
+    ensures { is_bucket_count result ≡ true }
 {
     if count == 2 { 2 } else { 1 }
 }

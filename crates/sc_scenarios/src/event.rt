@@ -15,6 +15,8 @@ use std::alloc::{AllocError, Global};
 ///     settle PLACE
 ///     commit
 ///     detach SLICE REPLICA           the core is marked as down
+///     rejoin SLICE REPLICA           the core that is down takes part again, as a new one
+///     lead SLICE REPLICA             the core takes the lead of its slice
 ///     begin SLICE LAST FIRST         a split in two: to this hash, and from that one
 ///     feed SLICE REPLICA             the core is fed a piece
 ///     start SLICE REPLICA            it begins to replay
@@ -45,6 +47,8 @@ pub fn event_of(
         }),
         "commit" => Some(Event::Commit),
         "detach" => Some(Event::Detach { core: core(words) }),
+        "rejoin" => Some(Event::Rejoin { core: core(words) }),
+        "lead" => Some(Event::Lead { core: core(words) }),
         "begin" => Some(Event::Begin {
             plan: plan_of(alloc, bucket, words)?,
         }),

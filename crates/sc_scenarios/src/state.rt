@@ -86,17 +86,20 @@ fn push_slices(alloc: Global, text: &mut String, bucket: &Bucket) -> Result<(), 
     Ok(())
 }
 
-/// The cores; of each whether it is down, its mode, its clock, how many writes it buffers and how many feeds there are, the rows that its feed has left and those of
-/// them that it will take, and its cells.
+/// The cores by their seats; of each its number where that is another, whether it is down, its mode, its clock, how many writes it buffers
+/// and how many feeds there are, the rows that its feed has left and those of them that it will take, and its cells.
 fn push_cores(alloc: Global, text: &mut String, bucket: &Bucket) -> Result<(), AllocError> {
     for at in 0..bucket.replicas.len() {
         let replica = bucket.replicas.get(at);
         let core = replica.core();
+        let seat = format!(in alloc; " | {}/{}", core.slice.0, core.replica)?;
+        text.push_str(seat.as_str())?;
+        if replica.number() != core.replica {
+            text.push_str(format!(in alloc; " core:{}", replica.number())?.as_str())?;
+        }
         let mark = if replica.is_down() { "down " } else { "" };
         let shown = format!(in alloc;
-            " | {}/{} {mark}{:?} {} {} {}",
-            core.slice.0,
-            core.replica,
+            " {mark}{:?} {} {} {}",
             replica.mode(),
             replica.clock(),
             replica.buffered(),

@@ -1,0 +1,2 @@
+-- The shape of a collection.
+pub mod ShapeLemmas

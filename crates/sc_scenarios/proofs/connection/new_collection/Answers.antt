@@ -1,0 +1,22 @@
+-- The numbers of the line are each put into their range.
+use Rattle.std.proofs.Common.{arith}
+use Rattle.sc_scenarios.proofs.ShapeLemmas.{in_ranges}
+use Rattle.sc_scenarios.proofs.connection.new_collection.Goals as goal
+
+pub new-requires : goal.new-requires
+new-requires c =
+    let shards = c.clamp-shards.ensures in
+    let replicas = c.clamp-replicas.ensures in
+    in_ranges (record {
+      nodes = 2;
+      shards = c.clamp-shards.result;
+      replicas = c.clamp-replicas.result;
+      buckets = c.bucket_count.result;
+      log_limit = c.log_limit.result;
+    }) (record {
+      nodes = (omega arith, omega arith);
+      shards = (grind (arith, shards), grind (arith, shards));
+      replicas = (grind (arith, replicas), grind (arith, replicas));
+      buckets = c.bucket_count.ensures;
+      limit = (c.log_limit.ensures.least, c.log_limit.ensures.most);
+    })

@@ -2,7 +2,7 @@
 //!
 //! `Lock::new` puts a value behind a lock. `hold` waits for its turn, then moves the value out and
 //! hands it to the caller, with a `Turn`; `give` takes both, moves the value back, changed by one
-//! step or not at all, and wakes those who wait. While the value is out there is none in the lock,
+//! step or not at all, and wakes the one whose turn it is. While the value is out there is none in the lock,
 //! so no two threads have it at once. It is a ticket lock: a hold draws the next number, and holders
 //! are served in the order of their numbers.
 //!
@@ -39,7 +39,8 @@
 //! Tested alone: that 4 threads of 10,000 turns lose none; that a pass which waits while the keeper holds is
 //! woken.
 //!
-//! Neither: that a waiter ever gets its turn, which depends on the system's scheduler.
+//! Neither: that a waiter ever gets its turn, which depends on the system's scheduler; that no wake is lost, for
+//! which `src/doors.rt` has the reasons in words.
 #![tactic(auto)]
 
 // What a lock may keep.
@@ -49,6 +50,9 @@ mod kept;
 mod seat;
 mod steps;
 mod view;
+
+// Where those sleep who wait for their turn.
+mod doors;
 
 // The lock, who may hold it, and the calls of each.
 mod badge;

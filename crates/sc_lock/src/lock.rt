@@ -1,6 +1,7 @@
 //! The lock, and how it is made.
 ghost use Rattle.std.specs.Prelude.{◌≡◌};
 
+use crate::doors::Doors;
 use crate::keeper::Keeper;
 use crate::kept::Kept;
 use crate::pass::Pass;
@@ -15,11 +16,13 @@ use std::snapshot::Snapshot;
 /// Its table has three words, the number of tickets drawn and served, modulo 2^64, and the journal's
 /// length, and one slot, where the value is while nobody holds it. A hold and its give by a lone
 /// thread are five atomic steps, take no memory and move the value; a thread that waits spins for a
-/// short time and then sleeps until the number served changes. Dropping a lock drops its value once;
+/// short time and then sleeps until a give lets its ticket in, which wakes it and at most those few whose
+/// tickets share its door (one of 64). Dropping a lock drops its value once;
 /// a value that is out when the lock is dropped is its holder's.
 #[derive(Drop)]
 pub struct Lock<K: Kept> {
     pub(crate) table: Table<Option<K>, View<K, K::Entry, K::Part>, Snapshot<K>, LockRule, Global>,
+    pub(crate) doors: Doors,
     ghost counts: { (table.shared.table_id.words ≡ 3) × (table.shared.table_id.slots ≡ 1) },
 }
 
@@ -45,7 +48,8 @@ impl<K: Kept + Drop> Lock<K> {
         let Ok((table, seat)) = Table::new(alloc, &words, slots, &origin) else {
             return Err(AllocError);
         };
-        let lock = Lock { table };
+        let doors = Doors::new(alloc)?;
+        let lock = Lock { table, doors };
         let (pass, keeper) = lock.split_first(seat);
         Ok((lock, pass, keeper))
     }

@@ -84,16 +84,6 @@ impl<K: Kept> Lock<K> {
         }
     }
 
-    // Sleeps while the ticket isn't served, until the number served changes.
-    fn sleep<R: Wait>(&self, rt: &R, ticket: u64) {
-        let served = self.table.shared.peek(SERVED);
-        if served != ticket {
-            self.table
-                .shared
-                .park(rt, SERVED, (served % (1 << 32)) as u32);
-        }
-    }
-
     // Waits until the ticket is served, and moves the value out.
     pub(crate) fn wait<R: Wait>(&self, rt: &R, seat: &mut LockSeat<K>, ticket: u64) -> K
         requires lock { IsOfTable self.now seat.old }
@@ -134,14 +124,6 @@ impl<K: Kept> Lock<K> {
         self.put_value(seat, value);
         self.table.shared.store::<Note>(seat, LENGTH, entries);
         self.table.shared.fetch_add::<PassOn>(seat, SERVED, 1)
-    }
-
-    // Wakes those who wait, if a ticket was drawn after the one that was served. No contract can say
-    // that somebody wakes: this has no `ensures`, and a test sees to it.
-    pub(crate) fn wake(&self, served: u64) {
-        if self.table.shared.peek(NEXT) != served.wrapping_add(1) {
-            self.table.shared.wake_all(SERVED);
-        }
     }
 
     // Lets `into` have what `from` has seen, and its places.

@@ -40,7 +40,7 @@ impl<K: Kept> Lock<K> {
         (value, turn)
     }
 
-    // Puts the value back, passes the turn on, and wakes those who wait.
+    // Puts the value back, passes the turn on, and wakes the one whose turn it is.
     pub(crate) fn give_back(&self, seat: &mut LockSeat<K>, turn: Turn<K>, value: K)
         requires seat { IsSeatOf (lock_id self.now) seat.old }
         requires turn { IsTurnAt K.name seat.old turn }

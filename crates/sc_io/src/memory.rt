@@ -1,11 +1,13 @@
-ghost use Rattle.std.specs.Prelude.{◌≡◌, ◌+◌, ◌-◌, ◌^◌, ◌<◌, ◌≤◌, List, [], ◌++◌, length, take, drop, min, Some, None, IfOk, IsErr, OnOk, OnErr, Contains, slice_index, if◌then◌else◌};
+ghost use Rattle.std.specs.Prelude.{◌≡◌, ◌+◌, ◌-◌, ◌^◌, ◌<◌, ◌≤◌, List, [], ◌++◌, length, take, drop, min, Some, None, IfOk, IsErr, OnOk, OnErr, IsTrue, Contains, slice_index, if◌then◌else◌};
 ghost use Rattle.sc_io.specs.Pieces.{TakesPrefix};
 ghost use Rattle.sc_io.specs.Memory.{ReadsMemory};
 ghost use Rattle.sc_io.specs.Moments.{next_moment};
 
 use crate::clock::Clock;
 use crate::fault::{Failed, Faults};
+use crate::hosts::Hosts;
 use crate::mem_source::MemSource;
+use crate::pace::{Pace, SplitStep};
 use crate::sink::Sink;
 use crate::source::Source;
 use sc_record::List;
@@ -161,7 +163,8 @@ impl Clock for Fixed {
     }
 }
 
-/// A source with no bytes, and a sink that drops what it is given. It never fails.
+/// A source with no bytes, a sink that drops what it is given, hosts that keep no list, and a pace that always goes on. It never
+/// fails.
 #[derive(Debug, Clone, Copy, PartialEq, Eq)]
 pub struct Never;
 
@@ -190,5 +193,35 @@ impl Sink for Never {
         ensures { result ≡ Ok tt }
     {
         Ok(())
+    }
+}
+
+impl Hosts for Never {
+    ghost started = { λ _. None };
+
+    ghost start_faults = { λ _. 0 };
+
+    ghost stop_faults = { λ _. 0 };
+
+    fn start_core(&mut self, _: u32, _: &str) -> Result<(), Failed>
+        ensures { result ≡ Ok tt }
+    {
+        Ok(())
+    }
+
+    fn stop_core(&mut self, _: u32, _: &str) -> Result<(), Failed>
+        ensures { result ≡ Ok tt }
+    {
+        Ok(())
+    }
+}
+
+impl Pace for Never {
+    ghost stops = { λ _. 0 };
+
+    fn between(&mut self, _: SplitStep) -> bool
+        ensures { IsTrue result }
+    {
+        true
     }
 }

@@ -1,0 +1,23 @@
+-- What starting and stopping a core does to the cores that are started.
+use Rattle.std.specs.Prelude.{ℕ, ◌==◌, Bool, not, ◌&&◌, List, [], ◌∷◌, ◌++◌, codes, filter, if◌then◌else◌}
+use Rattle.std.specs.Fmt.{decimal}
+use Rattle.std.specs.List.{list_any}
+use Rattle.std.specs.Str.{bytes_eq}
+use Rattle.sc_io.specs.declared.hosts.Host.{Host}
+
+-- this is the core of that name on that node
+abbrev pub is_core : ℕ → List ℕ → Host → Bool
+is_core node core host = host.node == node && bytes_eq host.core core
+
+-- the cores with this one, which comes last where it was not among them
+abbrev pub with_core : ℕ → List ℕ → List Host → List Host
+with_core node core cores =
+    if list_any (is_core node core) cores then cores else cores ++ record { node = node; core = core } ∷ []
+
+-- the cores without this one
+abbrev pub without_core : ℕ → List ℕ → List Host → List Host
+without_core node core cores = filter (λ host. not (is_core node core host)) cores
+
+-- the lines of a core's `core.properties` (Solr Reference Guide, "Core Discovery")
+abbrev pub core_properties : ℕ → List ℕ → List ℕ
+core_properties node core = codes "name=" ++ core ++ codes "\ncollection=docs\nnode=" ++ decimal node ++ codes "\n"

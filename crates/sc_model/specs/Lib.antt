@@ -1,4 +1,5 @@
 -- The definitions of HTTP's messages that the promises of the crates above cite, lowest first.
+pub mod Parameters
 pub mod Heads
 pub mod Messages
 pub mod Replies

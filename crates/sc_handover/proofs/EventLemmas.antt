@@ -4,7 +4,7 @@ use Rattle.sc_record.specs.declared.entry.Entry.{Entry}
 use Rattle.sc_record.specs.declared.entry.Entry.TheVariants as entry
 use Rattle.sc_bucket.specs.Events.{IsStep}
 use Rattle.sc_bucket.specs.declared.bucket.Bucket.{Bucket}
-use Rattle.sc_handover.specs.AnyEvent.{IsEvent}
+use Rattle.sc_handover.specs.AnyEvent.{IsEvent, IsKeeperEvent}
 
 -- the second journal is the first, or has one entry more
 abbrev pub AddsAtMostOne : List Entry → List Entry → Type 0
@@ -19,18 +19,23 @@ step_adds old new (IsStep.settles {place = place} written still settled) = inr (
 step_adds old new (IsStep.commits committed) = inr (entry.Committed, committed.entries)
 step_adds old new (IsStep.detaches {name = name} can detached) = inr (entry.Down name, detached.entries)
 
+-- after each that only its keeper does
+keeper_adds : (old new : Bucket) → IsKeeperEvent old new → AddsAtMostOne old.journal.entries new.journal.entries
+keeper_adds old new (IsKeeperEvent.stays same) = inl same.entries
+keeper_adds old new (IsKeeperEvent.begins {parent = parent} {subs = subs} can begun) = inr (entry.Begun parent subs, begun.entries)
+keeper_adds old new (IsKeeperEvent.feeds can fed) = inl fed.rest.entries
+keeper_adds old new (IsKeeperEvent.starts_replay can started) = inl started.rest.entries
+keeper_adds old new (IsKeeperEvent.replays can replayed) = inl replayed.rest.entries
+keeper_adds old new (IsKeeperEvent.gets_ready can ready) = inl ready.entries
+keeper_adds old new (IsKeeperEvent.grows can grown) = inl grown.entries
+keeper_adds old new (IsKeeperEvent.finds_no_memory can delivered) = inl delivered.entries
+keeper_adds old new (IsKeeperEvent.switches {parent = parent} can switched) = inr (entry.Switched parent, switched.entries)
+keeper_adds old new (IsKeeperEvent.aborts {parent = parent} can aborted) = inr (entry.Failed parent, aborted.entries)
+keeper_adds old new (IsKeeperEvent.drops {slice = slice} can dropped) = inr (entry.Dropped slice, dropped.entries)
+keeper_adds old new (IsKeeperEvent.rejoins {name = name} can rejoined) = inr (entry.Up name, rejoined.entries)
+keeper_adds old new (IsKeeperEvent.leads {name = name} can led) = inr (entry.Led name, led.entries)
+
 -- and after each event
 pub event_adds : (old new : Bucket) → IsEvent old new → AddsAtMostOne old.journal.entries new.journal.entries
 event_adds old new (IsEvent.of_bucket step) = step_adds old new step
-event_adds old new (IsEvent.begins {parent = parent} {subs = subs} can begun) = inr (entry.Begun parent subs, begun.entries)
-event_adds old new (IsEvent.feeds can fed) = inl fed.rest.entries
-event_adds old new (IsEvent.starts_replay can started) = inl started.rest.entries
-event_adds old new (IsEvent.replays can replayed) = inl replayed.rest.entries
-event_adds old new (IsEvent.gets_ready can ready) = inl ready.entries
-event_adds old new (IsEvent.grows can grown) = inl grown.entries
-event_adds old new (IsEvent.finds_no_memory can delivered) = inl delivered.entries
-event_adds old new (IsEvent.switches {parent = parent} can switched) = inr (entry.Switched parent, switched.entries)
-event_adds old new (IsEvent.aborts {parent = parent} can aborted) = inr (entry.Failed parent, aborted.entries)
-event_adds old new (IsEvent.drops {slice = slice} can dropped) = inr (entry.Dropped slice, dropped.entries)
-event_adds old new (IsEvent.rejoins {name = name} can rejoined) = inr (entry.Up name, rejoined.entries)
-event_adds old new (IsEvent.leads {name = name} can led) = inr (entry.Led name, led.entries)
+event_adds old new (IsEvent.of_keeper event) = keeper_adds old new event

@@ -4,7 +4,7 @@ use Rattle.sc_record.specs.declared.write.Write.{Write}
 use Rattle.sc_bucket.specs.Cores.{without_room}
 use Rattle.sc_bucket.specs.Events.{IsSameButRoom, IsStep}
 use Rattle.sc_bucket.specs.declared.bucket.Bucket.{Bucket}
-use Rattle.sc_handover.specs.AnyEvent.{IsEvent}
+use Rattle.sc_handover.specs.AnyEvent.{IsEvent, IsKeeperEvent}
 use Rattle.sc_world.specs.declared.event.Event.{Event}
 use Rattle.sc_world.specs.declared.event.Event.TheVariants as events
 use Rattle.sc_world.specs.Steps.{Can, IsDone, FindsNoMemory}
@@ -37,17 +37,17 @@ done old (events.Deliver place) added new can (none, inr (core, is)) = IsEvent.o
 done old (events.Settle place) added new (written, once) (none, is) = IsEvent.of_bucket (IsStep.settles written once is)
 done old events.Commit added new can (none, is) = IsEvent.of_bucket (IsStep.commits is)
 done old (events.Detach core) added new can (none, is) = IsEvent.of_bucket (IsStep.detaches can is)
-done old (events.Rejoin core) added new can (none, is) = IsEvent.rejoins can is
-done old (events.Lead core) added new can (none, (is, whole)) = IsEvent.leads can is
-done old (events.Begin plan) added new can (none, is) = IsEvent.begins can is
-done old (events.Feed core) added new can (none, (last, is)) = IsEvent.feeds can is
-done old (events.StartReplay core) added new can (none, is) = IsEvent.starts_replay can is
-done old (events.Replay core) added new can (none, (last, is)) = IsEvent.replays can is
-done old events.Ready added new can (none, (parent, ready, is)) = IsEvent.gets_ready ready is
-done old (events.Grow core) added new can (none, (sub, grows, is)) = IsEvent.grows grows is
-done old events.Switch added new can (none, (parent, switches, is, last)) = IsEvent.switches switches is
-done old events.Abort added new can (none, (parent, aborts, is)) = IsEvent.aborts aborts is
-done old (events.Drop slice) added new can (none, is) = IsEvent.drops can is
+done old (events.Rejoin core) added new can (none, is) = IsEvent.of_keeper (IsKeeperEvent.rejoins can is)
+done old (events.Lead core) added new can (none, (is, whole)) = IsEvent.of_keeper (IsKeeperEvent.leads can is)
+done old (events.Begin plan) added new can (none, is) = IsEvent.of_keeper (IsKeeperEvent.begins can is)
+done old (events.Feed core) added new can (none, (last, is)) = IsEvent.of_keeper (IsKeeperEvent.feeds can is)
+done old (events.StartReplay core) added new can (none, is) = IsEvent.of_keeper (IsKeeperEvent.starts_replay can is)
+done old (events.Replay core) added new can (none, (last, is)) = IsEvent.of_keeper (IsKeeperEvent.replays can is)
+done old events.Ready added new can (none, (parent, ready, is)) = IsEvent.of_keeper (IsKeeperEvent.gets_ready ready is)
+done old (events.Grow core) added new can (none, (sub, grows, is)) = IsEvent.of_keeper (IsKeeperEvent.grows grows is)
+done old events.Switch added new can (none, (parent, switches, is, last)) = IsEvent.of_keeper (IsKeeperEvent.switches switches is)
+done old events.Abort added new can (none, (parent, aborts, is)) = IsEvent.of_keeper (IsKeeperEvent.aborts aborts is)
+done old (events.Drop slice) added new can (none, is) = IsEvent.of_keeper (IsKeeperEvent.drops can is)
 
 -- one at which memory ran out
 out : (old : Bucket) (event : Event) (new : Bucket) → Can old event → FindsNoMemory old event new → IsEvent old new
@@ -64,7 +64,7 @@ out old (events.Feed core) new can none = absurd none
 out old (events.StartReplay core) new can none = absurd none
 out old (events.Replay core) new can none = absurd none
 out old events.Ready new can none = absurd none
-out old (events.Grow core) new (sub, grows) delivers = IsEvent.finds_no_memory grows delivers
+out old (events.Grow core) new (sub, grows) delivers = IsEvent.of_keeper (IsKeeperEvent.finds_no_memory grows delivers)
 out old events.Switch new can none = absurd none
 out old events.Abort new can none = absurd none
 out old (events.Drop slice) new can none = absurd none

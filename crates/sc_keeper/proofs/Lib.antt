@@ -1,0 +1,5 @@
+-- Facts on a bucket's part.
+pub mod PartLemmas
+pub mod PassLemmas
+pub mod ConditionLemmas
+pub mod EventLemmas

@@ -1,150 +1,185 @@
--- What a hold of a desk for one thread leaves.
-use Rattle.std.proofs.Common.{◌≡◌, ◌≢◌, ◌⊎◌, inl, inr, ◌<◌, ℕ, List, [], ◌∷◌, length, get_or, set, Option, Some, None, slice_get, refl, sym, ap, ◌∙◌, subst}
+-- What a hold of a bucket leaves of a desk for one thread.
+use Rattle.std.proofs.Common.{◌≡◌, ◌≢◌, ◌⊎◌, inl, inr, ◌<◌, ℕ, Bool, List, [], ◌∷◌, length, get_or, set, Option, Some, None, slice_get, refl, sym, ap, ◌∙◌, subst}
 use Rattle.std.proofs.Math.Path.{fun_ext}
-use Rattle.std.proofs.lemmas.List.{length-set}
+use Rattle.std.specs.Prelude.{◌==◌, if◌then◌else◌}
+use Rattle.std.proofs.lemmas.List.{length-set, append-nil}
 use Rattle.std.proofs.lemmas.Option.{slice_get_read, slice_get_within}
-use Rattle.sc_record.specs.declared.entry.Entry.{Entry}
+use mathlib.Core.List.{IsPrefix}
+use Rattle.sc_seen.specs.Seen.{Layout, Seen, AreLegal}
 use Rattle.sc_bucket.specs.declared.bucket.Bucket.{Bucket}
-use Rattle.sc_collection.specs.Desks.{Held}
-use Rattle.sc_collection.specs.Alone.{AloneState, desk_of, journal_in, journal_of, seen_of, IsKept, IsOut, IsDesk, places}
-use Rattle.sc_collection.proofs.SlotLemmas.{slice_get-set_same, slice_get-set_other}
+use Rattle.sc_keeper.specs.Part.{part_of, keeper_entries}
+use Rattle.sc_board.specs.declared.board.Board.{Board}
+use Rattle.sc_collection.specs.Desks.{Held, KeepsOn, StillFit}
+use Rattle.sc_collection.specs.Alone.{AloneState, desk_of, layout_of, out_of, board_out_of, bucket_in, bucket_at, journal_in, journal_of, part_in, entries_of, places, pass_places, seen_of, keeping_of, KeepersAreOut, IsKept, IsOut, IsHome, IsDesk, handed_out}
 use Rattle.sc_collection.specs.declared.alone.Alone.TheInside.{Inside}
-use Rattle.sc_collection.proofs.AloneLemmas.{same_or_other}
-
--- the desk once the bucket of this number was handed out
-abbrev pub handed_out : AloneState → ℕ → Bucket → AloneState
-handed_out desk number bucket = record {
-  layout = desk.layout;
-  slots = set desk.slots number None;
-  out = Some (record { number = number; bucket = bucket });
-}
+use Rattle.sc_collection.proofs.SlotLemmas.{slice_get-set_same, slice_get-set_other}
+use Rattle.sc_collection.proofs.DeskLemmas.{same_or_other, desk_is_legal, AreAtRest-kept}
 
 -- a bucket is handed out of its slot, where none is out
-module _ (desk : AloneState) (is : IsDesk desk) (number : ℕ) (bucket : Bucket)
-    (none : desk.out ≡ None) (at : slice_get desk.slots number ≡ Some (Some bucket)) where
-  slot : slice_get (set desk.slots number None) number ≡ Some None
-  slot = slice_get-set_same desk.slots number None (slice_get_within desk.slots number (Some bucket) at)
+module _ (desk : AloneState) (is : IsDesk desk) (held : Held)
+    (none : desk.out ≡ None) (at : slice_get desk.slots held.number ≡ Some (Some held.bucket)) where
+  slot : slice_get (set desk.slots held.number None) held.number ≡ Some None
+  slot = slice_get-set_same desk.slots held.number None (slice_get_within desk.slots held.number (Some held.bucket) at)
 
-  other_slot : (lock : ℕ) → lock ≢ number → slice_get (set desk.slots number None) lock ≡ slice_get desk.slots lock
-  other_slot lock other = slice_get-set_other desk.slots number lock None other
+  other_slot : (lock : ℕ) → lock ≢ held.number → slice_get (set desk.slots held.number None) lock ≡ slice_get desk.slots lock
+  other_slot lock other = slice_get-set_other desk.slots held.number lock None other
 
-  -- it is sound, and the one of this number
-  pub bucket_is_kept : IsKept desk.layout number bucket
-  bucket_is_kept = is.kept number bucket at
+  -- it is sound, and the one of this held.number
+  pub held_is_kept : IsKept desk.layout held.number held.bucket
+  held_is_kept = is.kept held.number held.bucket at
 
-  -- what the desk saw of it is its journal
-  pub journal_of-slot : journal_of desk number ≡ bucket.journal.entries
-  journal_of-slot = ap (journal_in desk.out) at
+  -- it was there
+  pub held_was_at : bucket_at desk held.number ≡ Some held.bucket
+  held_was_at = ap (bucket_in desk.out) at
 
-  -- all journals are as they were
-  handed_out_journal : (lock : ℕ) → journal_of (handed_out desk number bucket) lock ≡ journal_of desk lock
-  handed_out_journal lock = by (same_or_other lock number) where
-    held : Held
-    held = record { number = number; bucket = bucket }
-
-    out : (one : Option (Option Bucket)) → slice_get desk.slots lock ≡ one
-        → journal_in (Some held) one ≡ journal_in desk.out one
+  -- all buckets are as they were
+  handed_out_at : (lock : ℕ) → bucket_at (handed_out desk held) lock ≡ bucket_at desk lock
+  handed_out_at lock = by (same_or_other lock held.number) where
+    out : (one : Option (Option Bucket)) → slice_get desk.slots lock ≡ one → bucket_in (Some held) one ≡ bucket_in desk.out one
     out None there = refl
     out (Some (Some kept)) there = refl
     out (Some None) there =
         let both : None ≡ Some (is.empty lock there).0 = sym none ∙ (is.empty lock there).1 in absurd (cc)
 
-    by : (lock ≡ number) ⊎ (lock ≢ number) → journal_of (handed_out desk number bucket) lock ≡ journal_of desk lock
+    by : (lock ≡ held.number) ⊎ (lock ≢ held.number) → bucket_at (handed_out desk held) lock ≡ bucket_at desk lock
     by (inl same) =
-        ap (journal_of (handed_out desk number bucket)) same ∙ ap (journal_in (Some held)) slot
-        ∙ sym journal_of-slot ∙ ap (journal_of desk) (sym same)
-    by (inr other) = ap (journal_in (Some held)) (other_slot lock other) ∙ out (slice_get desk.slots lock) refl
+        ap (bucket_at (handed_out desk held)) same ∙ ap (bucket_in (Some held)) slot ∙ sym held_was_at ∙ ap (bucket_at desk) (sym same)
+    by (inr other) = ap (bucket_in (Some held)) (other_slot lock other) ∙ out (slice_get desk.slots lock) refl
 
-  pub handed_out_seen : seen_of (handed_out desk number bucket) ≡ seen_of desk
-  handed_out_seen =
-      ap (λ (journals : ℕ → List Entry).
-      record { journals = journals; board = []; own = λ lock. places (journals lock) }) (fun_ext handed_out_journal)
+  pub handed_out_keeps : KeepsOn (keeping_of desk) (keeping_of (handed_out desk held))
+  handed_out_keeps = record {
+    part = λ lock. ap part_in (handed_out_at lock);
+    own = λ lock. ap (λ (one : Option Bucket). keeper_entries (journal_in one)) (handed_out_at lock);
+  }
 
-  pub handed_out_is_desk : IsDesk (handed_out desk number bucket)
+  pub handed_out_seen : seen_of (handed_out desk held) ≡ seen_of desk
+  handed_out_seen = ap seen_by (fun_ext handed_out_at) where
+    seen_by : (ℕ → Option Bucket) → Seen
+    seen_by buckets = record {
+      journals = λ lock. journal_in (buckets lock);
+      board = entries_of desk;
+      own = λ lock. if lock == desk.layout.buckets then places (entries_of desk) else pass_places (journal_in (buckets lock));
+    }
+
+  pub handed_out_is_desk : IsDesk (handed_out desk held)
   handed_out_is_desk = record {
+    count = is.count ∙ sym (length-set desk.slots held.number None);
     buckets = is.buckets;
     nodes = is.nodes;
-    kept = λ lock one there. kept lock one there (same_or_other lock number);
-    empty = λ lock there. empty lock there (same_or_other lock number);
-    is_out = λ held there. subst (IsOut (handed_out desk number bucket)) (some_same there) out;
+    kept = λ lock one there. kept lock one there (same_or_other lock held.number);
+    empty = λ lock there. empty lock there (same_or_other lock held.number);
+    is_out = λ one there. subst (IsOut (handed_out desk held)) (some_same there) out;
+    home = λ board there. home board (is.home board there);
+    away = is.away;
   } where
-    held_now : Held
-    held_now = record { number = number; bucket = bucket }
-
-    some_same : {held : Held} → Some held_now ≡ Some held → held_now ≡ held
+    some_same : {one : Held} → Some held ≡ Some one → held ≡ one
     some_same there = cc
 
-    out : IsOut (handed_out desk number bucket) held_now
-    out = record { slot = slot; kept = bucket_is_kept }
+    out : IsOut (handed_out desk held) held
+    out = record { slot = slot; kept = held_is_kept }
 
-    kept : (lock : ℕ) (one : Bucket) → slice_get (set desk.slots number None) lock ≡ Some (Some one)
-        → (lock ≡ number) ⊎ (lock ≢ number) → IsKept desk.layout lock one
+    kept : (lock : ℕ) (one : Bucket) → slice_get (set desk.slots held.number None) lock ≡ Some (Some one)
+        → (lock ≡ held.number) ⊎ (lock ≢ held.number) → IsKept desk.layout lock one
     kept lock one there (inl same) =
         let none_there : Some None ≡ Some (Some one) =
-        sym slot ∙ ap (slice_get (set desk.slots number None)) (sym same) ∙ there in
+        sym slot ∙ ap (slice_get (set desk.slots held.number None)) (sym same) ∙ there in
         absurd (cc)
     kept lock one there (inr other) = is.kept lock one (sym (other_slot lock other) ∙ there)
 
-    empty : (lock : ℕ) → slice_get (set desk.slots number None) lock ≡ Some None
-        → (lock ≡ number) ⊎ (lock ≢ number) → (held : Held) × (Some held_now ≡ Some held) × (held.number ≡ lock)
-    empty lock there (inl same) = (held_now, refl, sym same)
+    empty : (lock : ℕ) → slice_get (set desk.slots held.number None) lock ≡ Some None
+        → (lock ≡ held.number) ⊎ (lock ≢ held.number) → (one : Held) × (Some held ≡ Some one) × (one.number ≡ lock)
+    empty lock there (inl same) = (held, refl, sym same)
     empty lock there (inr other) =
         let was = is.empty lock (sym (other_slot lock other) ∙ there) in
         let both : None ≡ Some was.0 = sym none ∙ was.1 in
         absurd (cc)
 
--- what a hold leaves
-pub record IsHold (desk new : AloneState) (number : ℕ) (bucket : Bucket) : Type 0 where
-  pub is : IsDesk new
-  pub sees : seen_of new ≡ seen_of desk
-  pub kept : IsKept desk.layout number bucket
-  pub journal : journal_of desk number ≡ bucket.journal.entries
-  pub layout : new.layout ≡ desk.layout
-  pub out : new.out ≡ Some (record { number = number; bucket = bucket })
+    home : (board : Board (Unit {0})) → IsHome desk board → IsHome (handed_out desk held) board
+    home board was = record {
+      sound = was.sound;
+      is_of = was.is_of;
+      rest = λ there. AreAtRest-kept desk.layout board.journal.entries (keeping_of desk) (keeping_of (handed_out desk held))
+          handed_out_keeps (was.rest there);
+      none_out = was.none_out;
+    }
 
--- a hold by the fields of the desk: what was read at the place is taken, and nothing is left there
-pub hold_of_fields : (fields : Inside) (more : List (ℕ × Bucket)) (desk : AloneState) (number : ℕ) (bucket : Bucket)
+-- the value of a desk's fields
+abbrev pub value_of : Inside → AloneState
+value_of fields = desk_of (layout_of fields.slots.items fields.nodes fields.first fields.limit) fields.slots.items (out_of fields.out.items)
+    fields.board (board_out_of fields.board_out.items)
+
+-- what taking a bucket out leaves
+pub record IsTaken (desk new : AloneState) (held : Held) : Type 0 where
+  pub is : IsDesk desk
+  pub there : slice_get desk.slots held.number ≡ Some (Some held.bucket)
+  pub after : new ≡ handed_out desk held
+  pub is_new : IsDesk new
+
+-- a bucket is taken out by the fields of the desk: what was read at the place is taken, and nothing is left there
+pub taken_of_fields : (fields : Inside) (more : List ((ℕ × Bool) × Bucket)) (desk : AloneState) (held : Held)
     (read taken slot : Option Bucket)
-    → desk_of fields.slots.items fields.nodes fields.first fields.limit fields.out.items ≡ desk
-    → IsDesk (desk_of fields.slots.items fields.nodes fields.first fields.limit fields.out.items)
-    → desk.out ≡ None → number < desk.layout.buckets
-    → read ≡ get_or fields.slots.items number read → taken ≡ read → taken ≡ Some bucket → slot ≡ None
-    → more ≡ (number, bucket) ∷ []
-    → IsHold desk (desk_of (set fields.slots.items number slot) fields.nodes fields.first fields.limit more) number bucket
-hold_of_fields fields more desk number bucket read taken slot view is none within at same some empty history =
-    subst (λ (new : AloneState). IsHold desk new number bucket) (sym by_fields) (record {
-      is = handed_out_is_desk desk is_desk number bucket none there;
-      sees = handed_out_seen desk is_desk number bucket none there;
-      kept = bucket_is_kept desk is_desk number bucket none there;
-      journal = journal_of-slot desk is_desk number bucket none there;
-      layout = refl;
-      out = refl;
-    })
-  where
-    slots : List (Option Bucket)
-    slots = fields.slots.items
+    → value_of fields ≡ desk → IsDesk (value_of fields) → desk.out ≡ None → held.number < desk.layout.buckets
+    → read ≡ get_or fields.slots.items held.number read → taken ≡ read → taken ≡ Some held.bucket → slot ≡ None
+    → more ≡ ((held.number, held.by_keeper), held.bucket) ∷ []
+    → IsTaken desk (desk_of (layout_of (set fields.slots.items held.number slot) fields.nodes fields.first fields.limit)
+    (set fields.slots.items held.number slot) (out_of more) fields.board (board_out_of fields.board_out.items)) held
+taken_of_fields fields more desk held read taken slot view is none within at same some empty history = record {
+  is = is_desk;
+  there = there;
+  after = by_fields;
+  is_new = subst IsDesk (sym by_fields) (handed_out_is_desk desk is_desk held none there);
+} where
+  slots : List (Option Bucket)
+  slots = fields.slots.items
 
-    after : List (Option Bucket) → List (ℕ × Bucket) → AloneState
-    after now items = desk_of now fields.nodes fields.first fields.limit items
+  with_layout : Layout → List (Option Bucket) → List ((ℕ × Bool) × Bucket) → AloneState
+  with_layout layout now items = desk_of layout now (out_of items) fields.board (board_out_of fields.board_out.items)
 
-    is_desk : IsDesk desk
-    is_desk = subst IsDesk view is
+  after : List (Option Bucket) → List ((ℕ × Bool) × Bucket) → AloneState
+  after now items = with_layout (layout_of now fields.nodes fields.first fields.limit) now items
 
-    inside : number < length slots
-    inside = subst (λ (n : ℕ). number < n) (sym (ap (λ (d : AloneState). d.layout.buckets) view)) within
+  is_desk : IsDesk desk
+  is_desk = subst IsDesk view is
 
-    there : slice_get desk.slots number ≡ Some (Some bucket)
-    there =
-        ap (λ (d : AloneState). slice_get d.slots number) (sym view)
-        ∙ slice_get_read slots (length slots) number read refl inside at
-        ∙ ap (λ (one : Option Bucket). Some one) (sym same ∙ some)
+  inside : held.number < length slots
+  inside = subst (λ (n : ℕ). held.number < n) (sym (ap (λ (d : AloneState). d.layout.buckets) view)) within
 
-    by_fields : desk_of (set slots number slot) fields.nodes fields.first fields.limit more ≡ handed_out desk number bucket
-    by_fields =
-        ap (λ (one : Option Bucket). after (set slots number one) more) empty ∙ ap (after (set slots number None)) history
-        ∙ ap (λ (n : ℕ). record {
-          layout = record { buckets = n; nodes = fields.nodes; first = fields.first; limit = fields.limit };
-          slots = set slots number None;
-          out = Some (record { number = number; bucket = bucket });
-        }) (length-set slots number None)
-        ∙ ap (λ (old : AloneState). handed_out old number bucket) view
+  there : slice_get desk.slots held.number ≡ Some (Some held.bucket)
+  there =
+      ap (λ (d : AloneState). slice_get d.slots held.number) (sym view)
+      ∙ slice_get_read slots (length slots) held.number read refl inside at
+      ∙ ap (λ (one : Option Bucket). Some one) (sym same ∙ some)
+
+  by_fields : after (set slots held.number slot) more ≡ handed_out desk held
+  by_fields =
+      ap (λ (one : Option Bucket). after (set slots held.number one) more) empty ∙ ap (after (set slots held.number None)) history
+      ∙ ap (λ (n : ℕ). with_layout (record { buckets = n; nodes = fields.nodes; first = fields.first; limit = fields.limit })
+      (set slots held.number None) (((held.number, held.by_keeper), held.bucket) ∷ [])) (length-set slots held.number None)
+      ∙ ap (λ (old : AloneState). handed_out old held) view
+
+-- what a hold leaves
+pub record IsHold (desk new : AloneState) (held : Held) : Type 0 where
+  pub kept : IsKept desk.layout held.number held.bucket
+  pub extends : IsPrefix (journal_of desk held.number) held.bucket.journal.entries
+  pub part : part_of held.bucket ≡ (keeping_of desk).part held.number
+  pub out : new.out ≡ Some held
+  pub board_out : new.board_out ≡ desk.board_out
+  pub seen : seen_of new ≡ seen_of desk
+  pub legal : AreLegal new.layout (seen_of new)
+  pub layout : new.layout ≡ desk.layout
+  pub keepers : KeepersAreOut desk → StillFit (KeepersAreOut new) (keeping_of desk) (keeping_of new)
+
+-- a bucket that was taken out is held
+pub taken_is_hold : (desk new : AloneState) (held : Held) → IsDesk desk → desk.out ≡ None
+    → slice_get desk.slots held.number ≡ Some (Some held.bucket) → new ≡ handed_out desk held → IsHold desk new held
+taken_is_hold desk new held is none there after = subst (λ (one : AloneState). IsHold desk one held) (sym after) (record {
+  kept = held_is_kept desk is held none there;
+  extends = ([], append-nil (journal_of desk held.number) ∙ ap journal_in (held_was_at desk is held none there));
+  part = ap part_in (sym (held_was_at desk is held none there));
+  out = refl;
+  board_out = refl;
+  seen = handed_out_seen desk is held none there;
+  legal = desk_is_legal (handed_out desk held) (handed_out_is_desk desk is held none there);
+  layout = refl;
+  keepers = λ out. (out, handed_out_keeps desk is held none there);
+})

@@ -3,8 +3,12 @@ pub mod ShapeLemmas
 pub mod SlotLemmas
 pub mod FollowerLemmas
 pub mod PlaceLemmas
-pub mod AloneLemmas
+pub mod DeskLemmas
+pub mod NewLemmas
 pub mod HoldLemmas
 pub mod GiveLemmas
+pub mod BoardLemmas
 pub mod ReplaceLemmas
+pub mod KeeperReplaceLemmas
 pub mod StopLemmas
+pub mod CommitLemmas

@@ -9,7 +9,7 @@ use Rattle.sc_record.specs.declared.entry.Entry.{Entry}
 use Rattle.sc_record.specs.declared.entry.Entry.TheVariants as entry
 use Rattle.sc_router.specs.Route.{bucket_of}
 use Rattle.sc_journal.specs.Journal.{writes, write_at, is_settled}
-use Rattle.sc_journal.specs.Seen.{Layout}
+use Rattle.sc_seen.specs.Seen.{Layout}
 use Rattle.sc_journal.proofs.JournalLemmas.{writes-push_write, writes-push_other}
 use Rattle.sc_bucket.specs.declared.accept.Accepted.{Accepted}
 use Rattle.sc_bucket.specs.declared.accept.AcceptFault.{AcceptFault}
@@ -18,7 +18,6 @@ use Rattle.sc_bucket.specs.declared.bucket.Bucket.{Bucket}
 use Rattle.sc_bucket.specs.Kept.{Sent}
 use Rattle.sc_bucket.specs.Sound.{IsSound}
 use Rattle.sc_bucket.specs.Events.{IsStep, IsSameButRoom, HasSameFirstAndLimit, Accepts, Delivers, Settles, Commits}
-use Rattle.sc_handover.specs.AnyEvent.{IsEvent}
 use Rattle.sc_collection.specs.Desks.{Held, IsBucketOf, MayReplace}
 
 -- the ids of the writes belong to the bucket of this number
@@ -32,7 +31,7 @@ AreOf-push buckets number [] write are is = (is, tt)
 AreOf-push buckets number (first ∷ earlier) write are is = (are.0, AreOf-push buckets number earlier write are.1 is)
 
 module _ (layout : Layout) (held : Held) (given : Bucket)
-    (is : IsBucketOf layout held.number held.bucket) (sound : IsSound given) where
+    (is : IsBucketOf layout held.number held.bucket) (sound : IsSound given) (by_pass : held.by_keeper ≡ false) where
   -- the same bucket, by its writes
   same_bucket : HasSameFirstAndLimit held.bucket given → AreOf layout.buckets held.number (writes given.journal.entries)
       → IsBucketOf layout held.number given
@@ -47,7 +46,8 @@ module _ (layout : Layout) (held : Held) (given : Bucket)
   unchanged_may_replace same = record {
     sound = sound;
     is_of = same_bucket same.name (same_ids same.entries);
-    event = IsEvent.of_bucket (IsStep.stays same);
+    step = IsStep.stays same;
+    not_keeper = by_pass;
   }
 
   -- it is the same bucket
@@ -67,7 +67,8 @@ module _ (layout : Layout) (held : Held) (given : Bucket)
   delivered_may_replace at message delivered = record {
     sound = sound;
     is_of = same_bucket delivered.name (same_ids delivered.entries);
-    event = IsEvent.of_bucket (IsStep.delivers delivered);
+    step = IsStep.delivers delivered;
+    not_keeper = by_pass;
   }
 
   -- an order of one of the bucket's ids was accepted
@@ -76,7 +77,8 @@ module _ (layout : Layout) (held : Held) (given : Bucket)
   accepted_may_replace order now version own accepted = record {
     sound = sound;
     is_of = same_bucket accepted.name ids;
-    event = IsEvent.of_bucket (IsStep.accepts accepted);
+    step = IsStep.accepts accepted;
+    not_keeper = by_pass;
   } where
     write : Write
     write = arc_value accepted.cell
@@ -107,7 +109,8 @@ module _ (layout : Layout) (held : Held) (given : Bucket)
   settled_may_replace place written still settled = record {
     sound = sound;
     is_of = same_bucket settled.name ids;
-    event = IsEvent.of_bucket (IsStep.settles written still settled);
+    step = IsStep.settles written still settled;
+    not_keeper = by_pass;
   } where
     ids : AreOf layout.buckets held.number (writes given.journal.entries)
     ids =
@@ -120,7 +123,8 @@ module _ (layout : Layout) (held : Held) (given : Bucket)
   committed_may_replace committed = record {
     sound = sound;
     is_of = same_bucket committed.name ids;
-    event = IsEvent.of_bucket (IsStep.commits committed);
+    step = IsStep.commits committed;
+    not_keeper = by_pass;
   } where
     ids : AreOf layout.buckets held.number (writes given.journal.entries)
     ids =

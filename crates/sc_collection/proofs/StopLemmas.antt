@@ -1,15 +1,24 @@
 -- One hold of a bucket is one stop.
 use Rattle.std.proofs.Common.{◌≡◌, ◌≢◌, ℕ, ◌+◌, ◌<◌, ◌≤◌, Bool, true, false, cond, List, [], ◌∷◌, ◌++◌, length, refl, sym, ap, ◌∙◌, subst, arith, length-append}
-use Rattle.std.specs.Prelude.{◌==◌, map, filter, nat_lt}
+use Rattle.std.specs.Prelude.{◌==◌, map, filter, nat_lt, Option, Some, None, slice_get}
 use Rattle.std.proofs.lemmas.Bool.Decides.{nat_tests}
 use Rattle.std.proofs.lemmas.List.{append-nil}
+use Rattle.std.proofs.lemmas.Option.{slice_get_within}
 use mathlib.Core.List.{IsPrefix}
 use Rattle.sc_record.specs.declared.entry.Entry.{Entry}
-use Rattle.sc_journal.specs.Seen.{Layout, Seen, GoesOn, ComeInOrder, place_after, entries_at}
-use Rattle.sc_journal.specs.declared.stop.Stop.{Stop}
+use Rattle.sc_seen.specs.Seen.{Layout, Seen, GoesOn, ComeInOrder, place_after, made_at, entries_at}
+use Rattle.sc_seen.specs.declared.stop.Stop.{Stop}
 use Rattle.sc_bucket.specs.declared.bucket.Bucket.{Bucket}
-use Rattle.sc_collection.specs.Desks.{Held, SeesGiven, place_added}
-use Rattle.sc_journal.proofs.ExtendsLemmas.{IsPrefix-self, IsPrefix-then, IsPrefix-length, entries-bucket}
+use Rattle.sc_collection.specs.Desks.{Held, Out, nothing_out, SeesGiven, place_added}
+use Rattle.sc_journal.proofs.ListLemmas.{slice_get-append_left}
+use Rattle.sc_seen.proofs.ExtendsLemmas.{IsPrefix-self, IsPrefix-then, IsPrefix-length, entries-bucket, NotesBoard-same}
+
+-- an entry stays where it is
+pub entry-later : (journal later : List Entry) (place : ℕ) (one : Entry) → IsPrefix journal later → slice_get journal place ≡ Some one
+    → slice_get later place ≡ Some one
+entry-later journal later place one begins is =
+    ap (λ (all : List Entry). slice_get all place) (sym begins.1)
+    ∙ slice_get-append_left journal begins.0 place (slice_get_within journal place one is) ∙ is
 
 -- the stop of a hold of a bucket
 abbrev pub stop_at : ℕ → List Entry → Bool → Stop
@@ -50,12 +59,15 @@ GoesOn-held layout old new held given made more below begins grown one sees =
         seen = λ lock. at_lock (λ (n : ℕ). IsPrefix (old.journals n) (new.journals n)) number lock (number == lock) refl (subst (IsPrefix (old.journals number)) (sym sees.journal) (IsPrefix-then (old.journals number) journal given.journal.entries begins (more, sym grown)))
             (λ other. subst (IsPrefix (old.journals lock)) (sym (sees.others lock other)) (IsPrefix-self (old.journals lock)));
         board = subst (IsPrefix old.board) (sym sees.board) (IsPrefix-self old.board);
-        own = λ lock. own lock (number == lock) refl;
+        own = λ lock inside. own lock (number == lock) refl;
+        notes = NotesBoard-same layout old new (stop ∷ []) board_own none_made;
         ascend = λ lock. ascend lock (number == lock) refl;
         within = (record { lock = omega arith; place = within }, tt);
       };
-      last = λ before one after is none. last before one after is;
-      stays = λ lock none. stays lock (number == lock) refl none;
+      last = λ before one after is inside none. last before one after is;
+      stays = λ lock inside none. stays lock (number == lock) refl none;
+      board = sees.board;
+      board_own = board_own;
     }
   where
     number : ℕ
@@ -79,11 +91,20 @@ GoesOn-held layout old new held given made more below begins grown one sees =
     after_is true = refl
     after_is false = omega arith
 
-    end : place_after stop ≡ entries_at layout new number
-    end = after_is made ∙ sym grown_by ∙ ap length (sym sees.journal) ∙ sym (entries-bucket layout new number below)
+    end : place_after stop ≡ length (new.journals number)
+    end = after_is made ∙ sym grown_by ∙ ap length (sym sees.journal)
 
     within : place_after stop ≤ entries_at layout new number
-    within = omega (arith, end)
+    within = omega (arith, end, entries-bucket layout new number below)
+
+    not_board : (number == layout.buckets) ≡ false
+    not_board = grind (arith, nat_tests)
+
+    board_own : new.own layout.buckets ≡ old.own layout.buckets
+    board_own = sees.others_own layout.buckets (other_lock number layout.buckets not_board)
+
+    none_made : made_at layout.buckets (stop ∷ []) ≡ []
+    none_made = ap (λ b. map (λ (s : Stop). s.place) (filter (λ (s : Stop). s.made) (cond b (stop ∷ []) []))) not_board
 
     own : (lock : ℕ) (b : Bool) → (number == lock) ≡ b
         → new.own lock ≡ old.own lock ++ map (λ (s : Stop). s.place) (filter (λ (s : Stop). s.made) (cond b (stop ∷ []) []))
@@ -102,15 +123,26 @@ GoesOn-held layout old new held given made more below begins grown one sees =
     )
     ascend lock false is = tt
 
-    last : (before : List Stop) (s : Stop) (after : List Stop) → stop ∷ [] ≡ before ++ s ∷ after → place_after s ≡ entries_at layout new s.lock
+    last : (before : List Stop) (s : Stop) (after : List Stop) → stop ∷ [] ≡ before ++ s ∷ after
+        → place_after s ≡ length (new.journals s.lock)
     last [] s after is =
         let same : stop ≡ s = cc in
-        subst (λ (one : Stop). place_after one ≡ entries_at layout new one.lock) same end
+        subst (λ (one : Stop). place_after one ≡ length (new.journals one.lock)) same end
     last (x ∷ []) s after is = absurd (cc)
     last (x ∷ y ∷ before) s after is = absurd (cc)
 
-    stays : (lock : ℕ) (b : Bool) → (number == lock) ≡ b → cond b (stop ∷ []) [] ≡ [] → entries_at layout new lock ≡ entries_at layout old lock
+    stays : (lock : ℕ) (b : Bool) → (number == lock) ≡ b → cond b (stop ∷ []) [] ≡ [] → new.journals lock ≡ old.journals lock
     stays lock true is none = absurd (cc)
-    stays lock false is none =
-        ap (λ n. cond (lock == layout.buckets) n (length (new.journals lock))) (ap length sees.board)
-        ∙ ap (λ n. cond (lock == layout.buckets) (length old.board) n) (ap length (sees.others lock (other_lock number lock is)))
+    stays lock false is none = sees.others lock (other_lock number lock is)
+
+-- a bucket was taken while nothing was out, and given back: nothing is out
+pub given-back : (before out after : Out) (held : Option Held) → before ≡ nothing_out → out ≡ record before { bucket = held }
+    → after ≡ record out { bucket = None } → after ≡ nothing_out
+given-back before out after held none taken given =
+    given ∙ ap (λ (o : Out). let back : Out = record o { bucket = None } in back) taken
+    ∙ ap (λ (o : Out). let back : Out = record o { bucket = None } in back) none
+
+-- while it is out, it is out alone
+pub taken-alone : (before out : Out) (held : Held) → before ≡ nothing_out → out ≡ record before { bucket = Some held }
+    → out ≡ record nothing_out { bucket = Some held }
+taken-alone before out held none taken = taken ∙ ap (λ (o : Out). let now : Out = record o { bucket = Some held } in now) none

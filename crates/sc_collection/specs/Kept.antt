@@ -1,6 +1,6 @@
 -- What a trail keeps of a connection, and when a connection has had enough.
 use Rattle.std.specs.Prelude.{ℕ, ◌+◌, Bool, ◌||◌, List, length, nat_le}
-use Rattle.sc_journal.specs.declared.stop.Stop.{Stop}
+use Rattle.sc_seen.specs.declared.stop.Stop.{Stop}
 
 -- the stops that were kept, in order, and how many requests were answered
 pub record Kept : Type 0 where

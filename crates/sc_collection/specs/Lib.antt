@@ -1,6 +1,7 @@
--- How a desk hands out the buckets of a collection, and what a trail keeps.
+-- How a desk hands out the buckets of a collection and its board, what a commit of all buckets leaves, and what a trail keeps.
 pub mod Kept
 pub mod Packed
 pub mod Shapes
 pub mod Desks
+pub mod Committing
 pub mod Alone

@@ -1,6 +1,6 @@
 -- Which stop a trail keeps in eight bytes.
 use Rattle.std.specs.Prelude.{◌/◌, ◌%◌, ◌==◌}
-use Rattle.sc_journal.specs.declared.stop.Stop.{Stop}
+use Rattle.sc_seen.specs.declared.stop.Stop.{Stop}
 use Rattle.sc_collection.specs.declared.packed.PackedStop.{PackedStop}
 
 -- the stop that was packed: half of its second number is the place, and what is left says whether the hold added an entry

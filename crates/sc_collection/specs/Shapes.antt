@@ -3,7 +3,7 @@ use Rattle.std.specs.Prelude.{◌≡◌, ◌==◌, ◌&&◌, Bool, true, nat_le,
 use Rattle.std.specs.List.{list_any}
 use Rattle.sc_cluster.specs.Map.{AreFirst}
 use Rattle.sc_journal.specs.Limits.{least_journal, greatest_journal}
-use Rattle.sc_journal.specs.Seen.{Layout, Seen}
+use Rattle.sc_seen.specs.Seen.{Layout, Seen}
 use Rattle.sc_collection.specs.declared.shape.Shape.{Shape}
 
 -- the least limit of a journal: that of a bucket, and an entry for each replica of a shard above the first

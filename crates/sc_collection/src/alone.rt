@@ -1,21 +1,28 @@
-ghost use Rattle.std.specs.Prelude.{◌≡◌, ◌≤◌, ◌+◌, None, IfOk, length};
+ghost use Rattle.std.specs.Prelude.{◌≡◌, ◌≤◌, ◌<◌, ◌+◌, List, Some, None, IfOk, length, slice_get};
 ghost use Rattle.sc_cluster.specs.Map.{AreFirst};
 ghost use Rattle.sc_journal.specs.Limits.{least_journal, greatest_journal};
 ghost use Rattle.sc_journal.specs.Down.{all_followers};
 ghost use Rattle.sc_bucket.specs.Sound.{AreActive};
-ghost use Rattle.sc_collection.specs.Alone.{AreNew, seen_of};
+ghost use Rattle.sc_collection.specs.Alone.{AreNew, seen_of, keeping_of, KeepersAreOut, IsDesk, MayStand, handed_out, taken_back};
+ghost use Rattle.sc_seen.specs.declared.board.BoardEntry.{BoardEntry};
+ghost use Rattle.sc_seen.specs.Seen.{AreLegal};
+ghost use Rattle.sc_board.specs.Boards.{IsSoundBoard};
+ghost use Rattle.sc_collection.specs.Desks.{Out, Held, IsBoardOf, MayReplaceBoard, SeesBoardGiven, StillFit, AreAtRest};
 ghost use Rattle.sc_collection.specs.Shapes.{IsShape, HasShape, SeesNothing};
 
 use crate::desk::Desk;
 use crate::shape::Shape;
 use http_server::Log;
+use sc_board::Board;
 use sc_bucket::Bucket;
 use sc_cluster::ClusterMap;
+use sc_record::CloneIn;
 use std::alloc::{AllocError, Global};
 use std::marker::Model;
 
-/// A desk for one thread, which keeps all buckets in a plain list. Nobody else takes a bucket, so what is handed out is
-/// what was seen of it. `hold` and `give` take no memory.
+/// A desk for one thread, which keeps all buckets in a plain list, and the board beside it. Nobody else takes a bucket or the board, so
+/// what is handed out is what was seen of it. Its keepers have nothing, since there is nobody else whom they could keep out. No call but
+/// `new` takes memory.
 #[derive(Drop)]
 pub struct Alone {
     /// Each bucket by its number; none while it is out.
@@ -25,18 +32,22 @@ pub struct Alone {
     first: ClusterMap,
     /// How many entries each journal may have.
     limit: u64,
-    /// The bucket that is out, with its number, and nothing else. It takes no memory.
-    out: Log<u32, Bucket>,
+    /// The board; none while it is out.
+    board: Option<Board<()>>,
+    /// The bucket that is out, with its number and whether its keeper has it, and nothing else. It takes no memory.
+    out: Log<(u32, bool), Bucket>,
+    /// The board that is out, and nothing else. It takes no memory.
+    board_out: Log<(), Board<()>>,
 }
 
 impl Model for Alone {
-    ghost use Rattle.sc_collection.specs.Alone.{AloneState, desk_of, IsDesk};
+    ghost use Rattle.sc_collection.specs.Alone.{AloneState, layout_of, out_of, board_out_of, desk_of, IsDesk};
 
     ghost Value = { AloneState };
 
-    ghost view = { λ a. desk_of a.slots.items a.nodes a.first a.limit a.out.items };
+    ghost view = { λ a. desk_of (layout_of a.slots.items a.nodes a.first a.limit) a.slots.items (out_of a.out.items) a.board (board_out_of a.board_out.items) };
 
-    ghost invariant = { λ a. IsDesk (desk_of a.slots.items a.nodes a.first a.limit a.out.items) };
+    ghost invariant = { λ a. IsDesk (desk_of (layout_of a.slots.items a.nodes a.first a.limit) a.slots.items (out_of a.out.items) a.board (board_out_of a.board_out.items)) };
 }
 
 // A bucket in each of so many slots, each with an empty journal.
@@ -66,24 +77,57 @@ impl Alone {
         ensures layout { IfOk result (λ desk. HasShape shape.now desk.layout) }
         ensures seen { IfOk result (λ desk. SeesNothing (seen_of desk)) }
         ensures out { IfOk result (λ desk. desk.out ≡ None) }
+        ensures board_out { IfOk result (λ desk. desk.board_out ≡ None) }
     {
         let first = ClusterMap::new(alloc, shape.shards, shape.replicas, shape.nodes)?;
+        let board = Board::new(alloc, first.clone_in(alloc)?, shape.log_limit, ())?;
         Ok(Alone {
             slots: new_slots(alloc, &first, shape.buckets, shape.log_limit)?,
             nodes: shape.nodes,
             first,
             limit: shape.log_limit,
+            board: Some(board),
             out: Log::new(),
+            board_out: Log::new(),
         })
+    }
+
+    // Takes the bucket of this number out of its slot, for its keeper or for another.
+    fn take_out(&mut self, b: u32, by_keeper: bool) -> Bucket
+        requires within { b < self.old.layout.buckets }
+        requires nothing_out { self.old.out ≡ None }
+        ensures is { IsDesk self.old }
+        ensures there { slice_get self.old.slots b ≡ Some (Some result) }
+        ensures after { self.new ≡ handed_out self.old (record { number = b; bucket = result; by_keeper = by_keeper }) }
+    {
+        let bucket = self.slots[b as usize].take().unwrap();
+        self.out = Log::new().and(&(b, by_keeper), &bucket);
+        bucket
+    }
+
+    // Puts the bucket of this number, which is out, into its slot.
+    fn put_back(&mut self, b: u32, bucket: Bucket)
+        requires is_out { (held : Held) × (self.old.out ≡ Some held) × (held.number ≡ b) × (IsDesk self.old → MayStand self.old held bucket) }
+        ensures is { IsDesk self.old }
+        ensures after { self.new ≡ taken_back self.old b bucket }
+    {
+        self.slots[b as usize] = Some(bucket);
+        self.out = Log::new();
     }
 }
 
 impl Desk for Alone {
+    type Keepers = ();
+
     ghost layout = { λ desk. desk.layout };
 
     ghost seen = { seen_of };
 
-    ghost out = { λ desk. desk.out };
+    ghost out = { λ desk. record { bucket = desk.out; board = desk.board_out } };
+
+    ghost fits = { λ desk keepers. KeepersAreOut desk };
+
+    ghost keeping = { λ desk keepers. keeping_of desk };
 
     fn buckets(&self) -> u32 {
         self.slots.len() as u32
@@ -94,13 +138,44 @@ impl Desk for Alone {
     }
 
     fn hold(&mut self, b: u32) -> Bucket {
-        let bucket = self.slots[b as usize].take().unwrap();
-        self.out = Log::new().and(&b, &bucket);
-        bucket
+        self.take_out(b, false)
     }
 
     fn give(&mut self, b: u32, bucket: Bucket) {
-        self.slots[b as usize] = Some(bucket);
-        self.out = Log::new();
+        self.put_back(b, bucket);
+    }
+
+    fn hold_keeper(&mut self, _keepers: &mut (), b: u32) -> Bucket {
+        self.take_out(b, true)
+    }
+
+    fn give_keeper(&mut self, _keepers: &mut (), b: u32, bucket: Bucket) {
+        self.put_back(b, bucket);
+    }
+
+    fn hold_board(&mut self) -> Board<()> {
+        let board = self.board.take().unwrap();
+        self.board_out = Log::new().and(&(), &board);
+        board
+    }
+
+    fn give_board(&mut self, board: Board<()>)
+        requires sound { IsSoundBoard board }
+        requires is_of { IsBoardOf self.old.layout board.first board.limit }
+        requires is_out { (entries : List BoardEntry) × (self.old.board_out ≡ Some entries)
+            × MayReplaceBoard self.old.layout (seen_of self.old) entries board.journal.entries }
+        requires rest { (keepers : Unit {0}) → board.keepers ≡ Some keepers
+            → KeepersAreOut self.old × AreAtRest self.old.layout board.journal.entries (keeping_of self.old) }
+        ensures seen { (entries : List BoardEntry) → self.old.board_out ≡ Some entries
+            → SeesBoardGiven self.old.layout entries board.journal.entries (seen_of self.old) (seen_of self.new) }
+        ensures out { let out : Out = record { bucket = self.new.out; board = self.new.board_out } in
+            out ≡ record { bucket = self.old.out; board = None } }
+        ensures legal { AreLegal self.new.layout (seen_of self.new) }
+        ensures layout { self.new.layout ≡ self.old.layout }
+        ensures keepers { board.keepers ≡ None → (keepers : Unit {0}) → KeepersAreOut self.old
+            → StillFit (KeepersAreOut self.new) (keeping_of self.old) (keeping_of self.new) }
+    {
+        self.board = Some(board);
+        self.board_out = Log::new();
     }
 }

@@ -1,28 +1,42 @@
-//! A collection as its users find it: a desk that hands out one bucket at a time and takes it back, and the trail on which
-//! a connection keeps where it read and wrote.
+//! A collection as its users find it: a desk that hands out one bucket at a time, and its board, and takes them back; the commit of all
+//! buckets; and the trail on which a connection keeps where it read and wrote.
 //!
-//! The layers above use the clauses of `Desk` alone, whichever desk it is: what a desk hands out is sound, and its journal
-//! extends what was seen of it. What it takes back differs by one event at most, any of `sc_handover`'s `IsEvent`. `Alone`
-//! keeps all buckets in a plain list, for one thread.
+//! It depends on `sc_bucket` and `sc_board`, whose buckets and board a desk hands out, on `sc_keeper`, which says what of a bucket only
+//! its keeper changes, and on `sc_seen`, which says what is seen of all that. The layers above use the clauses of `Desk` alone,
+//! whichever desk it is. What a desk hands out is sound, and its journal extends what was seen of it. To whom it comes by it takes a
+//! bucket back with one event of the bucket's own at most (`sc_bucket`'s `IsStep`), which leaves the keeper's part as it was; to its
+//! keeper it hands the bucket out with the part as the keeper left it, and takes it back with one event of the keeper's at most
+//! (`sc_handover`'s `IsKeeperEvent`). The board it hands out has the keepers of all buckets while no split runs, and each bucket is then
+//! as the board says. `Alone` keeps all buckets in a plain list, for one thread.
 //!
-//! Proved: `Alone` keeps the clauses of `Desk`: what it hands out is sound, the bucket that was asked for, and extends what
-//! was seen; each shape gives its layout; a `Trail` has the stops that it was given, in order, and a count of requests, and
-//! is full exactly at the limits of a connection.
+//! Proved: `Alone` keeps the clauses of `Desk`: what it hands out is sound, the bucket that was asked for, with the part that its keeper
+//! left, and extends what was seen; the board that it hands out is sound, and where it has the keepers each bucket has the board's map,
+//! no split open, each core active, no feed, and of its keeper's entries just those that go with the board's. Each shape gives its
+//! layout. `commit_all` over any desk commits every bucket in order, each at its stop, and reports the worst that came of it
+//! (`CommitsAll`). A `Trail` has the stops that it was given, in order, and a count of requests, and is full exactly at the limits of a
+//! connection.
 //!
 //! Tested alone: collections of several buckets, through `serve`.
+//!
+//! Neither: that a desk is fair, or fast.
 #![tactic(auto)]
 
 // What is kept of a connection.
 mod packed;
 mod trail;
 
-// How buckets are handed out.
+// How buckets and the board are handed out.
 mod alone;
 mod desk;
 mod shape;
 
+// The commit of all buckets.
+mod commits;
+
 pub use alone::Alone;
-pub use desk::Desk;
-pub use sc_journal::Stop;
+pub use commits::commit_all;
+pub use desk::{Desk, Parts};
+pub use sc_board::{Board, BoardFault, Cut, DropFault};
+pub use sc_seen::{BoardEntry, Stop};
 pub use shape::Shape;
 pub use trail::Trail;

@@ -1,7 +1,7 @@
 ghost use Rattle.std.specs.Prelude.{◌≡◌, ◌<◌, ◌^◌};
 ghost use Rattle.sc_collection.specs.Packed.{unpacked};
 
-use sc_journal::Stop;
+use sc_seen::Stop;
 
 /// A stop as a trail keeps it, in eight bytes.
 #[derive(Clone, Copy, Debug)]

@@ -2,7 +2,7 @@ ghost use Rattle.std.specs.Prelude.{◌≡◌, ◌+◌, ◌<◌, ◌^◌, [], �
 ghost use Rattle.sc_collection.specs.Kept.{Kept, is_full, request_limit, trail_room};
 
 use crate::packed::PackedStop;
-use sc_journal::Stop;
+use sc_seen::Stop;
 use std::alloc::{AllocError, Global};
 use std::marker::Model;
 

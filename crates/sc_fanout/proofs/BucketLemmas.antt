@@ -31,7 +31,7 @@ use Rattle.sc_journal.specs.Journal.{writes}
 use Rattle.sc_journal.specs.Committed.{last_commit, committed, IsShown}
 use Rattle.sc_journal.specs.Splits.{map_after}
 use Rattle.sc_journal.specs.Legal.{IsLegal, HasTerms}
-use Rattle.sc_journal.specs.Seen.{Layout}
+use Rattle.sc_seen.specs.Seen.{Layout}
 use Rattle.sc_journal.proofs.JournalLemmas.{is_of_own, last_write_is, writes-append}
 use Rattle.sc_journal.proofs.LegalLemmas.{legal_hash, legal_terms}
 use Rattle.sc_bucket.specs.Sound.{IsSound}

@@ -8,8 +8,8 @@ use Rattle.std.proofs.lemmas.Map.Keys.{sorted_head, sorted_tail}
 use Rattle.sc_record.specs.declared.write.Write.{Write}
 use Rattle.sc_record.specs.declared.entry.Entry.{Entry}
 use Rattle.sc_record.specs.Writes.{AscendById}
-use Rattle.sc_journal.specs.Seen.{Layout, Seen, journal_at}
-use Rattle.sc_journal.specs.declared.stop.Stop.{Stop}
+use Rattle.sc_seen.specs.Seen.{Layout, Seen, journal_at}
+use Rattle.sc_seen.specs.declared.stop.Stop.{Stop}
 use Rattle.sc_fanout.specs.Searches.{IsFoundIn, IsFoundAtOne, Search}
 use Rattle.sc_fanout.specs.SearchLaws.{SearchIsDetermined}
 

@@ -13,11 +13,11 @@ use Rattle.sc_record.specs.declared.write.Write.{Write}
 use Rattle.sc_record.specs.declared.entry.Entry.{Entry}
 use Rattle.sc_snapshot.specs.Rows.{AreRows}
 use Rattle.sc_eval.specs.Conditions.{Condition, condition_of}
-use Rattle.sc_journal.specs.Seen.{Layout, Seen, SeesMore, FromNowOn, journal_at}
-use Rattle.sc_journal.specs.Moments.{View, Keeps}
-use Rattle.sc_journal.specs.declared.stop.Stop.{Stop}
-use Rattle.sc_journal.proofs.ExtendsLemmas.{IsPrefix-then}
-use Rattle.sc_journal.proofs.GoesOnLemmas.{take-prefix, Keeps-none, Keeps-then, Keeps-sees}
+use Rattle.sc_seen.specs.Seen.{Layout, Seen, SeesMore, FromNowOn, journal_at}
+use Rattle.sc_seen.specs.Moments.{View, Keeps}
+use Rattle.sc_seen.specs.declared.stop.Stop.{Stop}
+use Rattle.sc_seen.proofs.ExtendsLemmas.{IsPrefix-then}
+use Rattle.sc_seen.proofs.GoesOnLemmas.{take-prefix, Keeps-none, Keeps-then, Keeps-sees}
 use Rattle.sc_bucket.specs.declared.standing.Searcher.{Searcher}
 use Rattle.sc_fanout.specs.declared.ask.Ask.{Ask}
 use Rattle.sc_fanout.specs.declared.shown.Page.{Page}

@@ -7,8 +7,8 @@ use Rattle.sc_cluster.specs.declared.slice.Slice.{Slice}
 use Rattle.sc_eval.specs.Conditions.{Condition}
 use Rattle.sc_journal.specs.Journal.{last_write}
 use Rattle.sc_journal.specs.Committed.{commits, IsShown}
-use Rattle.sc_journal.specs.Seen.{Layout, Seen, journal_at}
-use Rattle.sc_journal.specs.declared.stop.Stop.{Stop}
+use Rattle.sc_seen.specs.Seen.{Layout, Seen, journal_at}
+use Rattle.sc_seen.specs.declared.stop.Stop.{Stop}
 use Rattle.sc_fanout.specs.Searches.{IsFoundIn, Search, SearchPage, ShowsFound}
 
 -- what is found with a route is found without one

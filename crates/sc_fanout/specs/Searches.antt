@@ -14,9 +14,9 @@ use Rattle.sc_eval.specs.Conditions.{Condition, condition_of}
 use Rattle.sc_eval.specs.Matching.{matches}
 use Rattle.sc_journal.specs.Splits.{map_after}
 use Rattle.sc_journal.specs.Committed.{IsShown}
-use Rattle.sc_journal.specs.Seen.{Layout, Seen, FromNowOn, journal_at}
-use Rattle.sc_journal.specs.Moments.{View, Keeps}
-use Rattle.sc_journal.specs.declared.stop.Stop.{Stop}
+use Rattle.sc_seen.specs.Seen.{Layout, Seen, FromNowOn, journal_at}
+use Rattle.sc_seen.specs.Moments.{View, Keeps}
+use Rattle.sc_seen.specs.declared.stop.Stop.{Stop}
 use Rattle.sc_fanout.specs.declared.ask.Ask.{Ask}
 use Rattle.sc_fanout.specs.declared.shown.Page.{Page}
 

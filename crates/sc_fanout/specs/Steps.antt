@@ -15,8 +15,8 @@ use Rattle.sc_eval.specs.Matching.{finds}
 use Rattle.sc_journal.specs.Journal.{writes}
 use Rattle.sc_journal.specs.Splits.{map_after}
 use Rattle.sc_journal.specs.Legal.{IsLegal}
-use Rattle.sc_journal.specs.Seen.{Layout}
-use Rattle.sc_journal.specs.Moments.{View, Keeps}
+use Rattle.sc_seen.specs.Seen.{Layout}
+use Rattle.sc_seen.specs.Moments.{View, Keeps}
 use Rattle.sc_bucket.specs.Searchers.{ShowsCommitted}
 use Rattle.sc_bucket.specs.declared.standing.Searcher.{Searcher}
 

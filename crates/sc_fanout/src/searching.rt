@@ -1,4 +1,4 @@
-ghost use Rattle.std.specs.Prelude.{◌≡◌, ◌+◌, ◌++◌, ◌<◌, ◌≤◌, None, length, map, filter, All, IfOk, OnOk};
+ghost use Rattle.std.specs.Prelude.{◌≡◌, ◌+◌, ◌++◌, ◌<◌, ◌≤◌, length, map, filter, All, IfOk, OnOk};
 ghost use Rattle.std.specs.Arc.{arc_value};
 ghost use Rattle.sc_record.specs.declared.write.Write.{Write};
 ghost use Rattle.sc_eval.specs.Conditions.{condition_of};
@@ -6,8 +6,8 @@ ghost use Rattle.sc_journal.specs.Legal.{HasTerms};
 ghost use Rattle.sc_snapshot.specs.Rows.{AreRows};
 ghost use Rattle.sc_bucket.specs.Sound.{IsSound};
 ghost use Rattle.sc_bucket.specs.declared.standing.Searcher.{Searcher};
-ghost use Rattle.sc_journal.specs.Moments.{view_of};
-ghost use Rattle.sc_collection.specs.Desks.{IsDeskAtRest};
+ghost use Rattle.sc_seen.specs.Moments.{view_of};
+ghost use Rattle.sc_collection.specs.Desks.{nothing_out, IsDeskAtRest};
 ghost use Rattle.sc_collection.specs.Kept.{trail_room};
 ghost use Rattle.sc_fanout.specs.Searches.{SearchesBuckets};
 ghost use Rattle.sc_fanout.specs.Steps.{asks_for, is_asked, rows_in, found_in, AreOfSlices, AreAsked, LooksAtOne};
@@ -31,7 +31,7 @@ pub fn search<D: Desk>(
     trail: &mut Trail,
     ask: &Ask,
 ) -> Result<Page, AllocError>
-    requires nothing_out { D.out desk.old ≡ None }
+    requires nothing_out { D.out desk.old ≡ nothing_out }
     requires room { length trail.old.stops + (D.layout desk.old).buckets ≤ trail_room }
     ensures searched { SearchesBuckets (D.layout desk.old) (view_of (D.seen desk.old) trail.old.stops) (view_of (D.seen desk.new) trail.new.stops) ask.now result }
     ensures layout { D.layout desk.new ≡ D.layout desk.old }
@@ -54,7 +54,7 @@ fn take_searchers<D: Desk>(
     b: u32,
     route: &Option<Range>,
 ) -> Result<Vec<Searcher>, AllocError>
-    requires nothing_out { D.out desk.old ≡ None }
+    requires nothing_out { D.out desk.old ≡ nothing_out }
     requires within { b < (D.layout desk.old).buckets }
     requires room { length trail.old.stops < trail_room }
     ensures looks { LooksAtOne (D.layout desk.old) (view_of (D.seen desk.old) trail.old.stops) (view_of (D.seen desk.new) trail.new.stops) b

@@ -12,9 +12,9 @@ use Rattle.sc_record.specs.declared.entry.Entry.{Entry}
 use Rattle.sc_record.specs.declared.write.Write.{Write}
 use Rattle.sc_router.specs.Route.{bucket_of}
 use Rattle.sc_journal.specs.Journal.{last_write}
-use Rattle.sc_journal.specs.Seen.{Layout, Seen, FromNowOn}
-use Rattle.sc_journal.specs.Moments.{View}
-use Rattle.sc_journal.proofs.GoesOnLemmas.{take-prefix}
+use Rattle.sc_seen.specs.Seen.{Layout, Seen, FromNowOn}
+use Rattle.sc_seen.specs.Moments.{View}
+use Rattle.sc_seen.proofs.GoesOnLemmas.{take-prefix}
 use Rattle.sc_bucket.specs.declared.bucket.Bucket.{Bucket}
 use Rattle.sc_collection.specs.Desks.{SeesGiven}
 use Rattle.sc_collection.proofs.StopLemmas.{GoesOn-held, stop_at}
@@ -34,7 +34,7 @@ pub got : (layout : Layout) (old new : View) (bucket : Bucket) (number : ℕ) (i
     (found : Result (Option (Arc Write Global)) AllocError)
     → number ≡ bucket_of id layout.buckets → number < layout.buckets
     → IsPrefix (old.seen.journals number) bucket.journal.entries
-    → SeesGiven (record { number = number; bucket = bucket }) bucket old.seen new.seen
+    → SeesGiven (record { number = number; bucket = bucket; by_keeper = false }) bucket old.seen new.seen
     → new.stops ≡ old.stops ++ stop_at number bucket.journal.entries false ∷ []
     → IfOk found (λ cell. option_map arc_value cell ≡ live (last_write bucket.journal.entries id))
     → IsGot layout old new id found
@@ -42,7 +42,7 @@ got layout old new bucket number id found here below begins sees kept is = recor
   stop = stop_at number bucket.journal.entries false;
   reads = record { lock = here; made = refl };
   keeps = record {
-    goes = GoesOn-held layout old.seen new.seen (record { number = number; bucket = bucket }) bucket false [] below begins
+    goes = GoesOn-held layout old.seen new.seen (record { number = number; bucket = bucket; by_keeper = false }) bucket false [] below begins
         (sym (append-nil bucket.journal.entries)) refl sees;
     kept = kept;
   };

@@ -8,10 +8,10 @@ use Rattle.std.specs.declared.alloc.Global.{Global}
 use Rattle.std.specs.declared.sync.Arc.{Arc}
 use Rattle.std.proofs.lemmas.List.{append-nil, map-append}
 use Rattle.sc_record.specs.declared.write.Write.{Write}
-use Rattle.sc_journal.specs.Seen.{Layout, Seen, FromNowOn}
-use Rattle.sc_journal.specs.Moments.{View, Keeps}
-use Rattle.sc_journal.specs.declared.stop.Stop.{Stop}
-use Rattle.sc_journal.proofs.GoesOnLemmas.{Keeps-none, Keeps-then, Keeps-sees}
+use Rattle.sc_seen.specs.Seen.{Layout, Seen, FromNowOn}
+use Rattle.sc_seen.specs.Moments.{View, Keeps}
+use Rattle.sc_seen.specs.declared.stop.Stop.{Stop}
+use Rattle.sc_seen.proofs.GoesOnLemmas.{Keeps-none, Keeps-then, Keeps-sees}
 use Rattle.sc_get.specs.Got.{IsGot, AreGot, ReadsAt, ReadsEach, live_at, live_writes}
 
 -- so many of the ids were read, and these were found

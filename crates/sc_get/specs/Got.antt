@@ -9,9 +9,9 @@ use Rattle.sc_record.specs.declared.write.Write.{Write}
 use Rattle.sc_record.specs.declared.document.Field.{Field}
 use Rattle.sc_router.specs.Route.{bucket_of}
 use Rattle.sc_journal.specs.Journal.{last_write}
-use Rattle.sc_journal.specs.Seen.{Layout, Seen, FromNowOn, journal_at}
-use Rattle.sc_journal.specs.Moments.{View, Keeps}
-use Rattle.sc_journal.specs.declared.stop.Stop.{Stop}
+use Rattle.sc_seen.specs.Seen.{Layout, Seen, FromNowOn, journal_at}
+use Rattle.sc_seen.specs.Moments.{View, Keeps}
+use Rattle.sc_seen.specs.declared.stop.Stop.{Stop}
 
 -- the write, where it is no deletion
 abbrev pub live : Option Write → Option Write

@@ -1,5 +1,5 @@
 ghost use Rattle.std.specs.Prelude.{◌≡◌, ◌+◌, ◌≤◌, length};
-ghost use Rattle.sc_journal.specs.Moments.{view_of};
+ghost use Rattle.sc_seen.specs.Moments.{view_of};
 ghost use Rattle.sc_collection.specs.Desks.{IsDeskAtRest};
 ghost use Rattle.sc_collection.specs.Kept.{trail_room};
 ghost use Rattle.sc_get.specs.Got.{AreGot};

@@ -1,8 +1,8 @@
-ghost use Rattle.std.specs.Prelude.{◌≡◌, ◌<◌, ◌+◌, None, IfOk, length, option_copied};
+ghost use Rattle.std.specs.Prelude.{◌≡◌, ◌<◌, ◌+◌, IfOk, length, option_copied};
 ghost use Rattle.std.specs.Option.{option_map};
 ghost use Rattle.std.specs.Arc.{arc_value};
-ghost use Rattle.sc_journal.specs.Moments.{view_of};
-ghost use Rattle.sc_collection.specs.Desks.{IsDeskAtRest};
+ghost use Rattle.sc_seen.specs.Moments.{view_of};
+ghost use Rattle.sc_collection.specs.Desks.{nothing_out, IsDeskAtRest};
 ghost use Rattle.sc_collection.specs.Kept.{trail_room};
 ghost use Rattle.sc_get.specs.Got.{IsGot, live};
 
@@ -18,7 +18,7 @@ pub fn get_one<D: Desk>(
     trail: &mut Trail,
     id: &Id,
 ) -> Result<Option<Cell>, AllocError>
-    requires nothing_out { D.out desk.old ≡ None }
+    requires nothing_out { D.out desk.old ≡ nothing_out }
     requires room { length trail.old.stops < trail_room }
     ensures got { IsGot (D.layout desk.old) (view_of (D.seen desk.old) trail.old.stops) (view_of (D.seen desk.new) trail.new.stops) id.now result }
     ensures layout { D.layout desk.new ≡ D.layout desk.old }

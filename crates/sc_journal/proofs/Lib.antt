@@ -1,4 +1,4 @@
--- Facts on journals, on those that can be, on what they owe, and on what is seen of them, lowest first.
+-- Facts on journals, on those that can be, and on what they owe, lowest first.
 pub mod ListLemmas
 pub mod SumLemmas
 pub mod JournalLemmas
@@ -14,6 +14,3 @@ pub mod RestLemmas
 pub mod VersionLemmas
 pub mod MapLemmas
 pub mod SeatLemmas
-pub mod ExtendsLemmas
-pub mod GoesOnLemmas
-pub mod BatchLemmas

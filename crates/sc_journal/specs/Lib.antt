@@ -1,4 +1,4 @@
--- What a bucket's journal is, which journals can be, what an order is answered by one, and what is seen of all of them.
+-- What a bucket's journal is, which journals can be, and what an order is answered by one.
 pub mod Journal
 pub mod Limits
 pub mod Down
@@ -6,9 +6,5 @@ pub mod Seats
 pub mod Splits
 pub mod Legal
 pub mod Outcomes
-pub mod Seen
-pub mod Moments
-pub mod Batches
-pub mod BatchLaws
 pub mod Committed
 pub mod Laws

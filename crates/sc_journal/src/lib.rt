@@ -4,22 +4,16 @@
 //! Proved: laws: `journals_stay_legal` (a legal journal grows by what may follow it, its prefixes are legal, and per id
 //! versions ascend), `journals_owe_entries` (what each entry makes owed, and takes off it), `journals_come_to_rest` (a legal
 //! journal has a legal continuation, no longer than what it owes, after which each write is settled, no split is open and no
-//! slice is inactive; exactly then it owes nothing but an entry of each follower that is not down), `second_stops_settle`
-//! (after an accepted order's second stop its write is settled), `journals_keep_a_map` (the slices after a legal journal are
-//! those of a cluster, and those being made are the subs of the slice whose split is open), `journals_seat_cores` (in a legal
-//! journal a core that is down is a follower of a slice that is there and that no split is making, and the cores of a slice
-//! sit in its seats, each in one, and each in the seat of its number until the slice is there and no split is making it).
+//! slice is inactive; exactly then it owes nothing but an entry of each follower that is not down), `journals_keep_a_map` (the
+//! slices after a legal journal are those of a cluster, and those being made are the subs of the slice whose split is open),
+//! `journals_seat_cores` (in a legal journal a core that is down is a follower of a slice that is there and that no split is
+//! making, and the cores of a slice sit in its seats, each in one, and each in the seat of its number until the slice is there
+//! and no split is making it).
 #![tactic(auto)]
 
-mod batches;
-mod board;
 mod laws;
-mod stop;
 
-pub use batches::second_stops_settle;
-pub use board::BoardEntry;
 pub use laws::{
     journals_come_to_rest, journals_keep_a_map, journals_owe_entries, journals_seat_cores,
     journals_stay_legal,
 };
-pub use stop::Stop;

@@ -10,7 +10,8 @@ use std::alloc::{AllocError, Global};
 
 /// A new collection, by the line `collection SHARDS REPLICAS BUCKETS LIMIT`, on two nodes.
 pub fn new_collection(alloc: Global, words: &[&str]) -> Result<Alone, AllocError>
-    ensures { IfOk result (λ desk. desk.out ≡ None) }
+    ensures out { IfOk result (λ desk. desk.out ≡ None) }
+    ensures board_out { IfOk result (λ desk. desk.board_out ≡ None) }
 {
     let shards = number(words, 1).clamp(1, 64) as u32;
     let replicas = number(words, 2).clamp(1, 4) as u8;
@@ -34,8 +35,10 @@ fn bucket_count(count: u64) -> u32
 /// What a connection comes to that sends a line and nothing else, where `|` stands for each end of a line: how it ended, what it wrote,
 /// and its stops, each as its bucket and its place, with a sign where it made an entry.
 pub fn exchange(alloc: Global, desk: &mut Alone, now: u64, line: &str) -> Result<String, AllocError>
-    requires { desk.old.out ≡ None }
-    ensures { desk.new.out ≡ None }
+    requires out { desk.old.out ≡ None }
+    requires board_out { desk.old.board_out ≡ None }
+    ensures out { desk.new.out ≡ None }
+    ensures board_out { desk.new.board_out ≡ None }
 {
     let bytes = line.replace(alloc, '|', "\r\n")?.into_bytes();
     let mut source = MemSource::new(List::from_vec(bytes), 7, List::new(alloc));

@@ -23,7 +23,8 @@ pub struct Stage {
 impl Stage {
     pub fn new(alloc: Global) -> Result<Stage, AllocError>
         ensures sound { IfOk result (λ stage. IsSound stage.bucket) }
-        ensures nothing_out { IfOk result (λ stage. stage.desk.out ≡ None) }
+        ensures out { IfOk result (λ stage. stage.desk.out ≡ None) }
+        ensures board_out { IfOk result (λ stage. stage.desk.board_out ≡ None) }
     {
         Ok(Stage {
             bucket: new_bucket(alloc, &[])?,
@@ -36,9 +37,11 @@ impl Stage {
 /// What is written for a line.
 pub fn answer(alloc: Global, stage: &mut Stage, line: &str) -> Result<String, AllocError>
     requires sound { IsSound stage.old.bucket }
-    requires nothing_out { stage.old.desk.out ≡ None }
+    requires out { stage.old.desk.out ≡ None }
+    requires board_out { stage.old.desk.board_out ≡ None }
     ensures sound { IsSound stage.new.bucket }
-    ensures nothing_out { stage.new.desk.out ≡ None }
+    ensures out { stage.new.desk.out ≡ None }
+    ensures board_out { stage.new.desk.board_out ≡ None }
 {
     if line.is_empty() || line.starts_with('#') {
         return String::from_str(alloc, line);

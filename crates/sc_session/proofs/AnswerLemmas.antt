@@ -5,11 +5,11 @@ use Rattle.std.specs.declared.alloc.AllocError.{AllocError}
 use Rattle.sc_reply.specs.Refusals as refusals
 use Rattle.sc_eval.specs.declared.fault.BindFault.{BindFault}
 use Rattle.sc_eval.specs.declared.fault.BindFault.TheVariants as faults
-use Rattle.sc_journal.specs.Seen.{Layout, Seen}
-use Rattle.sc_journal.specs.Batches.{GivesTimestamps}
-use Rattle.sc_journal.specs.declared.stop.Stop.{Stop}
-use Rattle.sc_journal.proofs.GoesOnLemmas.{Keeps-none}
-use Rattle.sc_journal.specs.Moments.{Moment, moment_of}
+use Rattle.sc_seen.specs.Seen.{Layout, Seen}
+use Rattle.sc_seen.specs.Batches.{GivesTimestamps}
+use Rattle.sc_seen.specs.declared.stop.Stop.{Stop}
+use Rattle.sc_seen.proofs.GoesOnLemmas.{Keeps-none}
+use Rattle.sc_seen.specs.Moments.{Moment, moment_of}
 use Rattle.sc_session.specs.Queries.{HaveFault}
 use Rattle.sc_session.specs.Requests.{Asked, Select, not_built, refused, update, get, get_ids, select}
 use Rattle.sc_session.specs.Answers.{Answer, replied, ran_out, no_trace, IsAnswer, Stands, refusal_after}

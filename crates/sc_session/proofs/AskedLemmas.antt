@@ -5,6 +5,7 @@ use Rattle.std.proofs.lemmas.Bool.Decides.{nat_tests}
 use Rattle.std.proofs.lemmas.List.Folds.{list_all_at}
 use Rattle.std.specs.Bool.{nat_le}
 use Rattle.sc_reply.specs.Refusals as refusals
+use Rattle.sc_model.specs.Parameters.{between_commas}
 use Rattle.sc_session.specs.Requests as asking
 
 -- a choice by two tests, of which one fails
@@ -23,26 +24,26 @@ both_hold true false x y g h = cc
 both_hold false b x y g h = cc
 
 -- a part that is no id
-pub asked_list-no_id : (text : List ℕ) (i : ℕ) (part : List ℕ) → i < length (asking.between_commas text)
-    → part ≡ get_or (asking.between_commas text) i part → asking.is_id part ≡ false
+pub asked_list-no_id : (text : List ℕ) (i : ℕ) (part : List ℕ) → i < length (between_commas text)
+    → part ≡ get_or (between_commas text) i part → asking.is_id part ≡ false
     → asking.refused (refusals.bad_param (codes "ids")) ≡ asking.asked_list text
 asked_list-no_id text i part less is none =
-    let parts = asking.between_commas text in
+    let parts = between_commas text in
     right_fails (nat_le (length parts) asking.most_ids) (list_all asking.is_id parts) _ _
     (list_all_at asking.is_id parts i part less (ap asking.is_id (sym is) ∙ none))
 
 -- more parts than may be
-pub asked_list-too_many : (text : List ℕ) → asking.most_ids < length (asking.between_commas text)
+pub asked_list-too_many : (text : List ℕ) → asking.most_ids < length (between_commas text)
     → asking.refused (refusals.bad_param (codes "ids")) ≡ asking.asked_list text
 asked_list-too_many text more =
-    let parts = asking.between_commas text in
+    let parts = between_commas text in
     left_fails (nat_le (length parts) asking.most_ids) (list_all asking.is_id parts) _ _ (grind (arith, nat_tests))
 
 -- every part is an id
-pub asked_list-all : (text : List ℕ) (ids : List (List ℕ)) → ids ≡ asking.between_commas text
+pub asked_list-all : (text : List ℕ) (ids : List (List ℕ)) → ids ≡ between_commas text
     → list_all asking.is_id ids ≡ true → length ids ≤ asking.most_ids → asking.get_ids ids ≡ asking.asked_list text
 asked_list-all text ids is all few =
-    let parts = asking.between_commas text in
+    let parts = between_commas text in
     let same = ap length is in
     ap asking.get_ids is
     ∙ both_hold (nat_le (length parts) asking.most_ids) (list_all asking.is_id parts) _ _ (grind (arith, nat_tests))

@@ -6,9 +6,9 @@ use Rattle.sc_io.specs.Pieces.{AddsPrefix}
 use Rattle.sc_model.specs.declared.message.Incoming.{Incoming}
 use Rattle.sc_model.specs.Messages.{ReadsMessage, ReadsMessages, Ending, done, cut, bad_head, too_large, not_built}
 use Rattle.sc_model.specs.Replies.{text_of}
-use Rattle.sc_journal.specs.Seen.{Layout, Extends, AreLegal}
-use Rattle.sc_journal.specs.Batches.{GivesTimestamps}
-use Rattle.sc_journal.specs.Moments.{Moment}
+use Rattle.sc_seen.specs.Seen.{Layout, Extends, AreLegal}
+use Rattle.sc_seen.specs.Batches.{GivesTimestamps}
+use Rattle.sc_seen.specs.Moments.{Moment}
 use Rattle.sc_session.specs.Answers.{Answer, replied, ran_out, reply_of}
 use Rattle.sc_session.specs.declared.end.End.{End}
 use Rattle.sc_session.specs.declared.end.End.TheVariants as ends

@@ -5,17 +5,17 @@ use Rattle.std.proofs.lemmas.List.{append-nil}
 use Rattle.std.proofs.lemmas.Grind.{flat_map-append}
 use Rattle.sc_model.specs.declared.message.Incoming.{Incoming}
 use Rattle.sc_model.specs.Messages.{ReadsMessage, ReadsMessages}
-use Rattle.sc_journal.specs.Seen.{Layout, Seen, Extends, GoesOn}
-use Rattle.sc_journal.specs.Moments.{moment_of}
-use Rattle.sc_journal.specs.Batches.{GivesTimestamps}
-use Rattle.sc_journal.specs.declared.stop.Stop.{Stop}
+use Rattle.sc_seen.specs.Seen.{Layout, Seen, Extends, GoesOn}
+use Rattle.sc_seen.specs.Moments.{moment_of}
+use Rattle.sc_seen.specs.Batches.{GivesTimestamps}
+use Rattle.sc_seen.specs.declared.stop.Stop.{Stop}
 use Rattle.sc_collection.specs.Kept.{Kept, are_enough}
 use Rattle.sc_session.specs.declared.end.End.{End}
 use Rattle.sc_session.specs.Connection.{Exchange, IsExchange, AreExchanges, StaysOpen, stops_of, timestamps_of, texts_of, end_after, end_at}
 use Rattle.sc_session.specs.States.{ConnectionState}
 use Rattle.sc_session.specs.Served.{LeavesTraces}
 use Rattle.sc_session.specs.Serving.{Exchanges, Writes, end_by}
-use Rattle.sc_journal.proofs.ExtendsLemmas.{Extends-none, Extends-then}
+use Rattle.sc_seen.proofs.ExtendsLemmas.{Extends-none, Extends-then}
 
 -- what stands beside a connection, by its parts
 abbrev pub beside : {C : Type 0} → Seen → C → Kept → (unread written : Option (List ℕ)) → (read_faults write_faults : ℕ) → ConnectionState C

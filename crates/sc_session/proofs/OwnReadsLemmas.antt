@@ -5,8 +5,8 @@ use Rattle.sc_record.specs.declared.write.Write.{Write}
 use Rattle.sc_router.specs.Route.{bucket_of}
 use Rattle.sc_model.specs.Replies.{Reply}
 use Rattle.sc_journal.specs.Journal.{last_write}
-use Rattle.sc_journal.specs.Seen.{Layout, Seen, SeesMore, ComeInOrder, AreLegal, journal_at, stops_at, entries_at}
-use Rattle.sc_journal.specs.declared.stop.Stop.{Stop}
+use Rattle.sc_seen.specs.Seen.{Layout, Seen, SeesMore, ComeInOrder, AreLegal, journal_at, stops_at, entries_at}
+use Rattle.sc_seen.specs.declared.stop.Stop.{Stop}
 use Rattle.sc_get.specs.Got.{live, ReadsAt, live_at, ReadsEach, live_writes}
 use Rattle.sc_session.specs.Requests.{Asked, asked, get, get_ids}
 use Rattle.sc_session.specs.Answers.{Answer, replied, Trace, IsAnswer, get_reply, ids_reply}

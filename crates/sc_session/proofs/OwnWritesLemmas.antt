@@ -18,16 +18,16 @@ use Rattle.sc_update.specs.Updated.{UpdateEnd}
 use Rattle.sc_journal.specs.Journal.{write_at, writes_of, last_write}
 use Rattle.sc_journal.specs.Legal.{IsLegal}
 use Rattle.sc_journal.specs.Outcomes.{Outcome, accepted, IsOutcome}
-use Rattle.sc_journal.specs.Seen.{Layout, Seen, SeesMore, IsStopWithin, ComeInOrder, AreLegal, basis_of, place_after, journal_at, stops_at, entries_at}
-use Rattle.sc_journal.specs.Batches.{OrderAnswer, IsOrderAnswer, HasStops, order_stops}
-use Rattle.sc_journal.specs.Committed.{commit_stops}
-use Rattle.sc_journal.specs.declared.stop.Stop.{Stop}
+use Rattle.sc_seen.specs.Seen.{Layout, Seen, SeesMore, IsStopWithin, ComeInOrder, AreLegal, basis_of, place_after, journal_at, stops_at, entries_at}
+use Rattle.sc_seen.specs.Batches.{OrderAnswer, IsOrderAnswer, HasStops, order_stops}
+use Rattle.sc_seen.specs.Commits.{commit_stops}
+use Rattle.sc_seen.specs.declared.stop.Stop.{Stop}
 use Rattle.sc_journal.proofs.ListLemmas.{split_at}
 use Rattle.sc_journal.proofs.JournalLemmas.{is_of_from_id, writes_of-append, write_at-append, write_at_within, last_write_none}
 use Rattle.sc_journal.proofs.LegalLemmas.{IsLegal-prefix}
 use Rattle.sc_journal.proofs.VersionLemmas.{legal_newest}
-use Rattle.sc_journal.proofs.ExtendsLemmas.{IsPrefix-length, entries-grow, entries-bucket}
-use Rattle.sc_journal.proofs.GoesOnLemmas.{SeesMore-self, SeesMore-then, SeesMore-by}
+use Rattle.sc_seen.proofs.ExtendsLemmas.{IsPrefix-length, entries-grow, entries-bucket}
+use Rattle.sc_seen.proofs.GoesOnLemmas.{SeesMore-self, SeesMore-then, SeesMore-by}
 use Rattle.sc_session.specs.Requests.{Asked, asked, not_built, refused, update, get, get_ids, select}
 use Rattle.sc_session.specs.Answers.{Answer, replied, ran_out, Trace, IsAnswer, EndsBatch, read_trace}
 use Rattle.sc_session.specs.Connection.{Exchange, IsExchange, AreExchanges}
@@ -252,7 +252,7 @@ module _ (layout : Layout) (id : List ℕ) (some_bucket : 0 < layout.buckets) wh
 
       begins_legal : IsLegal layout.first (take stop.place journal)
       begins_legal = IsLegal-prefix layout.first (take stop.place journal) (drop stop.place journal)
-          (subst (IsLegal layout.first) (sym (take-append-drop stop.place journal)) (legal lock is_bucket))
+          (subst (IsLegal layout.first) (sym (take-append-drop stop.place journal)) (legal.buckets lock is_bucket))
 
 -- an exchange comes after one that accepted an order for the id: when it came the order's write was made, and it was seen
 pub record ReadsAfter (layout : Layout) (new : Seen) (writing reading : Exchange) (id : List ℕ) (version : ℤ) : Type 0 where

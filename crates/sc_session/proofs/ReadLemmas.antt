@@ -1,6 +1,6 @@
 -- Documents are shown as they were read.
-use Rattle.std.proofs.Common.{◌≡◌, ℕ, false, List, [], ◌∷◌, ◌++◌, take, drop, Option, Some, None, Result, Ok, Err, refl, sym, ap, ◌∙◌, subst, inr}
-use Rattle.std.specs.Prelude.{map, filter_map, option_to_list, Contains, IsSome, IfOk, ⊤}
+use Rattle.std.proofs.Common.{◌≡◌, ℕ, false, cond, List, [], ◌∷◌, ◌++◌, take, drop, Option, Some, None, Result, Ok, Err, refl, sym, ap, ◌∙◌, subst, inr}
+use Rattle.std.specs.Prelude.{◌&&◌, nat_lt, map, filter_map, option_to_list, Contains, IsSome, IfOk, ⊤}
 use Rattle.std.specs.Arc.{arc_value}
 use Rattle.std.specs.List.{AllByRecursion, cons_option}
 use Rattle.std.specs.Option.{option_map}
@@ -13,10 +13,10 @@ use Rattle.sc_record.specs.declared.document.Field.{Field}
 use Rattle.sc_record.specs.declared.ack.Ack.{Ack}
 use Rattle.sc_reply.specs.Bodies.{IsLiveOrNone, AreLive, get_text, ids_text, select_text}
 use Rattle.sc_eval.specs.Conditions.{condition_of}
-use Rattle.sc_journal.specs.Journal.{last_write}
-use Rattle.sc_journal.specs.Seen.{Layout, Seen, SeesMore, journal_at}
-use Rattle.sc_journal.specs.Batches.{ack_made}
-use Rattle.sc_journal.specs.declared.stop.Stop.{Stop}
+use Rattle.sc_journal.specs.Journal.{write_at, last_write}
+use Rattle.sc_seen.specs.Seen.{Layout, Seen, SeesMore, journal_at}
+use Rattle.sc_seen.specs.Batches.{ack_made, ack_written}
+use Rattle.sc_seen.specs.declared.stop.Stop.{Stop}
 use Rattle.sc_get.specs.Got.{IsGot, AreGot, ReadsEach, live, live_at, live_writes}
 use Rattle.sc_fanout.specs.Searches.{Search, SearchPage, SearchesBuckets, LooksAtBuckets, ShowsFound, search_of, page_of}
 use Rattle.sc_fanout.specs.declared.ask.Ask.{Ask}
@@ -26,8 +26,8 @@ use Rattle.sc_session.specs.Requests.{Select, get, get_ids, select}
 use Rattle.sc_session.specs.Answers.{Answer, replied, ran_out, IsAnswer, read_trace, ids_reply}
 use Rattle.sc_session.specs.Answering.{AnswersAsked, unread, reply_of, answer_of}
 use Rattle.sc_session.specs.declared.reply.Reply.{Reply}
-use Rattle.sc_journal.specs.Moments.{Moment, moment_of}
-use Rattle.sc_journal.proofs.GoesOnLemmas.{SeesMore-self}
+use Rattle.sc_seen.specs.Moments.{Moment, moment_of}
+use Rattle.sc_seen.proofs.GoesOnLemmas.{SeesMore-self}
 
 -- what is live is no deletion
 pub live_is_live : (last : Option Write) → IsLiveOrNone (live last)
@@ -38,11 +38,12 @@ live_is_live (Some write) = by write.doc where
   by (Some doc) = refl
 
 -- stops that made no entry made no write
-unmade : (seen : Seen) (stops : List Stop) → AllByRecursion (λ (stop : Stop). stop.made ≡ false) stops → filter_map (ack_made seen) stops ≡ []
-unmade seen [] none = refl
-unmade seen (stop ∷ stops) none =
-    let here : ack_made seen stop ≡ None = rw none.0 refl in
-    ap (λ (ack : Option Ack). cons_option ack (filter_map (ack_made seen) stops)) here ∙ unmade seen stops none.1
+unmade : (layout : Layout) (seen : Seen) (stops : List Stop) → AllByRecursion (λ (stop : Stop). stop.made ≡ false) stops → filter_map (ack_made layout seen) stops ≡ []
+unmade layout seen [] none = refl
+unmade layout seen (stop ∷ stops) none =
+    let here : ack_made layout seen stop ≡ None =
+    ap (λ b. cond (b && nat_lt stop.lock layout.buckets) (option_map ack_written (write_at (seen.journals stop.lock) stop.place)) None) none.0 in
+    ap (λ (ack : Option Ack). cons_option ack (filter_map (ack_made layout seen) stops)) here ∙ unmade layout seen stops none.1
 
 -- the looks of a get at its id's journal, with an answer to it
 got_with : (layout : Layout) (id : List ℕ) (old new : Moment ⊤) (found : Result (Option (Arc Write Global)) AllocError) (answer : Answer)
@@ -54,7 +55,7 @@ got_with layout id old new found answer is answered = record {
   keeps = is.keeps;
   given = refl;
   answered = answered;
-  once = λ later more. unmade later (is.stop ∷ []) (is.reads.made, tt);
+  once = λ later more. unmade layout later (is.stop ∷ []) (is.reads.made, tt);
 }
 
 -- where memory ran out its look stands
@@ -114,7 +115,7 @@ are_got_with layout ids old new found answer are answered = record {
   keeps = are.keeps;
   given = refl;
   answered = answered;
-  once = λ later more. unmade later are.stops (reads_unmade layout ids are.stops are.reads);
+  once = λ later more. unmade layout later are.stops (reads_unmade layout ids are.stops are.reads);
 }
 
 -- where memory ran out its looks stand
@@ -165,7 +166,7 @@ searched_with layout ask made old new found answer is answered = record {
   keeps = is.keeps;
   given = refl;
   answered = answered;
-  once = λ later more. unmade later is.stops (recursion_from_All (λ (stop : Stop). stop.made ≡ false) is.stops is.looks.made);
+  once = λ later more. unmade layout later is.stops (recursion_from_All (λ (stop : Stop). stop.made ≡ false) is.stops is.looks.made);
 }
 
 -- where memory ran out its looks stand

@@ -6,7 +6,7 @@ use Rattle.std.proofs.lemmas.Grind.{flat_map-append}
 use Rattle.sc_model.specs.declared.message.Incoming.{Incoming}
 use Rattle.sc_model.specs.Messages.{ReadsMessage, ReadsMessages}
 use Rattle.sc_model.specs.Replies.{text_of}
-use Rattle.sc_journal.specs.Seen.{Layout}
+use Rattle.sc_seen.specs.Seen.{Layout}
 use Rattle.sc_journal.proofs.ListLemmas.{split_last}
 use Rattle.sc_collection.specs.Kept.{are_enough}
 use Rattle.sc_session.specs.Answers.{Answer, replied, ran_out, reply_of}

@@ -12,13 +12,13 @@ use Rattle.sc_commands.specs.declared.batch.Batch.{Batch}
 use Rattle.sc_commands.specs.Updates.{update_of}
 use Rattle.sc_journal.specs.Journal.{last_of}
 use Rattle.sc_journal.specs.Outcomes.{Outcome, accepted, conflict, partial, log_full, out_of_memory}
-use Rattle.sc_journal.specs.Seen.{Layout, Seen, SeesMore}
-use Rattle.sc_journal.specs.Moments.{Moment}
-use Rattle.sc_journal.specs.Batches.{OrderAnswer, AnswersOrders, goes_on, accepted_adds, accepted_deletes, order_stops, order_timestamps}
-use Rattle.sc_journal.specs.Committed.{CommitOutcome, committed_now, commit_full, commit_out_of_memory, CommitAnswer, commit_stops}
+use Rattle.sc_seen.specs.Seen.{Layout, Seen, SeesMore}
+use Rattle.sc_seen.specs.Moments.{Moment}
+use Rattle.sc_seen.specs.Batches.{OrderAnswer, AnswersOrders, goes_on, accepted_adds, accepted_deletes, order_stops, order_timestamps}
+use Rattle.sc_seen.specs.Commits.{CommitOutcome, committed_now, commit_full, commit_out_of_memory, CommitAnswer, commit_stops}
 use Rattle.std.proofs.lemmas.Option.{slice_get_within}
 use Rattle.sc_journal.proofs.ListLemmas.{last_of_cases, slice_get-append_end}
-use Rattle.sc_journal.proofs.GoesOnLemmas.{SeesMore-self}
+use Rattle.sc_seen.proofs.GoesOnLemmas.{SeesMore-self}
 use Rattle.sc_update.specs.Updated as updates
 use Rattle.sc_update.specs.Updated.{UpdateEnd, finished, Shows, OrdersEnd, IsUpdated, Reports, reported}
 use Rattle.sc_update.specs.declared.end.BatchEnd.{BatchEnd}

@@ -9,9 +9,9 @@ use Rattle.sc_commands.specs.declared.batch.Batch.{Batch}
 use Rattle.sc_model.specs.Replies as model
 use Rattle.sc_eval.specs.declared.fault.BindFault.{BindFault}
 use Rattle.sc_eval.specs.declared.fault.BindFault.TheVariants as faults
-use Rattle.sc_journal.specs.Seen.{Layout, FromNowOn}
-use Rattle.sc_journal.specs.Moments.{Moment, Keeps}
-use Rattle.sc_journal.specs.Batches.{GivesTimestamps, WritesOnce}
+use Rattle.sc_seen.specs.Seen.{Layout, FromNowOn}
+use Rattle.sc_seen.specs.Moments.{Moment, Keeps}
+use Rattle.sc_seen.specs.Batches.{GivesTimestamps, WritesOnce}
 use Rattle.sc_update.specs.declared.end.BatchEnd.{BatchEnd}
 use Rattle.sc_update.specs.declared.end.BatchFault.{BatchFault}
 use Rattle.sc_update.specs.declared.end.BatchFault.TheVariants as reports
@@ -42,7 +42,7 @@ pub record AnswersAsked {C : Type 0} (gives : C → ℕ → C → Type 0) (layou
   pub keeps : Keeps layout old.view new.view trace.stops
   pub given : GivesTimestamps gives old.clock trace.timestamps new.clock
   pub answered : FromNowOn new.view.seen (λ later. IsAnswer layout later asked trace answer)
-  pub once : FromNowOn new.view.seen (λ later. WritesOnce later trace.stops trace.answers)
+  pub once : FromNowOn new.view.seen (λ later. WritesOnce layout later trace.stops trace.answers)
 
 -- a clock that is not read: it gives no timestamp
 abbrev pub unread : ⊤ → ℕ → ⊤ → Type 0

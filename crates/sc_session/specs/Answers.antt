@@ -9,10 +9,10 @@ use Rattle.sc_reply.specs.Refusals as refusals
 use Rattle.sc_model.specs.Replies.{Reply}
 use Rattle.sc_journal.specs.Journal.{last_write}
 use Rattle.sc_journal.specs.Outcomes.{Outcome, accepted, conflict, partial, log_full, out_of_memory}
-use Rattle.sc_journal.specs.Seen.{Layout, Seen, journal_at}
-use Rattle.sc_journal.specs.Batches.{OrderAnswer, AnswersOrders, accepted_adds, accepted_deletes, order_stops, order_timestamps}
-use Rattle.sc_journal.specs.declared.stop.Stop.{Stop}
-use Rattle.sc_journal.specs.Committed.{committed_now, commit_full, commit_out_of_memory, CommitAnswer, commit_stops}
+use Rattle.sc_seen.specs.Seen.{Layout, Seen, journal_at}
+use Rattle.sc_seen.specs.Batches.{OrderAnswer, AnswersOrders, accepted_adds, accepted_deletes, order_stops, order_timestamps}
+use Rattle.sc_seen.specs.declared.stop.Stop.{Stop}
+use Rattle.sc_seen.specs.Commits.{committed_now, commit_full, commit_out_of_memory, CommitAnswer, commit_stops}
 use Rattle.sc_update.specs.Updated as updates
 use Rattle.sc_update.specs.Updated.{UpdateEnd, finished, Ends}
 use Rattle.sc_get.specs.Got.{live, ReadsEach, live_writes}

@@ -6,9 +6,9 @@ use Rattle.sc_session.specs.Requests.{asked}
 use Rattle.sc_reply.specs.Refusals as refusals
 use Rattle.sc_model.specs.Replies.{text_of}
 use Rattle.sc_model.specs.Messages.{ReadsMessage, HasNoMessage, Ending, done, cut, bad_head, too_large, not_built, EndsSo, ReadsMessages}
-use Rattle.sc_journal.specs.Seen.{Layout, Seen, FromNowOn, GoesOn}
-use Rattle.sc_journal.specs.Batches.{WritesOnce}
-use Rattle.sc_journal.specs.declared.stop.Stop.{Stop}
+use Rattle.sc_seen.specs.Seen.{Layout, Seen, FromNowOn, GoesOn}
+use Rattle.sc_seen.specs.Batches.{WritesOnce}
+use Rattle.sc_seen.specs.declared.stop.Stop.{Stop}
 use Rattle.sc_collection.specs.Kept.{are_enough}
 use Rattle.sc_session.specs.Answers.{Answer, replied, ran_out, Trace, IsAnswer, reply_of, refusal_reply, not_built_reply, memory_reply}
 use Rattle.sc_model.specs.declared.message.Incoming.{Incoming}
@@ -22,13 +22,13 @@ pub record Exchange : Type 0 where
   pub answer : Answer
   pub seen : Seen
 
--- One exchange, after this was seen. What was seen went on by its stops: of each lock the last is at the end of what was seen
+-- One exchange, after this was seen. What was seen went on by its stops: of each bucket the last is at the end of what was seen
 -- there. It is answered as was asked, by all that is seen from then on, and of the entries that its stops made the writes are
 -- those of the orders that it accepted.
 pub record IsExchange (layout : Layout) (old : Seen) (x : Exchange) : Type 0 where
   pub goes : GoesOn layout old x.seen x.trace.stops
   pub answered : FromNowOn x.seen (λ later. IsAnswer layout later (asked x.request) x.trace x.answer)
-  pub once : FromNowOn x.seen (λ later. WritesOnce later x.trace.stops x.trace.answers)
+  pub once : FromNowOn x.seen (λ later. WritesOnce layout later x.trace.stops x.trace.answers)
 
 -- exchanges one after another, from what was seen before them to what is seen after them
 abbrev pub AreExchanges : Layout → Seen → List Exchange → Seen → Type 0

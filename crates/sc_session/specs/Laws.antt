@@ -7,9 +7,9 @@ use Rattle.sc_router.specs.Route.{bucket_of}
 use Rattle.sc_model.specs.Replies.{Reply}
 use Rattle.sc_journal.specs.Journal.{writes_of, last_write}
 use Rattle.sc_journal.specs.Outcomes.{accepted}
-use Rattle.sc_journal.specs.Seen.{Layout, Seen, AreLegal, journal_at}
-use Rattle.sc_journal.specs.Batches.{OrderAnswer}
-use Rattle.sc_journal.specs.declared.stop.Stop.{Stop}
+use Rattle.sc_seen.specs.Seen.{Layout, Seen, AreLegal, journal_at}
+use Rattle.sc_seen.specs.Batches.{OrderAnswer}
+use Rattle.sc_seen.specs.declared.stop.Stop.{Stop}
 use Rattle.sc_get.specs.Got.{live, live_writes}
 use Rattle.sc_session.specs.Requests.{asked, get, get_ids}
 use Rattle.sc_session.specs.Answers.{replied, get_reply, ids_reply}

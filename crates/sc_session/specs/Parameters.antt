@@ -1,23 +1,12 @@
--- The parameters of a request, and the numbers among them.
-use Rattle.std.specs.Prelude.{ℕ, ◌^◌, ◌==◌, Bool, false, not, ◌&&◌, ◌||◌, List, [], ◌∷◌, length, codes, map, filter, get_or, nat_lt, nat_le, if◌then◌else◌, Option, Some, None, is_some, option_map, find}
+-- The numbers, the queries and the route among the parameters of a request.
+use Rattle.std.specs.Prelude.{ℕ, ◌^◌, ◌==◌, Bool, false, not, ◌&&◌, ◌||◌, List, [], ◌∷◌, length, codes, map, filter, get_or, nat_lt, nat_le, if◌then◌else◌, Option, Some, None, is_some}
 use Rattle.std.specs.Char.{is_ascii_digit}
 use Rattle.std.specs.List.{list_all}
 use Rattle.std.specs.Option.{option_map_or, unwrap_or}
 use Rattle.std.specs.Str.{bytes_eq}
 use Rattle.std.specs.Str.Parse.{digits_value}
 use Rattle.sc_model.specs.declared.message.Param.{Param}
-
--- the value of the first parameter of a name
-abbrev pub parameter : List ℕ → List Param → Option (List ℕ)
-parameter name params = option_map (λ (param : Param). param.value) (find (λ (param : Param). bytes_eq param.name name) params)
-
--- the first parameter of the name has this value
-abbrev pub is_set_to : List ℕ → List ℕ → List Param → Bool
-is_set_to value name params = option_map_or (λ found. bytes_eq found value) (parameter name params) false
-
--- the first parameter of the name has another value than this
-abbrev pub is_other_than : List ℕ → List ℕ → List Param → Bool
-is_other_than value name params = option_map_or (λ found. not (bytes_eq found value)) (parameter name params) false
+use Rattle.sc_model.specs.Parameters.{parameter, is_other_than}
 
 -- the first of several digits is 0
 abbrev pub has_leading_zero : List ℕ → Bool

@@ -1,6 +1,6 @@
 -- What a request asks for.
-use Rattle.std.specs.Prelude.{ℕ, ◌-◌, ◌==◌, Bool, true, false, not, ◌&&◌, ◌||◌, List, [], ◌∷◌, length, codes, nat_lt, nat_le, if◌then◌else◌, Option, Some, None, is_some, Result, Ok, Err}
-use Rattle.std.specs.List.{list_any, list_all, slice_split}
+use Rattle.std.specs.Prelude.{ℕ, ◌-◌, Bool, true, false, not, ◌&&◌, ◌||◌, List, [], ◌∷◌, length, codes, nat_lt, nat_le, if◌then◌else◌, Option, Some, None, is_some, Result, Ok, Err}
+use Rattle.std.specs.List.{list_any, list_all}
 use Rattle.std.specs.Str.{bytes_eq}
 use Rattle.sc_record.specs.Ids.{id_limit}
 use Rattle.sc_schema.specs.declared.fault.DocFault.{DocFault}
@@ -14,7 +14,8 @@ use Rattle.sc_model.specs.declared.message.Incoming.{Incoming}
 use Rattle.sc_model.specs.declared.message.Method.{Method}
 use Rattle.sc_model.specs.declared.message.Method.TheVariants as methods
 use Rattle.sc_model.specs.declared.message.Param.{Param}
-use Rattle.sc_session.specs.Parameters.{parameter, is_set_to, count_of, query_texts, other_fault}
+use Rattle.sc_model.specs.Parameters.{parameter, is_set_to, between_commas}
+use Rattle.sc_session.specs.Parameters.{count_of, query_texts, other_fault}
 
 -- a search that is asked for: the texts of its queries, the text of its route, and the page that is to be shown
 pub record Select : Type 0 where
@@ -90,10 +91,6 @@ abbrev pub asked_id : List ℕ → List Param → Asked
 asked_id id params =
     if is_id id then get id
     else refused (refusals.bad_param (if is_some (parameter (codes "ids") params) then codes "ids" else codes "id"))
-
--- the texts between the commas of a text
-abbrev pub between_commas : List ℕ → List (List ℕ)
-between_commas text = slice_split (λ byte. byte == 44) text
 
 -- the most ids that one get asks for
 abbrev pub most_ids : ℕ

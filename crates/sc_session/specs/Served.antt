@@ -1,7 +1,7 @@
 -- The promise that every connection keeps.
 use Rattle.std.specs.Prelude.{◌≡◌, ℕ, List, ◌++◌, length, Some, IfSome}
-use Rattle.sc_journal.specs.Seen.{Layout, Extends, AreLegal}
-use Rattle.sc_journal.specs.Batches.{GivesTimestamps}
+use Rattle.sc_seen.specs.Seen.{Layout, Extends, AreLegal}
+use Rattle.sc_seen.specs.Batches.{GivesTimestamps}
 use Rattle.sc_session.specs.States.{ConnectionState, CountsFault}
 use Rattle.sc_session.specs.Connection.{Exchange, Last, AreExchanges, StaysOpen, exchanges_of, stops_of, timestamps_of, IsReadFrom, IsWritten, HasEnd}
 use Rattle.sc_session.specs.declared.end.End.{End}

@@ -2,8 +2,8 @@
 use Rattle.std.specs.Prelude.{◌≡◌, ◌⊎◌, ℕ, ◌+◌, List, ◌++◌, length, Option, Some, IfSome, is_some}
 use Rattle.sc_io.specs.Pieces.{AddsPrefix}
 use Rattle.sc_collection.specs.Kept.{are_enough}
-use Rattle.sc_journal.specs.Seen.{Layout}
-use Rattle.sc_journal.specs.Batches.{GivesTimestamps}
+use Rattle.sc_seen.specs.Seen.{Layout}
+use Rattle.sc_seen.specs.Batches.{GivesTimestamps}
 use Rattle.sc_session.specs.Answers.{reply_of}
 use Rattle.sc_session.specs.States.{ConnectionState, CountsFault}
 use Rattle.sc_session.specs.declared.end.End.{End}

@@ -1,6 +1,6 @@
 -- What stands beside a connection at one moment.
 use Rattle.std.specs.Prelude.{◌≡◌, ◌<◌, ℕ, List, Option}
-use Rattle.sc_journal.specs.Moments.{Moment}
+use Rattle.sc_seen.specs.Moments.{Moment}
 
 -- What stands beside a connection: what was seen of the collection, the stops that were kept and the clock; how many requests
 -- were answered; the bytes that the source has still to give and those that the sink was given, where they report them; and how

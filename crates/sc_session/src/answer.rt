@@ -7,7 +7,7 @@ ghost use Rattle.sc_reply.specs.Bodies as bodies;
 ghost use Rattle.sc_reply.specs.Causes as causes;
 ghost use Rattle.sc_collection.specs.Kept.{stops_of_request, trail_room};
 ghost use Rattle.sc_collection.specs.Desks.{IsDeskAtRest};
-ghost use Rattle.sc_journal.specs.Moments.{moment_of};
+ghost use Rattle.sc_seen.specs.Moments.{moment_of};
 ghost use Rattle.sc_session.specs.Queries.{IsRouteOf};
 ghost use Rattle.sc_session.specs.Asking.{IsWithinLimits, select_of};
 ghost use Rattle.sc_session.specs.declared.asked.Asked.TheVariants as asks;

@@ -1,14 +1,14 @@
 ghost use Rattle.std.specs.Prelude.{◌≡◌, ◌||◌, ◌&&◌, not, List, IfOk, Some, None, if◌then◌else◌, codes, is_some};
 ghost use Rattle.sc_model.specs.declared.message.Param.{Param};
-ghost use Rattle.sc_session.specs.Parameters as parameters;
+ghost use Rattle.sc_model.specs.Parameters as parameters;
 ghost use Rattle.sc_session.specs.Requests as asking;
 ghost use Rattle.sc_session.specs.Asking.{asked_of, refused_of, IsWithinLimits};
 ghost use Rattle.sc_reply.specs.Causes.{refusal_of};
 
-use crate::params::{is_set_to, parameter};
 use crate::select::{Select, SelectFault};
 use sc_commands::{Batch, CommandFault, Flags, read_update};
 use sc_http::{Incoming, Method, Param};
+use sc_model::{is_set_to, parameter};
 use sc_record::{Id, IdFault, List, Text};
 use sc_reply::Cause;
 use sc_schema::DocFault;

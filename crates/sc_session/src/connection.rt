@@ -1,8 +1,8 @@
 ghost use Rattle.std.specs.Prelude.{◌≡◌, ◌≢◌, ◌↔◌, [], false, Some, None, IsSome};
 ghost use Rattle.sc_model.specs.Replies as replies;
 ghost use Rattle.sc_router.specs.Route.{IsBucketCount};
-ghost use Rattle.sc_journal.specs.Moments.{moment_of};
-ghost use Rattle.sc_collection.specs.Desks.{IsDeskAtRest};
+ghost use Rattle.sc_seen.specs.Moments.{moment_of};
+ghost use Rattle.sc_collection.specs.Desks.{nothing_out, IsDeskAtRest};
 ghost use Rattle.sc_collection.specs.Kept.{is_full};
 ghost use Rattle.sc_session.specs.Connection.{end_after, end_of, last_text};
 ghost use Rattle.sc_session.specs.States.{CountsFault};
@@ -32,7 +32,7 @@ pub fn serve<D: Desk, C: Clock, S: Source, W: Sink>(
     trail: &mut Trail,
 ) -> End
     requires trail { trail.old ≡ record { stops = []; requests = 0 } }
-    requires nothing_out { D.out desk.old ≡ None }
+    requires nothing_out { D.out desk.old ≡ nothing_out }
     ensures connection { IsServed C.gives (D.layout desk.old)
         (record {
           moment = moment_of (D.seen desk.old) trail.old.stops clock.old;
@@ -51,7 +51,7 @@ pub fn serve<D: Desk, C: Clock, S: Source, W: Sink>(
           write_faults = W.faults sink.new;
         }) result }
     ensures layout { D.layout desk.new ≡ D.layout desk.old }
-    ensures nothing_out { D.out desk.new ≡ None }
+    ensures nothing_out { D.out desk.new ≡ nothing_out }
 {
     let _ = desk.buckets(); // by it the proof knows how many there may be, and that what was seen is legal
     let mut reader = match Reader::new(alloc) {

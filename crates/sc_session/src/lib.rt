@@ -17,7 +17,6 @@
 // What a request asks for, and the replies.
 mod asked;
 mod fixed;
-mod params;
 mod query;
 mod reply;
 mod select;

@@ -8,8 +8,8 @@ ghost use Rattle.sc_session.specs.Requests as asking;
 ghost use Rattle.sc_session.specs.Asking.{select_of, RefusesSearch};
 ghost use Rattle.sc_session.specs.declared.select.SelectFault.TheVariants.{Memory};
 
-use crate::params::{is_other_than, is_set_to, parameter};
 use sc_http::Param;
+use sc_model::{is_other_than, parameter};
 use sc_record::{CloneIn, List, Text};
 use std::alloc::{AllocError, Global};
 

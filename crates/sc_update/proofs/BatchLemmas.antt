@@ -10,14 +10,15 @@ use Rattle.std.proofs.lemmas.List.Elements.{filter_map-append}
 use Rattle.std.proofs.lemmas.List.Sums.{count_by-le-length, sum_by-cons}
 use Rattle.std.proofs.lemmas.Grind.{flat_map-append}
 use Rattle.sc_record.specs.declared.order.Order.{Order}
+use Rattle.sc_router.specs.Route.{bucket_of}
 use Rattle.sc_commands.specs.declared.batch.Batch.{Batch}
 use Rattle.sc_journal.specs.Journal.{last_of}
-use Rattle.sc_journal.specs.Seen.{Layout, Seen}
-use Rattle.sc_journal.specs.Moments.{Moment, Keeps}
-use Rattle.sc_journal.specs.Batches.{OrderAnswer, IsOrderAnswer, AnswersOrders, GoOn, GivesTimestamps, goes_on, deletes, add_of, delete_of, accepted_adds, accepted_deletes, order_stops, order_timestamps}
-use Rattle.sc_journal.specs.Committed.{committed_now}
+use Rattle.sc_seen.specs.Seen.{Layout, Seen}
+use Rattle.sc_seen.specs.Moments.{Moment, Keeps}
+use Rattle.sc_seen.specs.Batches.{OrderAnswer, IsOrderAnswer, AnswersOrders, GoOn, GivesTimestamps, goes_on, deletes, add_of, delete_of, accepted_adds, accepted_deletes, order_stops, order_timestamps}
+use Rattle.sc_seen.specs.Commits.{committed_now}
 use Rattle.sc_journal.proofs.ListLemmas.{last_of-append, slice_get-append_left, slice_get-append_end}
-use Rattle.sc_journal.proofs.GoesOnLemmas.{Keeps-none, Keeps-then, Keeps-sees}
+use Rattle.sc_seen.proofs.GoesOnLemmas.{Keeps-none, Keeps-then, Keeps-sees}
 use Rattle.sc_bucket.specs.Events.{outcome_of}
 use Rattle.sc_bucket.specs.declared.accept.AcceptFault.{AcceptFault}
 use Rattle.sc_update.specs.declared.end.BatchEnd.{BatchEnd}
@@ -87,6 +88,7 @@ Answered-none gives layout batch moment = record {
   keeps = Keeps-none layout moment.view;
   timestamps = refl;
   answered = λ later more. record { in_turn = (batch.orders, refl); each = tt; go_on = tt };
+  located = tt;
 }
 
 -- one order more was
@@ -101,6 +103,7 @@ Answered-then gives layout batch order old between new answers more one all next
           (timestamps-append gives old.clock between.clock new.clock (order_timestamps answers) (order_timestamps more) one.timestamps two.timestamps);
       answered = λ later sees. orders_then layout later batch.flags.fail_on_conflict batch.orders order answers more
           (one.answered later (Keeps-sees layout between.view new.view (order_stops more) two.keeps later sees)) all next (two.answered later sees);
+      located = All-append (λ (answer : OrderAnswer). bucket_of answer.order.id layout.buckets < layout.buckets) answers more one.located two.located;
     }
 
 -- what is shown so far

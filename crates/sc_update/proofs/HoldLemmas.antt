@@ -1,13 +1,15 @@
 -- What holds that make no entry leave, and a stop after them.
-use Rattle.std.proofs.Common.{◌≡◌, ◌≢◌, ℕ, Bool, true, false, cond, List, [], ◌∷◌, ◌++◌, length, Option, Some, None, refl, sym, ap, ◌∙◌, subst}
+use Rattle.std.proofs.Common.{◌≡◌, ◌≢◌, ◌≤◌, ℕ, Bool, true, false, cond, List, [], ◌∷◌, ◌++◌, length, Option, Some, None, refl, sym, ap, ◌∙◌, subst}
 use Rattle.std.specs.Prelude.{◌==◌, All, IsSome, MatchOption}
+use Rattle.std.specs.List.{AllByRecursion}
 use Rattle.std.proofs.lemmas.List.{append-nil}
 use mathlib.Core.List.{IsPrefix}
 use Rattle.sc_record.specs.declared.entry.Entry.{Entry}
 use Rattle.sc_record.specs.declared.slice.CoreId.{CoreId}
 use Rattle.sc_journal.specs.Journal.{write_at}
-use Rattle.sc_journal.specs.Seen.{Layout, Seen, Extends, stops_at, made_at, entries_at}
-use Rattle.sc_journal.specs.declared.stop.Stop.{Stop}
+use Rattle.sc_seen.specs.Seen.{Layout, Seen, Extends, NotesBoard, stops_at, made_at, entries_at}
+use Rattle.sc_seen.specs.declared.board.BoardEntry.{BoardEntry}
+use Rattle.sc_seen.specs.declared.stop.Stop.{Stop}
 use Rattle.sc_bucket.specs.declared.bucket.Bucket.{Bucket}
 use Rattle.sc_bucket.specs.Kept.{Sent}
 use Rattle.sc_bucket.specs.Sound.{IsSound}
@@ -16,8 +18,8 @@ use Rattle.sc_collection.specs.Desks.{Held, IsBucketOf, MayReplace, SeesGiven, p
 use Rattle.sc_collection.proofs.PlaceLemmas.{place_added-none}
 use Rattle.sc_collection.proofs.ReplaceLemmas.{same_may_replace, delivered_may_replace}
 use Rattle.sc_update.specs.Steps.{MakeNoEntry}
-use Rattle.sc_journal.specs.Seen.{GoesOn}
-use Rattle.sc_journal.proofs.ExtendsLemmas.{IsPrefix-self, IsPrefix-then, entries-grow, ascend_earlier}
+use Rattle.sc_seen.specs.Seen.{GoesOn}
+use Rattle.sc_seen.proofs.ExtendsLemmas.{IsPrefix-self, IsPrefix-then, entries-grow, ascend_earlier}
 use Rattle.sc_collection.proofs.StopLemmas.{at_lock, other_lock}
 use Rattle.sc_update.proofs.OrderLemmas.{written-later}
 
@@ -35,11 +37,11 @@ delivered-entries old new place (Some core) leaves = leaves.delivers.entries
 
 -- the bucket may be given back
 pub MayReplace-delivered : (layout : Layout) (held : Held) (given : Bucket) (place : ℕ) (answer : Option CoreId)
-    → IsBucketOf layout held.number held.bucket → IsSound given → Leaves held.bucket given place answer
+    → IsBucketOf layout held.number held.bucket → IsSound given → held.by_keeper ≡ false → Leaves held.bucket given place answer
     → MayReplace layout held given
-MayReplace-delivered layout held given place None is_of sound leaves = same_may_replace layout held given is_of sound leaves.0
-MayReplace-delivered layout held given place (Some core) is_of sound leaves =
-    delivered_may_replace layout held given is_of sound leaves.at leaves.message leaves.delivers
+MayReplace-delivered layout held given place None is_of sound by_pass leaves = same_may_replace layout held given is_of sound by_pass leaves.0
+MayReplace-delivered layout held given place (Some core) is_of sound by_pass leaves =
+    delivered_may_replace layout held given is_of sound by_pass leaves.at leaves.message leaves.delivers
 
 -- nothing was held
 pub MakeNoEntry-none : (seen : Seen) (lock : ℕ) → MakeNoEntry seen seen lock
@@ -98,17 +100,29 @@ GoesOn-looked layout old between new stop looks goes =
       extends = record {
         seen = λ lock. IsPrefix-then (old.journals lock) (between.journals lock) (new.journals lock) (begins lock) (then.seen lock);
         board = subst (λ board. IsPrefix board new.board) looks.board then.board;
-        own = λ lock. then.own lock ∙ ap (λ places. places ++ made_at lock (stop ∷ [])) (looks.own lock);
+        own = λ lock below. then.own lock below ∙ ap (λ places. places ++ made_at lock (stop ∷ [])) (looks.own lock);
+        notes = record {
+          added = notes.added;
+          own = notes.own ∙ ap (λ places. places ++ notes.added) (looks.own layout.buckets);
+          after = subst (λ (board : List BoardEntry). AllByRecursion (λ (place : ℕ). length board ≤ place) notes.added) looks.board notes.after;
+          within = notes.within;
+          made = notes.made;
+        };
         ascend = λ lock. ascend_earlier (entries_at layout old lock) (entries_at layout between lock) (stops_at lock (stop ∷ []))
             (entries-grow layout old between begins board lock) (then.ascend lock);
         within = then.within;
       };
       last = goes.last;
-      stays = λ lock none. goes.stays lock none ∙ same lock (stop.lock == lock) refl none;
+      stays = λ lock below none. goes.stays lock below none ∙ same lock (stop.lock == lock) refl none;
+      board = goes.board ∙ looks.board;
+      board_own = goes.board_own ∙ looks.own layout.buckets;
     }
   where
     then : Extends layout between new (stop ∷ [])
     then = goes.extends
+
+    notes : NotesBoard layout between new (stop ∷ [])
+    notes = then.notes
 
     begins : (lock : ℕ) → IsPrefix (old.journals lock) (between.journals lock)
     begins = MakeNoEntry-begins old between stop.lock looks
@@ -116,9 +130,6 @@ GoesOn-looked layout old between new stop looks goes =
     board : IsPrefix old.board between.board
     board = subst (IsPrefix old.board) (sym looks.board) (IsPrefix-self old.board)
 
-    same : (lock : ℕ) (b : Bool) → (stop.lock == lock) ≡ b → cond b (stop ∷ []) [] ≡ []
-        → entries_at layout between lock ≡ entries_at layout old lock
+    same : (lock : ℕ) (b : Bool) → (stop.lock == lock) ≡ b → cond b (stop ∷ []) [] ≡ [] → between.journals lock ≡ old.journals lock
     same lock true is none = absurd (cc)
-    same lock false is none =
-        ap (λ n. cond (lock == layout.buckets) n (length (between.journals lock))) (ap length looks.board)
-        ∙ ap (λ n. cond (lock == layout.buckets) (length old.board) n) (ap length (looks.others lock (other_lock stop.lock lock is)))
+    same lock false is none = looks.others lock (other_lock stop.lock lock is)

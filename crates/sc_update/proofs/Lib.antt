@@ -5,5 +5,4 @@ pub mod AnswerLemmas
 pub mod OnceLemmas
 pub mod BatchLemmas
 pub mod TakeLemmas
-pub mod CommitLemmas
 pub mod UpdateLemmas

@@ -3,7 +3,6 @@ use Rattle.std.proofs.Common.{◌≡◌, ℕ, ◌<◌, Bool, true, false, cond, 
 use Rattle.std.specs.Prelude.{IsSome, IfOk, OnErr, is_ok, not, slice_get}
 use Rattle.std.specs.Arc.{arc_value}
 use Rattle.std.proofs.lemmas.List.{append-nil}
-use Rattle.std.proofs.lemmas.Option.{slice_get_within}
 use mathlib.Core.List.{IsPrefix}
 use Rattle.sc_record.specs.declared.entry.Entry.{Entry}
 use Rattle.sc_record.specs.declared.entry.Entry.TheVariants as entry
@@ -12,12 +11,12 @@ use Rattle.sc_record.specs.declared.order.Order.{Order}
 use Rattle.sc_router.specs.Route.{bucket_of}
 use Rattle.sc_journal.specs.Journal.{write_at, is_settled}
 use Rattle.sc_journal.specs.Outcomes.{Outcome, accepted, conflict, partial, log_full, out_of_memory, IsOutcome}
-use Rattle.sc_journal.specs.Seen.{Layout, Seen, basis_of}
+use Rattle.sc_seen.specs.Seen.{Layout, Seen, basis_of}
 use Rattle.sc_journal.specs.Splits.{Basis}
-use Rattle.sc_journal.specs.Batches.{IsSettling}
-use Rattle.sc_journal.specs.declared.stop.Stop.{Stop}
+use Rattle.sc_seen.specs.Batches.{IsSettling}
+use Rattle.sc_seen.specs.declared.stop.Stop.{Stop}
 use Rattle.sc_journal.proofs.JournalLemmas.{write_at-push_end, write_at-append, write_at_within}
-use Rattle.sc_journal.proofs.ListLemmas.{slice_get-append_left, slice_get-append_end}
+use Rattle.sc_journal.proofs.ListLemmas.{slice_get-append_end}
 use Rattle.sc_bucket.specs.declared.bucket.Bucket.{Bucket}
 use Rattle.sc_bucket.specs.declared.accept.Accepted.{Accepted}
 use Rattle.sc_bucket.specs.declared.accept.AcceptFault.{AcceptFault}
@@ -25,19 +24,12 @@ use Rattle.sc_bucket.specs.Room.{basis}
 use Rattle.sc_bucket.specs.Sound.{IsSound}
 use Rattle.sc_bucket.specs.Events.{Accepts, IsSameButRoom, outcome_of}
 use Rattle.sc_collection.specs.Desks.{Held, IsBucketOf, MayReplace, SeesGiven}
-use Rattle.sc_journal.specs.Seen.{SeesMore}
+use Rattle.sc_seen.specs.Seen.{SeesMore}
 use Rattle.sc_update.specs.Steps.{Tries, SettlesWhere}
-use Rattle.sc_journal.proofs.ExtendsLemmas.{IsPrefix-then}
-use Rattle.sc_journal.proofs.GoesOnLemmas.{take-prefix}
+use Rattle.sc_seen.proofs.ExtendsLemmas.{IsPrefix-then}
+use Rattle.sc_seen.proofs.GoesOnLemmas.{take-prefix}
 use Rattle.sc_collection.proofs.ReplaceLemmas.{same_may_replace, settled_may_replace}
-use Rattle.sc_collection.proofs.StopLemmas.{stop_at}
-
--- an entry stays where it is
-pub entry-later : (journal later : List Entry) (place : ℕ) (one : Entry) → IsPrefix journal later → slice_get journal place ≡ Some one
-    → slice_get later place ≡ Some one
-entry-later journal later place one begins is =
-    ap (λ (all : List Entry). slice_get all place) (sym begins.1)
-    ∙ slice_get-append_left journal begins.0 place (slice_get_within journal place one is) ∙ is
+use Rattle.sc_collection.proofs.StopLemmas.{stop_at, entry-later}
 
 -- a write stays where it is
 pub write_at-later : (journal later : List Entry) (place : ℕ) → IsPrefix journal later → place < length journal
@@ -109,12 +101,12 @@ tries layout old new held given order now answer of of_id accepts same outcome s
 
 -- a bucket in which a write was settled may be given back
 pub MayReplace-settled : (layout : Layout) (held : Held) (place : ℕ) (made : Bool) (given : Bucket)
-    → IsBucketOf layout held.number held.bucket → IsSound given → IsSome (write_at held.bucket.journal.entries place)
+    → IsBucketOf layout held.number held.bucket → IsSound given → held.by_keeper ≡ false → IsSome (write_at held.bucket.journal.entries place)
     → SettlesWhere made held.bucket place given → MayReplace layout held given
-MayReplace-settled layout held place true given of sound written settles =
-    settled_may_replace layout held given of sound place written settles.1 settles.0
-MayReplace-settled layout held place false given of sound written settles =
-    same_may_replace layout held given of sound settles.0
+MayReplace-settled layout held place true given of sound by_pass written settles =
+    settled_may_replace layout held given of sound by_pass place written settles.1 settles.0
+MayReplace-settled layout held place false given of sound by_pass written settles =
+    same_may_replace layout held given of sound by_pass settles.0
 
 -- the entries that this adds
 pub settled-entries : (place : ℕ) (made : Bool) (old new : Bucket) → SettlesWhere made old place new

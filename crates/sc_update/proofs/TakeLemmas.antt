@@ -6,9 +6,9 @@ use Rattle.std.proofs.lemmas.List.{append-nil}
 use Rattle.sc_record.specs.declared.ack.Ack.{Ack}
 use Rattle.sc_record.specs.declared.order.Order.{Order}
 use Rattle.sc_journal.specs.Outcomes.{accepted}
-use Rattle.sc_journal.specs.Seen.{Layout}
-use Rattle.sc_journal.specs.Moments.{Moment}
-use Rattle.sc_journal.specs.Batches.{OrderAnswer, acknowledged, ack_of, add_of, delete_of, deletes, goes_on}
+use Rattle.sc_seen.specs.Seen.{Layout}
+use Rattle.sc_seen.specs.Moments.{Moment}
+use Rattle.sc_seen.specs.Batches.{OrderAnswer, acknowledged, ack_of, add_of, delete_of, deletes, goes_on}
 use Rattle.sc_bucket.specs.declared.accept.Accepted.{Accepted}
 use Rattle.sc_bucket.specs.declared.accept.AcceptFault.{AcceptFault}
 use Rattle.sc_bucket.specs.declared.accept.AcceptFault.TheVariants as faults

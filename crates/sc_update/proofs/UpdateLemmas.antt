@@ -9,43 +9,44 @@ use Rattle.sc_record.specs.declared.ack.Ack.{Ack}
 use Rattle.sc_commands.specs.declared.batch.Batch.{Batch}
 use Rattle.sc_journal.specs.Journal.{as_write}
 use Rattle.sc_journal.specs.Outcomes.{Outcome, accepted, conflict, partial, log_full, out_of_memory}
-use Rattle.sc_journal.specs.Seen.{Layout, Seen, SeesMore}
-use Rattle.sc_journal.specs.Moments.{View, Moment, Keeps}
-use Rattle.sc_journal.specs.Batches.{OrderAnswer, AnswersOrders, WritesOnce, ack_made, goes_on, order_stops}
-use Rattle.sc_journal.specs.Committed.{CommitOutcome, committed_now, commit_full, commit_out_of_memory, CommitAnswer, IsCommitOutcome, IsCommitAnswer, commit_stops, worst}
-use Rattle.sc_journal.specs.declared.stop.Stop.{Stop}
-use Rattle.sc_journal.proofs.GoesOnLemmas.{Keeps-then, Keeps-sees}
+use Rattle.sc_seen.specs.Seen.{Layout, Seen, SeesMore}
+use Rattle.sc_seen.specs.Moments.{View, Moment, Keeps}
+use Rattle.sc_seen.specs.Batches.{OrderAnswer, AnswersOrders, WritesOnce, ack_made, goes_on, order_stops}
+use Rattle.sc_seen.specs.Commits.{CommitOutcome, committed_now, commit_full, commit_out_of_memory, CommitAnswer, IsCommitOutcome, IsCommitAnswer, commit_stops, worst}
+use Rattle.sc_seen.specs.declared.stop.Stop.{Stop}
+use Rattle.sc_seen.proofs.GoesOnLemmas.{Keeps-then, Keeps-sees}
 use Rattle.sc_bucket.specs.declared.commit.CommitFault.{CommitFault}
 use Rattle.sc_update.specs.declared.end.BatchEnd.{BatchEnd}
 use Rattle.sc_update.specs.declared.end.BatchFault.{BatchFault}
 use Rattle.sc_update.specs.Updated.{UpdateEnd, finished, refused, ran_out, OrdersEnd, CommitsAsked, CommitsEnd, order_fault, commit_fault, reported, Shows, IsUpdated}
-use Rattle.sc_update.specs.Steps.{AnswersAll, CommitsAll, commit_outcome}
+use Rattle.sc_collection.specs.Committing.{CommitsAll, commit_outcome}
+use Rattle.sc_update.specs.Steps.{AnswersAll}
 use Rattle.sc_update.proofs.OnceLemmas.{orders_once, unmade, no_write_made}
 
 -- the stop of a commit made no write
 commit_unmade : (layout : Layout) (seen : Seen) (stop : Stop) (outcome : CommitOutcome) → IsCommitOutcome layout seen stop outcome
-    → ack_made seen stop ≡ None
+    → ack_made layout seen stop ≡ None
 commit_unmade layout seen stop committed_now is =
-    no_write_made seen stop stop.made refl (λ made. ap (option_and_then as_write) is.1)
-commit_unmade layout seen stop commit_full is = unmade seen stop is.0
-commit_unmade layout seen stop commit_out_of_memory is = unmade seen stop is
+    no_write_made layout seen stop stop.made refl (λ made. ap (option_and_then as_write) is.1)
+commit_unmade layout seen stop commit_full is = unmade layout seen stop is.0
+commit_unmade layout seen stop commit_out_of_memory is = unmade layout seen stop is
 
 -- nor did those of any commits
 commits_unmade : (layout : Layout) (seen : Seen) (answers : List CommitAnswer) → All (IsCommitAnswer layout seen) answers
-    → filter_map (ack_made seen) (commit_stops answers) ≡ []
+    → filter_map (ack_made layout seen) (commit_stops answers) ≡ []
 commits_unmade layout seen [] each = refl
 commits_unmade layout seen (answer ∷ answers) each =
-    ap (λ (ack : Option Ack). cons_option ack (filter_map (ack_made seen) (commit_stops answers)))
+    ap (λ (ack : Option Ack). cons_option ack (filter_map (ack_made layout seen) (commit_stops answers)))
     (commit_unmade layout seen answer.stop answer.outcome (All-head (IsCommitAnswer layout seen) answer answers each))
     ∙ commits_unmade layout seen answers (All-tail (IsCommitAnswer layout seen) answer answers each)
 
 -- so the writes that an update made are those of its orders
 once_committed : (layout : Layout) (seen : Seen) (stops : List Stop) (answers : List OrderAnswer) (commits : List CommitAnswer)
-    → WritesOnce seen stops answers → All (IsCommitAnswer layout seen) commits → WritesOnce seen (stops ++ commit_stops commits) answers
+    → WritesOnce layout seen stops answers → All (IsCommitAnswer layout seen) commits → WritesOnce layout seen (stops ++ commit_stops commits) answers
 once_committed layout seen stops answers commits once each =
-    filter_map-append (ack_made seen) stops (commit_stops commits)
-    ∙ ap (λ (acks : List Ack). filter_map (ack_made seen) stops ++ acks) (commits_unmade layout seen commits each)
-    ∙ append-nil (filter_map (ack_made seen) stops) ∙ once
+    filter_map-append (ack_made layout seen) stops (commit_stops commits)
+    ∙ ap (λ (acks : List Ack). filter_map (ack_made layout seen) stops ++ acks) (commits_unmade layout seen commits each)
+    ∙ append-nil (filter_map (ack_made layout seen) stops) ∙ once
 
 -- what is shown is told by the two lists alone
 shows_same : (versions : Bool) (answers : List OrderAnswer) (old new : BatchEnd) → new.adds ≡ old.adds → new.deletes ≡ old.deletes
@@ -96,8 +97,8 @@ updated-idle gives layout batch old new end all idle = record {
   timestamps = all.answered.timestamps;
   answered = all.answered.answered;
   ends = λ later more. (all.ends, none_committed layout later batch answers all.how end all.uncommitted all.reports.fault idle);
-  once = λ later more. subst (λ (stops : List Stop). WritesOnce later stops answers) same
-      (orders_once layout later answers (all.answered.answered later more).each);
+  once = λ later more. subst (λ (stops : List Stop). WritesOnce layout later stops answers) same
+      (orders_once layout later answers (all.answered.answered later more).each all.answered.located);
   reports = all.reports;
 }
   where
@@ -125,7 +126,7 @@ updated-committed gives layout batch old between new before end fault all none a
     (subst (λ (one : Bool). CommitsAsked layout later one commits) (sym asked) (far.answered later more), refl),
   );
   once = λ later more. once_committed layout later (order_stops answers) answers commits
-      (orders_once layout later answers (answered later more).each) (far.answered later more).each;
+      (orders_once layout later answers (answered later more).each all.answered.located) (far.answered later more).each;
   reports = record {
     fault = told ∙ ap commit_fault (sym far.worst_is);
     shown = shows_same batch.flags.versions answers before end adds deleted all.reports.shown;

@@ -1,24 +1,23 @@
 -- How an update is carried out, step by step.
 use Rattle.std.specs.Prelude.{◌≡◌, ◌≢◌, ◌⊎◌, ℕ, ◌+◌, ◌<◌, ◌≤◌, Bool, true, false, List, [], ◌∷◌, ◌++◌, length, count_by, Option, Some, None, Result, Err, IfOk, IsSome, is_ok, vec_len, vec_capacity, if◌then◌else◌}
+use Rattle.std.specs.List.{AllByRecursion}
 use mathlib.Core.List.{IsPrefix}
 use Rattle.sc_record.specs.declared.order.Order.{Order}
 use Rattle.sc_router.specs.Route.{bucket_of}
 use Rattle.sc_journal.specs.Journal.{write_at, is_settled}
 use Rattle.sc_journal.specs.Outcomes.{Outcome, IsOutcome}
-use Rattle.sc_journal.specs.Seen.{Layout, Seen, FromNowOn, basis_of, journal_at}
-use Rattle.sc_journal.specs.Moments.{View, Moment, Keeps}
-use Rattle.sc_journal.specs.Batches.{OrderAnswer, AnswersOrders, GivesTimestamps, IsSettling, goes_on, deletes, accepted_adds, accepted_deletes, order_stops, order_timestamps}
-use Rattle.sc_journal.specs.Committed.{CommitOutcome, committed_now, commit_full, commit_out_of_memory, IsCommitOutcome, CommitAnswer, AnswersCommits, commit_stops, worst}
-use Rattle.sc_journal.specs.declared.stop.Stop.{Stop}
+use Rattle.sc_seen.specs.Seen.{Layout, Seen, FromNowOn, basis_of, journal_at}
+use Rattle.sc_seen.specs.Moments.{View, Moment, Keeps}
+use Rattle.sc_seen.specs.Batches.{OrderAnswer, AnswersOrders, GivesTimestamps, IsSettling, goes_on, deletes, accepted_adds, accepted_deletes, order_stops, order_timestamps}
+use Rattle.sc_seen.specs.Commits.{CommitOutcome, committed_now}
+use Rattle.sc_seen.specs.declared.stop.Stop.{Stop}
 use Rattle.sc_bucket.specs.Sound.{IsSound}
 use Rattle.sc_bucket.specs.Events.{Settles, outcome_of}
 use Rattle.sc_bucket.specs.declared.bucket.Bucket.{Bucket}
 use Rattle.sc_bucket.specs.declared.accept.Accepted.{Accepted}
 use Rattle.sc_bucket.specs.declared.accept.AcceptFault.{AcceptFault}
 use Rattle.sc_bucket.specs.declared.accept.AcceptFault.TheVariants as accept_faults
-use Rattle.sc_bucket.specs.declared.commit.CommitFault.{CommitFault}
-use Rattle.sc_bucket.specs.declared.commit.CommitFault.TheVariants as commit_faults
-use Rattle.sc_collection.specs.Desks.{Held, IsBucketOf}
+use Rattle.sc_collection.specs.Desks.{Out, nothing_out, IsBucketOf}
 use Rattle.sc_commands.specs.declared.batch.Batch.{Batch}
 use Rattle.sc_commands.specs.declared.batch.Flags.{Flags}
 use Rattle.sc_update.specs.declared.end.BatchEnd.{BatchEnd}
@@ -34,16 +33,16 @@ pub record MakeNoEntry (old new : Seen) (lock : ℕ) : Type 0 where
   pub board : new.board ≡ old.board
   pub own : (other : ℕ) → new.own other ≡ old.own other
 
--- The bucket is out, and was handed out as this lock's: it is sound, of this number, and extends what was seen.
-pub record Holds (layout : Layout) (seen : Seen) (out : Option Held) (lock : ℕ) (bucket : Bucket) : Type 0 where
-  pub out_is : out ≡ Some (record { number = lock; bucket = bucket })
+-- The bucket is out, and was handed out as this lock's: it is sound, of this number, and extends what was seen. Nothing else is out.
+pub record Holds (layout : Layout) (seen : Seen) (out : Out) (lock : ℕ) (bucket : Bucket) : Type 0 where
+  pub out_is : out ≡ record nothing_out { bucket = Some (record { number = lock; bucket = bucket; by_keeper = false }) }
   pub sound : IsSound bucket
   pub is_of : IsBucketOf layout lock bucket
   pub extends : IsPrefix (seen.journals lock) bucket.journal.entries
 
 -- the bucket was given back, or it is held still
-abbrev pub HoldsWhereIdle : Layout → Seen → Option Held → ℕ → Delivery → Type 0
-HoldsWhereIdle layout seen out lock deliveries.Delivered = out ≡ None
+abbrev pub HoldsWhereIdle : Layout → Seen → Out → ℕ → Delivery → Type 0
+HoldsWhereIdle layout seen out lock deliveries.Delivered = out ≡ nothing_out
 HoldsWhereIdle layout seen out lock (deliveries.Idle bucket) = Holds layout seen out lock bucket
 
 -- An order was carried out at this stop of its id's bucket, and got this answer.
@@ -65,11 +64,13 @@ pub record SettlesFirst (layout : Layout) (old new : View) (first : Stop) : Type
   pub keeps : Keeps layout old new (second ∷ [])
   pub settling : FromNowOn new.seen (λ later. IsSettling later first second)
 
--- Orders of a batch were answered in turn, up to one of them, each at a timestamp that the clock gave for it and at its own stops.
+-- Orders of a batch were answered in turn, up to one of them, each at a timestamp that the clock gave for it and at its own stops. The
+-- bucket of each one's id is one of the collection's.
 pub record Answered {C : Type 0} (gives : C → ℕ → C → Type 0) (layout : Layout) (batch : Batch) (old new : Moment C) (answers : List OrderAnswer) : Type 0 where
   pub keeps : Keeps layout old.view new.view (order_stops answers)
   pub timestamps : GivesTimestamps gives old.clock (order_timestamps answers) new.clock
   pub answered : FromNowOn new.view.seen (λ later. AnswersOrders layout later batch.flags.fail_on_conflict batch.orders answers)
+  pub located : AllByRecursion (λ (answer : OrderAnswer). bucket_of answer.order.id layout.buckets < layout.buckets) answers
 
 -- a batch of one order
 abbrev pub one_order : Flags → Order → Batch
@@ -139,23 +140,3 @@ pub record AnswersAll {C : Type 0} (gives : C → ℕ → C → Type 0) (layout 
   pub ends : OrdersEnd batch answers how
   pub uncommitted : (outcome : CommitOutcome) → how ≡ finished outcome → outcome ≡ committed_now
   pub reports : Reports batch answers how end
-
--- what a commit came to
-abbrev pub commit_outcome : Option CommitFault → CommitOutcome
-commit_outcome None = committed_now
-commit_outcome (Some commit_faults.LogFull) = commit_full
-commit_outcome (Some commit_faults.Memory) = commit_out_of_memory
-
--- The first buckets, so many of them, were committed in turn, and the worst that came of it is this.
-pub record CommitsAll (layout : Layout) (count : ℕ) (old new : View) (fault : Option CommitFault) : Type 0 where
-  pub answers : List CommitAnswer
-  pub keeps : Keeps layout old new (commit_stops answers)
-  pub answered : FromNowOn new.seen (λ later. AnswersCommits layout later count answers)
-  pub worst_is : worst answers ≡ commit_outcome fault
-
--- One bucket was committed at its stop, or that was refused.
-pub record CommitsOne (layout : Layout) (old new : View) (lock : ℕ) (fault : Option CommitFault) : Type 0 where
-  pub stop : Stop
-  pub lock_is : stop.lock ≡ lock
-  pub keeps : Keeps layout old new (stop ∷ [])
-  pub answered : FromNowOn new.seen (λ later. IsCommitOutcome layout later stop (commit_outcome fault))

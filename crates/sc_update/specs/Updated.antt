@@ -3,10 +3,10 @@ use Rattle.std.specs.Prelude.{◌≡◌, ℕ, ◌-◌, Bool, true, false, List, 
 use Rattle.sc_commands.specs.declared.batch.Batch.{Batch}
 use Rattle.sc_journal.specs.Journal.{last_of}
 use Rattle.sc_journal.specs.Outcomes.{Outcome, accepted, conflict, partial, log_full, out_of_memory}
-use Rattle.sc_journal.specs.Seen.{Layout, Seen, FromNowOn}
-use Rattle.sc_journal.specs.Moments.{Moment, Keeps}
-use Rattle.sc_journal.specs.Batches.{OrderAnswer, AnswersOrders, GoOn, WritesOnce, GivesTimestamps, goes_on, accepted_adds, accepted_deletes, order_stops, order_timestamps}
-use Rattle.sc_journal.specs.Committed.{CommitOutcome, committed_now, commit_full, commit_out_of_memory, CommitAnswer, AnswersCommits, commit_stops, worst}
+use Rattle.sc_seen.specs.Seen.{Layout, Seen, FromNowOn}
+use Rattle.sc_seen.specs.Moments.{Moment, Keeps}
+use Rattle.sc_seen.specs.Batches.{OrderAnswer, AnswersOrders, GoOn, WritesOnce, GivesTimestamps, goes_on, accepted_adds, accepted_deletes, order_stops, order_timestamps}
+use Rattle.sc_seen.specs.Commits.{CommitOutcome, committed_now, commit_full, commit_out_of_memory, CommitAnswer, AnswersCommits, commit_stops, worst}
 use Rattle.sc_update.specs.declared.end.BatchEnd.{BatchEnd}
 use Rattle.sc_update.specs.declared.end.BatchFault.{BatchFault}
 use Rattle.sc_update.specs.declared.end.BatchFault.TheVariants as faults
@@ -84,5 +84,5 @@ pub record IsUpdated {C : Type 0} (gives : C → ℕ → C → Type 0) (layout :
   pub timestamps : GivesTimestamps gives old.clock (order_timestamps answers) new.clock
   pub answered : FromNowOn new.view.seen (λ later. AnswersOrders layout later batch.flags.fail_on_conflict batch.orders answers)
   pub ends : FromNowOn new.view.seen (λ later. Ends layout later batch answers commits how)
-  pub once : FromNowOn new.view.seen (λ later. WritesOnce later (order_stops answers ++ commit_stops commits) answers)
+  pub once : FromNowOn new.view.seen (λ later. WritesOnce layout later (order_stops answers ++ commit_stops commits) answers)
   pub reports : Reports batch answers how end

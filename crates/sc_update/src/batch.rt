@@ -1,19 +1,19 @@
 ghost use Rattle.std.specs.Prelude.{◌≡◌, ◌+◌, ◌*◌, ◌≤◌, length, Some, None, Err, true, false};
-ghost use Rattle.sc_journal.specs.Moments.{moment_of};
-ghost use Rattle.sc_journal.specs.Batches.{deletes};
+ghost use Rattle.sc_seen.specs.Moments.{moment_of};
+ghost use Rattle.sc_seen.specs.Batches.{deletes};
 ghost use Rattle.sc_bucket.specs.Events.{outcome_of};
 ghost use Rattle.sc_collection.specs.Desks.{IsDeskAtRest};
 ghost use Rattle.sc_collection.specs.Kept.{trail_room};
 ghost use Rattle.sc_commands.specs.Updates.{order_limit};
 ghost use Rattle.sc_update.specs.Updated.{IsUpdated, order_fault, commit_fault};
-ghost use Rattle.sc_update.specs.Steps.{AnswersAll, Takes, commit_outcome, HasRoomToShowOne, ending};
+ghost use Rattle.sc_collection.specs.Committing.{commit_outcome};
+ghost use Rattle.sc_update.specs.Steps.{AnswersAll, Takes, HasRoomToShowOne, ending};
 
-use crate::commit::commit_all;
 use crate::end::{BatchEnd, BatchFault};
 use crate::order::carry_out;
 use crate::shown::{Shown, is_deletion, shown_id};
 use sc_bucket::{AcceptFault, CommitFault};
-use sc_collection::{Desk, Trail};
+use sc_collection::{Desk, Trail, commit_all};
 use sc_commands::{Batch, Flags};
 use sc_io::Clock;
 use sc_record::{Ack, Order};

@@ -1,11 +1,11 @@
-ghost use Rattle.std.specs.Prelude.{◌≡◌, ◌<◌, ◌+◌, ◌≤◌, [], ◌∷◌, None, IsSome, length};
+ghost use Rattle.std.specs.Prelude.{◌≡◌, ◌<◌, ◌+◌, ◌≤◌, [], ◌∷◌, IsSome, length};
 ghost use Rattle.sc_router.specs.Route.{bucket_of};
 ghost use Rattle.sc_journal.specs.Journal.{write_at};
-ghost use Rattle.sc_journal.specs.Moments.{view_of, moment_of, Keeps};
+ghost use Rattle.sc_seen.specs.Moments.{view_of, moment_of, Keeps};
 ghost use Rattle.sc_bucket.specs.Sound.{IsSound};
 ghost use Rattle.sc_bucket.specs.Events.{outcome_of};
 ghost use Rattle.sc_collection.specs.Kept.{trail_room};
-ghost use Rattle.sc_collection.specs.Desks.{IsDeskAtRest};
+ghost use Rattle.sc_collection.specs.Desks.{nothing_out, IsDeskAtRest};
 ghost use Rattle.sc_update.specs.Steps.{MakeNoEntry, Holds, HoldsWhereIdle, Tries, SettlesFirst, SettlesWhere, CarriesOut};
 
 use sc_bucket::{AcceptFault, Accepted, Bucket};
@@ -28,7 +28,7 @@ fn accept_at<D: Desk>(
     order: &Order,
     now: u64,
 ) -> (Stop, Result<Accepted, AcceptFault>)
-    requires nothing_out { D.out desk.old ≡ None }
+    requires nothing_out { D.out desk.old ≡ nothing_out }
     requires within { b < (D.layout desk.old).buckets }
     requires bucket { b ≡ bucket_of order.now.id (D.layout desk.old).buckets }
     requires room { length trail.old.stops < trail_room }
@@ -62,7 +62,7 @@ enum Delivery {
 
 /// Holds the bucket and delivers the first message in flight of the write at this place, where there is one.
 fn deliver_one<D: Desk>(desk: &mut D, lock: u32, place: u64) -> Delivery
-    requires nothing_out { D.out desk.old ≡ None }
+    requires nothing_out { D.out desk.old ≡ nothing_out }
     requires within { lock < (D.layout desk.old).buckets }
     ensures quiet { MakeNoEntry (D.seen desk.old) (D.seen desk.new) lock }
     ensures held { HoldsWhereIdle (D.layout desk.old) (D.seen desk.new) (D.out desk.new) lock result }
@@ -78,7 +78,7 @@ fn deliver_one<D: Desk>(desk: &mut D, lock: u32, place: u64) -> Delivery
 
 /// Holds the bucket of the write at this place, after holds that each deliver a message of the write, as long as there are some.
 fn hold_delivered<D: Desk>(desk: &mut D, lock: u32, place: u64) -> Bucket
-    requires nothing_out { D.out desk.old ≡ None }
+    requires nothing_out { D.out desk.old ≡ nothing_out }
     requires within { lock < (D.layout desk.old).buckets }
     ensures quiet { MakeNoEntry (D.seen desk.old) (D.seen desk.new) lock }
     ensures held { Holds (D.layout desk.old) (D.seen desk.new) (D.out desk.new) lock result }
@@ -95,7 +95,7 @@ fn hold_delivered<D: Desk>(desk: &mut D, lock: u32, place: u64) -> Bucket
 /// Settles the write that a stop made, in a hold of its bucket after those that deliver its messages, unless it is settled by
 /// then, and keeps that stop.
 fn settle_at<D: Desk>(desk: &mut D, trail: &mut Trail, first: Stop)
-    requires nothing_out { D.out desk.old ≡ None }
+    requires nothing_out { D.out desk.old ≡ nothing_out }
     requires within { first.lock < (D.layout desk.old).buckets }
     requires written { IsSome (write_at ((D.seen desk.old).journals first.lock) first.place) }
     requires room { length trail.old.stops < trail_room }
@@ -137,7 +137,7 @@ pub(crate) fn carry_out<D: Desk, C: Clock>(
     trail: &mut Trail,
     order: &Order,
 ) -> Result<Accepted, AcceptFault>
-    requires nothing_out { D.out desk.old ≡ None }
+    requires nothing_out { D.out desk.old ≡ nothing_out }
     requires room { length trail.old.stops + 2 ≤ trail_room }
     ensures carried { CarriesOut C.gives (D.layout desk.old) order.now
         (moment_of (D.seen desk.old) trail.old.stops clock.old) (moment_of (D.seen desk.new) trail.new.stops clock.new) (outcome_of result) }

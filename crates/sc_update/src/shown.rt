@@ -1,5 +1,5 @@
 ghost use Rattle.std.specs.Prelude.{◌≡◌, [], ◌∷◌, ◌++◌, true, false, IfOk, count_by, if◌then◌else◌};
-ghost use Rattle.sc_journal.specs.Batches.{deletes};
+ghost use Rattle.sc_seen.specs.Batches.{deletes};
 ghost use Rattle.sc_update.specs.Steps.{HasRoomToShow, HasRoomToShowOne, GrowsByOne};
 
 use crate::end::{BatchEnd, BatchFault};

@@ -2,8 +2,8 @@
 use Rattle.std.proofs.Common.{◌≡◌, ◌<◌, ℕ, List, [], ◌∷◌, ◌++◌, Some, refl, ap, ◌∙◌, arith}
 use Rattle.std.specs.Prelude.{◌↔◌}
 use Rattle.sc_io.specs.declared.memory.Fixed.{Fixed}
-use Rattle.sc_journal.specs.Batches.{GivesTimestamps}
-use Rattle.sc_journal.specs.Seen.{Layout}
+use Rattle.sc_seen.specs.Batches.{GivesTimestamps}
+use Rattle.sc_seen.specs.Seen.{Layout}
 use Rattle.sc_session.specs.Connection.{exchanges_of, timestamps_of}
 use Rattle.sc_session.specs.States.{ConnectionState, CountsFault}
 use Rattle.sc_session.specs.Served.{IsServed}

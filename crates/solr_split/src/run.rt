@@ -1,6 +1,7 @@
 ghost use Rattle.std.specs.Prelude.{◌≡◌, ◌<◌, ◌↔◌, map, IfOk, IfSome, None, string_bytes};
 ghost use Rattle.sc_session.specs.Served.{IsServed};
 ghost use Rattle.sc_collection.specs.Alone.{seen_of};
+ghost use Rattle.sc_collection.specs.Desks.{nothing_out};
 ghost use Rattle.sc_collection.specs.Shapes.{IsShape, HasShape, SeesNothing};
 ghost use Rattle.solr_split.specs.Running.{RunsOrFails, clock_of, state_of, none_kept, exit_status};
 ghost use Rattle.solr_split.specs.Arguments.{script_of};
@@ -10,6 +11,7 @@ use sc_collection::{Alone, Desk, Shape, Trail};
 use sc_io::{Clock, Fixed, Sink, Source};
 use sc_session::{End, serve};
 use std::alloc::{AllocError, Global};
+use std::mem::forget;
 
 /// All that the program does: `script` serves one connection over the source and the sink, and a new collection of the
 /// shape that its options ask for. Its clock is the one that is handed in or, with `--clock`, one that stands still at
@@ -54,6 +56,9 @@ pub fn run<S: Source, W: Sink, C: Clock>(
         clock,
         &mut trail,
     );
+    // The program ends here: the system takes their memory at once, which is faster than taking them apart piece by piece.
+    forget(desk);
+    forget(trail);
     status_of(end)
 }
 
@@ -68,7 +73,7 @@ fn serve_script<D: Desk, S: Source, W: Sink, C: Clock>(
     trail: &mut Trail,
 ) -> End
     requires trail { trail.old ≡ none_kept }
-    requires nothing_out { D.out desk.old ≡ None }
+    requires nothing_out { D.out desk.old ≡ nothing_out }
     ensures served { IsServed (clock_of timestamp C.gives) (D.layout desk.old)
         (state_of (D.seen desk.old) trail.old (record { clock = clock.old; unread = S.rest source.old; written = W.written sink.old; read_faults = S.faults source.old; write_faults = W.faults sink.old }))
         (state_of (D.seen desk.new) trail.new (record { clock = clock.new; unread = S.rest source.new; written = W.written sink.new; read_faults = S.faults source.new; write_faults = W.faults sink.new })) result }
@@ -86,6 +91,7 @@ fn memory_of(alloc: Global, shape: &Shape) -> Result<(Alone, Trail), AllocError>
     ensures layout { IfOk result (λ memory. HasShape shape.now memory.0.layout) }
     ensures seen { IfOk result (λ memory. SeesNothing (seen_of memory.0)) }
     ensures out { IfOk result (λ memory. memory.0.out ≡ None) }
+    ensures board_out { IfOk result (λ memory. memory.0.board_out ≡ None) }
     ensures trail { IfOk result (λ memory. memory.1 ≡ none_kept) }
 {
     Ok((Alone::new(alloc, shape)?, Trail::new(alloc)?))

@@ -1,4 +1,4 @@
--- The bucket is sound, and no bucket is out of the desk, between two lines.
+-- The bucket is sound, and no bucket and no board is out of the desk, between two lines.
 use Rattle.std.proofs.Common.{◌≡◌, None}
 use Rattle.sc_bucket.specs.Sound.{IsSound}
 use Rattle.sc_scenarios.proofs.main.Given as goal
@@ -6,4 +6,4 @@ use Rattle.sc_scenarios.proofs.main.Given as goal
 abbrev pub invariant-loop-line : goal.invariant-loop-line
 invariant-loop-line l =
     goal.iterator-loop-line.can_next l.line-iterator × goal.iterator-loop-line.is_finite l.line-iterator
-    × IsSound l.stage.bucket × (l.stage.desk.out ≡ None)
+    × IsSound l.stage.bucket × (l.stage.desk.out ≡ None) × (l.stage.desk.board_out ≡ None)

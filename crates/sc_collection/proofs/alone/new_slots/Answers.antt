@@ -16,8 +16,12 @@ loop-b-preserved c =
       there = refl;
       sound = made.sound;
       begins = made.first;
+      map_is = made.map_is;
       limited = made.limit;
       empty = made.journal;
+      idle = made.phase;
+      unfed = made.feeds;
+      cores = made.cores;
     } in
     record {
       count = ap length c.push_reserved.ensures.items ∙ length_push _ _ ∙ ap (λ n. n + 1) c.loop-b.invariant.count;

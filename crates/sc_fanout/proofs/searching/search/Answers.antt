@@ -8,8 +8,8 @@ use Rattle.sc_record.specs.declared.entry.Entry.{Entry}
 use Rattle.sc_eval.specs.Conditions.{condition_of}
 use Rattle.sc_snapshot.specs.Rows.{AreRows}
 use Rattle.sc_journal.specs.Legal.{HasTerms}
-use Rattle.sc_journal.specs.Seen.{Layout}
-use Rattle.sc_journal.specs.Moments.{view_of}
+use Rattle.sc_seen.specs.Seen.{Layout}
+use Rattle.sc_seen.specs.Moments.{view_of}
 use Rattle.sc_bucket.specs.declared.standing.Searcher.{Searcher}
 use Rattle.sc_fanout.specs.Steps.{rows_in, found_in, AreAsked, LooksAtOne}
 use Rattle.sc_fanout.proofs.BucketLemmas.{asked-terms}

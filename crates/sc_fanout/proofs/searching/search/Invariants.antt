@@ -1,7 +1,7 @@
 -- The first buckets were looked at, and the lists hold what they find.
 use Rattle.std.proofs.Common.{◌≡◌, ◌+◌, length, map}
 use Rattle.std.specs.Arc.{arc_value}
-use Rattle.sc_journal.specs.Moments.{view_of}
+use Rattle.sc_seen.specs.Moments.{view_of}
 use Rattle.sc_collection.specs.Desks.{IsDeskAtRest}
 use Rattle.sc_fanout.proofs.SearchLemmas.{FoundSoFar}
 use Rattle.sc_fanout.proofs.searching.search.Given as goal

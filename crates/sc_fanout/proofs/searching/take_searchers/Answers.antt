@@ -2,13 +2,34 @@
 use Rattle.std.proofs.Common.{◌≡◌, false, length, [], ◌∷◌, ◌++◌, refl, sym, ap, ◌∙◌, subst}
 use Rattle.std.proofs.lemmas.List.{append-nil}
 use mathlib.Core.List.{IsPrefix}
-use Rattle.sc_journal.specs.Seen.{Seen}
+use Rattle.sc_seen.specs.Seen.{Layout, Seen}
 use Rattle.sc_collection.specs.Kept.{Kept}
-use Rattle.sc_collection.specs.Desks.{Held, SeesGiven}
-use Rattle.sc_collection.proofs.StopLemmas.{GoesOn-held}
-use Rattle.sc_journal.proofs.ExtendsLemmas.{IsPrefix-self}
+use Rattle.sc_collection.specs.Desks.{Held, Out, SeesGiven, MayReplace}
+use Rattle.sc_collection.proofs.StopLemmas.{GoesOn-held, given-back}
+use Rattle.sc_collection.proofs.ReplaceLemmas.{same_may_replace}
+use Rattle.sc_seen.proofs.ExtendsLemmas.{IsPrefix-self}
 use Rattle.sc_fanout.proofs.BucketLemmas.{asked}
 use Rattle.sc_fanout.proofs.searching.take_searchers.Goals as goal
+
+pub give-requires : goal.give-requires
+give-requires g c =
+    let held : Held = record { number = c.args.b; bucket = c.hold-bucket.result; by_keeper = false } in
+    record {
+      is_out = (
+        held,
+        ap (λ (o : Out). o.bucket) c.hold-bucket.ensures.out,
+        refl,
+        subst (λ (layout : Layout). MayReplace layout held c.hold-bucket.result) (sym c.hold-bucket.ensures.layout)
+            (same_may_replace (g.D.Desk.layout c.args.desk.now) held c.hold-bucket.result c.hold-bucket.ensures.is_of c.hold-bucket.ensures.sound refl refl),
+      );
+    }
+
+pub returns-clause-rest : goal.returns-clause-rest
+returns-clause-rest g c = record {
+  nothing_out = given-back (g.D.Desk.out c.args.desk.now) (g.D.Desk.out c.hold-bucket.new.self) (g.D.Desk.out c.give.new.self) _
+      c.requires.nothing_out c.hold-bucket.ensures.out c.give.ensures.out;
+  legal = c.give.ensures.legal;
+}
 
 pub returns-clause-looks : goal.returns-clause-looks
 returns-clause-looks g c =
@@ -17,9 +38,9 @@ returns-clause-looks g c =
     let new = g.D.Desk.seen c.give.new.self in
     let bucket = c.hold-bucket.result in
     let journal = bucket.journal.entries in
-    let held : Held = record { number = c.args.b; bucket = bucket } in
+    let held : Held = record { number = c.args.b; bucket = bucket; by_keeper = false } in
     let sees : SeesGiven held bucket old new =
-    subst (λ (s : Seen). SeesGiven held bucket s new) c.hold-bucket.ensures.seen (c.give.ensures.seen held c.hold-bucket.ensures.out) in
+    subst (λ (s : Seen). SeesGiven held bucket s new) c.hold-bucket.ensures.seen (c.give.ensures.seen held (ap (λ (o : Out). o.bucket) c.hold-bucket.ensures.out)) in
     let stops : c.keep.new.self.stops ≡ c.args.trail.now.stops ++ record { lock = c.args.b; place = length journal; made = false } ∷ [] =
     ap (λ (k : Kept). k.stops) c.keep.ensures
     ∙ ap (λ n. c.args.trail.now.stops ++ record { lock = c.args.b; place = n; made = false } ∷ []) c.entries.ensures.count in

@@ -7,8 +7,8 @@ use Rattle.std.specs.declared.sync.Arc.{Arc}
 use Rattle.std.proofs.lemmas.List.{append-nil}
 use Rattle.std.proofs.lemmas.Result.{err_from_is_err_and}
 use Rattle.sc_record.specs.declared.write.Write.{Write}
-use Rattle.sc_journal.specs.Seen.{Layout}
-use Rattle.sc_journal.specs.Moments.{view_of}
+use Rattle.sc_seen.specs.Seen.{Layout}
+use Rattle.sc_seen.specs.Moments.{view_of}
 use Rattle.sc_get.specs.Got.{IsGot, AreGot}
 use Rattle.sc_get.proofs.ManyLemmas.{SoFar-none, SoFar-then, one_at_most, ran_out, ran_out_at, all_got}
 use Rattle.sc_get.proofs.many.get_many.Goals.{in-Some, in_default}

@@ -1,7 +1,7 @@
 -- The first ids were read.
 use Rattle.std.proofs.Common.{◌≡◌, ◌+◌, ◌≤◌, length}
 use Rattle.std.specs.Prelude.{vec_capacity}
-use Rattle.sc_journal.specs.Moments.{view_of}
+use Rattle.sc_seen.specs.Moments.{view_of}
 use Rattle.sc_collection.specs.Desks.{IsDeskAtRest}
 use Rattle.sc_get.proofs.ManyLemmas.{SoFar}
 use Rattle.sc_get.proofs.many.get_many.Given as goal

@@ -1,13 +1,34 @@
 -- What is found of an id is its live write at the stop.
-use Rattle.std.proofs.Common.{◌≡◌, ◌<◌, ℕ, false, List, [], ◌∷◌, ◌++◌, ap, ◌∙◌, subst}
+use Rattle.std.proofs.Common.{◌≡◌, ◌<◌, ℕ, false, List, [], ◌∷◌, ◌++◌, refl, sym, ap, ◌∙◌, subst}
 use Rattle.sc_router.specs.Route.{bucket_of}
-use Rattle.sc_journal.specs.Seen.{Seen}
-use Rattle.sc_journal.specs.Moments.{view_of}
+use Rattle.sc_seen.specs.Seen.{Layout, Seen}
+use Rattle.sc_seen.specs.Moments.{view_of}
 use Rattle.sc_collection.specs.Kept.{Kept}
-use Rattle.sc_collection.specs.Desks.{SeesGiven}
-use Rattle.sc_collection.proofs.StopLemmas.{stop_at}
+use Rattle.sc_collection.specs.Desks.{Held, Out, SeesGiven, MayReplace}
+use Rattle.sc_collection.proofs.StopLemmas.{stop_at, given-back}
+use Rattle.sc_collection.proofs.ReplaceLemmas.{same_may_replace}
 use Rattle.sc_get.proofs.GotLemmas.{got}
 use Rattle.sc_get.proofs.one.get_one.Goals as goal
+
+pub give-requires : goal.give-requires
+give-requires g c =
+    let held : Held = record { number = c.bucket_of-b.result; bucket = c.hold-bucket.result; by_keeper = false } in
+    record {
+      is_out = (
+        held,
+        ap (λ (o : Out). o.bucket) c.hold-bucket.ensures.out,
+        refl,
+        subst (λ (layout : Layout). MayReplace layout held c.hold-bucket.result) (sym c.hold-bucket.ensures.layout)
+            (same_may_replace (g.D.Desk.layout c.args.desk.now) held c.hold-bucket.result c.hold-bucket.ensures.is_of c.hold-bucket.ensures.sound refl refl),
+      );
+    }
+
+pub returns-clause-rest : goal.returns-clause-rest
+returns-clause-rest g c = record {
+  nothing_out = given-back (g.D.Desk.out c.args.desk.now) (g.D.Desk.out c.hold-bucket.new.self) (g.D.Desk.out c.give.new.self) _
+      c.requires.nothing_out c.hold-bucket.ensures.out c.give.ensures.out;
+  legal = c.give.ensures.legal;
+}
 
 pub returns-clause-got : goal.returns-clause-got
 returns-clause-got g c =
@@ -23,8 +44,8 @@ returns-clause-got g c =
     c.bucket_of-b.ensures.bucket ∙ ap (λ (id : List ℕ). bucket_of id c.buckets.result) c.as_str.ensures.value
     ∙ ap (bucket_of c.args.id.now) c.buckets.ensures.count in
     let below : number < layout.buckets = subst (λ n. number < n) c.buckets.ensures.count c.bucket_of-b.ensures.below in
-    let sees : SeesGiven (record { number = number; bucket = bucket }) bucket old new =
-    subst (λ (s : Seen). SeesGiven (record { number = number; bucket = bucket }) bucket s new) c.hold-bucket.ensures.seen
-    (c.give.ensures.seen (record { number = number; bucket = bucket }) c.hold-bucket.ensures.out) in
+    let sees : SeesGiven (record { number = number; bucket = bucket; by_keeper = false }) bucket old new =
+    subst (λ (s : Seen). SeesGiven (record { number = number; bucket = bucket; by_keeper = false }) bucket s new) c.hold-bucket.ensures.seen
+    (c.give.ensures.seen (record { number = number; bucket = bucket; by_keeper = false }) (ap (λ (o : Out). o.bucket) c.hold-bucket.ensures.out)) in
     got layout (view_of old c.args.trail.now.stops) (view_of new c.keep.new.self.stops) bucket number c.args.id.now c.share_live-found.result
     here below c.hold-bucket.ensures.extends sees stops (rw c.read.ensures at c.share_live-found.ensures)

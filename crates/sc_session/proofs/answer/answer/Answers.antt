@@ -7,7 +7,7 @@ use Rattle.sc_session.specs.Requests.{Asked, asked, not_built, refused, update, 
 use Rattle.sc_session.specs.Asking.{asked_of, select_of}
 use Rattle.sc_session.specs.Answers.{replied}
 use Rattle.sc_session.specs.Answering.{AnswersAsked, reply_of, answer_of}
-use Rattle.sc_journal.specs.Moments.{moment_of}
+use Rattle.sc_seen.specs.Moments.{moment_of}
 use Rattle.sc_session.proofs.AnswerLemmas.{answered_at_once, with_error, ran_out_at_once, refused_at_once, by_no_clock}
 use Rattle.sc_session.proofs.UpdateLemmas.{of_order, updated_asked}
 use Rattle.sc_session.proofs.answer.answer.Goals as goal

@@ -1,6 +1,6 @@
 -- The reply to a get is that of the journal at its stop.
 use Rattle.std.proofs.lemmas.Result.{err_from_is_err_and}
-use Rattle.sc_journal.specs.Moments.{moment_of}
+use Rattle.sc_seen.specs.Moments.{moment_of}
 use Rattle.sc_session.specs.Requests.{get}
 use Rattle.sc_session.specs.Answering.{unread}
 use Rattle.sc_session.proofs.AnswerLemmas.{with_error}

@@ -1,6 +1,6 @@
 -- The reply to a get of several ids is that of the journals at its stops.
 use Rattle.std.proofs.lemmas.Result.{err_from_is_err_and}
-use Rattle.sc_journal.specs.Moments.{moment_of}
+use Rattle.sc_seen.specs.Moments.{moment_of}
 use Rattle.sc_session.specs.Requests.{get_ids}
 use Rattle.sc_session.specs.Answering.{unread}
 use Rattle.sc_session.proofs.AnswerLemmas.{with_error}

@@ -4,7 +4,7 @@ use Rattle.sc_eval.specs.declared.bound.Bound.{Bound}
 use Rattle.sc_eval.specs.declared.fault.BindFault.{BindFault}
 use Rattle.sc_eval.specs.Conditions.{condition_of}
 use Rattle.std.proofs.lemmas.Result.{err_from_is_err_and}
-use Rattle.sc_journal.specs.Moments.{moment_of}
+use Rattle.sc_seen.specs.Moments.{moment_of}
 use Rattle.sc_session.specs.Requests.{select}
 use Rattle.sc_fanout.specs.declared.ask.Ask.{Ask}
 use Rattle.sc_session.specs.Queries.{HaveCondition, HaveFault}

@@ -3,7 +3,7 @@ use Rattle.std.proofs.Common.{◌≡◌, [], Some, None, Err, refl, sym, ap, ◌
 use Rattle.std.specs.Prelude.{◌≢◌}
 use Rattle.sc_router.specs.Route.{IsBucketCount}
 use Rattle.sc_http.specs.declared.end.MessageEnd.TheVariants as reads
-use Rattle.sc_journal.specs.Seen.{Layout, AreLegal}
+use Rattle.sc_seen.specs.Seen.{Layout, AreLegal}
 use Rattle.sc_collection.specs.Kept.{Kept}
 use Rattle.sc_session.specs.Connection.{out_of_memory}
 use Rattle.sc_session.specs.Ends.{last_without_request}

@@ -1,7 +1,8 @@
 -- The connection is open.
 use Rattle.std.proofs.Common.{◌≡◌, ◌-◌}
 use Rattle.std.specs.Prelude.{None}
-use Rattle.sc_journal.specs.Seen.{AreLegal}
+use Rattle.sc_collection.specs.Desks.{nothing_out}
+use Rattle.sc_seen.specs.Seen.{AreLegal}
 use Rattle.sc_session.proofs.OpenLemmas.{IsOpen, beside}
 use Rattle.sc_session.proofs.connection.serve.Given as goal
 
@@ -13,7 +14,7 @@ invariant-loop-request g l = record {
       (beside (g.D.Desk.seen l.desk) l.clock l.trail (g.S.Source.rest l.source) (g.W.Sink.written l.sink) (g.S.Source.faults l.source) (g.W.Sink.faults l.sink)) l.reader;
   legal : AreLegal (g.D.Desk.layout l.fn.desk) (g.D.Desk.seen l.desk);
   layout : g.D.Desk.layout l.desk ≡ g.D.Desk.layout l.fn.desk;
-  nothing_out : g.D.Desk.out l.desk ≡ None;
+  nothing_out : g.D.Desk.out l.desk ≡ nothing_out;
 }
 
 -- how many requests more it may answer

@@ -1,9 +1,9 @@
 -- One order is taken, and shown where versions are asked for.
 use Rattle.std.proofs.Common.{◌≡◌, [], ◌∷◌, sym, ap, ◌∙◌, subst, Option, to_z, of_z, w64, arith}
 use Rattle.std.proofs.lemmas.Int.{ints}
-use Rattle.sc_journal.specs.Moments.{moment_of}
+use Rattle.sc_seen.specs.Moments.{moment_of}
 use Rattle.sc_journal.specs.Outcomes.{accepted}
-use Rattle.sc_journal.specs.Batches.{deletes}
+use Rattle.sc_seen.specs.Batches.{deletes}
 use Rattle.sc_bucket.specs.declared.accept.AcceptFault.{AcceptFault}
 use Rattle.sc_update.specs.declared.shown.Shown.{Shown}
 use Rattle.sc_update.specs.Steps.{Takes, ShowsMore, GrowsByOne}

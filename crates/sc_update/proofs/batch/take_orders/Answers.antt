@@ -2,10 +2,10 @@
 use Rattle.std.proofs.Common.{◌≡◌, ◌+◌, ◌<◌, List, length, drop, Some, refl, sym, ap, ◌∙◌, subst, arith}
 use Rattle.std.specs.Prelude.{slice_get}
 use Rattle.sc_record.specs.declared.order.Order.{Order}
-use Rattle.sc_journal.specs.Seen.{Layout}
-use Rattle.sc_journal.specs.Moments.{moment_of}
+use Rattle.sc_seen.specs.Seen.{Layout}
+use Rattle.sc_seen.specs.Moments.{moment_of}
 use Rattle.sc_update.specs.Steps.{Takes, HasRoomToShow}
-use Rattle.sc_update.proofs.BatchLemmas.{going_on, SoFar-none, SoFar-more, SoFar-stop, SoFar-end, answers-none, HasRoomToShow-rest}
+use Rattle.sc_update.proofs.BatchLemmas.{going_on, SoFar-none, SoFar-more, SoFar-stop, SoFar-end, answers-none, HasRoomToShow-one, HasRoomToShow-rest}
 use Rattle.sc_update.proofs.TakeLemmas.{at_place, drop_place}
 use Rattle.sc_update.proofs.batch.take_orders.Goals as goal
 
@@ -42,6 +42,12 @@ returns-in-Some-clause-answers g c =
     (record { moment = moment; shown = c.take_order-end.new.shown; ended = c.take_order-end.result })) c.loop-at.invariant.layout c.take_order-end.ensures.takes)
     c.end-in-Some.result c.in-Some.fault c.order_fault.result c.in-Some.is c.end-in-Some.ensures.adds c.end-in-Some.ensures.deletes
     c.end-in-Some.ensures.fault c.order_fault.ensures
+
+pub take_order-end-requires-clause-shows : goal.take_order-end-requires-clause-shows
+take_order-end-requires-clause-shows g c = λ asked.
+    let below : c.loop-at.at < length c.as_slice-orders.result.now = omega arith in
+    HasRoomToShow-one c.loop-at.shown c.index-orders-at.result (drop (c.loop-at.at + 1) c.as_slice-orders.result.now)
+    (subst (HasRoomToShow c.loop-at.shown) (drop_place c.as_slice-orders.result.now c.loop-at.at c.index-orders-at.result below c.index-orders-at.is) (c.loop-at.invariant.room asked))
 
 pub loop-at-preserved : goal.loop-at-preserved
 loop-at-preserved g c =

@@ -1,6 +1,6 @@
 -- The first orders were answered.
 use Rattle.std.proofs.Common.{◌≡◌, ◌+◌, ◌≤◌, true, length, drop}
-use Rattle.sc_journal.specs.Moments.{moment_of}
+use Rattle.sc_seen.specs.Moments.{moment_of}
 use Rattle.sc_collection.specs.Desks.{IsDeskAtRest}
 use Rattle.sc_update.specs.Steps.{HasRoomToShow}
 use Rattle.sc_update.proofs.BatchLemmas.{SoFar, going_on}

@@ -1,10 +1,10 @@
 -- Orders are carried out, and buckets are committed after them.
 use Rattle.std.proofs.Common.{◌≡◌, ◌∙◌, true, false, refl, sym, ap, subst}
 use Rattle.std.specs.Prelude.{is_some, not}
-use Rattle.sc_journal.specs.Seen.{Layout}
-use Rattle.sc_journal.specs.Moments.{view_of, moment_of}
+use Rattle.sc_seen.specs.Seen.{Layout}
+use Rattle.sc_seen.specs.Moments.{view_of, moment_of}
 use Rattle.sc_update.specs.declared.end.BatchEnd.{BatchEnd}
-use Rattle.sc_update.specs.Steps.{CommitsAll}
+use Rattle.sc_collection.specs.Committing.{CommitsAll}
 use Rattle.sc_update.proofs.UpdateLemmas.{no_fault, updated-idle, updated-committed}
 use Rattle.sc_update.proofs.batch.update.Goals as goal
 use Rattle.sc_update.proofs.batch.update.Goals.{else-batch-via-then-batch+else-is_none, else-batch-via-else-batch}

@@ -1,10 +1,11 @@
 -- Holds that make no entry, one after another, and the one that hands the bucket on.
-use Rattle.std.proofs.Common.{◌<◌, refl, sym, ◌∙◌, subst}
+use Rattle.std.proofs.Common.{◌<◌, false, refl, sym, ◌∙◌, subst}
 use mathlib.Core.List.{IsPrefix}
-use Rattle.sc_journal.specs.Seen.{Layout, Seen}
+use Rattle.sc_seen.specs.Seen.{Layout, Seen}
 use Rattle.sc_collection.specs.Desks.{IsBucketOf}
 use Rattle.sc_update.specs.Steps.{MakeNoEntry, Holds}
 use Rattle.sc_update.proofs.HoldLemmas.{MakeNoEntry-none, MakeNoEntry-then}
+use Rattle.sc_collection.proofs.StopLemmas.{taken-alone}
 use Rattle.sc_update.proofs.order.hold_delivered.Goals as goal
 
 pub loop-delivery-init : goal.loop-delivery-init
@@ -46,7 +47,8 @@ returns-clause-quiet g c =
 
 pub returns-clause-held : goal.returns-clause-held
 returns-clause-held g c = record {
-  out_is = c.hold.ensures.out;
+  out_is = taken-alone (g.D.Desk.out c.loop-delivery.desk) (g.D.Desk.out c.hold.new.self) (record { number = c.args.lock; bucket = c.hold.result; by_keeper = false })
+      c.loop-delivery.invariant.nothing_out c.hold.ensures.out;
   sound = c.hold.ensures.sound;
   is_of = subst (λ (layout : Layout). IsBucketOf layout c.args.lock c.hold.result) c.loop-delivery.invariant.layout c.hold.ensures.is_of;
   extends = subst (λ (seen : Seen). IsPrefix (seen.journals c.args.lock) c.hold.result.journal.entries) (sym c.hold.ensures.seen) c.hold.ensures.extends;

@@ -1,7 +1,7 @@
 -- Those among the first orders are counted.
 use Rattle.std.proofs.Common.{◌≡◌, count_by, take}
 use Rattle.sc_record.specs.declared.order.Order.{Order}
-use Rattle.sc_journal.specs.Batches.{deletes}
+use Rattle.sc_seen.specs.Batches.{deletes}
 use Rattle.sc_update.proofs.shown.deletions.Given as goal
 
 abbrev pub invariant-loop-order : goal.invariant-loop-order

@@ -8,6 +8,9 @@ use Rattle.solr_split.specs.Arguments.{script_of}
 use Rattle.solr_split.proofs.RunLemmas.{read_status, write_status, status_not_2}
 use Rattle.solr_split.proofs.run.run.Goals as goal
 
+pub serve_script-end-requires-clause-nothing_out : goal.serve_script-end-requires-clause-nothing_out
+serve_script-end-requires-clause-nothing_out g c = λ i. record { bucket = c.in-Ok.ensures.out i; board = c.in-Ok.ensures.board_out i }
+
 pub returns-clause-script : goal.returns-clause-script
 returns-clause-script g c =
     let asked : script_of (map string_bytes c.args.arguments.now) ≡ Some c.in-Some.script = sym c.in-Some.ensures.asked in

@@ -1,8 +1,8 @@
--- What was seen is legal, since each bucket is sound.
-use Rattle.std.proofs.Common.{subst}
-use Rattle.sc_journal.specs.Seen.{AreLegal}
+-- How many slots there are, and what was seen is legal.
+use Rattle.std.proofs.Common.{ap, sym, subst}
+use Rattle.sc_seen.specs.Seen.{AreLegal}
 use Rattle.sc_collection.specs.Alone.{AloneState, seen_of}
-use Rattle.sc_collection.proofs.AloneLemmas.{desk_is_legal}
+use Rattle.sc_collection.proofs.DeskLemmas.{desk_is_legal}
 use Rattle.sc_collection.proofs.alone.AloneDesk.buckets.Goals as goal
 
 pub returns-clause-legal : goal.returns-clause-legal

@@ -1,30 +1,26 @@
 -- What is taken back stands in its slot.
-use Rattle.std.proofs.Common.{rules}
-use Rattle.sc_collection.proofs.AloneLemmas.{desk_is_legal}
-use Rattle.sc_collection.proofs.GiveLemmas.{out_has_slot, give_of_fields}
+use Rattle.std.proofs.Common.{◌≡◌, None, subst}
+use Rattle.sc_collection.specs.Desks.{Held, SeesGiven}
+use Rattle.sc_collection.specs.Alone.{seen_of}
+use Rattle.sc_collection.proofs.DeskLemmas.{out_is}
+use Rattle.sc_collection.proofs.GiveLemmas.{IsGive, may_stand, put_is_give, one_is_out}
 use Rattle.sc_collection.proofs.alone.AloneDesk.give.Goals as goal
 
-pub index_mut-requires : goal.index_mut-requires
-index_mut-requires c =
+pub put_back-requires : goal.put_back-requires
+put_back-requires c =
     let out = c.requires.is_out in
-    let slot = out_has_slot c.self.inside c.args.self.now c.args.b out.0 c.self.view_is c.self.invariant out.1 out.2 in
-    search (rules, slot)
-
-pub invariant_of-self : goal.invariant_of-self
-invariant_of-self c =
-    let out = c.requires.is_out in
-    (give_of_fields c.self.inside _ c.args.self.now c.args.b c.args.bucket out.0
-    c.self.view_is c.self.invariant out.1 out.2 out.3 c.new-self-inside.ensures).is
+    record { is_out = (out.0, out.1, out.2, λ is. may_stand c.args.self.now out.0 c.args.bucket out.3) }
 
 pub returns : goal.returns
 returns c =
     let out = c.requires.is_out in
-    let give =
-    give_of_fields c.self.inside _ c.args.self.now c.args.b c.args.bucket out.0
-    c.self.view_is c.self.invariant out.1 out.2 out.3 c.new-self-inside.ensures in
+    let give : IsGive c.args.self.now c.put_back.new.self out.0 c.args.bucket =
+    put_is_give c.args.self.now c.put_back.new.self out.0 c.args.b c.args.bucket c.put_back.ensures.is out.1 out.2 out.3 c.put_back.ensures.after in
     record {
-      seen = give.sees;
-      out = give.out;
-      legal = desk_is_legal _ give.is;
+      seen = λ other is_other. subst (λ (held : Held). SeesGiven held c.args.bucket (seen_of c.args.self.now) (seen_of c.put_back.new.self))
+          (one_is_out c.args.self.now out.0 other out.1 is_other) give.sees;
+      out = out_is c.args.self.now c.put_back.new.self None give.out give.board_out;
+      legal = give.legal;
       layout = give.layout;
+      keepers = λ keepers fits. give.keepers fits;
     }

@@ -1,0 +1,4 @@
+-- Facts on boards, lowest first.
+pub mod NamedLemmas
+pub mod SoundLemmas
+pub mod CauseLemmas

@@ -1,0 +1,322 @@
+-- A board stays sound, whatever is noted on it.
+use Rattle.std.proofs.Common.{◌≡◌, ◌∙◌, ℕ, ◌+◌, ◌-◌, ◌^◌, ◌<◌, ◌≤◌, ◌⊎◌, inl, inr, true, false, not, List, [], ◌∷◌, ◌++◌, length, max, Option, Some, None, All, refl, sym, ap, subst, arith, length-append}
+use Rattle.std.specs.Prelude.{is_some, MatchOption}
+use Rattle.std.proofs.lemmas.Option.{none-some, same_Some}
+use Rattle.std.specs.List.{fold, count_by}
+use Rattle.sc_record.specs.declared.slice.SliceId.{SliceId}
+use Rattle.sc_cluster.specs.declared.plan.SplitPlan.{SplitPlan}
+use Rattle.sc_cluster.specs.declared.slice.State.TheVariants as states
+use Rattle.sc_cluster.specs.declared.slice.Slice.{Slice}
+use Rattle.sc_cluster.specs.Slices.{is_forming_state, is_inactive_state, is_forming, forming, is_inactive, greatest_id}
+use Rattle.sc_cluster.specs.Map.{IsMap}
+use Rattle.sc_cluster.specs.Changes.{after, IsSplit}
+use Rattle.sc_cluster.proofs.ListLemmas.{filter-none}
+use Rattle.sc_cluster.proofs.CountLemmas.{count_by-none}
+use Rattle.std.proofs.lemmas.List.Elements.{All-weaker}
+use Rattle.sc_journal.specs.Journal.{last_of}
+use Rattle.sc_journal.specs.Limits.{greatest_journal}
+use Rattle.sc_journal.proofs.ListLemmas.{last_of_cases}
+use Rattle.sc_seen.specs.declared.board.BoardEntry.{BoardEntry}
+use Rattle.sc_seen.specs.declared.board.BoardEntry.TheVariants as board
+use Rattle.sc_seen.specs.Board.{board_change_of, board_map, running_split, owed_after, board_owed, BoardHasRoom, MayNote, IsLegalBoard}
+use Rattle.sc_seen.proofs.BoardLemmas.{board_map-push, running_split-push, owed_by_split-push, owed_by_split, MayNote_end, IsLegalBoard-none, IsLegalBoard-push, IsLegalBoard-prefix, may_go_on_begun, may_go_on_recovered, not_open, same_parent, Stands, rests_where_idle, running_where, owed_where_open, board_is_map, board_stands, board_ids, board_owed-begun, board_owed-recovering, board_owed-done, board_owed-failed, board_owed-dropped}
+use Rattle.sc_board.specs.Boards.{IsSoundBoard}
+use Rattle.sc_board.specs.Events.{Notes}
+use Rattle.sc_board.specs.Kept.{JournalState}
+use Rattle.sc_board.specs.declared.board.Board.{Board}
+use Rattle.sc_board.specs.declared.running.Running.{Running}
+
+-- ---- what follows
+pub sound_map : {K : Type 0} (it : Board K) → IsSoundBoard it → IsMap it.map
+sound_map it sound = subst IsMap (sym sound.map_is) (board_is_map it.first it.journal.entries sound.first_map sound.legal)
+
+pub sound_stands : {K : Type 0} (it : Board K) → IsSoundBoard it → Stands it.first it.journal.entries
+sound_stands it sound = board_stands it.first it.journal.entries sound.first_map sound.first_idle sound.legal
+
+-- no slice is being made exactly where no split runs
+pub sound_idle : {K : Type 0} (it : Board K) → IsSoundBoard it → running_split it.journal.entries ≡ None → forming it.map ≡ []
+sound_idle it sound none =
+    ap forming sound.map_is ∙ (running_where it.first it.journal.entries (sound_stands it sound)).0 none
+
+-- the keepers are there where no slice is being made
+pub sound_keepers : {K : Type 0} (it : Board K) → IsSoundBoard it → forming (board_map it.first it.journal.entries) ≡ []
+    → is_some it.keepers ≡ true
+sound_keepers it sound idle =
+    sound.keepers_there ∙ ap (λ (r : Option ℕ). not (is_some r)) ((running_where it.first it.journal.entries (sound_stands it sound)).1 idle)
+
+-- ---- a new board
+pub sound_new : {K : Type 0} (it : Board K) → IsMap it.first → All (λ (slice : Slice). slice.state ≡ states.Active) it.first
+    → greatest_id it.first < 256 → it.limit ≤ greatest_journal → it.journal.entries ≡ [] → it.map ≡ it.first → it.owed ≡ 0
+    → is_some it.keepers ≡ true → IsSoundBoard it
+sound_new it is_map active ids limit none same owed there = record {
+  first_map = is_map;
+  first_idle = filter-none is_forming it.first (All-weaker (λ (slice : Slice). slice.state ≡ states.Active)
+      (λ slice. is_forming slice ≡ false) (λ slice is. ap is_forming_state is) it.first active);
+  first_ids = ids;
+  limited = limit;
+  legal = subst (IsLegalBoard it.first) (sym none) (IsLegalBoard-none it.first);
+  map_is = same ∙ ap (board_map it.first) (sym none);
+  owed_is =
+      let inactive : count_by is_inactive it.first ≡ 0 = count_by-none is_inactive it.first
+      (All-weaker (λ (slice : Slice). slice.state ≡ states.Active) (λ slice. is_inactive slice ≡ false)
+      (λ slice is. ap is_inactive_state is) it.first active) in
+      let start : it.owed ≡ board_owed it.first [] = omega (arith, owed, inactive) in
+      start ∙ ap (board_owed it.first) (sym none);
+  room = let count = ap length none in omega (arith, count, owed);
+  memory = omega (arith, owed);
+  keepers_there = there ∙ ap (λ j. not (is_some (running_split j))) (sym none);
+}
+
+-- ---- more room
+pub sound_roomier : {K : Type 0} (it : Board K) (journal : JournalState) (n : ℕ) → IsSoundBoard it
+    → journal ≡ record it.journal { room = max it.journal.room n } → IsSoundBoard (record it { journal = journal })
+sound_roomier it journal n sound is =
+    let same : journal.entries ≡ it.journal.entries = ap (λ (j : JournalState). j.entries) is in
+    let room : journal.room ≡ max it.journal.room n = ap (λ (j : JournalState). j.room) is in
+    record {
+      first_map = sound.first_map;
+      first_idle = sound.first_idle;
+      first_ids = sound.first_ids;
+      limited = sound.limited;
+      legal = subst (IsLegalBoard it.first) (sym same) sound.legal;
+      map_is = sound.map_is ∙ ap (board_map it.first) (sym same);
+      owed_is = sound.owed_is ∙ ap (board_owed it.first) (sym same);
+      room = let count = ap length same in let within = sound.room in omega (arith, count, within);
+      memory = let memory = sound.memory in omega (arith, room, memory);
+      keepers_there = sound.keepers_there ∙ ap (λ j. not (is_some (running_split j))) (sym same);
+    }
+
+-- ---- an entry more
+sound_noted : {K : Type 0} (old : Board K) (one : BoardEntry) (new : Board K) → IsSoundBoard old
+    → MayNote old.first old.journal.entries one → Notes old one new
+    → new.owed ≡ board_owed old.first (old.journal.entries ++ one ∷ [])
+    → length old.journal.entries + 1 + new.owed ≤ old.limit → new.owed ≤ new.journal.room
+    → is_some new.keepers ≡ not (is_some (running_split (old.journal.entries ++ one ∷ []))) → IsSoundBoard new
+sound_noted old one new sound may notes owed within memory keepers = record {
+  first_map = subst IsMap (sym notes.first_is) sound.first_map;
+  first_idle = ap forming notes.first_is ∙ sound.first_idle;
+  first_ids = let same = ap greatest_id notes.first_is in let ids = sound.first_ids in omega (arith, same, ids);
+  limited = let same = notes.limit_is in let limited = sound.limited in omega (arith, same, limited);
+  legal = subst (λ first. IsLegalBoard first new.journal.entries) (sym notes.first_is)
+      (subst (IsLegalBoard old.first) (sym notes.entries) (IsLegalBoard-push old.first old.journal.entries one sound.legal may));
+  map_is = notes.map_is ∙ ap (λ slices. after slices (board_change_of one)) sound.map_is
+      ∙ sym (board_map-push old.first old.journal.entries one) ∙ ap (board_map old.first) (sym notes.entries)
+      ∙ ap (λ first. board_map first new.journal.entries) (sym notes.first_is);
+  owed_is = owed ∙ ap (board_owed old.first) (sym notes.entries)
+      ∙ ap (λ first. board_owed first new.journal.entries) (sym notes.first_is);
+  room =
+      let count = ap length notes.entries in
+      let same = notes.limit_is in
+      omega (arith, count, same, length-append old.journal.entries (one ∷ []));
+  memory = memory;
+  keepers_there = keepers ∙ ap (λ j. not (is_some (running_split j))) (sym notes.entries);
+}
+
+-- whether one runs then
+runs_after : (entries : List BoardEntry) (one : BoardEntry) (running : Option ℕ)
+    → running_split (entries ++ one ∷ []) ≡ running
+    → not (is_some running) ≡ not (is_some (running_split (entries ++ one ∷ [])))
+runs_after entries one running is = ap (λ (r : Option ℕ). not (is_some r)) (sym is)
+
+pub sound_begun : {K : Type 0} (old : Board K) (plan : SplitPlan) (new : Board K) → IsSoundBoard old
+    → MayNote old.first old.journal.entries (board.Begun plan) → Notes old (board.Begun plan) new
+    → BoardHasRoom 4 old.limit old.first old.journal.entries → new.owed ≡ old.owed + 3 → new.owed ≤ new.journal.room
+    → new.keepers ≡ None → IsSoundBoard new
+sound_begun old plan new sound may notes room owed memory out =
+    let one : BoardEntry = board.Begun plan in
+    let more = board_owed-begun old.first old.journal.entries plan (sound_stands old sound) may in
+    let was = sound.owed_is in
+    let is : new.owed ≡ board_owed old.first (old.journal.entries ++ one ∷ []) = omega (arith, more, was, owed) in
+    sound_noted old one new sound may notes is (omega (arith, was, owed, room)) memory
+    (ap is_some out ∙ runs_after old.journal.entries one (Some (length old.journal.entries)) (running_split-push old.journal.entries one))
+
+-- an entry that was owed
+sound_less : {K : Type 0} (old : Board K) (one : BoardEntry) (new : Board K) (n : ℕ) → IsSoundBoard old
+    → MayNote old.first old.journal.entries one → Notes old one new
+    → board_owed old.first (old.journal.entries ++ one ∷ []) + n ≡ board_owed old.first old.journal.entries → 1 ≤ n
+    → new.owed ≡ old.owed - n → new.journal.room ≡ old.journal.room - 1
+    → is_some new.keepers ≡ not (is_some (running_split (old.journal.entries ++ one ∷ []))) → IsSoundBoard new
+sound_less old one new n sound may notes less some owed room keepers =
+    let was = sound.owed_is in
+    let within = sound.room in
+    let memory = sound.memory in
+    sound_noted old one new sound may notes (omega (arith, less, was, owed)) (omega (arith, within, owed, some, less, was))
+    (omega (arith, memory, owed, some, room)) keepers
+
+-- the split that is running goes on
+stays : {K : Type 0} (old : Board K) (one : BoardEntry) (new : Board K) → IsSoundBoard old → new.keepers ≡ old.keepers
+    → running_split (old.journal.entries ++ one ∷ []) ≡ running_split old.journal.entries
+    → is_some new.keepers ≡ not (is_some (running_split (old.journal.entries ++ one ∷ [])))
+stays old one new sound same goes =
+    ap is_some same ∙ sound.keepers_there ∙ runs_after old.journal.entries one (running_split old.journal.entries) goes
+
+pub sound_recovering : {K : Type 0} (old : Board K) (parent : SliceId) (new : Board K) → IsSoundBoard old
+    → MayNote old.first old.journal.entries (board.Recovering parent) → Notes old (board.Recovering parent) new
+    → new.owed ≡ old.owed - 1 → new.journal.room ≡ old.journal.room - 1 → new.keepers ≡ old.keepers → IsSoundBoard new
+sound_recovering old parent new sound may notes owed room same =
+    let one : BoardEntry = board.Recovering parent in
+    sound_less old one new 1 sound may notes
+    (board_owed-recovering old.first old.journal.entries parent (sound_stands old sound) may) (omega arith) owed room
+    (stays old one new sound same (running_split-push old.journal.entries one))
+
+pub sound_done : {K : Type 0} (old : Board K) (parent : SliceId) (new : Board K) (keepers : K) → IsSoundBoard old
+    → MayNote old.first old.journal.entries (board.Done parent) → Notes old (board.Done parent) new
+    → new.owed ≡ old.owed - 1 → new.journal.room ≡ old.journal.room - 1 → new.keepers ≡ Some keepers → IsSoundBoard new
+sound_done old parent new keepers sound may notes owed room back =
+    let one : BoardEntry = board.Done parent in
+    let slices = board_is_map old.first old.journal.entries sound.first_map sound.legal in
+    sound_less old one new 1 sound may notes
+    (board_owed-done old.first old.journal.entries parent slices (sound_stands old sound) may) (omega arith) owed room
+    (ap is_some back ∙ runs_after old.journal.entries one None (running_split-push old.journal.entries one))
+
+pub sound_failed : {K : Type 0} (old : Board K) (parent : SliceId) (new : Board K) (keepers : K) → IsSoundBoard old
+    → MayNote old.first old.journal.entries (board.Failed parent) → Notes old (board.Failed parent) new
+    → 1 ≤ owed_by_split old.journal.entries
+    → new.owed ≡ old.owed - owed_by_split old.journal.entries → new.journal.room ≡ old.journal.room - 1
+    → new.keepers ≡ Some keepers → IsSoundBoard new
+sound_failed old parent new keepers sound may notes some owed room back =
+    let one : BoardEntry = board.Failed parent in
+    sound_less old one new (owed_by_split old.journal.entries) sound may notes
+    (board_owed-failed old.first old.journal.entries parent) some owed room
+    (ap is_some back ∙ runs_after old.journal.entries one None (running_split-push old.journal.entries one))
+
+pub sound_dropped : {K : Type 0} (old : Board K) (slice : SliceId) (new : Board K) → IsSoundBoard old
+    → MayNote old.first old.journal.entries (board.Dropped slice) → Notes old (board.Dropped slice) new
+    → new.owed ≡ old.owed - 1 → new.journal.room ≡ old.journal.room - 1 → new.keepers ≡ old.keepers → IsSoundBoard new
+sound_dropped old slice new sound may notes owed room same =
+    let one : BoardEntry = board.Dropped slice in
+    let slices = board_is_map old.first old.journal.entries sound.first_map sound.legal in
+    sound_less old one new 1 sound may notes
+    (board_owed-dropped old.first old.journal.entries slice slices may) (omega arith) owed room
+    (stays old one new sound same (running_split-push old.journal.entries one))
+
+-- what may be dropped may be dropped from the map as it is kept; and so for the others
+pub owed_is_some : {K : Type 0} (old : Board K) (one : BoardEntry) → IsSoundBoard old
+    → board_owed old.first (old.journal.entries ++ one ∷ []) + 1 ≡ board_owed old.first old.journal.entries
+    → (1 ≤ old.owed) × (0 < old.journal.room)
+owed_is_some old one sound less =
+    let was = sound.owed_is in
+    let memory = sound.memory in
+    (omega (arith, was, less), omega (arith, was, less, memory))
+
+-- ---- the split that runs
+-- it is the one that may go on
+pub running_is : {K : Type 0} (it : Board K) (found : Option Running) (parent : SliceId) → IsSoundBoard it
+    → MatchOption found (running_split it.journal.entries ≡ None)
+    (λ running. IsSplit it.map running.parent × (running.owed ≡ fold owed_after 0 it.journal.entries))
+    → IsSplit (board_map it.first it.journal.entries) parent
+    → (running : Running) × (found ≡ Some running) × (running.parent ≡ parent) × (running.owed ≡ owed_by_split it.journal.entries)
+running_is it None parent sound none split =
+    absurd (not_open it.map parent (subst (λ s. IsSplit s parent) (sym sound.map_is) split) (sound_idle it sound none))
+running_is it (Some running) parent sound (opened, owed) split =
+    let here = subst (λ s. IsSplit s parent) (sym sound.map_is) split in
+    (running, refl, same_parent it.map running.parent parent (sound_map it sound) opened here, owed)
+
+-- ---- the notes of a split
+-- it is running, and it is this one
+pub parent_is : {K : Type 0} (it : Board K) (found : Option Running) (here : Running) (parent : SliceId) → IsSoundBoard it
+    → MatchOption found (running_split it.journal.entries ≡ None)
+    (λ running. IsSplit it.map running.parent × (running.owed ≡ fold owed_after 0 it.journal.entries))
+    → IsSplit (board_map it.first it.journal.entries) parent → found ≡ Some here
+    → (here.parent ≡ parent) × (here.owed ≡ owed_by_split it.journal.entries)
+parent_is it found here parent sound ends split is =
+    let running = running_is it found parent sound ends split in
+    let same : running.0 ≡ here = same_Some running.0 here (sym running.1 ∙ is) in (
+      ap (λ (r : Running). r.parent) (sym same) ∙ running.2,
+      ap (λ (r : Running). r.owed) (sym same) ∙ running.3,
+    )
+
+-- what is owed of it, and the room for that
+pub some_owed_recovering : {K : Type 0} (it : Board K) (parent : SliceId) → IsSoundBoard it
+    → MayNote it.first it.journal.entries (board.Recovering parent) → (1 ≤ it.owed) × (0 < it.journal.room)
+some_owed_recovering it parent sound may =
+    owed_is_some it (board.Recovering parent) sound
+    (board_owed-recovering it.first it.journal.entries parent (sound_stands it sound) may)
+
+pub some_owed_done : {K : Type 0} (it : Board K) (parent : SliceId) → IsSoundBoard it
+    → MayNote it.first it.journal.entries (board.Done parent) → (1 ≤ it.owed) × (0 < it.journal.room)
+some_owed_done it parent sound may =
+    owed_is_some it (board.Done parent) sound
+    (board_owed-done it.first it.journal.entries parent (board_is_map it.first it.journal.entries sound.first_map sound.legal)
+    (sound_stands it sound) may)
+
+pub some_owed_failed_split : {K : Type 0} (it : Board K) (parent : SliceId) → IsSoundBoard it
+    → MayNote it.first it.journal.entries (board.Failed parent) → 1 ≤ owed_by_split it.journal.entries
+some_owed_failed_split it parent sound may =
+    let two = owed_where_open it.first it.journal.entries parent may (sound_stands it sound) in omega arith
+
+pub some_owed_failed : {K : Type 0} (it : Board K) (parent : SliceId) → IsSoundBoard it
+    → MayNote it.first it.journal.entries (board.Failed parent) → (1 ≤ it.owed) × (0 < it.journal.room)
+some_owed_failed it parent sound may =
+    let some = some_owed_failed_split it parent sound may in
+    let less = board_owed-failed it.first it.journal.entries parent in
+    let was = sound.owed_is in
+    let memory = sound.memory in
+    (omega (arith, was, less, some), omega (arith, was, less, some, memory))
+
+-- ---- by the last entry
+-- what a journal ends with
+ends_with : (entries : List BoardEntry) (one : BoardEntry) → last_of entries ≡ Some one
+    → (init : List BoardEntry) × (entries ≡ init ++ one ∷ [])
+ends_with entries one last = by (last_of_cases entries) where
+  by : ((entries ≡ []) × (last_of entries ≡ None))
+      ⊎ ((init : List BoardEntry) × (x : BoardEntry) × (entries ≡ init ++ x ∷ []) × (last_of entries ≡ Some x))
+      → (init : List BoardEntry) × (entries ≡ init ++ one ∷ [])
+  by (inl (none, is)) = absurd (none-some one (sym is ∙ last))
+  by (inr (init, x, is, some)) = (init, is ∙ ap (λ e. init ++ e ∷ []) (same_Some x one (sym some ∙ last)))
+
+pub begun_last : {K : Type 0} (it : Board K) (plan : SplitPlan) → IsSoundBoard it
+    → last_of it.journal.entries ≡ Some (board.Begun plan)
+    → IsSplit it.map plan.parent × (3 ≡ fold owed_after 0 it.journal.entries)
+begun_last it plan sound last =
+    let ends = ends_with it.journal.entries (board.Begun plan) last in
+    let init = ends.0 in
+    let may = may_go_on_begun it.first init plan sound.first_map (subst (IsLegalBoard it.first) ends.1 sound.legal) in (
+      subst (λ s. IsSplit s plan.parent) (ap (board_map it.first) (sym ends.1) ∙ sym sound.map_is) may.0,
+      sym (ap owed_by_split ends.1 ∙ owed_by_split-push init (board.Begun plan)),
+    )
+
+pub recovering_last : {K : Type 0} (it : Board K) (parent : SliceId) → IsSoundBoard it
+    → last_of it.journal.entries ≡ Some (board.Recovering parent)
+    → IsSplit it.map parent × (2 ≡ fold owed_after 0 it.journal.entries)
+recovering_last it parent sound last =
+    let ends = ends_with it.journal.entries (board.Recovering parent) last in
+    let init = ends.0 in
+    let may = may_go_on_recovered it.first init parent (subst (IsLegalBoard it.first) ends.1 sound.legal) in (
+      subst (λ s. IsSplit s parent) (ap (board_map it.first) (sym ends.1) ∙ sym sound.map_is) may.0,
+      sym (ap owed_by_split ends.1 ∙ owed_by_split-push init (board.Recovering parent)),
+    )
+
+pub done_last : {K : Type 0} (it : Board K) (parent : SliceId) → last_of it.journal.entries ≡ Some (board.Done parent)
+    → running_split it.journal.entries ≡ None
+done_last it parent last =
+    let ends = ends_with it.journal.entries (board.Done parent) last in
+    ap running_split ends.1 ∙ running_split-push ends.0 (board.Done parent)
+
+pub failed_last : {K : Type 0} (it : Board K) (parent : SliceId) → last_of it.journal.entries ≡ Some (board.Failed parent)
+    → running_split it.journal.entries ≡ None
+failed_last it parent last =
+    let ends = ends_with it.journal.entries (board.Failed parent) last in
+    ap running_split ends.1 ∙ running_split-push ends.0 (board.Failed parent)
+
+pub dropped_last : {K : Type 0} (it : Board K) (slice : SliceId) → IsSoundBoard it
+    → last_of it.journal.entries ≡ Some (board.Dropped slice) → running_split it.journal.entries ≡ None
+dropped_last it slice sound last =
+    let one : BoardEntry = board.Dropped slice in
+    let ends = ends_with it.journal.entries one last in
+    let init = ends.0 in
+    let legal : IsLegalBoard it.first (init ++ one ∷ []) = subst (IsLegalBoard it.first) ends.1 sound.legal in
+    let may = MayNote_end it.first init one legal in
+    let stands = board_stands it.first init sound.first_map sound.first_idle (IsLegalBoard-prefix it.first init (one ∷ []) legal) in
+    ap running_split ends.1 ∙ running_split-push init one ∙ (rests_where_idle it.first init stands may.0).0
+
+-- ---- ids
+-- where there is room for a split, the ids of its slices are below 2^32
+pub ids_short : {K : Type 0} (it : Board K) (n : ℕ) → IsSoundBoard it → BoardHasRoom 4 it.limit it.first it.journal.entries → n ≤ 256
+    → greatest_id it.map + n < 2 ^ 32
+ids_short it n sound room few =
+    let most = board_ids it.first it.journal.entries sound.legal in
+    let is = ap greatest_id sound.map_is in
+    let ids = sound.first_ids in
+    let limited = sound.limited in
+    omega (arith, most, is, ids, limited, room)

@@ -1,0 +1,48 @@
+-- The entry is that of the split that runs, and leaves the board sound.
+use Rattle.std.proofs.Common.{◌∙◌, [], ◌∷◌, ◌++◌, ◌-◌, refl, ap}
+use Rattle.std.specs.Prelude.{is_some}
+use Rattle.sc_record.specs.declared.slice.SliceId.{SliceId}
+use Rattle.sc_cluster.specs.Changes.{Change, after}
+use Rattle.sc_seen.specs.declared.board.BoardEntry.TheVariants as board
+use Rattle.sc_board.specs.Kept.{JournalState}
+use Rattle.sc_board.proofs.SoundLemmas.{running_is, parent_is, sound_failed, some_owed_failed, some_owed_failed_split}
+use Rattle.sc_board.proofs.board.Board.failed.Goals as goal
+
+pub unwrap-running-requires : goal.unwrap-running-requires
+unwrap-running-requires g c =
+    let may = c.requires.can.1 in
+    let running = running_is c.args.self.now c.running.result c.requires.can.0 c.requires.sound c.running.ensures may in
+    ap is_some running.1
+
+pub append-requires : goal.append-requires
+append-requires g c = (some_owed_failed c.args.self.now c.requires.can.0 c.requires.sound c.requires.can.1).1
+
+pub returns-clause-noted : goal.returns-clause-noted
+returns-clause-noted g c parent may =
+    let here = c.unwrap-running.result in
+    let same = (parent_is c.args.self.now c.running.result here parent c.requires.sound c.running.ensures may c.unwrap-running.ensures).0 in
+    let old = c.args.self.now in
+    record {
+      first_is = refl;
+      limit_is = refl;
+      entries = ap (λ (j : JournalState). j.entries) c.append.ensures
+          ∙ ap (λ (p : SliceId). old.journal.entries ++ board.Failed p ∷ []) same;
+      map_is = c.failed.ensures.change ∙ ap (λ (p : SliceId). after old.map (Change.Failed p)) same;
+    }
+
+pub returns-clause-sound : goal.returns-clause-sound
+returns-clause-sound g c =
+    let parent = c.requires.can.0 in
+    let may = c.requires.can.1 in
+    let here = c.unwrap-running.result in
+    let old = c.args.self.now in
+    let is = parent_is old c.running.result here parent c.requires.sound c.running.ensures may c.unwrap-running.ensures in
+    let same = is.0 in
+    sound_failed old parent _ c.args.keepers c.requires.sound may
+    (record {
+      first_is = refl;
+      limit_is = refl;
+      entries = ap (λ (j : JournalState). j.entries) c.append.ensures
+          ∙ ap (λ (p : SliceId). old.journal.entries ++ board.Failed p ∷ []) same;
+      map_is = c.failed.ensures.change ∙ ap (λ (p : SliceId). after old.map (Change.Failed p)) same;
+    }) (some_owed_failed_split old parent c.requires.sound may) (ap (λ n. old.owed - n) is.1) (ap (λ (j : JournalState). j.room) c.append.ensures) refl

@@ -1,0 +1,11 @@
+use sc_hash::Range;
+use sc_record::List;
+
+/// How the range of a slice is to be cut: into 2 to 8 ranges.
+#[derive(Debug, Drop)]
+pub enum Cut {
+    /// Into `n` parts of about the same size.
+    Parts { n: u32 },
+    /// Into these ranges, in this order.
+    Ranges { list: List<Range> },
+}

@@ -1,8 +1,0 @@
-//! A law of the orders of one request, above their definitions.
-
-ghost use Rattle.sc_journal.specs.BatchLaws.{SecondStopsSettle};
-
-/// Whatever was seen.
-pub fn second_stops_settle()
-    ensures { SecondStopsSettle }
-{}

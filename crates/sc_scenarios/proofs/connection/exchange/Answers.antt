@@ -1,0 +1,5 @@
+-- Nothing is out of the desk: no bucket, and not the board.
+use Rattle.sc_scenarios.proofs.connection.exchange.Goals as goal
+
+pub serve-end-requires-clause-nothing_out : goal.serve-end-requires-clause-nothing_out
+serve-end-requires-clause-nothing_out c = λ i. record { bucket = c.requires.out i; board = c.requires.board_out i }

@@ -6,6 +6,12 @@
 #![tactic(auto)]
 
 #[cfg(test)]
+mod boards;
+#[cfg(test)]
+mod commands;
+#[cfg(test)]
+mod hosts;
+#[cfg(test)]
 mod locks;
 #[cfg(test)]
 mod queries;

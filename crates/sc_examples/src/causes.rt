@@ -35,6 +35,7 @@ fn other_cause(name: &str) -> Result<Cause<'static>, Fault> {
         "LogFull" => Ok(Cause::LogFull),
         "UnknownShard" => Ok(Cause::UnknownShard),
         "RangeTooSmall" => Ok(Cause::RangeTooSmall),
+        "BadRanges" => Ok(Cause::BadRanges),
         "TooManySlices" => Ok(Cause::TooManySlices),
         "Stopped" => Ok(Cause::Stopped),
         "Memory" => Ok(Cause::Memory),

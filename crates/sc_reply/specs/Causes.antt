@@ -27,6 +27,7 @@ refusal_of causes.UnknownShard = refusals.unknown_shard
 refusal_of (causes.Running shard) = refusals.running shard.now
 refusal_of (causes.ShardState state) = refusals.shard_state state.now
 refusal_of causes.RangeTooSmall = refusals.range_too_small
+refusal_of causes.BadRanges = refusals.bad_ranges
 refusal_of causes.TooManySlices = refusals.too_many_slices
 refusal_of (causes.HostFault core) = refusals.host_fault core.now
 refusal_of causes.Stopped = refusals.stopped

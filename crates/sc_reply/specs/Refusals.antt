@@ -26,6 +26,7 @@ pub data Refusal : Type 0 where
   running : (shard : List ℕ) → Refusal
   shard_state : (state : List ℕ) → Refusal
   range_too_small : Refusal
+  bad_ranges : Refusal
   too_many_slices : Refusal
   host_fault : (core : List ℕ) → Refusal
   stopped : Refusal
@@ -55,6 +56,7 @@ status_of unknown_shard = 400
 status_of (running shard) = 409
 status_of (shard_state state) = 400
 status_of range_too_small = 400
+status_of bad_ranges = 400
 status_of too_many_slices = 400
 status_of (host_fault core) = 500
 status_of stopped = 500
@@ -85,6 +87,7 @@ message_of unknown_shard = codes "unknown shard"
 message_of (running shard) = codes "split of " ++ shard ++ codes " is running"
 message_of (shard_state state) = codes "shard is " ++ state
 message_of range_too_small = codes "range of shard is too small"
+message_of bad_ranges = codes "ranges do not cover the shard"
 message_of too_many_slices = codes "more than 256 shards"
 message_of (host_fault core) = codes "host failed on core " ++ core
 message_of stopped = codes "split was stopped"

@@ -73,6 +73,8 @@ pub enum Cause<'a> {
     },
     /// The slice's range has fewer hashes than parts were asked for.
     RangeTooSmall,
+    /// The ranges that were asked for are not the parts of the slice's.
+    BadRanges,
     /// More than 256 slices.
     TooManySlices,
     /// A host did not start or stop the core.
@@ -105,6 +107,7 @@ impl<'a> Cause<'a> {
             | Cause::UnknownShard
             | Cause::ShardState { .. }
             | Cause::RangeTooSmall
+            | Cause::BadRanges
             | Cause::TooManySlices => 400,
             Cause::TooLarge => 413,
             Cause::NotFound => 404,
@@ -149,6 +152,7 @@ impl<'a> Cause<'a> {
             Cause::Running { shard } => quoted(alloc, "split of ", shard, " is running"),
             Cause::ShardState { state } => ending(alloc, "shard is ", state),
             Cause::RangeTooSmall => Text::new(alloc, "range of shard is too small"),
+            Cause::BadRanges => Text::new(alloc, "ranges do not cover the shard"),
             Cause::TooManySlices => Text::new(alloc, "more than 256 shards"),
             Cause::HostFault { core } => ending(alloc, "host failed on core ", core),
             Cause::Stopped => Text::new(alloc, "split was stopped"),

@@ -1,4 +1,4 @@
-ghost use Rattle.std.specs.Prelude.{◌≡◌, ◌<◌, ◌≤◌, [], Some, All};
+ghost use Rattle.std.specs.Prelude.{◌≡◌, ◌<◌, ◌≤◌, [], Some, None, All};
 ghost use Rattle.sc_cluster.specs.declared.slice.State.TheVariants as states;
 ghost use Rattle.sc_cluster.specs.declared.slice.Slice.{Slice};
 ghost use Rattle.sc_cluster.specs.Slices.{greatest_id};
@@ -29,8 +29,11 @@ pub struct Board<K> {
 impl<K: Drop> Board<K> {
     ghost use Rattle.std.specs.Prelude.{◌≡◌, IfOk, length};
     ghost use Rattle.std.specs.Option.{option_copied};
+    ghost use Rattle.std.specs.Borrow.{Lends, sem};
+    ghost use Rattle.sc_board.specs.contracts.board.Board.{the_row};
     ghost use Rattle.sc_board.specs.Boards.{IsSoundBoard};
     ghost use Rattle.sc_board.specs.Splits.{slice_named};
+    ghost use Rattle.sc_seen.specs.Board.{running_split};
 
     /// A board with an empty journal, whose first map is this. Its journal may have `limit` entries. An error means out of memory.
     pub fn new(
@@ -72,6 +75,16 @@ impl<K: Drop> Board<K> {
         ensures { result ≡ length self.now.journal.entries }
     {
         self.journal.len()
+    }
+
+    /// The keepers of all buckets, while no split runs.
+    pub fn keepers(&mut self) -> &mut K
+        requires sound { IsSoundBoard self.old }
+        requires idle { running_split self.old.journal.entries ≡ None }
+        ensures keepers { self.old.keepers ≡ Some result.now }
+        ensures* writes_back { sem 𝓛 (Lends (the_row K.row) K.row self.entry result (λ w. record self.old { keepers = Some w })) }
+    {
+        self.keepers.as_mut().unwrap()
     }
 
     /// The slice of this name.

@@ -10,7 +10,8 @@
 //! refuses by the first cause of `Prevents` that holds, or for want of memory, and begins only where none holds; its plan is one of the
 //! slice of that name by the cut that was asked for, the entry of the plan is noted, and the keepers are handed out; a refusal changes
 //! nothing but room. `recovering`, `done`, `failed` and `dropped` note just their entry, of the split that runs, and take no memory;
-//! `check_drop` refuses by the first cause of `PreventsDrop`, and else names a slice that may be dropped.
+//! `check_drop` refuses by the first cause of `PreventsDrop`, and else names a slice that may be dropped; `keepers` lends the keepers of
+//! all buckets while no split runs, and nothing else of the board.
 //!
 //! Tested alone: nothing here; the layers above run splits.
 //!

@@ -6,12 +6,20 @@ use Rattle.sc_seen.specs.Commits.{CommitOutcome, committed_now, commit_full, com
 use Rattle.sc_seen.specs.declared.stop.Stop.{Stop}
 use Rattle.sc_bucket.specs.declared.commit.CommitFault.{CommitFault}
 use Rattle.sc_bucket.specs.declared.commit.CommitFault.TheVariants as commit_faults
+use Rattle.sc_collection.specs.declared.commits.Commits.{Commits}
+use Rattle.sc_collection.specs.declared.commits.Commits.TheVariants as commits
 
 -- what a commit came to
 abbrev pub commit_outcome : Option CommitFault → CommitOutcome
 commit_outcome None = committed_now
 commit_outcome (Some commit_faults.LogFull) = commit_full
 commit_outcome (Some commit_faults.Memory) = commit_out_of_memory
+
+-- what the commits came to together, as it is told
+abbrev pub committed : CommitOutcome → Commits
+committed committed_now = commits.All
+committed commit_full = commits.LogFull
+committed commit_out_of_memory = commits.Memory
 
 -- The first buckets, so many of them, were committed in turn, and the worst that came of it is this.
 pub record CommitsAll (layout : Layout) (count : ℕ) (old new : View) (fault : Option CommitFault) : Type 0 where

@@ -3,8 +3,9 @@ ghost use Rattle.sc_cluster.specs.Map.{AreFirst};
 ghost use Rattle.sc_journal.specs.Limits.{least_journal, greatest_journal};
 ghost use Rattle.sc_journal.specs.Down.{all_followers};
 ghost use Rattle.sc_bucket.specs.Sound.{AreActive};
-ghost use Rattle.sc_collection.specs.Alone.{AreNew, seen_of, keeping_of, KeepersAreOut, IsDesk, MayStand, handed_out, taken_back};
+ghost use Rattle.sc_collection.specs.Alone.{AreNew, seen_of, entries_of, keeping_of, KeepersAreOut, IsDesk, MayStand, handed_out, taken_back};
 ghost use Rattle.sc_seen.specs.declared.board.BoardEntry.{BoardEntry};
+ghost use Rattle.sc_seen.specs.Board.{running_split};
 ghost use Rattle.sc_seen.specs.Seen.{AreLegal};
 ghost use Rattle.sc_board.specs.Boards.{IsSoundBoard};
 ghost use Rattle.sc_collection.specs.Desks.{Out, Held, IsBoardOf, MayReplaceBoard, SeesBoardGiven, StillFit, AreAtRest};
@@ -19,6 +20,7 @@ use sc_cluster::ClusterMap;
 use sc_record::CloneIn;
 use std::alloc::{AllocError, Global};
 use std::marker::Model;
+use std::mem::forget;
 
 /// A desk for one thread, which keeps all buckets in a plain list, and the board beside it. Nobody else takes a bucket or the board, so
 /// what is handed out is what was seen of it. Its keepers have nothing, since there is nobody else whom they could keep out. No call but
@@ -90,6 +92,22 @@ impl Alone {
             out: Log::new(),
             board_out: Log::new(),
         })
+    }
+
+    /// The map with which each bucket began.
+    pub fn first(&self) -> &ClusterMap
+        ensures { result.now ≡ self.now.layout.first }
+    {
+        &self.first
+    }
+
+    /// Leaves the collection to the system as the program ends, which is faster than taking it apart piece by piece. While no split runs,
+    /// each bucket is as the board says.
+    pub fn leave(self)
+        requires home { self.board_out ≡ None }
+        ensures rest { running_split (entries_of self) ≡ None → AreAtRest self.layout (entries_of self) (keeping_of self) }
+    {
+        forget(self);
     }
 
     // Takes the bucket of this number out of its slot, for its keeper or for another.

@@ -11,6 +11,32 @@ use sc_bucket::CommitFault;
 use sc_seen::Stop;
 use std::alloc::Global;
 
+/// What the commits of all buckets came to together.
+#[derive(Debug, Clone, Copy, PartialEq, Eq)]
+pub enum Commits {
+    /// Each bucket was committed.
+    All,
+    /// Some bucket's journal had no room for it, and memory ran out in none.
+    LogFull,
+    /// Memory ran out in some bucket.
+    Memory,
+}
+
+impl From<Option<CommitFault>> for Commits {
+    ghost use Rattle.std.specs.Prelude.{◌≡◌};
+    ghost use Rattle.sc_collection.specs.Committing.{commit_outcome, committed};
+
+    ghost from_gives = { λ fault commits. commits ≡ committed (commit_outcome fault) };
+
+    fn from(fault: Option<CommitFault>) -> Commits {
+        match fault {
+            None => Commits::All,
+            Some(CommitFault::LogFull) => Commits::LogFull,
+            Some(CommitFault::Memory) => Commits::Memory,
+        }
+    }
+}
+
 /// Commits every bucket in turn, each in one hold, and keeps a stop for each. Reports the worst that came of it: want of memory counts
 /// before a full log. A bucket whose commit is refused is as it was, and the next ones are committed all the same.
 pub fn commit_all<D: Desk>(alloc: Global, desk: &mut D, trail: &mut Trail) -> Option<CommitFault>

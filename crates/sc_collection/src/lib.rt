@@ -34,7 +34,7 @@ mod shape;
 mod commits;
 
 pub use alone::Alone;
-pub use commits::commit_all;
+pub use commits::{Commits, commit_all};
 pub use desk::{Desk, Parts};
 pub use sc_board::{Board, BoardFault, Cut, DropFault};
 pub use sc_seen::{BoardEntry, Stop};

@@ -32,7 +32,7 @@ commit_unmade layout seen stop commit_full is = unmade layout seen stop is.0
 commit_unmade layout seen stop commit_out_of_memory is = unmade layout seen stop is
 
 -- nor did those of any commits
-commits_unmade : (layout : Layout) (seen : Seen) (answers : List CommitAnswer) → All (IsCommitAnswer layout seen) answers
+pub commits_unmade : (layout : Layout) (seen : Seen) (answers : List CommitAnswer) → All (IsCommitAnswer layout seen) answers
     → filter_map (ack_made layout seen) (commit_stops answers) ≡ []
 commits_unmade layout seen [] each = refl
 commits_unmade layout seen (answer ∷ answers) each =

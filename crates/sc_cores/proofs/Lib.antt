@@ -1,0 +1,3 @@
+-- Facts on lists of cores.
+mod MapLemmas
+mod StopLemmas

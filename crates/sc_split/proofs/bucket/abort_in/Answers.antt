@@ -1,0 +1,84 @@
+-- One hold in which the split is given up.
+use Rattle.std.proofs.Common.{refl, sym, ap, ◌∙◌, subst, [], ◌∷◌}
+use Rattle.sc_seen.specs.Seen.{Layout}
+use Rattle.sc_bucket.specs.declared.bucket.Bucket.{Bucket}
+use Rattle.sc_handover.specs.AnyEvent.{IsKeeperEvent}
+use Rattle.sc_keeper.specs.Part.{Part}
+use Rattle.sc_collection.specs.Desks.{Out, KeeperMayReplace}
+use Rattle.sc_collection.proofs.KeeperReplaceLemmas.{keeper_may_replace}
+use Rattle.sc_split.specs.Buckets.{known_of}
+use Rattle.sc_split.proofs.HeldLemmas.{held_of, held_by_desk, part-given, all_seen, rest-held, held-made, kept_parts}
+use Rattle.sc_keeper.specs.Conditions.{MayAbort}
+use Rattle.sc_keeper.specs.Events.{PartAborts}
+use Rattle.sc_keeper.proofs.ConditionLemmas.{aborts_by_part}
+use Rattle.sc_keeper.proofs.EventLemmas.{aborts_part}
+use Rattle.sc_record.specs.declared.entry.Entry.TheVariants as entry
+use Rattle.sc_split.proofs.UnderwayLemmas.{is_given_up}
+use Rattle.sc_split.proofs.bucket.abort_in.Goals as goal
+
+pub abort-requires : goal.abort-requires
+abort-requires g c =
+    let bucket : Bucket = c.hold_keeper-bucket.result in
+    let part = c.hold_keeper-bucket.ensures.part in
+    let parent = c.requires.may.0 in
+    let can = (aborts_by_part bucket parent).1 (subst (λ (one : Part). MayAbort one parent) (sym part) c.requires.may.1) in
+    record { sound = c.hold_keeper-bucket.ensures.sound; can = (parent, can) }
+
+pub give_keeper-requires : goal.give_keeper-requires
+give_keeper-requires g c =
+    let bucket : Bucket = c.hold_keeper-bucket.result in
+    let given : Bucket = c.abort.new.bucket in
+    let held = held_of c.args.b bucket in
+    let part = c.hold_keeper-bucket.ensures.part in
+    let parent = c.requires.may.0 in
+    let can = (aborts_by_part bucket parent).1 (subst (λ (one : Part). MayAbort one parent) (sym part) c.requires.may.1) in
+    record {
+      is_out = (
+        held,
+        ap (λ (out : Out). out.bucket) c.hold_keeper-bucket.ensures.out,
+        refl,
+        subst (λ (layout : Layout). KeeperMayReplace layout held given) (sym c.hold_keeper-bucket.ensures.layout)
+            (keeper_may_replace (g.D.Desk.layout c.args.desk.now) held given c.hold_keeper-bucket.ensures.is_of
+            c.abort.ensures.sound refl
+            (IsKeeperEvent.aborts can (c.abort.ensures.aborted parent can))),
+      );
+      fits = c.hold_keeper-bucket.ensures.keepers.0;
+    }
+
+pub returns : goal.returns
+returns g c =
+    let bucket : Bucket = c.hold_keeper-bucket.result in
+    let given : Bucket = c.abort.new.bucket in
+    let held = held_of c.args.b bucket in
+    let part = c.hold_keeper-bucket.ensures.part in
+    let out = ap (λ (out : Out). out.bucket) c.hold_keeper-bucket.ensures.out in
+    let old = known_of (g.D.Desk.seen c.args.desk.now) (g.D.Desk.keeping c.args.desk.now c.args.keepers.now) in
+    let new =
+    known_of (g.D.Desk.seen c.give_keeper.new.self) (g.D.Desk.keeping c.give_keeper.new.self c.give_keeper.new.keepers) in
+    let is =
+    held_by_desk c.args.b bucket given old.seen (g.D.Desk.seen c.hold_keeper-bucket.new.self) new.seen old.keeping
+    (g.D.Desk.keeping c.hold_keeper-bucket.new.self c.hold_keeper-bucket.new.keepers) new.keeping
+    c.hold_keeper-bucket.ensures.extends part c.hold_keeper-bucket.ensures.seen c.hold_keeper-bucket.ensures.keepers.1
+    (c.give_keeper.ensures.seen held out) (c.give_keeper.ensures.keeping held out) in
+    let now = part-given c.args.b bucket given old new is in
+    let parent = c.requires.may.0 in
+    let can = (aborts_by_part bucket parent).1 (subst (λ (one : Part). MayAbort one parent) (sym part) c.requires.may.1) in
+    record {
+      layout = c.give_keeper.ensures.layout ∙ c.hold_keeper-bucket.ensures.layout;
+      rest = rest-held (g.D.Desk.layout c.give_keeper.new.self) new.seen held (g.D.Desk.out c.args.desk.now)
+          (g.D.Desk.out c.hold_keeper-bucket.new.self) (g.D.Desk.out c.give_keeper.new.self) c.requires.rest.nothing_out
+          c.hold_keeper-bucket.ensures.out c.give_keeper.ensures.out c.give_keeper.ensures.legal;
+      fits = c.give_keeper.ensures.fits;
+      seen = all_seen c.args.b bucket given old new is;
+      held = λ parent may.
+          let can_abort = (aborts_by_part bucket parent).1 (subst (λ (one : Part). MayAbort one parent) (sym part) may) in
+          let aborted = c.abort.ensures.aborted parent can_abort in
+          held-made c.args.b bucket given old new is (entry.Failed parent ∷ []) aborted.entries
+          (aborts_part bucket given parent aborted).entries_are;
+      given_up = λ base plan underway.
+          let can_abort = (aborts_by_part bucket plan.parent).1
+          (subst (λ (one : Part). MayAbort one plan.parent) (sym part) underway.is_open) in
+          is_given_up base (old.keeping.part c.args.b) (new.keeping.part c.args.b) plan underway
+          (kept_parts (λ was one. PartAborts was plan.parent one) now part
+          (aborts_part bucket given plan.parent (c.abort.ensures.aborted plan.parent can_abort)));
+    }

@@ -1,0 +1,71 @@
+-- One hold in which a core is fed a piece.
+use Rattle.std.proofs.Common.{refl, sym, ap, ◌∙◌, subst}
+use Rattle.sc_seen.specs.Seen.{Layout}
+use Rattle.sc_bucket.specs.declared.bucket.Bucket.{Bucket}
+use Rattle.sc_handover.specs.AnyEvent.{IsKeeperEvent}
+use Rattle.sc_keeper.specs.Part.{Part}
+use Rattle.sc_collection.specs.Desks.{Out, KeeperMayReplace}
+use Rattle.sc_collection.proofs.KeeperReplaceLemmas.{keeper_may_replace}
+use Rattle.sc_split.specs.Buckets.{known_of}
+use Rattle.sc_split.proofs.HeldLemmas.{held_of, held_by_desk, part-given, all_seen, rest-held, held-none, kept_parts}
+use Rattle.sc_keeper.specs.Conditions.{MayFeed}
+use Rattle.sc_keeper.specs.Events.{PartFeeds}
+use Rattle.sc_keeper.proofs.ConditionLemmas.{feeds_by_part}
+use Rattle.sc_keeper.proofs.EventLemmas.{feeds_part}
+use Rattle.sc_split.proofs.bucket.feed_in.Goals as goal
+
+pub feed_piece-is_done-requires : goal.feed_piece-is_done-requires
+feed_piece-is_done-requires g c =
+    let bucket : Bucket = c.hold_keeper-bucket.result in
+    let part = c.hold_keeper-bucket.ensures.part in
+    let can = (feeds_by_part bucket c.args.core).1 (subst (λ (one : Part). MayFeed one c.args.core) (sym part) c.requires.may) in
+    record { sound = c.hold_keeper-bucket.ensures.sound; can = can }
+
+pub give_keeper-requires : goal.give_keeper-requires
+give_keeper-requires g c =
+    let bucket : Bucket = c.hold_keeper-bucket.result in
+    let given : Bucket = c.feed_piece-is_done.new.bucket in
+    let held = held_of c.args.b bucket in
+    let part = c.hold_keeper-bucket.ensures.part in
+    let can = (feeds_by_part bucket c.args.core).1 (subst (λ (one : Part). MayFeed one c.args.core) (sym part) c.requires.may) in
+    record {
+      is_out = (
+        held,
+        ap (λ (out : Out). out.bucket) c.hold_keeper-bucket.ensures.out,
+        refl,
+        subst (λ (layout : Layout). KeeperMayReplace layout held given) (sym c.hold_keeper-bucket.ensures.layout)
+            (keeper_may_replace (g.D.Desk.layout c.args.desk.now) held given c.hold_keeper-bucket.ensures.is_of
+            c.feed_piece-is_done.ensures.sound refl
+            (IsKeeperEvent.feeds can c.feed_piece-is_done.ensures.fed)),
+      );
+      fits = c.hold_keeper-bucket.ensures.keepers.0;
+    }
+
+pub returns : goal.returns
+returns g c =
+    let bucket : Bucket = c.hold_keeper-bucket.result in
+    let given : Bucket = c.feed_piece-is_done.new.bucket in
+    let held = held_of c.args.b bucket in
+    let part = c.hold_keeper-bucket.ensures.part in
+    let out = ap (λ (out : Out). out.bucket) c.hold_keeper-bucket.ensures.out in
+    let old = known_of (g.D.Desk.seen c.args.desk.now) (g.D.Desk.keeping c.args.desk.now c.args.keepers.now) in
+    let new =
+    known_of (g.D.Desk.seen c.give_keeper.new.self) (g.D.Desk.keeping c.give_keeper.new.self c.give_keeper.new.keepers) in
+    let is =
+    held_by_desk c.args.b bucket given old.seen (g.D.Desk.seen c.hold_keeper-bucket.new.self) new.seen old.keeping
+    (g.D.Desk.keeping c.hold_keeper-bucket.new.self c.hold_keeper-bucket.new.keepers) new.keeping
+    c.hold_keeper-bucket.ensures.extends part c.hold_keeper-bucket.ensures.seen c.hold_keeper-bucket.ensures.keepers.1
+    (c.give_keeper.ensures.seen held out) (c.give_keeper.ensures.keeping held out) in
+    let now = part-given c.args.b bucket given old new is in
+    let can = (feeds_by_part bucket c.args.core).1 (subst (λ (one : Part). MayFeed one c.args.core) (sym part) c.requires.may) in
+    record {
+      layout = c.give_keeper.ensures.layout ∙ c.hold_keeper-bucket.ensures.layout;
+      rest = rest-held (g.D.Desk.layout c.give_keeper.new.self) new.seen held (g.D.Desk.out c.args.desk.now)
+          (g.D.Desk.out c.hold_keeper-bucket.new.self) (g.D.Desk.out c.give_keeper.new.self) c.requires.rest.nothing_out
+          c.hold_keeper-bucket.ensures.out c.give_keeper.ensures.out c.give_keeper.ensures.legal;
+      fits = c.give_keeper.ensures.fits;
+      seen = all_seen c.args.b bucket given old new is;
+      held = held-none c.args.b bucket given old new is c.feed_piece-is_done.ensures.fed.rest.entries;
+      fed = kept_parts (λ was one. PartFeeds was c.args.core c.feed_piece-is_done.result one) now part
+          (feeds_part bucket given c.args.core c.feed_piece-is_done.result c.feed_piece-is_done.ensures.fed);
+    }

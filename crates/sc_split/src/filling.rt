@@ -1,0 +1,133 @@
+//! The new cores of one bucket are filled: each is fed the rows of its snapshot, and then replays what it buffered meanwhile.
+
+ghost use Rattle.std.specs.Prelude.{◌≡◌, ◌<◌, ◌≤◌, [], ◌∷◌, List, IsTrue, IsFalse};
+ghost use Rattle.sc_record.specs.declared.slice.CoreId.{CoreId};
+ghost use Rattle.sc_cluster.specs.declared.plan.SplitPlan.{SplitPlan};
+ghost use Rattle.sc_keeper.specs.Part.{Part};
+ghost use Rattle.sc_collection.specs.Desks.{IsDeskAtRest};
+ghost use Rattle.sc_split.specs.Buckets.{known_of, fed_names, IsAllSeen, KeeperHeld, AreToFill, IsToFill, IsFirstFed, IsFilled};
+ghost use Rattle.sc_split.specs.Buckets.{IsUnderway, KeepsSeats, KeepsCores};
+
+use crate::bucket::{feed_in, replay_in, start_replay_in};
+use sc_collection::Desk;
+use sc_io::{Pace, SplitStep};
+use sc_record::CoreId;
+
+/// Fills the new cores of this bucket: feeds each, in this order, all rows of its snapshot, and then has each, in this order, replay all
+/// that it buffered. The pace is asked after each piece. Says whether all are filled; if not, the pace has said stop.
+pub(crate) fn fill<D: Desk, P: Pace>(
+    desk: &mut D,
+    pace: &mut P,
+    keepers: &mut D::Keepers,
+    b: u32,
+    cores: &[CoreId],
+) -> bool
+    requires within { b < (D.layout desk.old).buckets }
+    requires rest { IsDeskAtRest (D.layout desk.old) (D.out desk.old) (D.seen desk.old) }
+    requires fits { D.fits desk.old keepers.old }
+    requires seen { IsAllSeen b (known_of (D.seen desk.old) (D.keeping desk.old keepers.old)) }
+    requires to_fill { IsToFill ((D.keeping desk.old keepers.old).part b) cores.now }
+    ensures layout { D.layout desk.new ≡ D.layout desk.old }
+    ensures rest { IsDeskAtRest (D.layout desk.new) (D.out desk.new) (D.seen desk.new) }
+    ensures fits { D.fits desk.new keepers.new }
+    ensures seen { IsAllSeen b (known_of (D.seen desk.new) (D.keeping desk.new keepers.new)) }
+    ensures held { KeeperHeld b (known_of (D.seen desk.old) (D.keeping desk.old keepers.old))
+        (known_of (D.seen desk.new) (D.keeping desk.new keepers.new)) [] }
+    ensures seats { KeepsSeats ((D.keeping desk.old keepers.old).part b) ((D.keeping desk.new keepers.new).part b) }
+    ensures underway { (base : Part) (plan : SplitPlan) → IsUnderway base plan ((D.keeping desk.old keepers.old).part b)
+        → IsUnderway base plan ((D.keeping desk.new keepers.new).part b) }
+    ensures filled { IsTrue result → IsFilled ((D.keeping desk.new keepers.new).part b) }
+    ensures steady { IsTrue result → P.stops pace.new ≡ P.stops pace.old }
+    ensures stopped { IsFalse result → P.stops pace.old < P.stops pace.new }
+    ensures no_fall { P.stops pace.old ≤ P.stops pace.new }
+{
+    for core in cores {
+        if !feed_all(desk, pace, keepers, b, *core) {
+            return false;
+        }
+    }
+    for core in cores {
+        if !replay_all(desk, pace, keepers, b, *core) {
+            return false;
+        }
+    }
+    true
+}
+
+// Feeds the core, whose feed is the first, all rows of its snapshot. Says whether all are fed; if not, the pace has said stop.
+fn feed_all<D: Desk, P: Pace>(
+    desk: &mut D,
+    pace: &mut P,
+    keepers: &mut D::Keepers,
+    b: u32,
+    core: CoreId,
+) -> bool
+    requires within { b < (D.layout desk.old).buckets }
+    requires rest { IsDeskAtRest (D.layout desk.old) (D.out desk.old) (D.seen desk.old) }
+    requires fits { D.fits desk.old keepers.old }
+    requires first { IsFirstFed ((D.keeping desk.old keepers.old).part b) core }
+    ensures layout { D.layout desk.new ≡ D.layout desk.old }
+    ensures rest { IsDeskAtRest (D.layout desk.new) (D.out desk.new) (D.seen desk.new) }
+    ensures fits { D.fits desk.new keepers.new }
+    ensures seen { IsAllSeen b (known_of (D.seen desk.new) (D.keeping desk.new keepers.new)) }
+    ensures held { KeeperHeld b (known_of (D.seen desk.old) (D.keeping desk.old keepers.old))
+        (known_of (D.seen desk.new) (D.keeping desk.new keepers.new)) [] }
+    ensures kept { KeepsCores ((D.keeping desk.old keepers.old).part b) ((D.keeping desk.new keepers.new).part b) }
+    ensures fed { IsTrue result → (names : List CoreId) → fed_names ((D.keeping desk.old keepers.old).part b) ≡ core ∷ names
+        → fed_names ((D.keeping desk.new keepers.new).part b) ≡ names }
+    ensures steady { IsTrue result → P.stops pace.new ≡ P.stops pace.old }
+    ensures stopped { IsFalse result → P.stops pace.old < P.stops pace.new }
+    ensures no_fall { P.stops pace.old ≤ P.stops pace.new }
+{
+    loop {
+        let is_fed = feed_in(desk, keepers, b, core);
+        if !pace.between(SplitStep::Fed { bucket: b }) {
+            return false;
+        }
+        if is_fed {
+            return true;
+        }
+    }
+}
+
+// Has the core, the first of those that are to be filled, replay all that it buffered. Says whether it has; if not, the pace has said
+// stop.
+fn replay_all<D: Desk, P: Pace>(
+    desk: &mut D,
+    pace: &mut P,
+    keepers: &mut D::Keepers,
+    b: u32,
+    core: CoreId,
+) -> bool
+    requires within { b < (D.layout desk.old).buckets }
+    requires rest { IsDeskAtRest (D.layout desk.old) (D.out desk.old) (D.seen desk.old) }
+    requires fits { D.fits desk.old keepers.old }
+    requires unfed { ((D.keeping desk.old keepers.old).part b).feeds ≡ [] }
+    requires first { (names : List CoreId) × AreToFill ((D.keeping desk.old keepers.old).part b) (core ∷ names) }
+    ensures layout { D.layout desk.new ≡ D.layout desk.old }
+    ensures rest { IsDeskAtRest (D.layout desk.new) (D.out desk.new) (D.seen desk.new) }
+    ensures fits { D.fits desk.new keepers.new }
+    ensures seen { IsAllSeen b (known_of (D.seen desk.new) (D.keeping desk.new keepers.new)) }
+    ensures held { KeeperHeld b (known_of (D.seen desk.old) (D.keeping desk.old keepers.old))
+        (known_of (D.seen desk.new) (D.keeping desk.new keepers.new)) [] }
+    ensures seats { KeepsSeats ((D.keeping desk.old keepers.old).part b) ((D.keeping desk.new keepers.new).part b) }
+    ensures unfed { ((D.keeping desk.new keepers.new).part b).feeds ≡ [] }
+    ensures underway { (base : Part) (plan : SplitPlan) → IsUnderway base plan ((D.keeping desk.old keepers.old).part b)
+        → IsUnderway base plan ((D.keeping desk.new keepers.new).part b) }
+    ensures filled { IsTrue result → (names : List CoreId) → AreToFill ((D.keeping desk.old keepers.old).part b) (core ∷ names)
+        → AreToFill ((D.keeping desk.new keepers.new).part b) names }
+    ensures steady { IsTrue result → P.stops pace.new ≡ P.stops pace.old }
+    ensures stopped { IsFalse result → P.stops pace.old < P.stops pace.new }
+    ensures no_fall { P.stops pace.old ≤ P.stops pace.new }
+{
+    start_replay_in(desk, keepers, b, core);
+    loop {
+        let is_replayed = replay_in(desk, keepers, b, core);
+        if !pace.between(SplitStep::Replayed { bucket: b }) {
+            return false;
+        }
+        if is_replayed {
+            return true;
+        }
+    }
+}

@@ -9,8 +9,8 @@ use Rattle.sc_hash.specs.Range.{range_text}
 use Rattle.sc_json.specs.Documents.{object_of, array_of}
 use Rattle.sc_json.proofs.FloatLemmas.{no_float-put_all, no_float-list}
 use Rattle.sc_reply.specs.Bodies.{header_member}
-use Rattle.sc_admin.specs.declared.split.Committed.{Committed}
-use Rattle.sc_admin.specs.declared.split.Committed.TheVariants as commits
+use Rattle.sc_collection.specs.declared.commits.Commits.{Commits}
+use Rattle.sc_collection.specs.declared.commits.Commits.TheVariants as commits
 use Rattle.sc_admin.specs.Splits.{committed_data, split_data}
 use Rattle.sc_admin.specs.Status.{state_name, replica_state, node_name, leader_members, replica_member, replicas_data, slice_member, shards_data, collections_data, nodes_data, status_data}
 
@@ -29,13 +29,13 @@ all-map : (A : Type 0) (member : A → List ℕ × Data) → ((x : A) → HasNoF
 all-map A member each [] = tt
 all-map A member each (x ∷ xs) = (each x, all-map A member each xs)
 
-no_float-committed : (committed : Committed) → has_float (committed_data committed) ≡ false
+no_float-committed : (committed : Commits) → has_float (committed_data committed) ≡ false
 no_float-committed commits.All = refl
 no_float-committed commits.LogFull = refl
 no_float-committed commits.Memory = refl
 
 -- the answer to a split
-pub no_float-split : (subs : List (List ℕ)) (committed : Committed) → has_float (split_data subs committed) ≡ false
+pub no_float-split : (subs : List (List ℕ)) (committed : Commits) → has_float (split_data subs committed) ≡ false
 no_float-split subs committed =
     no_float-object
     ((codes "committed", committed_data committed) ∷ header_member 0 ∷ (codes "subs", array_of (map string subs)) ∷ [])

@@ -3,3 +3,8 @@ pub mod FloatLemmas
 pub mod PutLemmas
 pub mod RangeLemmas
 pub mod PartLemmas
+mod DropLemmas
+mod DropLoopLemmas
+mod DropBoardLemmas
+mod DeleteBoardLemmas
+mod DeleteLemmas

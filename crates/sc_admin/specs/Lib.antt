@@ -4,3 +4,5 @@ pub mod Commands
 pub mod Cuts
 pub mod Status
 pub mod Splits
+pub mod Deletes
+pub mod Dropping

@@ -1,12 +1,14 @@
 //! The commands on the collection (Solr Reference Guide, "Collections API": SPLITSHARD, CLUSTERSTATUS and DELETESHARD): what a
-//! request's parameters ask for, and the bodies of the answers.
+//! request's parameters ask for, and the bodies of the answers; and a shard is deleted.
 //!
-//! It depends on the map of `sc_cluster`, on the cut of `sc_board`, and on the JSON of `sc_json`. The layers above use the
-//! clauses of `read_admin`, which say what the parameters ask for or which of them is at fault, and those of `status_body` and
-//! `split_body`, which give each body's whole text.
+//! It depends on the map of `sc_cluster`, on the cut of `sc_board`, on the JSON of `sc_json`, and, to delete a shard, on a desk of
+//! `sc_collection` and on the cores of `sc_cores`. The layers above use the clauses of `read_admin`, which say what the parameters ask for
+//! or which of them is at fault, those of `status_body` and `split_body`, which give each body's whole text, and that of `delete`.
 //!
 //! Proved: `read_admin` is the definition `asked_admin` of the list of parameters, and a cut that it reads has 2 to 8 parts;
-//! `status_body` and `split_body` are the texts of `specs/Status` and `specs/Splits`.
+//! `status_body` and `split_body` are the texts of `specs/Status` and `specs/Splits`; `delete` went as `IsDelete` of `specs/Deletes` says:
+//! the board refused it, by the first cause, and all is as it was, or the slice of that name was dropped from each bucket and from the
+//! board, at one stop of it, and then each of its cores was stopped, or stopping one failed and a core of the slice is named.
 //!
 //! Tested alone: nothing.
 //!
@@ -18,6 +20,10 @@ mod admin;
 mod ranges;
 mod read;
 
+// A shard is deleted.
+mod deleting;
+mod dropping;
+
 // What is answered.
 mod split;
 mod state;
@@ -25,7 +31,8 @@ mod status;
 mod text;
 
 pub use admin::{Admin, AdminFault};
+pub use deleting::{DeleteEnd, delete};
 pub use read::read_admin;
-pub use split::{Committed, split_body};
+pub use split::split_body;
 pub use state::state_name;
 pub use status::status_body;

@@ -8,39 +8,24 @@ ghost use Rattle.sc_reply.specs.Bodies.{header_member};
 ghost use Rattle.sc_admin.specs.Splits as splits;
 
 use crate::text::text_of;
+use sc_collection::Commits;
 use sc_record::{List, Text};
 use serde_json::{Value, json};
 use std::alloc::{AllocError, Global};
 
-/// What came of the commits after a split.
-#[derive(Clone, Copy, Debug, PartialEq, Eq)]
-pub enum Committed {
-    /// Every bucket was committed.
-    All,
-    /// Some bucket was not, since its journal had no room.
-    LogFull,
-    /// Some bucket was not, since memory ran out.
-    Memory,
-}
-
-impl Committed {
-    fn value(self, alloc: Global) -> Result<Value, AllocError>
-        ensures { IfOk result (λ value. view value ≡ splits.committed_data self) }
-    {
-        match self {
-            Committed::All => Ok(Value::Bool(true)),
-            Committed::LogFull => Value::try_from_str(alloc, "update log is full"),
-            Committed::Memory => Value::try_from_str(alloc, "out of memory"),
-        }
+/// What a client is told of the commits.
+fn committed_value(alloc: Global, committed: Commits) -> Result<Value, AllocError>
+    ensures { IfOk result (λ value. view value ≡ splits.committed_data committed) }
+{
+    match committed {
+        Commits::All => Ok(Value::Bool(true)),
+        Commits::LogFull => Value::try_from_str(alloc, "update log is full"),
+        Commits::Memory => Value::try_from_str(alloc, "out of memory"),
     }
 }
 
 /// The body of the answer to a split that was done: the names of the subs, and what came of the commits.
-pub fn split_body(
-    alloc: Global,
-    subs: &List<Text>,
-    committed: Committed,
-) -> Result<Text, AllocError>
+pub fn split_body(alloc: Global, subs: &List<Text>, committed: Commits) -> Result<Text, AllocError>
     ensures { IfOk result (λ text. text ≡ splits.split_text subs.now committed) }
 {
     let value = split_value(alloc, subs, committed)?;
@@ -48,10 +33,10 @@ pub fn split_body(
 }
 
 /// The value of the answer.
-fn split_value(alloc: Global, subs: &List<Text>, committed: Committed) -> Result<Value, AllocError>
+fn split_value(alloc: Global, subs: &List<Text>, committed: Commits) -> Result<Value, AllocError>
     ensures { IfOk result (λ value. view value ≡ splits.split_data subs.now committed) }
 {
-    let committed = committed.value(alloc)?;
+    let committed = committed_value(alloc, committed)?;
     let header = header_value(alloc)?;
     let names = names_value(alloc, subs.as_slice())?;
     json!(in alloc; {"committed": committed, "responseHeader": header, "subs": names})

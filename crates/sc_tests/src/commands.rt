@@ -1,8 +1,9 @@
 //! `sc_admin`: what a request's parameters ask of the collection, and the answers' bodies.
 
-use sc_admin::{Admin, AdminFault, Committed, read_admin, split_body, status_body};
+use sc_admin::{Admin, AdminFault, read_admin, split_body, status_body};
 use sc_board::Cut;
 use sc_cluster::ClusterMap;
+use sc_collection::Commits;
 use sc_hash::range_text;
 use sc_model::Param;
 use sc_record::{List, Text};
@@ -139,11 +140,11 @@ fn a_split_is_answered_with_its_subs(rt: HostRuntime) -> Result<(), Fail> {
     subs.push(Text::new(alloc, "shard1_0")?)?;
     subs.push(Text::new(alloc, "shard1_1")?)?;
     assert_eq!(rt;
-        split_body(alloc, &subs, Committed::All)?.as_str(),
+        split_body(alloc, &subs, Commits::All)?.as_str(),
         r#"{"committed":true,"responseHeader":{"QTime":0,"status":0},"subs":["shard1_0","shard1_1"]}"#
     );
     assert_eq!(rt;
-        split_body(alloc, &subs, Committed::LogFull)?.as_str(),
+        split_body(alloc, &subs, Commits::LogFull)?.as_str(),
         r#"{"committed":"update log is full","responseHeader":{"QTime":0,"status":0},"subs":["shard1_0","shard1_1"]}"#
     );
     Ok(())

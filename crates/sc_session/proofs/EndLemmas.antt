@@ -6,14 +6,16 @@ use Rattle.sc_io.specs.Pieces.{AddsPrefix}
 use Rattle.sc_model.specs.declared.message.Incoming.{Incoming}
 use Rattle.sc_model.specs.Messages.{ReadsMessage, ReadsMessages, Ending, done, cut, bad_head, too_large, not_built}
 use Rattle.sc_model.specs.Replies.{text_of}
+use Rattle.sc_cores.specs.Cores.{Outside}
 use Rattle.sc_seen.specs.Seen.{Layout, Extends, AreLegal}
 use Rattle.sc_seen.specs.Batches.{GivesTimestamps}
 use Rattle.sc_seen.specs.Moments.{Moment}
+use Rattle.sc_session.specs.Commands.{situation}
 use Rattle.sc_session.specs.Answers.{Answer, replied, ran_out, reply_of}
 use Rattle.sc_session.specs.declared.end.End.{End}
 use Rattle.sc_session.specs.declared.end.End.TheVariants as ends
-use Rattle.sc_session.specs.Connection.{Exchange, Last, ended, answered, out_of_memory, read_failed, exchanges_of, AreExchanges, stops_of, timestamps_of, texts_of, end_after, end_of, last_text, EndsWith, IsReadFrom, HasEnd, IsWritten}
-use Rattle.sc_session.specs.States.{ConnectionState, CountsFault}
+use Rattle.sc_session.specs.Connection.{Exchange, Last, ended, answered, out_of_memory, read_failed, exchanges_of, AreExchanges, LeaveRest, stops_of, timestamps_of, texts_of, end_after, end_of, last_text, EndsWith, IsReadFrom, HasEnd, IsWritten}
+use Rattle.sc_session.specs.States.{ConnectionState, CountsFault, world_of, situation_in}
 use Rattle.sc_session.specs.Served.{LeavesTraces, IsServed}
 use Rattle.sc_session.specs.Serving.{Exchanges, Writes, EndsWriting, end_by}
 use Rattle.sc_session.proofs.OpenLemmas.{IsOpen, HasRead, without_source, traces_after, end_same, read_after, some_of}
@@ -99,12 +101,12 @@ counts_on {fault} old mid new same c = subst (λ n. CountsFault fault n new) sam
 
 -- an open connection that ends without an exchange more keeps what it promises
 pub served_at_end : {C : Type 0} (gives : C → ℕ → C → Type 0) (layout : Layout) (before now then : ConnectionState C) (held : List ℕ) (last : Last) (end : End)
-    → IsOpen gives layout before now held → IsPlain last → AreLegal layout now.moment.view.seen → then.moment ≡ now.moment → then.requests ≡ now.requests
+    → IsOpen gives layout before now held → IsPlain last → AreLegal layout now.moment.view.seen → then.moment ≡ now.moment → then.outside ≡ now.outside → then.requests ≡ now.requests
     → (IsSome now.unread → IsSome then.unread) → IfSome now.unread (λ bytes. IfSome then.unread (λ more. EndsWith (held ++ bytes) last more))
     → EndsWriting (Some end) (end_of [] last) (last_text [] last) now.written then.written
     → CountsFault (end ≡ ends.ReadFault) now.read_faults then.read_faults → CountsFault (end ≡ ends.WriteFault) now.write_faults then.write_faults
     → IsServed gives layout before then end
-served_at_end {C} gives layout before now then held last end open_ plain legal moment count reports ends_with writes read_faults write_faults =
+served_at_end {C} gives layout before now then held last end open_ plain legal moment outside count reports ends_with writes read_faults write_faults =
     record {
       exchanges = xs;
       last = last;
@@ -130,6 +132,8 @@ served_at_end {C} gives layout before now then held last end open_ plain legal m
     traces : LeavesTraces gives layout before then xs
     traces = record {
       each = subst (λ (m : Moment C). AreExchanges layout before.moment.view.seen xs m.view.seen) (sym moment) open_.traces.each;
+      rest = subst (λ (m : Moment C). LeaveRest layout (situation_in (world_of before)) xs (situation m.view.seen then.outside)) (sym moment)
+          (subst (λ (o : Outside). LeaveRest layout (situation_in (world_of before)) xs (situation now.moment.view.seen o)) (sym outside) open_.traces.rest);
       journals = subst (λ (m : Moment C). Extends layout before.moment.view.seen m.view.seen (stops_of xs)) (sym moment) open_.traces.journals;
       stops = ap (λ (m : Moment C). m.view.stops) moment ∙ open_.traces.stops;
       requests = count ∙ open_.traces.requests;

@@ -4,6 +4,8 @@ pub mod DigitLemmas
 pub mod AnswerLemmas
 pub mod ReadLemmas
 pub mod UpdateLemmas
+pub mod CommandLemmas
+pub mod StatusLemmas
 pub mod OpenLemmas
 pub mod ServeLemmas
 pub mod EndLemmas

@@ -5,22 +5,25 @@ use Rattle.std.proofs.lemmas.List.{append-nil}
 use Rattle.std.proofs.lemmas.Grind.{flat_map-append}
 use Rattle.sc_model.specs.declared.message.Incoming.{Incoming}
 use Rattle.sc_model.specs.Messages.{ReadsMessage, ReadsMessages}
-use Rattle.sc_seen.specs.Seen.{Layout, Seen, Extends, GoesOn}
+use Rattle.sc_cores.specs.Cores.{Outside}
+use Rattle.sc_seen.specs.Seen.{Layout, Seen, Extends}
 use Rattle.sc_seen.specs.Moments.{moment_of}
 use Rattle.sc_seen.specs.Batches.{GivesTimestamps}
 use Rattle.sc_seen.specs.declared.stop.Stop.{Stop}
 use Rattle.sc_collection.specs.Kept.{Kept, are_enough}
 use Rattle.sc_session.specs.declared.end.End.{End}
-use Rattle.sc_session.specs.Connection.{Exchange, IsExchange, AreExchanges, StaysOpen, stops_of, timestamps_of, texts_of, end_after, end_at}
-use Rattle.sc_session.specs.States.{ConnectionState}
+use Rattle.sc_session.specs.Commands.{Situation, situation, Leaves}
+use Rattle.sc_session.specs.Connection.{Exchange, IsExchange, AreExchanges, LeaveRest, situation_after, StaysOpen, stops_of, timestamps_of, texts_of, end_after, end_at}
+use Rattle.sc_session.specs.States.{ConnectionState, world_of, situation_in}
 use Rattle.sc_session.specs.Served.{LeavesTraces}
 use Rattle.sc_session.specs.Serving.{Exchanges, Writes, end_by}
 use Rattle.sc_seen.proofs.ExtendsLemmas.{Extends-none, Extends-then}
 
 -- what stands beside a connection, by its parts
-abbrev pub beside : {C : Type 0} → Seen → C → Kept → (unread written : Option (List ℕ)) → (read_faults write_faults : ℕ) → ConnectionState C
-beside seen clock kept unread written read_faults write_faults = record {
+abbrev pub beside : {C : Type 0} → Seen → C → Outside → Kept → (unread written : Option (List ℕ)) → (read_faults write_faults : ℕ) → ConnectionState C
+beside seen clock outside kept unread written read_faults write_faults = record {
   moment = moment_of seen kept.stops clock;
+  outside = outside;
   requests = kept.requests;
   unread = unread;
   written = written;
@@ -30,7 +33,7 @@ beside seen clock kept unread written read_faults write_faults = record {
 
 -- what stands beside a connection, but for its source
 abbrev pub without_source : {C : Type 0} → ConnectionState C → ConnectionState C
-without_source state = record { moment = state.moment; requests = state.requests; unread = None; written = state.written; read_faults = 0; write_faults = state.write_faults }
+without_source state = record { moment = state.moment; outside = state.outside; requests = state.requests; unread = None; written = state.written; read_faults = 0; write_faults = state.write_faults }
 
 -- A connection that is open since one moment: its requests so far were read, answered and written, and `held` is what its
 -- reader has of the bytes that come next.
@@ -62,7 +65,7 @@ pub open_first : {C : Type 0} (gives : C → ℕ → C → Type 0) (layout : Lay
 open_first gives layout now stops requests = record {
   exchanges = [];
   stays_open = none_between;
-  traces = record { each = refl; journals = Extends-none layout now.moment.view.seen; stops = stops; requests = requests; timestamps = refl };
+  traces = record { each = refl; rest = refl; journals = Extends-none layout now.moment.view.seen; stops = stops; requests = requests; timestamps = refl };
   more = ap (λ n. are_enough n (length now.moment.view.stops)) requests ∙ ap (λ (ss : List Stop). are_enough 0 (length ss)) stops;
   read = read_none now.unread;
   wrote = written_none now.written;
@@ -103,6 +106,16 @@ push : (layout : Layout) (old : Seen) (exchanges : List Exchange) (between : See
 push layout old [] between x new are is same = (subst (λ (seen : Seen). IsExchange layout seen x) are is, sym same)
 push layout old (y ∷ exchanges) between x new are is same = (are.0, push layout y.seen exchanges between x new are.1 is same)
 
+-- what one more left, after what those left
+push_rest : (layout : Layout) (old : Situation) (exchanges : List Exchange) (between : Situation) (x : Exchange) (new : Situation) → LeaveRest layout old exchanges between
+    → Leaves layout x.trace.stops x.trace.command between new → situation_after x ≡ new → LeaveRest layout old (exchanges ++ x ∷ []) new
+push_rest layout old [] between x new are leaves same = (
+  subst (λ (now : Situation). Leaves layout x.trace.stops x.trace.command now (situation_after x)) are
+      (subst (λ (now : Situation). Leaves layout x.trace.stops x.trace.command between now) (sym same) leaves),
+  sym same,
+)
+push_rest layout old (y ∷ exchanges) between x new are leaves same = (are.0, push_rest layout (situation_after y) exchanges between x new are.1 leaves same)
+
 -- what was read up to a request that came
 abbrev pub HasRead : (before then : Option (List ℕ)) → List Exchange → Incoming → List ℕ → Type 0
 HasRead before then exchanges request next = IfSome before (λ bytes. (between more : List ℕ) × (then ≡ Some more)
@@ -112,15 +125,20 @@ HasRead before then exchanges request next = IfSome before (λ bytes. (between m
 module _ {C : Type 0} (gives : C → ℕ → C → Type 0) (layout : Layout) (before now then : ConnectionState C) (held next : List ℕ) (request : Incoming) (end : Option End)
     (open_ : IsOpen gives layout before now held)
     (step : Exchanges gives layout request (without_source now) (without_source then) end) where
-  goes : GoesOn layout now.moment.view.seen then.moment.view.seen step.exchange.trace.stops
-  goes = subst (λ (seen : Seen). GoesOn layout now.moment.view.seen seen step.exchange.trace.stops) step.seen_is step.is.goes
+  extends : Extends layout now.moment.view.seen then.moment.view.seen step.exchange.trace.stops
+  extends = subst (λ (seen : Seen). Extends layout now.moment.view.seen seen step.exchange.trace.stops) step.seen_is step.is.extends
+
+  -- what stands once it is over
+  stands : situation_after step.exchange ≡ situation_in (world_of then)
+  stands = ap (λ (seen : Seen). situation seen step.exchange.outside) step.seen_is ∙ ap (situation then.moment.view.seen) step.outside_is
 
   -- what it leaves, after those before it
   pub traces_after : LeavesTraces gives layout before then (open_.exchanges ++ step.exchange ∷ [])
   traces_after = record {
     each = push layout before.moment.view.seen open_.exchanges now.moment.view.seen step.exchange then.moment.view.seen open_.traces.each step.is step.seen_is;
+    rest = push_rest layout (situation_in (world_of before)) open_.exchanges (situation_in (world_of now)) step.exchange (situation_in (world_of then)) open_.traces.rest step.leaves stands;
     journals = subst (Extends layout before.moment.view.seen then.moment.view.seen) (sym (stops_of-push open_.exchanges step.exchange))
-        (Extends-then layout before.moment.view.seen now.moment.view.seen then.moment.view.seen (stops_of open_.exchanges) step.exchange.trace.stops open_.traces.journals goes.extends);
+        (Extends-then layout before.moment.view.seen now.moment.view.seen then.moment.view.seen (stops_of open_.exchanges) step.exchange.trace.stops open_.traces.journals extends);
     stops = step.stops ∙ ap (λ (ss : List Stop). ss ++ step.exchange.trace.stops) open_.traces.stops ∙ sym (stops_of-push open_.exchanges step.exchange);
     requests = omega (arith, length-append open_.exchanges (step.exchange ∷ []), step.requests, open_.traces.requests);
     timestamps = subst (λ (ms : List ℕ). GivesTimestamps gives before.moment.clock ms then.moment.clock) (sym (timestamps_of-push open_.exchanges step.exchange))

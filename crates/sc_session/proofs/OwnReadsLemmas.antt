@@ -59,7 +59,7 @@ module _ (layout : Layout) (id : List ℕ) (some_bucket : 0 < layout.buckets) wh
   come_after : (before : Seen) (x : Exchange) (prior : List Stop) (stop : Stop) (after : List Stop) → IsExchange layout before x
       → x.trace.stops ≡ prior ++ stop ∷ after → stop.lock ≡ lock → entries_at layout before lock ≤ stop.place
   come_after before x prior stop after is stops here = from_on layout id some_bucket (entries_at layout before lock) prior stop after here
-      (subst (λ (ss : List Stop). ComeInOrder (entries_at layout before lock) (stops_at lock ss)) stops (is.goes.extends.ascend lock))
+      (subst (λ (ss : List Stop). ComeInOrder (entries_at layout before lock) (stops_at lock ss)) stops (is.extends.ascend lock))
 
   -- a get shows what was made before it, or a later write
   shows_since : (writing reading : Exchange) (new : Seen) (version : ℤ) (reply : Reply) → AreLegal layout new

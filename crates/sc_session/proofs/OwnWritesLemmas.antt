@@ -28,7 +28,8 @@ use Rattle.sc_journal.proofs.LegalLemmas.{IsLegal-prefix}
 use Rattle.sc_journal.proofs.VersionLemmas.{legal_newest}
 use Rattle.sc_seen.proofs.ExtendsLemmas.{IsPrefix-length, entries-grow, entries-bucket}
 use Rattle.sc_seen.proofs.GoesOnLemmas.{SeesMore-self, SeesMore-then, SeesMore-by}
-use Rattle.sc_session.specs.Requests.{Asked, asked, not_built, refused, update, get, get_ids, select}
+use Rattle.sc_admin.specs.Commands.{split, status, delete}
+use Rattle.sc_session.specs.Requests.{Asked, asked, not_built, refused, update, get, get_ids, select, command}
 use Rattle.sc_session.specs.Answers.{Answer, replied, ran_out, Trace, IsAnswer, EndsBatch, read_trace}
 use Rattle.sc_session.specs.Connection.{Exchange, IsExchange, AreExchanges}
 use Rattle.sc_session.specs.Laws.{AcceptsOrderFor, IsLastSince}
@@ -37,7 +38,7 @@ use Rattle.sc_session.specs.Laws.{AcceptsOrderFor, IsLastSince}
 sees_more : (layout : Layout) (old : Seen) (exchanges : List Exchange) (new : Seen) → AreExchanges layout old exchanges new → SeesMore old new
 sees_more layout old [] new are = subst (SeesMore old) (sym are) (SeesMore-self old)
 sees_more layout old (x ∷ exchanges) new are =
-    SeesMore-then old x.seen new (SeesMore-by layout old x.seen x.trace.stops are.0.goes.extends) (sees_more layout x.seen exchanges new are.1)
+    SeesMore-then old x.seen new (SeesMore-by layout old x.seen x.trace.stops are.0.extends) (sees_more layout x.seen exchanges new are.1)
 
 -- one of several exchanges comes after what was seen after those before it
 one_of : (layout : Layout) (old : Seen) (before : List Exchange) (x : Exchange) (after : List Exchange) (new : Seen)
@@ -46,15 +47,19 @@ one_of : (layout : Layout) (old : Seen) (before : List Exchange) (x : Exchange) 
 one_of layout old [] x after new are = (old, SeesMore-self old, are.0, are.1)
 one_of layout old (y ∷ before) x after new are =
     let rest = one_of layout y.seen before x after new are.1 in
-    (rest.0, SeesMore-then old y.seen rest.0 (SeesMore-by layout old y.seen y.trace.stops are.0.goes.extends) rest.1, rest.2, rest.3)
+    (rest.0, SeesMore-then old y.seen rest.0 (SeesMore-by layout old y.seen y.trace.stops are.0.extends) rest.1, rest.2, rest.3)
 
--- a trace of reads has no answer to an order
-no_answer : (trace : Trace) (stops : List Stop) (one : OrderAnswer) → trace ≡ read_trace stops → Contains trace.answers one → ⊥
-no_answer trace stops one is given =
-    let none : Contains [] one = subst (λ (t : Trace). Contains t.answers one) is given in by none
+-- a trace without answers to orders has none
+no_order : (trace : Trace) (one : OrderAnswer) → trace.answers ≡ [] → Contains trace.answers one → ⊥
+no_order trace one is given =
+    let none : Contains [] one = subst (λ (answers : List OrderAnswer). Contains answers one) is given in by none
   where
     by : Contains [] one → ⊥
     by (k, below, same) = omega arith
+
+-- nor does a trace of reads
+no_answer : (trace : Trace) (stops : List Stop) (one : OrderAnswer) → trace ≡ read_trace stops → Contains trace.answers one → ⊥
+no_answer trace stops one is given = no_order trace one (ap (λ (t : Trace). t.answers) is) given
 
 -- a trace that has an answer to an order is that of a batch
 of_batch : (layout : Layout) (seen : Seen) (what : Asked) (trace : Trace) (answer : Answer) (one : OrderAnswer)
@@ -74,6 +79,15 @@ of_batch layout seen (get_ids ids) trace ran_out one is given = absurd (no_answe
 of_batch layout seen (select ask) trace (replied reply) one (inl bad) given = absurd (no_answer trace [] one bad.2 given)
 of_batch layout seen (select ask) trace (replied reply) one (inr is) given = absurd (no_answer trace is.search.stops one is.trace_is given)
 of_batch layout seen (select ask) trace ran_out one is given = absurd (no_answer trace is.0 one is.3 given)
+of_batch layout seen (command status) trace (replied reply) one is given = absurd (no_answer trace (is.0 ∷ []) one is.1.trace_is given)
+of_batch layout seen (command status) trace ran_out one (inl none) given = absurd (no_answer trace [] one none given)
+of_batch layout seen (command status) trace ran_out one (inr is) given = absurd (no_answer trace (is.0 ∷ []) one is.1.trace_is given)
+of_batch layout seen (command (split shard pieces)) trace (replied reply) one is given = absurd (no_order trace one (ap (λ (t : Trace). t.answers) is.1.trace_is) given)
+of_batch layout seen (command (split shard pieces)) trace ran_out one (inl none) given = absurd (no_answer trace [] one none given)
+of_batch layout seen (command (split shard pieces)) trace ran_out one (inr is) given = absurd (no_order trace one (ap (λ (t : Trace). t.answers) is.1.trace_is) given)
+of_batch layout seen (command (delete shard)) trace (replied reply) one is given = absurd (no_order trace one (ap (λ (t : Trace). t.answers) is.1.trace_is) given)
+of_batch layout seen (command (delete shard)) trace ran_out one (inl none) given = absurd (no_answer trace [] one none given)
+of_batch layout seen (command (delete shard)) trace ran_out one (inr is) given = absurd (no_order trace one (ap (λ (t : Trace). t.answers) is.1.trace_is) given)
 
 -- the stops of an order are among those of all orders
 stop_of_order : (answers : List OrderAnswer) (one : OrderAnswer) (stop : Stop) → Contains answers one → Contains one.stops stop
@@ -201,7 +215,7 @@ module _ (layout : Layout) (id : List ℕ) (some_bucket : 0 < layout.buckets) wh
 
       within : (stop : Stop) → Contains accepts.answer.stops stop → IsStopWithin layout x.seen stop
       within stop there = All-contains (IsStopWithin layout x.seen) x.trace.stops stop
-          (All-from_recursion (IsStopWithin layout x.seen) x.trace.stops is.goes.extends.within)
+          (All-from_recursion (IsStopWithin layout x.seen) x.trace.stops is.extends.within)
           (subst (λ (stops : List Stop). Contains stops stop) (sym batch.2.stops_are)
           (Contains-append_left (order_stops x.trace.answers) (commit_stops x.trace.commits) stop
           (stop_of_order x.trace.answers accepts.answer stop accepts.given there)))

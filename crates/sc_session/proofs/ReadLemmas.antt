@@ -24,7 +24,7 @@ use Rattle.sc_fanout.specs.declared.shown.Page.{Page}
 use Rattle.sc_session.specs.Queries.{HaveCondition, IsRouteOf}
 use Rattle.sc_session.specs.Requests.{Select, get, get_ids, select}
 use Rattle.sc_session.specs.Answers.{Answer, replied, ran_out, IsAnswer, read_trace, ids_reply}
-use Rattle.sc_session.specs.Answering.{AnswersAsked, unread, reply_of, answer_of}
+use Rattle.sc_session.specs.Answering.{AnswersOfBuckets, unread, reply_of, answer_of}
 use Rattle.sc_session.specs.declared.reply.Reply.{Reply}
 use Rattle.sc_seen.specs.Moments.{Moment, moment_of}
 use Rattle.sc_seen.proofs.GoesOnLemmas.{SeesMore-self}
@@ -38,7 +38,7 @@ live_is_live (Some write) = by write.doc where
   by (Some doc) = refl
 
 -- stops that made no entry made no write
-unmade : (layout : Layout) (seen : Seen) (stops : List Stop) → AllByRecursion (λ (stop : Stop). stop.made ≡ false) stops → filter_map (ack_made layout seen) stops ≡ []
+pub unmade : (layout : Layout) (seen : Seen) (stops : List Stop) → AllByRecursion (λ (stop : Stop). stop.made ≡ false) stops → filter_map (ack_made layout seen) stops ≡ []
 unmade layout seen [] none = refl
 unmade layout seen (stop ∷ stops) none =
     let here : ack_made layout seen stop ≡ None =
@@ -49,18 +49,19 @@ unmade layout seen (stop ∷ stops) none =
 got_with : (layout : Layout) (id : List ℕ) (old new : Moment ⊤) (found : Result (Option (Arc Write Global)) AllocError) (answer : Answer)
     → (is : IsGot layout old.view new.view id found)
     → ((later : Seen) → SeesMore new.view.seen later → IsAnswer layout later (get id) (read_trace (is.stop ∷ [])) answer)
-    → AnswersAsked unread layout (get id) old new answer
+    → AnswersOfBuckets unread layout (get id) old new answer
 got_with layout id old new found answer is answered = record {
   trace = read_trace (is.stop ∷ []);
   keeps = is.keeps;
   given = refl;
+  no_command_is = refl;
   answered = answered;
   once = λ later more. unmade layout later (is.stop ∷ []) (is.reads.made, tt);
 }
 
 -- where memory ran out its look stands
 pub got_none : (layout : Layout) (id : List ℕ) (old new : Moment ⊤) (found : Result (Option (Arc Write Global)) AllocError)
-    → IsGot layout old.view new.view id found → AnswersAsked unread layout (get id) old new ran_out
+    → IsGot layout old.view new.view id found → AnswersOfBuckets unread layout (get id) old new ran_out
 got_none layout id old new found is =
     got_with layout id old new found ran_out is (λ later more. (is.stop ∷ [], record { trace_is = refl; reads = (is.reads, tt) }))
 
@@ -68,7 +69,7 @@ got_none layout id old new found is =
 pub got : (layout : Layout) (id : List ℕ) (old new : Moment ⊤) (cell : Option (Arc Write Global)) (answer : Result Reply AllocError)
     → IsGot layout old.view new.view id (Ok cell)
     → IfOk answer (λ reply. reply_of reply ≡ record { status = 200; body = get_text (option_map arc_value cell) })
-    → AnswersAsked unread layout (get id) old new (answer_of answer)
+    → AnswersOfBuckets unread layout (get id) old new (answer_of answer)
 got layout id old new cell (Err fault) is made = got_none layout id old new (Ok cell) is
 got layout id old new cell (Ok reply) is made =
     got_with layout id old new (Ok cell) (replied (reply_of reply)) is (λ later more. (
@@ -109,25 +110,26 @@ are_got_live layout ids old new cells are =
 are_got_with : (layout : Layout) (ids : List (List ℕ)) (old new : Moment ⊤) (found : Result (List (Arc Write Global)) AllocError) (answer : Answer)
     → (are : AreGot layout old.view new.view ids found)
     → ((later : Seen) → SeesMore new.view.seen later → IsAnswer layout later (get_ids ids) (read_trace are.stops) answer)
-    → AnswersAsked unread layout (get_ids ids) old new answer
+    → AnswersOfBuckets unread layout (get_ids ids) old new answer
 are_got_with layout ids old new found answer are answered = record {
   trace = read_trace are.stops;
   keeps = are.keeps;
   given = refl;
+  no_command_is = refl;
   answered = answered;
   once = λ later more. unmade layout later are.stops (reads_unmade layout ids are.stops are.reads);
 }
 
 -- where memory ran out its looks stand
 pub are_got_none : (layout : Layout) (ids : List (List ℕ)) (old new : Moment ⊤) (found : Result (List (Arc Write Global)) AllocError)
-    → AreGot layout old.view new.view ids found → AnswersAsked unread layout (get_ids ids) old new ran_out
+    → AreGot layout old.view new.view ids found → AnswersOfBuckets unread layout (get_ids ids) old new ran_out
 are_got_none layout ids old new found are =
     are_got_with layout ids old new found ran_out are (λ later more. (are.stops, record { trace_is = refl; reads = are.reads }))
 
 -- a get of several ids is answered by what is live of them at their stops
 pub are_got : (layout : Layout) (ids : List (List ℕ)) (old new : Moment ⊤) (cells : List (Arc Write Global)) (body : List ℕ)
     → AreGot layout old.view new.view ids (Ok cells) → body ≡ ids_text (map arc_value cells)
-    → AnswersAsked unread layout (get_ids ids) old new (replied (record { status = 200; body = body }))
+    → AnswersOfBuckets unread layout (get_ids ids) old new (replied (record { status = 200; body = body }))
 are_got layout ids old new cells body are is =
     are_got_with layout ids old new (Ok cells) (replied (record { status = 200; body = body })) are (λ later more. (
       are.stops,
@@ -160,18 +162,19 @@ page_live layout old new ask page is =
 searched_with : (layout : Layout) (ask : Select) (made : Ask) (old new : Moment ⊤) (found : Result Page AllocError) (answer : Answer)
     → (is : SearchesBuckets layout old.view new.view made found)
     → ((later : Seen) → SeesMore new.view.seen later → IsAnswer layout later (select ask) (read_trace is.stops) answer)
-    → AnswersAsked unread layout (select ask) old new answer
+    → AnswersOfBuckets unread layout (select ask) old new answer
 searched_with layout ask made old new found answer is answered = record {
   trace = read_trace is.stops;
   keeps = is.keeps;
   given = refl;
+  no_command_is = refl;
   answered = answered;
   once = λ later more. unmade layout later is.stops (recursion_from_All (λ (stop : Stop). stop.made ≡ false) is.stops is.looks.made);
 }
 
 -- where memory ran out its looks stand
 pub searched_none : (layout : Layout) (ask : Select) (made : Ask) (old new : Moment ⊤) (found : Result Page AllocError)
-    → SearchesBuckets layout old.view new.view made found → AnswersAsked unread layout (select ask) old new ran_out
+    → SearchesBuckets layout old.view new.view made found → AnswersOfBuckets unread layout (select ask) old new ran_out
 searched_none layout ask made old new found is =
     searched_with layout ask made old new found ran_out is (λ later more. (is.stops, is.count, is.few, refl, is.looks))
 
@@ -179,7 +182,7 @@ searched_none layout ask made old new found is =
 pub searched : (layout : Layout) (ask : Select) (made : Ask) (old new : Moment ⊤) (page : Page) (body : List ℕ)
     → HaveCondition ask.queries (condition_of made.query) → IsRouteOf ask.route made.route → made.start ≡ ask.start → made.rows ≡ ask.rows
     → SearchesBuckets layout old.view new.view made (Ok page) → body ≡ select_text page.found ask.start (map arc_value page.docs)
-    → AnswersAsked unread layout (select ask) old new (replied (record { status = 200; body = body }))
+    → AnswersOfBuckets unread layout (select ask) old new (replied (record { status = 200; body = body }))
 searched layout ask made old new page body asks route start rows is text =
     searched_with layout ask made old new (Ok page) (replied (record { status = 200; body = body })) is (λ later more. inr (record {
       search = search_of made is.stops;

@@ -12,7 +12,7 @@ use Rattle.sc_collection.specs.Kept.{are_enough}
 use Rattle.sc_session.specs.Answers.{Answer, replied, ran_out, reply_of}
 use Rattle.sc_session.specs.Connection.{Exchange, StaysOpen, texts_of, end_after, end_at}
 use Rattle.sc_session.specs.Requests.{asked}
-use Rattle.sc_session.specs.States.{ConnectionState, CountsFault}
+use Rattle.sc_session.specs.States.{ConnectionState, CountsFault, world_of}
 use Rattle.sc_session.specs.Answering.{AnswersAsked}
 use Rattle.sc_session.specs.Serving.{Exchanges, Responds, Writes, end_by}
 use Rattle.sc_session.specs.declared.end.End.{End}
@@ -76,17 +76,19 @@ open_more {C} gives layout before now then held next request open_ step reports 
 
 -- one request that was answered, and whose reply was written
 pub exchanged : {C : Type 0} (gives : C → ℕ → C → Type 0) (layout : Layout) (request : Incoming) (old new : ConnectionState C) (answer : Answer) (end expected : Option End)
-    → AnswersAsked gives layout (asked request) old.moment new.moment answer → new.requests ≡ old.requests + 1
+    → AnswersAsked gives layout (asked request) (world_of old) (world_of new) answer → new.requests ≡ old.requests + 1
     → expected ≡ end_after answer request.close (are_enough new.requests (length new.moment.view.stops))
     → Responds end expected (reply_of answer) old.written new.written
     → CountsFault (end ≡ Some ends.WriteFault) old.write_faults new.write_faults
     → Exchanges gives layout request old new end
 exchanged gives layout request old new answer end expected answers count is responds faults = record {
-  exchange = record { request = request; trace = answers.trace; answer = answer; seen = new.moment.view.seen };
+  exchange = record { request = request; trace = answers.trace; answer = answer; seen = new.moment.view.seen; outside = new.outside };
   request_is = refl;
   seen_is = refl;
-  is = record { goes = answers.keeps.goes; answered = answers.answered; once = answers.once };
-  stops = answers.keeps.kept;
+  outside_is = refl;
+  is = record { extends = answers.extends; last = answers.last; answered = answers.answered; once = answers.once };
+  leaves = answers.leaves;
+  stops = answers.kept;
   requests = count;
   timestamps = answers.given;
   responds = subst (λ (e : Option End). Responds end e (reply_of answer) old.written new.written) is responds;

@@ -25,8 +25,9 @@ use Rattle.sc_update.specs.declared.end.BatchEnd.{BatchEnd}
 use Rattle.sc_update.specs.declared.end.BatchFault.{BatchFault}
 use Rattle.sc_update.specs.declared.end.BatchFault.TheVariants as reports
 use Rattle.sc_session.specs.Requests.{update}
+use Rattle.sc_session.specs.Commands.{no_command}
 use Rattle.sc_session.specs.Answers.{Answer, replied, ran_out, IsAnswer, Trace, EndsBatch, update_answer, update_reply, refusal_after}
-use Rattle.sc_session.specs.Answering.{AnswersAsked, IsOfOrder, RefusesFor, IsReplyTo, reply_of, answer_of}
+use Rattle.sc_session.specs.Answering.{AnswersOfBuckets, IsOfOrder, RefusesFor, IsReplyTo, reply_of, answer_of}
 use Rattle.sc_session.specs.declared.reply.Reply.{Reply}
 
 -- where versions are not shown, what was accepted is of no matter
@@ -154,11 +155,12 @@ refused_reply batch end fault refusal (Ok reply) same apart why is =
 -- an update that was answered by what it reports
 pub updated_asked : {C : Type 0} (gives : C → ℕ → C → Type 0) (layout : Layout) (batch : Batch) (old new : Moment C) (end : BatchEnd) (answer : Result Reply AllocError)
     → IsUpdated gives layout batch old new end → IfOk answer (IsReplyTo batch end)
-    → AnswersAsked gives layout (update (update_of batch)) old new (answer_of answer)
+    → AnswersOfBuckets gives layout (update (update_of batch)) old new (answer_of answer)
 updated_asked {C} gives layout batch old new end answer updated replies = record {
   trace = trace;
   keeps = updated.keeps;
   given = updated.timestamps;
+  no_command_is = refl;
   answered = λ later more. by later more answer replies;
   once = updated.once;
 }
@@ -169,10 +171,11 @@ updated_asked {C} gives layout batch old new end answer updated replies = record
       commits = updated.commits;
       timestamps = order_timestamps updated.answers;
       stops = order_stops updated.answers ++ commit_stops updated.commits;
+      command = no_command;
     }
 
     ends : (later : Seen) → SeesMore new.view.seen later → EndsBatch layout later batch trace updated.how
-    ends later more = record { answered = updated.answered later more; ends = updated.ends later more; timestamps_are = refl; stops_are = refl }
+    ends later more = record { answered = updated.answered later more; ends = updated.ends later more; timestamps_are = refl; stops_are = refl; command_is = refl }
 
     by : (later : Seen) → SeesMore new.view.seen later → (answer : Result Reply AllocError) → IfOk answer (IsReplyTo batch end)
         → IsAnswer layout later (update (update_of batch)) trace (answer_of answer)

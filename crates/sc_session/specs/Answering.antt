@@ -1,5 +1,5 @@
 -- What the answer to one request leaves.
-use Rattle.std.specs.Prelude.{◌≡◌, ◌<◌, ℕ, List, length, slice_get, Option, Some, None, Result, Ok, Err, ⊤}
+use Rattle.std.specs.Prelude.{◌≡◌, ◌<◌, ℕ, false, List, [], ◌∷◌, ◌++◌, length, slice_get, Option, Some, None, Result, Ok, Err, ⊤}
 use Rattle.std.specs.declared.alloc.AllocError.{AllocError}
 use Rattle.sc_record.specs.declared.order.Order.{Order}
 use Rattle.sc_reply.specs.Bodies.{update_text, error_text}
@@ -9,15 +9,18 @@ use Rattle.sc_commands.specs.declared.batch.Batch.{Batch}
 use Rattle.sc_model.specs.Replies as model
 use Rattle.sc_eval.specs.declared.fault.BindFault.{BindFault}
 use Rattle.sc_eval.specs.declared.fault.BindFault.TheVariants as faults
-use Rattle.sc_seen.specs.Seen.{Layout, FromNowOn}
-use Rattle.sc_seen.specs.Moments.{Moment, Keeps}
+use Rattle.sc_seen.specs.Seen.{Layout, Extends, EndAtLast, FromNowOn}
+use Rattle.sc_seen.specs.Moments.{View, Moment, Keeps}
 use Rattle.sc_seen.specs.Batches.{GivesTimestamps, WritesOnce}
 use Rattle.sc_update.specs.declared.end.BatchEnd.{BatchEnd}
 use Rattle.sc_update.specs.declared.end.BatchFault.{BatchFault}
 use Rattle.sc_update.specs.declared.end.BatchFault.TheVariants as reports
 use Rattle.sc_session.specs.declared.reply.Body.{Body}
 use Rattle.sc_session.specs.declared.reply.Body.TheVariants as bodies
-use Rattle.sc_session.specs.Answers.{Answer, replied, ran_out, Trace, IsAnswer, refusal_reply}
+use Rattle.sc_seen.specs.declared.stop.Stop.{Stop}
+use Rattle.sc_session.specs.Answers.{Answer, replied, ran_out, Trace, IsAnswer, refusal_reply, status_reply}
+use Rattle.sc_session.specs.Commands.{no_command, Leaves}
+use Rattle.sc_session.specs.States.{World, situation_in}
 use Rattle.sc_session.specs.Requests.{Asked}
 use Rattle.sc_session.specs.declared.reply.Reply.{Reply}
 
@@ -35,14 +38,43 @@ abbrev pub answer_of : Result Reply AllocError → Answer
 answer_of (Ok reply) = replied (reply_of reply)
 answer_of (Err fault) = ran_out
 
--- What was asked was answered: what was seen went on by the stops of a trace, which were kept, and the clock was read. The answer
--- is that by all that is seen later, and the writes that were made are those that were accepted.
-pub record AnswersAsked {C : Type 0} (gives : C → ℕ → C → Type 0) (layout : Layout) (asked : Asked) (old new : Moment C) (answer : Answer) : Type 0 where
+-- What was asked of the buckets was answered: what was seen of them went on by the stops of a trace, which were kept, and the clock was
+-- read. The answer is that by all that is seen later, and the writes that were made are those that were accepted.
+pub record AnswersOfBuckets {C : Type 0} (gives : C → ℕ → C → Type 0) (layout : Layout) (asked : Asked) (old new : Moment C) (answer : Answer) : Type 0 where
   pub trace : Trace
   pub keeps : Keeps layout old.view new.view trace.stops
   pub given : GivesTimestamps gives old.clock trace.timestamps new.clock
+  pub no_command_is : trace.command ≡ no_command
   pub answered : FromNowOn new.view.seen (λ later. IsAnswer layout later asked trace answer)
   pub once : FromNowOn new.view.seen (λ later. WritesOnce layout later trace.stops trace.answers)
+
+-- What was asked was answered: what was seen went on by the stops of a trace, which were kept, and the clock was read. The answer is
+-- that by all that is seen later, the writes that were made are those that were accepted, and the rest is as what it came to left it.
+pub record AnswersAsked {C : Type 0} (gives : C → ℕ → C → Type 0) (layout : Layout) (asked : Asked) (old new : World C) (answer : Answer) : Type 0 where
+  pub trace : Trace
+  pub extends : Extends layout old.moment.view.seen new.moment.view.seen trace.stops
+  pub last : EndAtLast layout new.moment.view.seen trace.stops
+  pub kept : new.moment.view.stops ≡ old.moment.view.stops ++ trace.stops
+  pub given : GivesTimestamps gives old.moment.clock trace.timestamps new.moment.clock
+  pub answered : FromNowOn new.moment.view.seen (λ later. IsAnswer layout later asked trace answer)
+  pub once : FromNowOn new.moment.view.seen (λ later. WritesOnce layout later trace.stops trace.answers)
+  pub leaves : Leaves layout trace.stops trace.command (situation_in old) (situation_in new)
+
+-- the answer is this one, or memory ran out as it was made
+abbrev pub IsAnswerOf : (defined given : Answer) → Type 0
+IsAnswerOf defined (replied reply) = defined ≡ replied reply
+IsAnswerOf defined ran_out = ⊤
+
+-- The slices were shown at one stop of the board, which was kept; or memory ran out as they were printed.
+pub record ShowsStatus (layout : Layout) (old new : View) (answer : Answer) : Type 0 where
+  pub stop : Stop
+  pub lock : stop.lock ≡ layout.buckets
+  pub made : stop.made ≡ false
+  pub extends : Extends layout old.seen new.seen (stop ∷ [])
+  pub stays : (lock : ℕ) → new.seen.journals lock ≡ old.seen.journals lock
+  pub board_own : new.seen.own layout.buckets ≡ old.seen.own layout.buckets
+  pub kept : new.stops ≡ old.stops ++ stop ∷ []
+  pub answered : FromNowOn new.seen (λ later. IsAnswerOf (replied (status_reply layout later stop)) answer)
 
 -- a clock that is not read: it gives no timestamp
 abbrev pub unread : ⊤ → ℕ → ⊤ → Type 0

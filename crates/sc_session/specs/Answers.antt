@@ -1,5 +1,5 @@
 -- What a request is answered, by the journals that were seen.
-use Rattle.std.specs.Prelude.{◌≡◌, ◌≤◌, ◌⊎◌, ℕ, Bool, false, List, [], ◌∷◌, ◌++◌, length, codes, Option, Some, None}
+use Rattle.std.specs.Prelude.{◌≡◌, ◌≤◌, ◌⊎◌, ℕ, Bool, false, List, [], ◌∷◌, ◌++◌, length, codes, take, Option, Some, None}
 use Rattle.sc_record.specs.declared.write.Write.{Write}
 use Rattle.sc_record.specs.declared.order.Order.{Order}
 use Rattle.sc_commands.specs.declared.batch.Batch.{Batch}
@@ -9,6 +9,18 @@ use Rattle.sc_reply.specs.Refusals as refusals
 use Rattle.sc_model.specs.Replies.{Reply}
 use Rattle.sc_journal.specs.Journal.{last_write}
 use Rattle.sc_journal.specs.Outcomes.{Outcome, accepted, conflict, partial, log_full, out_of_memory}
+use Rattle.sc_admin.specs.Commands.{Pieces, pieces_of, split, status, delete}
+use Rattle.sc_admin.specs.Status.{status_text}
+use Rattle.sc_admin.specs.Splits.{split_text}
+use Rattle.sc_admin.specs.Deletes.{DeleteCourse, IsDeleteAnswered}
+use Rattle.sc_admin.specs.declared.deleting.DeleteEnd.{DeleteEnd}
+use Rattle.sc_admin.specs.declared.deleting.DeleteEnd.TheVariants as deletes
+use Rattle.sc_board.specs.declared.cut.Cut.{Cut}
+use Rattle.sc_board.specs.Splits as board
+use Rattle.sc_split.specs.Splits.{Course, done, split_stops, IsAnswered}
+use Rattle.sc_split.specs.declared.end.SplitEnd.{SplitEnd}
+use Rattle.sc_split.specs.declared.end.SplitEnd.TheVariants as splits
+use Rattle.sc_seen.specs.Board.{board_map}
 use Rattle.sc_seen.specs.Seen.{Layout, Seen, journal_at}
 use Rattle.sc_seen.specs.Batches.{OrderAnswer, AnswersOrders, accepted_adds, accepted_deletes, order_stops, order_timestamps}
 use Rattle.sc_seen.specs.declared.stop.Stop.{Stop}
@@ -18,7 +30,8 @@ use Rattle.sc_update.specs.Updated.{UpdateEnd, finished, Ends}
 use Rattle.sc_get.specs.Got.{live, ReadsEach, live_writes}
 use Rattle.sc_fanout.specs.Searches.{Search, SearchPage, LooksAtBuckets, ShowsFound}
 use Rattle.sc_session.specs.Queries.{HaveCondition, HaveFault, IsRouteOf}
-use Rattle.sc_session.specs.Requests.{Asked, Select, not_built, refused, update, get, get_ids, select}
+use Rattle.sc_session.specs.Requests.{Asked, Select, not_built, refused, update, get, get_ids, select, command}
+use Rattle.sc_session.specs.Commands.{CommandEnd, no_command, split_ended, delete_ended, split_refusal, delete_refusal}
 
 -- a refusal, after these orders were accepted
 abbrev pub refusal_after : Bool → List OrderAnswer → refusals.Refusal → Reply
@@ -92,16 +105,58 @@ update_answer versions answers (finished commit_out_of_memory) = ran_out
 update_answer versions answers (updates.refused last) = refusal_answer versions answers (refusal_of_order last)
 update_answer versions answers updates.ran_out = ran_out
 
--- what a request left: the answers to its orders, the commits, the timestamps that were read for it and the stops that were kept
+-- the reply to what shows the slices, at this stop of the board
+abbrev pub status_reply : Layout → Seen → Stop → Reply
+status_reply layout seen stop =
+    record { status = 200; body = status_text (board_map layout.first (take stop.place seen.board)) layout.nodes }
+
+-- the answer to a split
+abbrev pub split_answer : SplitEnd → Answer
+split_answer (splits.Done subs committed) = replied (record { status = 200; body = split_text subs committed })
+split_answer end = refusal_answer false [] (split_refusal end)
+
+-- the answer to a deletion
+abbrev pub delete_answer : DeleteEnd → Answer
+delete_answer deletes.Done = replied (record { status = 200; body = update_text [] [] false })
+delete_answer end = refusal_answer false [] (delete_refusal end)
+
+-- what a request left: the answers to its orders, the commits, the timestamps that were read for it, the stops that were kept, and what
+-- its command came to
 pub record Trace : Type 0 where
   pub answers : List OrderAnswer
   pub commits : List CommitAnswer
   pub timestamps : List ℕ
   pub stops : List Stop
+  pub command : CommandEnd
 
 -- what is left of a request that only reads, at these stops
 abbrev pub read_trace : List Stop → Trace
-read_trace stops = record { answers = []; commits = []; timestamps = []; stops = stops }
+read_trace stops = record { answers = []; commits = []; timestamps = []; stops = stops; command = no_command }
+
+-- the commits of a split that went so
+abbrev pub split_commits : Course → List CommitAnswer
+split_commits (done plan answers) = answers
+split_commits _ = []
+
+-- what is left of a split that was asked for so, and went so
+abbrev pub split_trace : board.Asked → Stop → Course → SplitEnd → Trace
+split_trace asked first course end = record {
+  answers = [];
+  commits = split_commits course;
+  timestamps = [];
+  stops = split_stops first course;
+  command = split_ended asked first course end;
+}
+
+-- what is left of a deletion that went so
+abbrev pub delete_trace : List ℕ → Stop → DeleteCourse → DeleteEnd → Trace
+delete_trace shard first course end = record {
+  answers = [];
+  commits = [];
+  timestamps = [];
+  stops = first ∷ [];
+  command = delete_ended shard first course end;
+}
 
 -- nothing was looked at
 abbrev pub no_trace : Trace
@@ -114,6 +169,7 @@ pub record EndsBatch (layout : Layout) (seen : Seen) (batch : Batch) (trace : Tr
   pub ends : Ends layout seen batch trace.answers trace.commits how
   pub timestamps_are : trace.timestamps ≡ order_timestamps trace.answers
   pub stops_are : trace.stops ≡ order_stops trace.answers ++ commit_stops trace.commits
+  pub command_is : trace.command ≡ no_command
 
 -- the ids were each read at a stop
 pub record ReadsIds (layout : Layout) (ids : List (List ℕ)) (trace : Trace) (stops : List Stop) : Type 0 where
@@ -133,6 +189,29 @@ pub record IsSelected (layout : Layout) (seen : Seen) (ask : Select) (trace : Tr
   pub shows : ShowsFound layout seen search page
   pub reply_is : reply ≡ select_reply page.found page.start page.docs
 
+-- The slices were shown at one stop of the board.
+pub record ShowsBoard (layout : Layout) (trace : Trace) (stop : Stop) : Type 0 where
+  pub lock : stop.lock ≡ layout.buckets
+  pub made : stop.made ≡ false
+  pub trace_is : trace ≡ read_trace (stop ∷ [])
+
+-- A split that was asked for so left this trace, and ended so, by the journals at its stops.
+pub record EndsSplit (layout : Layout) (seen : Seen) (shard : List ℕ) (pieces : Pieces) (trace : Trace) (end : SplitEnd) : Type 0 where
+  pub cut : Cut
+  pub first : Stop
+  pub course : Course
+  pub cut_is : pieces_of cut ≡ pieces
+  pub trace_is : trace ≡ split_trace (board.asked_for shard cut) first course end
+  pub answered : IsAnswered layout seen (board.asked_for shard cut) first course end
+
+-- A deletion of the shard left this trace, and ended so, by the board at its stop.
+pub record EndsDelete (layout : Layout) (seen : Seen) (shard : List ℕ) (trace : Trace) (end : DeleteEnd) : Type 0 where
+  pub first : Stop
+  pub course : DeleteCourse
+  pub lock : first.lock ≡ layout.buckets
+  pub trace_is : trace ≡ delete_trace shard first course end
+  pub answered : IsDeleteAnswered layout seen shard first course end
+
 -- the reply to what was asked, with the trace that the request left; a refused request looks at no journal
 abbrev pub IsReply : Layout → Seen → Asked → Trace → Reply → Type 0
 IsReply layout seen not_built trace reply = (trace ≡ no_trace) × (reply ≡ not_built_reply)
@@ -147,9 +226,16 @@ IsReply layout seen (get_ids ids) trace reply =
 IsReply layout seen (select ask) trace reply =
     ((at : ℕ) × HaveFault ask.queries at × (trace ≡ no_trace) × (reply ≡ refusal_reply (refusals.bad_query at)))
     ⊎ IsSelected layout seen ask trace reply
+IsReply layout seen (command status) trace reply =
+    (stop : Stop) × ShowsBoard layout trace stop × (reply ≡ status_reply layout seen stop)
+IsReply layout seen (command (split shard pieces)) trace reply =
+    (end : SplitEnd) × EndsSplit layout seen shard pieces trace end × (split_answer end ≡ replied reply)
+IsReply layout seen (command (delete shard)) trace reply =
+    (end : DeleteEnd) × EndsDelete layout seen shard trace end × (delete_answer end ≡ replied reply)
 
 -- What stands where memory ran out: of an update the orders that were answered before and its commits, as it ended; of a get the
--- looks at its ids' journals up to there, and of a search those at the buckets; of a request that looks at no journal nothing.
+-- looks at its ids' journals up to there, and of a search those at the buckets; of a command what it came to, which may be that it was
+-- done, and nothing of it where its parameters were still read; of a request that looks at no journal nothing.
 abbrev pub Stands : Layout → Seen → Asked → Trace → Type 0
 Stands layout seen not_built trace = trace ≡ no_trace
 Stands layout seen (refused refusal) trace = trace ≡ no_trace
@@ -159,6 +245,11 @@ Stands layout seen (get id) trace = (stops : List Stop) × ReadsIds layout (id �
 Stands layout seen (get_ids ids) trace = (stops : List Stop) × ReadsIds layout ids trace stops
 Stands layout seen (select ask) trace =
     (stops : List Stop) × (count : ℕ) × (count ≤ layout.buckets) × (trace ≡ read_trace stops) × LooksAtBuckets count stops
+Stands layout seen (command status) trace = (trace ≡ no_trace) ⊎ ((stop : Stop) × ShowsBoard layout trace stop)
+Stands layout seen (command (split shard pieces)) trace =
+    (trace ≡ no_trace) ⊎ ((end : SplitEnd) × EndsSplit layout seen shard pieces trace end)
+Stands layout seen (command (delete shard)) trace =
+    (trace ≡ no_trace) ⊎ ((end : DeleteEnd) × EndsDelete layout seen shard trace end)
 
 -- what was asked was answered by the journals that were seen, at the trace's stops; or memory ran out
 abbrev pub IsAnswer : Layout → Seen → Asked → Trace → Answer → Type 0

@@ -3,6 +3,8 @@ use Rattle.std.specs.Prelude.{◌≡◌, ◌≤◌, ◌<◌, ◌^◌, List, leng
 use Rattle.sc_reply.specs.Refusals as refusals
 use Rattle.sc_commands.specs.Updates.{update_of, order_limit}
 use Rattle.sc_model.specs.declared.message.Param.{Param}
+use Rattle.sc_admin.specs.Commands.{command_of}
+use Rattle.sc_admin.specs.Cuts.{IsCutIfAny}
 use Rattle.sc_session.specs.Requests as asking
 use Rattle.sc_session.specs.declared.asked.Asked.{Asked}
 use Rattle.sc_session.specs.declared.asked.Asked.TheVariants as asks
@@ -16,6 +18,7 @@ use Rattle.sc_session.specs.declared.asked.Refused.TheVariants as refuses
 abbrev pub refused_of : Refused → refusals.Refusal
 refused_of refuses.NotFound = refusals.not_found
 refused_of (refuses.BadParam name) = refusals.bad_param name.now
+refused_of (refuses.BadCommand name) = refusals.bad_param name
 refused_of (refuses.Command fault) = asking.command_refusal fault
 
 -- a search that is asked for
@@ -35,11 +38,13 @@ asked_of (asks.Update batch) = asking.update (update_of batch)
 asked_of (asks.Get id) = asking.get id
 asked_of (asks.GetIds ids) = asking.get_ids ids
 asked_of (asks.Select select) = asking.select (select_of select)
+asked_of (asks.Command admin) = asking.command (command_of admin)
 
--- what was asked for is within its limits: a batch has no more orders than may be, a list of ids no more than may be, and a route
--- has a length that can be hashed
+-- what was asked for is within its limits: a batch has no more orders than may be, a list of ids no more than may be, a route has a
+-- length that can be hashed, and a split is in 2 to 8 parts
 abbrev pub IsWithinLimits : Asked → Type 0
 IsWithinLimits (asks.Update batch) = length batch.orders ≤ order_limit
 IsWithinLimits (asks.GetIds ids) = length ids ≤ asking.most_ids
 IsWithinLimits (asks.Select select) = (0 < length select.queries) × IfSome select.route (λ route. length route < 2 ^ 32)
+IsWithinLimits (asks.Command admin) = IsCutIfAny admin
 IsWithinLimits asked = ⊤

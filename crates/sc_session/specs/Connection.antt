@@ -6,27 +6,35 @@ use Rattle.sc_session.specs.Requests.{asked}
 use Rattle.sc_reply.specs.Refusals as refusals
 use Rattle.sc_model.specs.Replies.{text_of}
 use Rattle.sc_model.specs.Messages.{ReadsMessage, HasNoMessage, Ending, done, cut, bad_head, too_large, not_built, EndsSo, ReadsMessages}
-use Rattle.sc_seen.specs.Seen.{Layout, Seen, FromNowOn, GoesOn}
+use Rattle.sc_cores.specs.Cores.{Outside}
+use Rattle.sc_seen.specs.Seen.{Layout, Seen, Extends, EndAtLast, FromNowOn}
 use Rattle.sc_seen.specs.Batches.{WritesOnce}
 use Rattle.sc_seen.specs.declared.stop.Stop.{Stop}
 use Rattle.sc_collection.specs.Kept.{are_enough}
 use Rattle.sc_session.specs.Answers.{Answer, replied, ran_out, Trace, IsAnswer, reply_of, refusal_reply, not_built_reply, memory_reply}
 use Rattle.sc_model.specs.declared.message.Incoming.{Incoming}
+use Rattle.sc_session.specs.Commands.{Situation, situation, Leaves}
 use Rattle.sc_session.specs.declared.end.End.{End}
 use Rattle.sc_session.specs.declared.end.End.TheVariants as ends
 
--- a request with the trace that it left and what it was answered, and what was seen of the collection once it was
+-- a request with the trace that it left and what it was answered, and what was seen of the collection and was outside of it once it was
 pub record Exchange : Type 0 where
   pub request : Incoming
   pub trace : Trace
   pub answer : Answer
   pub seen : Seen
+  pub outside : Outside
+
+-- what stands once an exchange is over
+abbrev pub situation_after : Exchange → Situation
+situation_after x = situation x.seen x.outside
 
 -- One exchange, after this was seen. What was seen went on by its stops: of each bucket the last is at the end of what was seen
 -- there. It is answered as was asked, by all that is seen from then on, and of the entries that its stops made the writes are
 -- those of the orders that it accepted.
 pub record IsExchange (layout : Layout) (old : Seen) (x : Exchange) : Type 0 where
-  pub goes : GoesOn layout old x.seen x.trace.stops
+  pub extends : Extends layout old x.seen x.trace.stops
+  pub last : EndAtLast layout x.seen x.trace.stops
   pub answered : FromNowOn x.seen (λ later. IsAnswer layout later (asked x.request) x.trace x.answer)
   pub once : FromNowOn x.seen (λ later. WritesOnce layout later x.trace.stops x.trace.answers)
 
@@ -34,6 +42,12 @@ pub record IsExchange (layout : Layout) (old : Seen) (x : Exchange) : Type 0 whe
 abbrev pub AreExchanges : Layout → Seen → List Exchange → Seen → Type 0
 AreExchanges layout old [] new = new ≡ old
 AreExchanges layout old (x ∷ exchanges) new = IsExchange layout old x × AreExchanges layout x.seen exchanges new
+
+-- exchanges one after another, from what stood before them to what stands after them: the rest is as what each came to left it
+abbrev pub LeaveRest : Layout → Situation → List Exchange → Situation → Type 0
+LeaveRest layout old [] new = new ≡ old
+LeaveRest layout old (x ∷ exchanges) new =
+    Leaves layout x.trace.stops x.trace.command old (situation_after x) × LeaveRest layout (situation_after x) exchanges new
 
 -- the stops of exchanges, in order
 abbrev pub stops_of : List Exchange → List Stop

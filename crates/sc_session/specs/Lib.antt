@@ -2,6 +2,7 @@
 pub mod Parameters
 pub mod Requests
 pub mod Queries
+pub mod Commands
 pub mod Answers
 pub mod Connection
 pub mod States

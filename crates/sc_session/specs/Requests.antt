@@ -15,6 +15,7 @@ use Rattle.sc_model.specs.declared.message.Method.{Method}
 use Rattle.sc_model.specs.declared.message.Method.TheVariants as methods
 use Rattle.sc_model.specs.declared.message.Param.{Param}
 use Rattle.sc_model.specs.Parameters.{parameter, is_set_to, between_commas}
+use Rattle.sc_admin.specs.Commands.{Command, asked_admin}
 use Rattle.sc_session.specs.Parameters.{count_of, query_texts, other_fault}
 
 -- a search that is asked for: the texts of its queries, the text of its route, and the page that is to be shown
@@ -37,6 +38,8 @@ pub data Asked : Type 0 where
   get_ids : List (List ℕ) → Asked
   -- a page of the documents that queries find
   select : Select → Asked
+  -- a command to the collection
+  command : Command → Asked
 
 -- what the parameters of an update set (Solr Reference Guide, "Indexing with Update Handlers", "Optimistic Concurrency")
 abbrev pub flags_of : List Param → Flags
@@ -157,6 +160,16 @@ asked_search params = by_rows params (count_of usual_rows most_rows (parameter (
 abbrev pub asked_select : Incoming → Asked
 asked_select request = if is_get request.method && not request.encoded then asked_search request.params else not_built
 
+-- what the parameters of a command ask for, or which of them is at fault
+abbrev pub asked_command : Result Command (List ℕ) → Asked
+asked_command (Ok one) = command one
+asked_command (Err name) = refused (refusals.bad_param name)
+
+-- what a request to the collection itself asks for
+abbrev pub asked_of_collection : Incoming → Asked
+asked_of_collection request =
+    if is_get request.method && not request.encoded then asked_command (asked_admin request.params) else not_built
+
 -- the paths of updates
 abbrev pub update_paths : List (List ℕ)
 update_paths = codes "/solr/docs/update" ∷ codes "/solr/docs/update/json" ∷ []
@@ -169,7 +182,7 @@ get_path = codes "/solr/docs/get"
 abbrev pub select_path : List ℕ
 select_path = codes "/solr/docs/select"
 
--- the path that is not built yet
+-- the path of commands to the collection
 abbrev pub admin_path : List ℕ
 admin_path = codes "/solr/admin/collections"
 
@@ -179,5 +192,5 @@ asked request =
     if list_any (bytes_eq request.path) update_paths then asked_update request
     else (if bytes_eq request.path get_path then asked_get request
     else (if bytes_eq request.path select_path then asked_select request
-    else (if bytes_eq request.path admin_path then not_built
+    else (if bytes_eq request.path admin_path then asked_of_collection request
     else refused refusals.not_found)))

@@ -2,16 +2,17 @@
 use Rattle.std.specs.Prelude.{◌≡◌, ℕ, List, ◌++◌, length, Some, IfSome}
 use Rattle.sc_seen.specs.Seen.{Layout, Extends, AreLegal}
 use Rattle.sc_seen.specs.Batches.{GivesTimestamps}
-use Rattle.sc_session.specs.States.{ConnectionState, CountsFault}
-use Rattle.sc_session.specs.Connection.{Exchange, Last, AreExchanges, StaysOpen, exchanges_of, stops_of, timestamps_of, IsReadFrom, IsWritten, HasEnd}
+use Rattle.sc_session.specs.States.{ConnectionState, CountsFault, world_of, situation_in}
+use Rattle.sc_session.specs.Connection.{Exchange, Last, AreExchanges, LeaveRest, StaysOpen, exchanges_of, stops_of, timestamps_of, IsReadFrom, IsWritten, HasEnd}
 use Rattle.sc_session.specs.declared.end.End.{End}
 use Rattle.sc_session.specs.declared.end.End.TheVariants as ends
 
 -- What these exchanges left: they came one after another, each answered by the journals at its stops. Their stops were kept, and
 -- of the entries by which the journals that were seen before went on to those that are seen after, exactly theirs are the
--- connection's own. The clock gave their timestamps.
+-- connection's own. The clock gave their timestamps, and the rest is as what each came to left it.
 pub record LeavesTraces {C : Type 0} (gives : C → ℕ → C → Type 0) (layout : Layout) (before after : ConnectionState C) (exchanges : List Exchange) : Type 0 where
   pub each : AreExchanges layout before.moment.view.seen exchanges after.moment.view.seen
+  pub rest : LeaveRest layout (situation_in (world_of before)) exchanges (situation_in (world_of after))
   pub journals : Extends layout before.moment.view.seen after.moment.view.seen (stops_of exchanges)
   pub stops : after.moment.view.stops ≡ stops_of exchanges
   pub requests : after.requests ≡ length exchanges

@@ -5,7 +5,8 @@ use Rattle.sc_collection.specs.Kept.{are_enough}
 use Rattle.sc_seen.specs.Seen.{Layout}
 use Rattle.sc_seen.specs.Batches.{GivesTimestamps}
 use Rattle.sc_session.specs.Answers.{reply_of}
-use Rattle.sc_session.specs.States.{ConnectionState, CountsFault}
+use Rattle.sc_session.specs.Commands.{Leaves}
+use Rattle.sc_session.specs.States.{ConnectionState, CountsFault, world_of, situation_in}
 use Rattle.sc_session.specs.declared.end.End.{End}
 use Rattle.sc_session.specs.declared.end.End.TheVariants as ends
 use Rattle.sc_model.specs.declared.message.Incoming.{Incoming}
@@ -38,7 +39,9 @@ pub record Exchanges {C : Type 0} (gives : C → ℕ → C → Type 0) (layout :
   pub exchange : Exchange
   pub request_is : exchange.request ≡ request
   pub seen_is : exchange.seen ≡ new.moment.view.seen
+  pub outside_is : exchange.outside ≡ new.outside
   pub is : IsExchange layout old.moment.view.seen exchange
+  pub leaves : Leaves layout exchange.trace.stops exchange.trace.command (situation_in (world_of old)) (situation_in (world_of new))
   pub stops : new.moment.view.stops ≡ old.moment.view.stops ++ exchange.trace.stops
   pub requests : new.requests ≡ old.requests + 1
   pub timestamps : GivesTimestamps gives old.moment.clock exchange.trace.timestamps new.moment.clock

@@ -7,17 +7,20 @@ ghost use Rattle.sc_reply.specs.Bodies as bodies;
 ghost use Rattle.sc_reply.specs.Causes as causes;
 ghost use Rattle.sc_collection.specs.Kept.{stops_of_request, trail_room};
 ghost use Rattle.sc_collection.specs.Desks.{IsDeskAtRest};
+ghost use Rattle.sc_cores.specs.Cores.{outside_of};
 ghost use Rattle.sc_seen.specs.Moments.{moment_of};
 ghost use Rattle.sc_session.specs.Queries.{IsRouteOf};
 ghost use Rattle.sc_session.specs.Asking.{IsWithinLimits, select_of};
 ghost use Rattle.sc_session.specs.declared.asked.Asked.TheVariants as asks;
 ghost use Rattle.sc_session.specs.Requests as asking;
-ghost use Rattle.sc_session.specs.Answering.{AnswersAsked, IsOfOrder, RefusesFor, IsReplyTo, RefusesQuery, unread, reply_of, answer_of};
+ghost use Rattle.sc_session.specs.Answering.{AnswersAsked, AnswersOfBuckets, IsOfOrder, RefusesFor, IsReplyTo, RefusesQuery, unread, reply_of, answer_of};
 
 use crate::asked::Asked;
+use crate::command::{delete_reply, split_reply, status};
 use crate::query::condition;
 use crate::reply::Reply;
 use crate::select::Select;
+use sc_admin::{Admin, delete};
 use sc_collection::{Desk, Trail};
 use sc_commands::Batch;
 use sc_eval::BindFault;
@@ -25,18 +28,21 @@ use sc_fanout::{Ask, search};
 use sc_get::{get_many, get_one};
 use sc_hash::Range;
 use sc_http::Incoming;
-use sc_io::Clock;
+use sc_io::{Clock, Hosts, Pace};
 use sc_record::{Cell, Id, List, Text};
 use sc_reply::{Cause, get_body, ids_body, ok_body, select_body, update_body};
 use sc_router::key_range;
+use sc_split::split;
 use sc_update::{BatchEnd, BatchFault, update};
 use std::alloc::{AllocError, Global};
 
-/// The reply to a request, with what it leaves of the desk and of the clock. Its stops are kept.
-pub(crate) fn answer<D: Desk, C: Clock>(
+/// The reply to a request, with what it leaves of the desk, of the clock and of the hosts. Its stops are kept.
+pub(crate) fn answer<D: Desk, C: Clock, H: Hosts, P: Pace>(
     alloc: Global,
     desk: &mut D,
     clock: &mut C,
+    hosts: &mut H,
+    pace: &mut P,
     trail: &mut Trail,
     request: &Incoming,
 ) -> Result<Reply, AllocError>
@@ -44,7 +50,14 @@ pub(crate) fn answer<D: Desk, C: Clock>(
     requires buckets { IsBucketCount (D.layout desk.old).buckets }
     requires room { length trail.old.stops + stops_of_request ≤ trail_room }
     ensures answers { AnswersAsked C.gives (D.layout desk.old) (asking.asked request.now)
-        (moment_of (D.seen desk.old) trail.old.stops clock.old) (moment_of (D.seen desk.new) trail.new.stops clock.new) (answer_of result) }
+        (record {
+          moment = moment_of (D.seen desk.old) trail.old.stops clock.old;
+          outside = outside_of (H.started hosts.old) (H.start_faults hosts.old) (H.stop_faults hosts.old) (P.stops pace.old);
+        })
+        (record {
+          moment = moment_of (D.seen desk.new) trail.new.stops clock.new;
+          outside = outside_of (H.started hosts.new) (H.start_faults hosts.new) (H.stop_faults hosts.new) (P.stops pace.new);
+        }) (answer_of result) }
     ensures status { IfOk result (λ reply. IsSome (replies.reason_of reply.status)) }
     ensures rest { IsDeskAtRest (D.layout desk.new) (D.out desk.new) (D.seen desk.new) }
     ensures layout { D.layout desk.new ≡ D.layout desk.old }
@@ -52,16 +65,22 @@ pub(crate) fn answer<D: Desk, C: Clock>(
 {
     match Asked::of(alloc, request)? {
         Asked::NotBuilt => Ok(Reply::not_built()),
-        Asked::Refused(refused) => {
-            let none = List::new(alloc);
-            Reply::refused(alloc, &refused.cause(), &none, &none, false)
-        }
+        Asked::Refused(refused) => Reply::refusal(alloc, &refused.cause()),
         Asked::Get(id) => get(alloc, desk, trail, &id),
         Asked::GetIds(ids) => get_ids(alloc, desk, trail, &ids),
         Asked::Select(asked) => select(alloc, desk, trail, &asked),
         Asked::Update(batch) => {
             let end = update(alloc, desk, clock, trail, &batch);
             update_reply(alloc, &batch, &end)
+        }
+        Asked::Command(Admin::Status) => status(alloc, desk, trail),
+        Asked::Command(Admin::Split { shard, cut }) => {
+            let end = split(alloc, desk, hosts, pace, trail, shard.as_str(), &cut);
+            split_reply(alloc, &end)
+        }
+        Asked::Command(Admin::Delete { shard }) => {
+            let end = delete(alloc, desk, hosts, trail, shard.as_str());
+            delete_reply(alloc, &end)
         }
     }
 }
@@ -75,7 +94,7 @@ fn get<D: Desk>(
 ) -> Result<Reply, AllocError>
     requires rest { IsDeskAtRest (D.layout desk.old) (D.out desk.old) (D.seen desk.old) }
     requires room { length trail.old.stops + stops_of_request ≤ trail_room }
-    ensures answers { AnswersAsked unread (D.layout desk.old) (asking.get id.now)
+    ensures answers { AnswersOfBuckets unread (D.layout desk.old) (asking.get id.now)
         (moment_of (D.seen desk.old) trail.old.stops tt) (moment_of (D.seen desk.new) trail.new.stops tt) (answer_of result) }
     ensures status { IfOk result (λ reply. IsSome (replies.reason_of reply.status)) }
     ensures rest { IsDeskAtRest (D.layout desk.new) (D.out desk.new) (D.seen desk.new) }
@@ -96,7 +115,7 @@ fn get_ids<D: Desk>(
     requires rest { IsDeskAtRest (D.layout desk.old) (D.out desk.old) (D.seen desk.old) }
     requires room { length trail.old.stops + stops_of_request ≤ trail_room }
     requires within { IsWithinLimits (asks.GetIds ids.now) }
-    ensures answers { AnswersAsked unread (D.layout desk.old) (asking.get_ids ids.now)
+    ensures answers { AnswersOfBuckets unread (D.layout desk.old) (asking.get_ids ids.now)
         (moment_of (D.seen desk.old) trail.old.stops tt) (moment_of (D.seen desk.new) trail.new.stops tt) (answer_of result) }
     ensures status { IfOk result (λ reply. IsSome (replies.reason_of reply.status)) }
     ensures rest { IsDeskAtRest (D.layout desk.new) (D.out desk.new) (D.seen desk.new) }
@@ -118,7 +137,7 @@ fn select<D: Desk>(
     requires buckets { IsBucketCount (D.layout desk.old).buckets }
     requires room { length trail.old.stops + stops_of_request ≤ trail_room }
     requires within { IsWithinLimits (asks.Select asked.now) }
-    ensures answers { AnswersAsked unread (D.layout desk.old) (asking.select (select_of asked.now))
+    ensures answers { AnswersOfBuckets unread (D.layout desk.old) (asking.select (select_of asked.now))
         (moment_of (D.seen desk.old) trail.old.stops tt) (moment_of (D.seen desk.new) trail.new.stops tt) (answer_of result) }
     ensures status { IfOk result (λ reply. IsSome (replies.reason_of reply.status)) }
     ensures rest { IsDeskAtRest (D.layout desk.new) (D.out desk.new) (D.seen desk.new) }
@@ -159,10 +178,7 @@ fn query_refusal(alloc: Global, fault: BindFault) -> Result<Reply, AllocError>
     ensures status { IfOk result (λ reply. IsSome (replies.reason_of reply.status)) }
 {
     match fault {
-        BindFault::At { at } => {
-            let none = List::new(alloc);
-            Reply::refused(alloc, &Cause::BadQuery { at }, &none, &none, false)
-        }
+        BindFault::At { at } => Reply::refusal(alloc, &Cause::BadQuery { at }),
         BindFault::Memory => Err(AllocError),
     }
 }

@@ -6,6 +6,7 @@ ghost use Rattle.sc_session.specs.Asking.{asked_of, refused_of, IsWithinLimits};
 ghost use Rattle.sc_reply.specs.Causes.{refusal_of};
 
 use crate::select::{Select, SelectFault};
+use sc_admin::{Admin, AdminFault, read_admin};
 use sc_commands::{Batch, CommandFault, Flags, read_update};
 use sc_http::{Incoming, Method, Param};
 use sc_model::{is_set_to, parameter};
@@ -24,6 +25,8 @@ pub(crate) enum Refused {
     NotFound,
     /// A parameter of this name that has no such value.
     BadParam(&'static str),
+    /// A parameter of a command to the collection, of this name, that has no such value.
+    BadCommand(Text),
     /// The body of an update.
     Command(CommandFault),
 }
@@ -42,6 +45,8 @@ pub(crate) enum Asked {
     GetIds(List<Id>),
     /// A page of what queries find.
     Select(Select),
+    /// A command to the collection itself.
+    Command(Admin),
 }
 
 impl Refused {
@@ -52,6 +57,9 @@ impl Refused {
         match self {
             Refused::NotFound => Cause::NotFound,
             Refused::BadParam(name) => Cause::BadParam { name },
+            Refused::BadCommand(name) => Cause::BadParam {
+                name: name.as_str(),
+            },
             Refused::Command(fault) => command_cause(fault),
         }
     }
@@ -98,7 +106,7 @@ impl Asked {
             "/solr/docs/update" | "/solr/docs/update/json" => asked_update(alloc, request),
             "/solr/docs/get" => asked_get(alloc, request),
             "/solr/docs/select" => asked_select(alloc, request),
-            "/solr/admin/collections" => Ok(Asked::NotBuilt),
+            "/solr/admin/collections" => asked_of_collection(alloc, request),
             _ => Ok(Asked::Refused(Refused::NotFound)),
         }
     }
@@ -214,5 +222,20 @@ fn asked_select(alloc: Global, request: &Incoming) -> Result<Asked, AllocError>
         Ok(select) => Ok(Asked::Select(select)),
         Err(SelectFault::BadParam(name)) => Ok(Asked::Refused(Refused::BadParam(name))),
         Err(SelectFault::Memory) => Err(AllocError),
+    }
+}
+
+/// What a request to the collection itself asks for (Solr Reference Guide, "Collections API").
+fn asked_of_collection(alloc: Global, request: &Incoming) -> Result<Asked, AllocError>
+    ensures asked { IfOk result (λ answer. asked_of answer ≡ asking.asked_of_collection request.now) }
+    ensures limits { IfOk result IsWithinLimits }
+{
+    if request.method != Method::Get || request.encoded {
+        return Ok(Asked::NotBuilt);
+    }
+    match read_admin(alloc, &request.params) {
+        Ok(command) => Ok(Asked::Command(command)),
+        Err(AdminFault::BadParam(name)) => Ok(Asked::Refused(Refused::BadCommand(name))),
+        Err(AdminFault::Memory) => Err(AllocError),
     }
 }

@@ -1,6 +1,7 @@
 ghost use Rattle.std.specs.Prelude.{◌≡◌, ◌≢◌, ◌↔◌, [], false, Some, None, IsSome};
 ghost use Rattle.sc_model.specs.Replies as replies;
 ghost use Rattle.sc_router.specs.Route.{IsBucketCount};
+ghost use Rattle.sc_cores.specs.Cores.{outside_of};
 ghost use Rattle.sc_seen.specs.Moments.{moment_of};
 ghost use Rattle.sc_collection.specs.Desks.{nothing_out, IsDeskAtRest};
 ghost use Rattle.sc_collection.specs.Kept.{is_full};
@@ -17,16 +18,19 @@ use crate::fixed;
 use crate::reply::Reply;
 use sc_collection::{Desk, Trail};
 use sc_http::{Incoming, MessageEnd, Reader, write_reply};
-use sc_io::{Clock, Sink, Source};
+use sc_io::{Clock, Hosts, Pace, Sink, Source};
 use sc_reply::memory_body;
 use std::alloc::{AllocError, Global};
 
 /// Serves one connection: reads its requests, answers each over the desk and writes the answers, up to its end. The trail keeps
-/// the stops at which it read and wrote.
-pub fn serve<D: Desk, C: Clock, S: Source, W: Sink>(
+/// the stops at which it read and wrote. Splits and deletions of shards start and stop cores by the hosts, and a split asks the pace
+/// between its steps.
+pub fn serve<D: Desk, C: Clock, H: Hosts, P: Pace, S: Source, W: Sink>(
     alloc: Global,
     desk: &mut D,
     clock: &mut C,
+    hosts: &mut H,
+    pace: &mut P,
     source: &mut S,
     sink: &mut W,
     trail: &mut Trail,
@@ -36,6 +40,7 @@ pub fn serve<D: Desk, C: Clock, S: Source, W: Sink>(
     ensures connection { IsServed C.gives (D.layout desk.old)
         (record {
           moment = moment_of (D.seen desk.old) trail.old.stops clock.old;
+          outside = outside_of (H.started hosts.old) (H.start_faults hosts.old) (H.stop_faults hosts.old) (P.stops pace.old);
           requests = trail.old.requests;
           unread = S.rest source.old;
           written = W.written sink.old;
@@ -44,6 +49,7 @@ pub fn serve<D: Desk, C: Clock, S: Source, W: Sink>(
         })
         (record {
           moment = moment_of (D.seen desk.new) trail.new.stops clock.new;
+          outside = outside_of (H.started hosts.new) (H.start_faults hosts.new) (H.stop_faults hosts.new) (P.stops pace.new);
           requests = trail.new.requests;
           unread = S.rest source.new;
           written = W.written sink.new;
@@ -61,7 +67,9 @@ pub fn serve<D: Desk, C: Clock, S: Source, W: Sink>(
     loop {
         match reader.next_message(alloc, source) {
             Ok(request) => {
-                if let Some(end) = exchange(alloc, desk, clock, sink, trail, &request) {
+                if let Some(end) = exchange(
+                    alloc, desk, clock, hosts, pace, sink, trail, &request,
+                ) {
                     return end;
                 }
             }
@@ -71,10 +79,12 @@ pub fn serve<D: Desk, C: Clock, S: Source, W: Sink>(
 }
 
 /// Answers one request. Reports the connection's end where it ends after the reply.
-fn exchange<D: Desk, C: Clock, W: Sink>(
+fn exchange<D: Desk, C: Clock, H: Hosts, P: Pace, W: Sink>(
     alloc: Global,
     desk: &mut D,
     clock: &mut C,
+    hosts: &mut H,
+    pace: &mut P,
     sink: &mut W,
     trail: &mut Trail,
     request: &Incoming,
@@ -85,6 +95,7 @@ fn exchange<D: Desk, C: Clock, W: Sink>(
     ensures exchange { Exchanges C.gives (D.layout desk.old) request.now
         (record {
           moment = moment_of (D.seen desk.old) trail.old.stops clock.old;
+          outside = outside_of (H.started hosts.old) (H.start_faults hosts.old) (H.stop_faults hosts.old) (P.stops pace.old);
           requests = trail.old.requests;
           unread = None;
           written = W.written sink.old;
@@ -93,6 +104,7 @@ fn exchange<D: Desk, C: Clock, W: Sink>(
         })
         (record {
           moment = moment_of (D.seen desk.new) trail.new.stops clock.new;
+          outside = outside_of (H.started hosts.new) (H.start_faults hosts.new) (H.stop_faults hosts.new) (P.stops pace.new);
           requests = trail.new.requests;
           unread = None;
           written = W.written sink.new;
@@ -102,7 +114,7 @@ fn exchange<D: Desk, C: Clock, W: Sink>(
     ensures rest { IsDeskAtRest (D.layout desk.new) (D.out desk.new) (D.seen desk.new) }
     ensures layout { D.layout desk.new ≡ D.layout desk.old }
 {
-    let answer = answer(alloc, desk, clock, trail, request);
+    let answer = answer(alloc, desk, clock, hosts, pace, trail, request);
     trail.count_request();
     let end = end_after(&answer, request.close, trail.is_full());
     match &answer {

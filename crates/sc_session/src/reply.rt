@@ -37,7 +37,7 @@ pub(crate) struct Reply {
 }
 
 impl Reply {
-    ghost use Rattle.sc_session.specs.Answers.{not_built_reply};
+    ghost use Rattle.sc_session.specs.Answers.{not_built_reply, refusal_reply};
     ghost use Rattle.sc_session.specs.Answering.{reply_of};
 
     /// A reply with a fixed body.
@@ -65,6 +65,15 @@ impl Reply {
             status,
             body: Body::Made(body),
         }
+    }
+
+    /// A refusal by the request alone, or of a command. An error means out of memory.
+    pub(crate) fn refusal(alloc: Global, cause: &Cause<'_>) -> Result<Reply, AllocError>
+        ensures reply { IfOk result (λ reply. reply_of reply ≡ refusal_reply (refusal_of cause.now)) }
+        ensures status { IfOk result (λ reply. IsSome (replies.reason_of reply.status)) }
+    {
+        let none = List::new(alloc);
+        Reply::refused(alloc, cause, &none, &none, false)
     }
 
     /// A refusal, after these orders were accepted. An error means out of memory.

@@ -1,5 +1,5 @@
 -- The reply to a search is that of the journals at its stops.
-use Rattle.std.proofs.Common.{List, Result, Ok, Err, IfOk, refl, ap, ◌∙◌, subst}
+use Rattle.std.proofs.Common.{List, Result, Err, IfOk, refl, ap, ◌∙◌, subst}
 use Rattle.sc_eval.specs.declared.bound.Bound.{Bound}
 use Rattle.sc_eval.specs.declared.fault.BindFault.{BindFault}
 use Rattle.sc_eval.specs.Conditions.{condition_of}

@@ -1,8 +1,7 @@
 -- The reply to an update is that to what it reports.
 use Rattle.std.proofs.Common.{Option, subst, rules}
-use Rattle.std.specs.Prelude.{◌≢◌, IfSome}
+use Rattle.std.specs.Prelude.{IfSome}
 use Rattle.sc_update.specs.declared.end.BatchFault.{BatchFault}
-use Rattle.sc_update.specs.declared.end.BatchFault.TheVariants as reports
 use Rattle.sc_reply.specs.Causes as causes
 use Rattle.sc_session.specs.Answering.{IsOfOrder}
 use Rattle.sc_session.proofs.UpdateLemmas.{refused_reply}

@@ -2,16 +2,26 @@ ghost use Rattle.std.specs.Prelude.{◌≡◌, None, true, IfOk};
 ghost use Rattle.sc_collection.specs.Shapes.{is_bucket_count};
 
 use crate::words::{log_limit, number};
-use sc_collection::{Alone, Shape, Trail};
-use sc_io::{Fixed, MemSink, MemSource};
+use sc_collection::{Alone, Desk, Shape, Trail};
+use sc_cores::{cores_of_map, start_cores};
+use sc_io::{Fixed, MemHosts, MemPace, MemSink, MemSource};
 use sc_record::List;
 use sc_session::serve;
 use std::alloc::{AllocError, Global};
 
-/// A new collection, by the line `collection SHARDS REPLICAS BUCKETS LIMIT`, on two nodes.
-pub fn new_collection(alloc: Global, words: &[&str]) -> Result<Alone, AllocError>
-    ensures out { IfOk result (λ desk. desk.out ≡ None) }
-    ensures board_out { IfOk result (λ desk. desk.board_out ≡ None) }
+/// A collection, with the hosts that have its cores and the pace that its splits ask.
+#[derive(Drop)]
+pub struct Collection {
+    pub desk: Alone,
+    pub hosts: MemHosts,
+    pub pace: MemPace,
+}
+
+/// A new collection, by the line `collection SHARDS REPLICAS BUCKETS LIMIT`, on two nodes. Its cores are started, and from here on no call
+/// of its hosts fails and its pace says no stop.
+pub fn new_collection(alloc: Global, words: &[&str]) -> Result<Collection, AllocError>
+    ensures out { IfOk result (λ collection. collection.desk.out ≡ None) }
+    ensures board_out { IfOk result (λ collection. collection.desk.board_out ≡ None) }
 {
     let shards = number(words, 1).clamp(1, 64) as u32;
     let replicas = number(words, 2).clamp(1, 4) as u8;
@@ -22,7 +32,17 @@ pub fn new_collection(alloc: Global, words: &[&str]) -> Result<Alone, AllocError
         buckets: bucket_count(number(words, 3)),
         log_limit: log_limit(words, 4, shards, replicas),
     };
-    Alone::new(alloc, &shape)
+    let desk = Alone::new(alloc, &shape)?;
+    let cores = cores_of_map(alloc, desk.nodes(), desk.first())?;
+    let mut hosts = MemHosts::new(alloc, List::new(alloc));
+    if start_cores(&mut hosts, cores.as_slice()).is_err() {
+        return Err(AllocError);
+    }
+    Ok(Collection {
+        desk,
+        hosts,
+        pace: MemPace::new(None),
+    })
 }
 
 /// One bucket, or two.
@@ -32,13 +52,55 @@ fn bucket_count(count: u64) -> u32
     if count == 2 { 2 } else { 1 }
 }
 
+/// Has the further calls of the hosts fail whose numbers the line `fails N..` lists, and no others; the next call has the number 0.
+pub fn set_fails(alloc: Global, hosts: &mut MemHosts, words: &[&str]) -> Result<(), AllocError> {
+    let mut fails = List::new(alloc);
+    for at in 1..words.len() {
+        fails.push(hosts.calls.saturating_add(number(words, at)))?;
+    }
+    hosts.fails = fails;
+    Ok(())
+}
+
+/// Has the pace say stop at the further call whose number the line `stops N` says, and at no other; the next call has the number 0.
+pub fn set_stop(pace: &mut MemPace, words: &[&str]) {
+    pace.stop_at = if words.len() < 2 {
+        None
+    } else {
+        Some(pace.calls.saturating_add(number(words, 1)))
+    };
+}
+
+/// The cores that are started, in the order of their names, each as `NAME@NODE`.
+pub fn show_cores(alloc: Global, hosts: &MemHosts) -> Result<String, AllocError> {
+    let mut cores = Vec::new(alloc);
+    for host in hosts.started.as_slice() {
+        cores.push(format!(in alloc; "{}@{}", host.core.as_str(), host.node)?)?;
+    }
+    cores.sort_unstable();
+    let mut text = String::new(alloc);
+    for core in &cores {
+        if !text.is_empty() {
+            text.push_str(" ")?;
+        }
+        text.push_str(core.as_str())?;
+    }
+    Ok(text)
+}
+
 /// What a connection comes to that sends a line and nothing else, where `|` stands for each end of a line: how it ended, what it wrote,
-/// and its stops, each as its bucket and its place, with a sign where it made an entry.
-pub fn exchange(alloc: Global, desk: &mut Alone, now: u64, line: &str) -> Result<String, AllocError>
-    requires out { desk.old.out ≡ None }
-    requires board_out { desk.old.board_out ≡ None }
-    ensures out { desk.new.out ≡ None }
-    ensures board_out { desk.new.board_out ≡ None }
+/// and its stops, each as its lock and its place, with a sign where it made an entry. A bucket's lock is its number, and the board's is
+/// the number of buckets.
+pub fn exchange(
+    alloc: Global,
+    collection: &mut Collection,
+    now: u64,
+    line: &str,
+) -> Result<String, AllocError>
+    requires out { collection.old.desk.out ≡ None }
+    requires board_out { collection.old.desk.board_out ≡ None }
+    ensures out { collection.new.desk.out ≡ None }
+    ensures board_out { collection.new.desk.board_out ≡ None }
 {
     let bytes = line.replace(alloc, '|', "\r\n")?.into_bytes();
     let mut source = MemSource::new(List::from_vec(bytes), 7, List::new(alloc));
@@ -46,8 +108,10 @@ pub fn exchange(alloc: Global, desk: &mut Alone, now: u64, line: &str) -> Result
     let mut trail = Trail::new(alloc)?;
     let end = serve(
         alloc,
-        desk,
+        &mut collection.desk,
         &mut Fixed { moment: now },
+        &mut collection.hosts,
+        &mut collection.pace,
         &mut source,
         &mut sink,
         &mut trail,

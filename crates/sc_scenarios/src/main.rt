@@ -1,10 +1,10 @@
-//! Scenarios of the upper crates, which answers lines of standard input: a line is an event of a bucket, a request to a collection or a
-//! question about either, and the line of the same number of standard output is its answer. An empty line and one that begins with `#` are
-//! written as they are.
+//! Scenarios of the upper crates, which answers lines of standard input: a line is an event of a bucket, a request to a collection, what its
+//! hosts or its pace are to refuse, or a question about any of these, and the line of the same number of standard output is its answer. An
+//! empty line and one that begins with `#` are written as they are.
 //!
-//! What is expected comes from outside: from worked examples, and for the lists of events that were drawn at random from
-//! `plain_bucket.py`, which follows each event with a bucket of plain lists. The program depends on `sc_session`, whose `serve` has all that
-//! a request comes to, and on `sc_world`, whose events are all that may happen to a bucket.
+//! What is expected comes from outside: from worked examples, for the lists of events that were drawn at random from `plain_bucket.py`, which
+//! follows each event with a bucket of plain lists, and for the splits that are stopped at each step from `stopped_splits.py`. The program
+//! depends on `sc_session`, whose `serve` has all that a request comes to, and on `sc_world`, whose events are all that may happen to a bucket.
 #![tactic(auto)]
 
 // What lines ask for.
@@ -15,7 +15,7 @@ mod bucket;
 mod event;
 mod state;
 
-// A collection behind one connection for each request.
+// A collection with its hosts and its pace, behind one connection for each request.
 mod connection;
 
 // What is done line by line.

@@ -2,12 +2,11 @@ ghost use Rattle.std.specs.Prelude.{◌≡◌, None, IfOk};
 ghost use Rattle.sc_bucket.specs.Sound.{IsSound};
 
 use crate::bucket::{come, new_bucket, read};
-use crate::connection::{exchange, new_collection};
+use crate::connection::{Collection, exchange, new_collection, set_fails, set_stop, show_cores};
 use crate::event::event_of;
 use crate::state::state_of;
 use crate::words::{number, word};
 use sc_bucket::Bucket;
-use sc_collection::Alone;
 use sc_hash::murmur3;
 use std::alloc::{AllocError, Global};
 
@@ -15,7 +14,7 @@ use std::alloc::{AllocError, Global};
 #[derive(Drop)]
 pub struct Stage {
     pub bucket: Bucket,
-    pub desk: Alone,
+    pub collection: Collection,
     /// The timestamp of requests, in milliseconds.
     pub now: u64,
 }
@@ -23,12 +22,12 @@ pub struct Stage {
 impl Stage {
     pub fn new(alloc: Global) -> Result<Stage, AllocError>
         ensures sound { IfOk result (λ stage. IsSound stage.bucket) }
-        ensures out { IfOk result (λ stage. stage.desk.out ≡ None) }
-        ensures board_out { IfOk result (λ stage. stage.desk.board_out ≡ None) }
+        ensures out { IfOk result (λ stage. stage.collection.desk.out ≡ None) }
+        ensures board_out { IfOk result (λ stage. stage.collection.desk.board_out ≡ None) }
     {
         Ok(Stage {
             bucket: new_bucket(alloc, &[])?,
-            desk: new_collection(alloc, &[])?,
+            collection: new_collection(alloc, &[])?,
             now: 1000,
         })
     }
@@ -37,11 +36,11 @@ impl Stage {
 /// What is written for a line.
 pub fn answer(alloc: Global, stage: &mut Stage, line: &str) -> Result<String, AllocError>
     requires sound { IsSound stage.old.bucket }
-    requires out { stage.old.desk.out ≡ None }
-    requires board_out { stage.old.desk.board_out ≡ None }
+    requires out { stage.old.collection.desk.out ≡ None }
+    requires board_out { stage.old.collection.desk.board_out ≡ None }
     ensures sound { IsSound stage.new.bucket }
-    ensures out { stage.new.desk.out ≡ None }
-    ensures board_out { stage.new.desk.board_out ≡ None }
+    ensures out { stage.new.collection.desk.out ≡ None }
+    ensures board_out { stage.new.collection.desk.board_out ≡ None }
 {
     if line.is_empty() || line.starts_with('#') {
         return String::from_str(alloc, line);
@@ -53,14 +52,23 @@ pub fn answer(alloc: Global, stage: &mut Stage, line: &str) -> Result<String, Al
             String::from_str(alloc, "done")
         }
         "collection" => {
-            stage.desk = new_collection(alloc, &words)?;
+            stage.collection = new_collection(alloc, &words)?;
             String::from_str(alloc, "done")
         }
+        "fails" => {
+            set_fails(alloc, &mut stage.collection.hosts, &words)?;
+            String::from_str(alloc, "done")
+        }
+        "stops" => {
+            set_stop(&mut stage.collection.pace, &words);
+            String::from_str(alloc, "done")
+        }
+        "cores" => show_cores(alloc, &stage.collection.hosts),
         "clock" => {
             stage.now = number(&words, 1);
             String::from_str(alloc, "done")
         }
-        "GET" | "POST" | "DELETE" => exchange(alloc, &mut stage.desk, stage.now, line),
+        "GET" | "POST" | "DELETE" => exchange(alloc, &mut stage.collection, stage.now, line),
         _ => about_bucket(alloc, &mut stage.bucket, &words),
     }
 }

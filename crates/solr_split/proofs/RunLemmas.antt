@@ -1,15 +1,13 @@
--- A clock that stands still gives one timestamp, and a status says which object failed.
-use Rattle.std.proofs.Common.{◌≡◌, ◌<◌, ℕ, List, [], ◌∷◌, ◌++◌, Some, refl, ap, ◌∙◌, arith}
-use Rattle.std.specs.Prelude.{◌↔◌}
+-- A clock that stands still gives one timestamp.
+use Rattle.std.proofs.Common.{◌≡◌, ℕ, List, [], ◌∷◌, ◌++◌, Some, refl, ap, ◌∙◌}
 use Rattle.sc_io.specs.declared.memory.Fixed.{Fixed}
 use Rattle.sc_seen.specs.Batches.{GivesTimestamps}
 use Rattle.sc_seen.specs.Seen.{Layout}
 use Rattle.sc_session.specs.Connection.{exchanges_of, timestamps_of}
-use Rattle.sc_session.specs.States.{ConnectionState, CountsFault}
+use Rattle.sc_session.specs.States.{ConnectionState}
 use Rattle.sc_session.specs.Served.{IsServed}
 use Rattle.sc_session.specs.declared.end.End.{End}
-use Rattle.sc_session.specs.declared.end.End.TheVariants as ends
-use Rattle.solr_split.specs.Running.{clock_of, exit_status}
+use Rattle.solr_split.specs.Running.{clock_of}
 
 -- the timestamps of a fixed clock are those of a script that names one
 pub fixed_timestamps : {C : Type 0} (gives : C → ℕ → C → Type 0) (timestamp : ℕ) (clock : C) (timestamps : List ℕ) (old new : Fixed) → old.moment ≡ timestamp
@@ -21,6 +19,7 @@ fixed_timestamps gives timestamp clock (now ∷ timestamps) old new e g = (clock
 abbrev pub with_clock : {C D : Type 0} → ConnectionState C → D → ConnectionState D
 with_clock state clock = record {
   moment = record { view = state.moment.view; clock = clock };
+  outside = state.outside;
   requests = state.requests;
   unread = state.unread;
   written = state.written;
@@ -38,6 +37,7 @@ served_at gives timestamp layout before after clock end e s = record {
   stays_open = s.stays_open;
   traces = record {
     each = s.traces.each;
+    rest = s.traces.rest;
     journals = s.traces.journals;
     stops = s.traces.stops;
     requests = s.traces.requests;
@@ -52,41 +52,3 @@ served_at gives timestamp layout before after clock end e s = record {
   };
   legal = s.legal;
 }
-
-steady : (old new : ℕ) → new ≡ old → old < new → ⊥
-steady old new e l = omega arith
-
--- the status says that the source failed, or the sink, exactly where its count rose
-pub read_status : (end : End) (old new : ℕ) → CountsFault (end ≡ ends.ReadFault) old new → (exit_status end ≡ 4) ↔ (old < new)
-read_status ends.Done old new counts = (λ e. absurd (omega arith), λ l. absurd (steady old new (counts.stays (λ e. absurd (cc))) l))
-read_status ends.Closed old new counts = (λ e. absurd (omega arith), λ l. absurd (steady old new (counts.stays (λ e. absurd (cc))) l))
-read_status ends.Limit old new counts = (λ e. absurd (omega arith), λ l. absurd (steady old new (counts.stays (λ e. absurd (cc))) l))
-read_status ends.Cut old new counts = (λ e. absurd (omega arith), λ l. absurd (steady old new (counts.stays (λ e. absurd (cc))) l))
-read_status ends.BadHead old new counts = (λ e. absurd (omega arith), λ l. absurd (steady old new (counts.stays (λ e. absurd (cc))) l))
-read_status ends.TooLarge old new counts = (λ e. absurd (omega arith), λ l. absurd (steady old new (counts.stays (λ e. absurd (cc))) l))
-read_status ends.ReadFault old new counts = (λ e. counts.rises refl, λ l. refl)
-read_status ends.WriteFault old new counts = (λ e. absurd (omega arith), λ l. absurd (steady old new (counts.stays (λ e. absurd (cc))) l))
-read_status ends.Memory old new counts = (λ e. absurd (omega arith), λ l. absurd (steady old new (counts.stays (λ e. absurd (cc))) l))
-
-pub write_status : (end : End) (old new : ℕ) → CountsFault (end ≡ ends.WriteFault) old new → (exit_status end ≡ 5) ↔ (old < new)
-write_status ends.Done old new counts = (λ e. absurd (omega arith), λ l. absurd (steady old new (counts.stays (λ e. absurd (cc))) l))
-write_status ends.Closed old new counts = (λ e. absurd (omega arith), λ l. absurd (steady old new (counts.stays (λ e. absurd (cc))) l))
-write_status ends.Limit old new counts = (λ e. absurd (omega arith), λ l. absurd (steady old new (counts.stays (λ e. absurd (cc))) l))
-write_status ends.Cut old new counts = (λ e. absurd (omega arith), λ l. absurd (steady old new (counts.stays (λ e. absurd (cc))) l))
-write_status ends.BadHead old new counts = (λ e. absurd (omega arith), λ l. absurd (steady old new (counts.stays (λ e. absurd (cc))) l))
-write_status ends.TooLarge old new counts = (λ e. absurd (omega arith), λ l. absurd (steady old new (counts.stays (λ e. absurd (cc))) l))
-write_status ends.ReadFault old new counts = (λ e. absurd (omega arith), λ l. absurd (steady old new (counts.stays (λ e. absurd (cc))) l))
-write_status ends.WriteFault old new counts = (λ e. counts.rises refl, λ l. refl)
-write_status ends.Memory old new counts = (λ e. absurd (omega arith), λ l. absurd (steady old new (counts.stays (λ e. absurd (cc))) l))
-
--- no connection ends with the status of bad arguments
-pub status_not_2 : (end : End) → exit_status end ≡ 2 → ⊥
-status_not_2 ends.Done e = absurd (omega arith)
-status_not_2 ends.Closed e = absurd (omega arith)
-status_not_2 ends.Limit e = absurd (omega arith)
-status_not_2 ends.Cut e = absurd (omega arith)
-status_not_2 ends.BadHead e = absurd (omega arith)
-status_not_2 ends.TooLarge e = absurd (omega arith)
-status_not_2 ends.ReadFault e = absurd (omega arith)
-status_not_2 ends.WriteFault e = absurd (omega arith)
-status_not_2 ends.Memory e = absurd (omega arith)

@@ -1,9 +1,12 @@
 -- What a run of the program leaves.
-use Rattle.std.specs.Prelude.{◌≡◌, ◌⊎◌, ℕ, List, [], Option, Some, None}
+use Rattle.std.specs.Prelude.{◌≡◌, ◌<◌, ◌⊎◌, ℕ, List, [], Option, Some, None, IfSome}
+use Rattle.sc_cluster.specs.declared.slice.Slice.{Slice}
+use Rattle.sc_cores.specs.Cores.{Outside, cores_of_map, with_cores}
 use Rattle.sc_seen.specs.Seen.{Seen}
 use Rattle.sc_seen.specs.Moments.{moment_of}
 use Rattle.sc_collection.specs.Kept.{Kept}
-use Rattle.sc_collection.specs.Alone.{AloneState, seen_of}
+use Rattle.sc_collection.specs.Alone.{AloneState, seen_of, keeping_of}
+use Rattle.sc_collection.specs.Desks.{AreAtRest}
 use Rattle.sc_collection.specs.Shapes.{HasShape, SeesNothing}
 use Rattle.sc_session.specs.declared.end.End.{End}
 use Rattle.sc_session.specs.declared.end.End.TheVariants as ends
@@ -28,43 +31,64 @@ abbrev pub clock_of : {C : Type 0} → Option ℕ → (C → ℕ → C → Type 
 clock_of None gives = gives
 clock_of (Some timestamp) gives = λ old now new. (now ≡ timestamp) × (new ≡ old)
 
--- The outside at one moment: the clock, the bytes that the source has still to give and those that the sink was given, where they
--- report them, and how often each has failed.
-pub record Outside (C : Type 0) : Type 0 where
+-- The machine at one moment: the clock, the cores that are started and how often hosts and pace have failed or said stop, the bytes that
+-- the source has still to give and those that the sink was given, where they report them, and how often each has failed.
+pub record Machine (C : Type 0) : Type 0 where
   pub clock : C
+  pub outside : Outside
   pub unread : Option (List ℕ)
   pub written : Option (List ℕ)
   pub read_faults : ℕ
   pub write_faults : ℕ
 
 -- what stands beside a connection, by what was seen of its collection and what was kept of it
-abbrev pub state_of : {C : Type 0} → Seen → Kept → Outside C → ConnectionState C
-state_of seen kept outside = record {
-  moment = moment_of seen kept.stops outside.clock;
+abbrev pub state_of : {C : Type 0} → Seen → Kept → Machine C → ConnectionState C
+state_of seen kept machine = record {
+  moment = moment_of seen kept.stops machine.clock;
+  outside = machine.outside;
   requests = kept.requests;
-  unread = outside.unread;
-  written = outside.written;
-  read_faults = outside.read_faults;
-  write_faults = outside.write_faults;
+  unread = machine.unread;
+  written = machine.written;
+  read_faults = machine.read_faults;
+  write_faults = machine.write_faults;
 }
 
 -- nothing was kept yet
 abbrev pub none_kept : Kept
 none_kept = record { stops = []; requests = 0 }
 
--- One connection was served over a collection of the script's shape in which nothing had happened, and the status is that of its
--- end. What was seen after it is all that happened: each entry of a journal was made at one of the connection's stops.
-pub record RunsScript {C : Type 0} (script : Script) (gives : C → ℕ → C → Type 0) (before after : Outside C) (status : ℕ) : Type 0 where
+-- Each core of the first map was started, slice by slice, and no call failed.
+pub record StartsFirst (nodes : ℕ) (first : List Slice) (old new : Outside) : Type 0 where
+  pub started : IfSome old.started (λ cores. new.started ≡ Some (with_cores (cores_of_map nodes first) cores))
+  pub start_faults : new.start_faults ≡ old.start_faults
+  pub stop_faults : new.stop_faults ≡ old.stop_faults
+  pub stops : new.stops ≡ old.stops
+
+-- The cores of a collection of the script's shape, in which nothing had happened, were started, and one connection was served over it;
+-- the status is that of its end. What was seen after it is all that happened: of a bucket's journal each entry was made at one of the
+-- connection's stops, or its keeper made it, and those go with the board's; each entry of the board was made by a command.
+pub record RunsScript {C : Type 0} (script : Script) (gives : C → ℕ → C → Type 0) (before after : Machine C) (status : ℕ) : Type 0 where
   pub began : AloneState
   pub ended : AloneState
+  pub hosted : Outside
   pub kept : Kept
   pub end : End
   pub shape : HasShape script.shape began.layout
   pub empty : SeesNothing (seen_of began)
   pub layout : ended.layout ≡ began.layout
-  pub served : IsServed (clock_of script.clock gives) began.layout (state_of (seen_of began) none_kept before) (state_of (seen_of ended) kept after) end
+  pub hosts : StartsFirst began.layout.nodes began.layout.first before.outside hosted
+  pub served : IsServed (clock_of script.clock gives) began.layout (state_of (seen_of began) none_kept (record before { outside = hosted }))
+      (state_of (seen_of ended) kept after) end
+  pub rest : AreAtRest began.layout (seen_of ended).board (keeping_of ended)
   pub status_is : status ≡ exit_status end
 
--- a script was run; or memory ran out before it began, and all was left as it was
-abbrev pub RunsOrFails : {C : Type 0} → Script → (C → ℕ → C → Type 0) → (before after : Outside C) → (untouched : Type 0) → ℕ → Type 0
-RunsOrFails script gives before after untouched status = RunsScript script gives before after status ⊎ ((status ≡ 6) × untouched)
+-- All but the hosts was left as it was, and starting one of the first cores failed.
+pub record FailsToStart (before after : Outside) (untouched : Type 0) : Type 0 where
+  pub untouched_is : untouched
+  pub fault : before.start_faults < after.start_faults
+
+-- a script was run; or memory ran out before it began, and all was left as it was; or a core of the first map was not started
+abbrev pub RunsOrFails : {C : Type 0} → Script → (C → ℕ → C → Type 0) → (before after : Machine C) → (untouched hosts_untouched : Type 0) → ℕ → Type 0
+RunsOrFails script gives before after untouched hosts_untouched status =
+    RunsScript script gives before after status ⊎ ((status ≡ 6) × untouched × hosts_untouched)
+    ⊎ ((status ≡ 8) × FailsToStart before.outside after.outside untouched)

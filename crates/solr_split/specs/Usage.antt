@@ -25,4 +25,5 @@ meaning_of status =
     else (if status == 3 then codes "the input ended inside a request, or was no request that can be read"
     else (if status == 4 then codes "reading from standard input failed"
     else (if status == 5 then codes "writing to standard output failed"
-    else codes "out of memory")))
+    else (if status == 8 then codes "starting a core of the collection failed"
+    else codes "out of memory"))))

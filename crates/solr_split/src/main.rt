@@ -1,20 +1,21 @@
 //! `solr_split`: one SolrCloud collection behind HTTP, in one process.
 //!
 //! `run` is all that the program does, and its contract is what it promises: which bytes it writes for
-//! those that it reads, and its status. `main` hands it the machine's streams and clock, and says to a
-//! person what a status other than 0 means. It depends on `sc_session`, whose `serve` it calls, and on `sc_collection`, whose
-//! `Alone` keeps the collection.
+//! those that it reads, and its status. `main` hands it the machine's streams, clock and folders, and says to a
+//! person what a status other than 0 means. It depends on `sc_session`, whose `serve` it calls, on `sc_collection`, whose
+//! `Alone` keeps the collection, and on `sc_cores`, which names and starts the cores of its first map.
 //!
 //! Proved: `run`: the status for all arguments and faults, and the bytes if source and sink report theirs, by the promise of
-//! `sc_session`; the texts of the usage and of the line for each status (`meaning`). The law `options_come_in_any_order`: the order of the
-//! options changes nothing, also where they are refused. `proofs/ArgumentExamples` has arguments at the borders of each range, and the
-//! usage's example, with what they ask for.
+//! `sc_session`; that the cores of the first map are started before, if the hosts report theirs; and that no split runs in the end, so
+//! that each bucket is then as the board says. The texts of the usage and of the line for each status (`meaning`). The law
+//! `options_come_in_any_order`: the order of the options changes nothing, also where they are refused. `proofs/ArgumentExamples` has
+//! arguments at the borders of each range, and the usage's example, with what they ask for.
 //!
 //! Tested alone: that `run` does not say "out of memory" while there is memory, and the shipped program's own bytes and status: by the
 //! stored run, which sends a document of over 200,000 bytes through standard input and output and ends with status 3.
 //!
 //! Neither: that these lines reach standard error, and that `main` hands over standard input and output and the machine's
-//! clock.
+//! clock and folders.
 #![tactic(auto)]
 
 ghost use Rattle.std.specs.Prelude.{◌≡◌};
@@ -26,7 +27,7 @@ mod run;
 
 pub use laws::options_come_in_any_order;
 pub use run::run;
-use sc_io::{MachineClock, StdSink, StdSource};
+use sc_io::{FolderHosts, MachineClock, NoPace, StdSink, StdSource};
 use std::alloc::AllocError;
 use std::process::ExitCode;
 use std::{env, io};
@@ -46,6 +47,7 @@ fn main(rt: HostRuntime) -> ExitCode {
     let mut input = StdSource::new(rt.stdin());
     let mut output = StdSink::new(rt.stdout());
     let mut clock = MachineClock::new(&rt);
+    let mut hosts = FolderHosts::new(rt.alloc(), &rt);
     let status = match arguments_of(&rt) {
         Ok(arguments) => run(
             rt.alloc(),
@@ -53,6 +55,8 @@ fn main(rt: HostRuntime) -> ExitCode {
             &mut input,
             &mut output,
             &mut clock,
+            &mut hosts,
+            &mut NoPace,
         ),
         Err(error) if error.kind() == io::ErrorKind::InvalidData => 2,
         Err(_) => 6,
@@ -81,6 +85,7 @@ fn meaning(status: u8) -> &'static str
         3 => "the input ended inside a request, or was no request that can be read",
         4 => "reading from standard input failed",
         5 => "writing to standard output failed",
+        8 => "starting a core of the collection failed",
         _ => "out of memory",
     }
 }

@@ -1,4 +1,5 @@
-ghost use Rattle.std.specs.Prelude.{◌≡◌, ◌<◌, ◌↔◌, map, IfOk, IfSome, None, string_bytes};
+ghost use Rattle.std.specs.Prelude.{◌≡◌, ◌<◌, ◌≤◌, ◌↔◌, map, IfOk, IfSome, OnOk, OnErr, None, string_bytes};
+ghost use Rattle.sc_cores.specs.Cores.{outside_of, cores_of_map};
 ghost use Rattle.sc_session.specs.Served.{IsServed};
 ghost use Rattle.sc_collection.specs.Alone.{seen_of};
 ghost use Rattle.sc_collection.specs.Desks.{nothing_out};
@@ -8,45 +9,82 @@ ghost use Rattle.solr_split.specs.Arguments.{script_of};
 
 use crate::arguments::script_of;
 use sc_collection::{Alone, Desk, Shape, Trail};
-use sc_io::{Clock, Fixed, Sink, Source};
+use sc_cores::{cores_of_map, start_cores};
+use sc_io::{Clock, Fixed, Host, Hosts, Pace, Sink, Source};
+use sc_record::List;
 use sc_session::{End, serve};
 use std::alloc::{AllocError, Global};
 use std::mem::forget;
 
-/// All that the program does: `script` serves one connection over the source and the sink, and a new collection of the
-/// shape that its options ask for. Its clock is the one that is handed in or, with `--clock`, one that stands still at
-/// that many milliseconds.
+// What a connection needs.
+#[derive(Drop)]
+struct Needs {
+    /// A collection of the shape in which nothing happened yet.
+    desk: Alone,
+    /// An empty trail.
+    trail: Trail,
+    /// The cores of its first map.
+    cores: List<Host>,
+}
+
+/// All that the program does: `script` starts the cores of a new collection of the shape that its options ask for, and serves one connection
+/// over the source, the sink and that collection. Its clock is the one that is handed in or, with `--clock`, one that stands still at
+/// that many milliseconds. Splits start and stop cores by the hosts, and ask the pace.
 ///
 /// The status is 0 where the connection came to its end, 2 for arguments that ask for nothing, 3 where it
-/// ended in a message that can't be read, 4 where the source failed, 5 where the sink did, and 6 where
-/// memory ran out.
-pub fn run<S: Source, W: Sink, C: Clock>(
+/// ended in a message that can't be read, 4 where the source failed, 5 where the sink did, 6 where
+/// memory ran out, and 8 where starting a core of the first map failed; those before it stay started.
+pub fn run<S: Source, W: Sink, C: Clock, H: Hosts, P: Pace>(
     alloc: Global,
     arguments: &[String],
     source: &mut S,
     sink: &mut W,
     clock: &mut C,
+    hosts: &mut H,
+    pace: &mut P,
 ) -> u8
     ensures bad_arguments { (result ≡ 2) ↔ (script_of (map string_bytes arguments.now) ≡ None) }
 
-    // Where nothing is asked for, nothing is read or written.
-    ensures nothing_done { script_of (map string_bytes arguments.now) ≡ None → (source.new ≡ source.old) × (sink.new ≡ sink.old) × (clock.new ≡ clock.old) }
+    // Where nothing is asked for, nothing is read, written or started.
+    ensures nothing_done { script_of (map string_bytes arguments.now) ≡ None → (source.new ≡ source.old) × (sink.new ≡ sink.old) × (clock.new ≡ clock.old) × (hosts.new ≡ hosts.old) × (pace.new ≡ pace.old) }
 
-    // A script serves one connection, unless memory ran out before it began.
+    // A script serves one connection, unless memory ran out or a host failed before it began.
     ensures script { IfSome (script_of (map string_bytes arguments.now)) (λ script. RunsOrFails script C.gives
-        (record { clock = clock.old; unread = S.rest source.old; written = W.written sink.old; read_faults = S.faults source.old; write_faults = W.faults sink.old })
-        (record { clock = clock.new; unread = S.rest source.new; written = W.written sink.new; read_faults = S.faults source.new; write_faults = W.faults sink.new })
-        ((source.new ≡ source.old) × (sink.new ≡ sink.old) × (clock.new ≡ clock.old)) result) }
+        (record {
+          clock = clock.old;
+          outside = outside_of (H.started hosts.old) (H.start_faults hosts.old) (H.stop_faults hosts.old) (P.stops pace.old);
+          unread = S.rest source.old;
+          written = W.written sink.old;
+          read_faults = S.faults source.old;
+          write_faults = W.faults sink.old;
+        })
+        (record {
+          clock = clock.new;
+          outside = outside_of (H.started hosts.new) (H.start_faults hosts.new) (H.stop_faults hosts.new) (P.stops pace.new);
+          unread = S.rest source.new;
+          written = W.written sink.new;
+          read_faults = S.faults source.new;
+          write_faults = W.faults sink.new;
+        })
+        ((source.new ≡ source.old) × (sink.new ≡ sink.old) × (clock.new ≡ clock.old) × (pace.new ≡ pace.old)) (hosts.new ≡ hosts.old) result) }
     ensures read_fault { (result ≡ 4) ↔ (S.faults source.old < S.faults source.new) }
     ensures write_fault { (result ≡ 5) ↔ (W.faults sink.old < W.faults sink.new) }
+    ensures host_fault { result ≡ 8 → H.start_faults hosts.old < H.start_faults hosts.new }
 {
     let Some(script) = script_of(arguments) else {
         return 2;
     };
-    let (mut desk, mut trail) = match memory_of(alloc, &script.shape) {
-        Ok(memory) => memory,
+    let Needs {
+        mut desk,
+        mut trail,
+        cores,
+    } = match needs_of(alloc, &script.shape) {
+        Ok(needs) => needs,
         Err(_) => return 6,
     };
+    if start_cores(hosts, cores.as_slice()).is_err() {
+        return 8;
+    }
     let end = serve_script(
         alloc,
         script.clock,
@@ -54,47 +92,82 @@ pub fn run<S: Source, W: Sink, C: Clock>(
         source,
         sink,
         clock,
+        hosts,
+        pace,
         &mut trail,
     );
     // The program ends here: the system takes their memory at once, which is faster than taking them apart piece by piece.
-    forget(desk);
+    desk.leave();
     forget(trail);
     status_of(end)
 }
 
 /// Serves one connection over a desk, with the clock that is handed in or with one that stands still at a timestamp.
-fn serve_script<D: Desk, S: Source, W: Sink, C: Clock>(
+fn serve_script<D: Desk, S: Source, W: Sink, C: Clock, H: Hosts, P: Pace>(
     alloc: Global,
     timestamp: Option<u64>,
     desk: &mut D,
     source: &mut S,
     sink: &mut W,
     clock: &mut C,
+    hosts: &mut H,
+    pace: &mut P,
     trail: &mut Trail,
 ) -> End
     requires trail { trail.old ≡ none_kept }
     requires nothing_out { D.out desk.old ≡ nothing_out }
     ensures served { IsServed (clock_of timestamp C.gives) (D.layout desk.old)
-        (state_of (D.seen desk.old) trail.old (record { clock = clock.old; unread = S.rest source.old; written = W.written sink.old; read_faults = S.faults source.old; write_faults = W.faults sink.old }))
-        (state_of (D.seen desk.new) trail.new (record { clock = clock.new; unread = S.rest source.new; written = W.written sink.new; read_faults = S.faults source.new; write_faults = W.faults sink.new })) result }
+        (state_of (D.seen desk.old) trail.old (record {
+          clock = clock.old;
+          outside = outside_of (H.started hosts.old) (H.start_faults hosts.old) (H.stop_faults hosts.old) (P.stops pace.old);
+          unread = S.rest source.old;
+          written = W.written sink.old;
+          read_faults = S.faults source.old;
+          write_faults = W.faults sink.old;
+        }))
+        (state_of (D.seen desk.new) trail.new (record {
+          clock = clock.new;
+          outside = outside_of (H.started hosts.new) (H.start_faults hosts.new) (H.stop_faults hosts.new) (P.stops pace.new);
+          unread = S.rest source.new;
+          written = W.written sink.new;
+          read_faults = S.faults source.new;
+          write_faults = W.faults sink.new;
+        })) result }
     ensures layout { D.layout desk.new ≡ D.layout desk.old }
+    ensures nothing_out { D.out desk.new ≡ nothing_out }
 {
     match timestamp {
-        None => serve(alloc, desk, clock, source, sink, trail),
-        Some(moment) => serve(alloc, desk, &mut Fixed { moment }, source, sink, trail),
+        None => serve(alloc, desk, clock, hosts, pace, source, sink, trail),
+        Some(moment) => serve(
+            alloc,
+            desk,
+            &mut Fixed { moment },
+            hosts,
+            pace,
+            source,
+            sink,
+            trail,
+        ),
     }
 }
 
-/// What a connection needs: a collection of the shape in which nothing happened yet, and an empty trail.
-fn memory_of(alloc: Global, shape: &Shape) -> Result<(Alone, Trail), AllocError>
+/// What a connection over a new collection of the shape needs.
+fn needs_of(alloc: Global, shape: &Shape) -> Result<Needs, AllocError>
     requires shape { IsShape shape.now }
-    ensures layout { IfOk result (λ memory. HasShape shape.now memory.0.layout) }
-    ensures seen { IfOk result (λ memory. SeesNothing (seen_of memory.0)) }
-    ensures out { IfOk result (λ memory. memory.0.out ≡ None) }
-    ensures board_out { IfOk result (λ memory. memory.0.board_out ≡ None) }
-    ensures trail { IfOk result (λ memory. memory.1 ≡ none_kept) }
+    ensures layout { IfOk result (λ needs. HasShape shape.now needs.desk.layout) }
+    ensures seen { IfOk result (λ needs. SeesNothing (seen_of needs.desk)) }
+    ensures out { IfOk result (λ needs. needs.desk.out ≡ None) }
+    ensures board_out { IfOk result (λ needs. needs.desk.board_out ≡ None) }
+    ensures trail { IfOk result (λ needs. needs.trail ≡ none_kept) }
+    ensures cores { IfOk result (λ needs. needs.cores ≡ cores_of_map needs.desk.layout.nodes needs.desk.layout.first) }
 {
-    Ok((Alone::new(alloc, shape)?, Trail::new(alloc)?))
+    let desk = Alone::new(alloc, shape)?;
+    let cores = cores_of_map(alloc, desk.nodes(), desk.first())?;
+    Ok(Needs {
+        desk,
+        trail: Trail::new(alloc)?,
+        cores,
+    })
 }
 
 /// The exit status by how the connection ended.

@@ -1,0 +1,66 @@
+-- A script was run where its first cores were started and its connection was served.
+use Rattle.std.proofs.Common.{◌≡◌, ◌∙◌, ℕ, false, List, Option, Some, None, IfSome, Result, Ok, Err, OnOk, refl, subst}
+use Rattle.std.specs.Result.{is_err}
+use Rattle.sc_io.specs.declared.hosts.Host.{Host}
+use Rattle.sc_cluster.specs.declared.slice.Slice.{Slice}
+use Rattle.sc_cores.specs.Cores.{Outside, outside_of, cores_of_map, with_cores}
+use Rattle.sc_seen.specs.Board.{running_split}
+use Rattle.sc_collection.specs.Kept.{Kept}
+use Rattle.sc_collection.specs.Alone.{AloneState, seen_of, entries_of, keeping_of}
+use Rattle.sc_collection.specs.Desks.{AreAtRest}
+use Rattle.sc_collection.specs.Shapes.{HasShape, SeesNothing}
+use Rattle.sc_seen.specs.Seen.{Layout}
+use Rattle.sc_session.specs.Served.{IsServed}
+use Rattle.sc_session.specs.declared.end.End.{End}
+use Rattle.solr_split.specs.declared.arguments.Script.{Script}
+use Rattle.solr_split.specs.Running.{Machine, StartsFirst, RunsScript, clock_of, state_of, none_kept, exit_status}
+use Rattle.solr_split.proofs.RestLemmas.{over_after_connection, owns_all}
+
+-- what is so where a call succeeded is so once it is known to be no error
+on_no_error : {A E P : Type 0} (result : Result A E) → is_err result ≡ false → OnOk result P → P
+on_no_error (Ok value) is holds = holds
+on_no_error (Err error) is holds = absurd (cc)
+
+-- the first cores are started where these are, and no start of one failed
+pub starts_first : {A E : Type 0} (result : Result A E) (nodes : ℕ) (first : List Slice) (given cores : List Host)
+    (before now : Option (List Host)) (faults faults_now stop_faults stop_faults_now stops : ℕ) → is_err result ≡ false
+    → given ≡ cores → cores ≡ cores_of_map nodes first
+    → OnOk result (IfSome before (λ all. now ≡ Some (with_cores given all))) → OnOk result (faults_now ≡ faults)
+    → stop_faults_now ≡ stop_faults
+    → StartsFirst nodes first (outside_of before faults stop_faults stops) (outside_of now faults_now stop_faults_now stops)
+starts_first result nodes first given cores before now faults faults_now stop_faults stop_faults_now stops good same are started steady other = record {
+  started = subst (λ (hosts : List Host). IfSome before (λ all. now ≡ Some (with_cores hosts all))) (same ∙ are) (on_no_error result good started);
+  start_faults = on_no_error result good steady;
+  stop_faults = other;
+  stops = refl;
+}
+
+-- a script was run where these are so of its collection before and after it
+pub script_runs : {C : Type 0} (script : Script) (gives : C → ℕ → C → Type 0) (before after : Machine C) (began ended : AloneState)
+    (hosted : Outside) (trail kept : Kept) (end : End) (status : ℕ) → HasShape script.shape began.layout → SeesNothing (seen_of began)
+    → ended.layout ≡ began.layout → StartsFirst began.layout.nodes began.layout.first before.outside hosted → trail ≡ none_kept
+    → IsServed (clock_of script.clock gives) began.layout (state_of (seen_of began) trail (record before { outside = hosted }))
+    (state_of (seen_of ended) kept after) end
+    → (running_split (entries_of ended) ≡ None → AreAtRest ended.layout (entries_of ended) (keeping_of ended))
+    → status ≡ exit_status end → RunsScript script gives before after status
+script_runs script gives before after began ended hosted trail kept end status shape empty layout hosts none served rest status_is =
+    let first = state_of (seen_of began) none_kept (record before { outside = hosted }) in
+    let last = state_of (seen_of ended) kept after in
+    let connection : IsServed (clock_of script.clock gives) began.layout first last end =
+    subst (λ (k : Kept). IsServed (clock_of script.clock gives) began.layout (state_of (seen_of began) k (record before { outside = hosted })) last end)
+    none served in
+    let over = over_after_connection (clock_of script.clock gives) began.layout first last end connection empty (owns_all ended began.layout layout) in
+    record {
+      began = began;
+      ended = ended;
+      hosted = hosted;
+      kept = kept;
+      end = end;
+      shape = shape;
+      empty = empty;
+      layout = layout;
+      hosts = hosts;
+      served = connection;
+      rest = subst (λ (l : Layout). AreAtRest l (entries_of ended) (keeping_of ended)) layout (rest over);
+      status_is = status_is;
+    }

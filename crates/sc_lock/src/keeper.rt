@@ -2,7 +2,7 @@
 ghost use Rattle.std.specs.Prelude.{◌≡◌, Some};
 ghost use Rattle.sc_lock.specs.Journal.{places_after, IsLongest};
 ghost use Rattle.sc_lock.specs.Tokens.{lock_id, IsPassOf, IsFree, seen, own_places, splits_left, IsKeeperOf, IsFreeKeeper, keeper_seen, keeper_places, keeper_part, IsTurnOfKeeper, handed};
-ghost use Rattle.sc_lock.specs.Calls.{KeeperKnowsTheSame, IsFoundBy, MayBeGiven};
+ghost use Rattle.sc_lock.specs.Calls.{PassKnowsTheSame, KeeperKnowsTheSame, IsFoundBy, MayBeGiven};
 
 use crate::kept::Kept;
 use crate::lock::Lock;
@@ -45,6 +45,20 @@ impl<K: Kept> Lock<K> {
         ensures part { keeper_part keeper.new ≡ Some (K.part value) }
     {
         self.give_back(&mut keeper.seat, turn, value);
+    }
+
+    /// Lets the keeper have seen what a pass has, in three atomic steps. It waits for nobody and takes no memory.
+    pub fn show(&self, pass: &mut Pass<K>, keeper: &mut Keeper<K>)
+        requires pass { IsPassOf (lock_id self.now) pass.old × IsFree pass.old }
+        requires keeper { IsKeeperOf (lock_id self.now) keeper.old × IsFreeKeeper keeper.old }
+        ensures seen { IsLongest (keeper_seen keeper.old) (seen pass.old) (keeper_seen keeper.new) }
+        ensures pass { IsPassOf (lock_id self.now) pass.new × IsFree pass.new }
+        ensures pass_rest { PassKnowsTheSame pass.old pass.new }
+        ensures keeper { IsKeeperOf (lock_id self.now) keeper.new × IsFreeKeeper keeper.new }
+        ensures keeper_rest { (keeper_places keeper.new ≡ keeper_places keeper.old) × (keeper_part keeper.new ≡ keeper_part keeper.old) }
+    {
+        let from_pass = self.table.shared.split_seat::<SplitSeen>(&mut pass.seat);
+        self.join_seats(&mut keeper.seat, from_pass);
     }
 
     /// Lets a pass and the keeper have seen the same, in six atomic steps. It waits for nobody and

@@ -20,7 +20,7 @@
 //!   add the next one, as whoever began a split alone ends it. So the owner finds the journal just as
 //!   it left it.
 //! - `meet` lets a pass and the keeper have seen the same journal without a hold, so that a thread
-//!   with both knows at the next hold of either what the other one saw.
+//!   with both knows at the next hold of either what the other one saw. `show` lets the keeper alone learn.
 //! - A `Badge` shows which lock it is of, and nothing else. A value behind one lock can keep the badge
 //!   of another in its name, to say for good which lock it belongs with.
 //!

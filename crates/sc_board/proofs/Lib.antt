@@ -2,3 +2,4 @@
 pub mod NamedLemmas
 pub mod SoundLemmas
 pub mod CauseLemmas
+pub mod OwnedLemmas

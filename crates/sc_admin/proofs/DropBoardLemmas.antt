@@ -24,7 +24,7 @@ use Rattle.sc_board.specs.Boards.{IsSoundBoard}
 use Rattle.sc_board.specs.Splits.{slice_named, IsOfNamed}
 use Rattle.sc_board.proofs.SoundLemmas.{sound_map, sound_stands}
 use Rattle.sc_board.proofs.NamedLemmas.{named_there, same_by_id}
-use Rattle.sc_keeper.specs.Part.{CorePart}
+use Rattle.sc_keeper.specs.declared.part.CorePart.{CorePart}
 use Rattle.sc_keeper.specs.Conditions.{MayDrop}
 use Rattle.sc_collection.specs.Desks.{Keeping, IsAtRest, AreAtRest, changes_cores}
 use Rattle.sc_admin.specs.Dropping.{Known, OfBuckets, IsDroppedIn, DropsSlice}

@@ -8,7 +8,8 @@ use Rattle.sc_seen.specs.Seen.{Seen}
 use Rattle.sc_bucket.specs.declared.bucket.Bucket.{Bucket}
 use Rattle.sc_handover.specs.Conditions.{CanDrop}
 use Rattle.sc_handover.specs.Events.{Drops}
-use Rattle.sc_keeper.specs.Part.{Part, part_of}
+use Rattle.sc_keeper.specs.declared.part.Part.{Part}
+use Rattle.sc_keeper.specs.Part.{part_of}
 use Rattle.sc_keeper.specs.Conditions.{MayDrop}
 use Rattle.sc_keeper.specs.Events.{PartDrops}
 use Rattle.sc_keeper.proofs.ConditionLemmas.{drops_by_part}

@@ -5,7 +5,7 @@ use Rattle.sc_record.specs.declared.slice.SliceId.{SliceId}
 use Rattle.sc_record.specs.declared.entry.Entry.{Entry}
 use Rattle.sc_record.specs.declared.entry.Entry.TheVariants as entry
 use Rattle.sc_seen.specs.Seen.{Seen}
-use Rattle.sc_keeper.specs.Part.{Part}
+use Rattle.sc_keeper.specs.declared.part.Part.{Part}
 use Rattle.sc_keeper.specs.Events.{PartDrops}
 use Rattle.sc_keeper.specs.Conditions.{MayDrop}
 use Rattle.sc_admin.specs.Dropping.{Known, OfBuckets, IsSameIn, IsDroppedIn, KeepsBoard}

@@ -11,7 +11,7 @@ use Rattle.sc_seen.specs.declared.board.BoardEntry.{BoardEntry}
 use Rattle.sc_seen.specs.Board.{IsLegalBoard, board_map}
 use Rattle.sc_seen.specs.Seen.{Layout, AreLegal}
 use Rattle.sc_bucket.specs.declared.bucket.Bucket.{Bucket}
-use Rattle.sc_keeper.specs.Part.{Part}
+use Rattle.sc_keeper.specs.declared.part.Part.{Part}
 use Rattle.sc_board.specs.declared.board.Board.{Board}
 use Rattle.sc_collection.specs.Desks.{Out, Held, Keeping, KeepsOn, IsAtRest, AreAtRest}
 use Rattle.sc_collection.specs.Alone.{AloneState, bucket_in, bucket_at, journal_in, journal_of, entries_in, entries_of, pass_places, places, seen_of, keeping_of, KeepersAreOut, IsKept, IsDesk}

@@ -6,7 +6,8 @@ use Rattle.std.proofs.lemmas.Option.{slice_get_within}
 use Rattle.sc_record.specs.declared.entry.Entry.{Entry}
 use Rattle.sc_seen.specs.Seen.{Layout, AreLegal}
 use Rattle.sc_bucket.specs.declared.bucket.Bucket.{Bucket}
-use Rattle.sc_keeper.specs.Part.{Part, part_of, keeper_entries}
+use Rattle.sc_keeper.specs.declared.part.Part.{Part}
+use Rattle.sc_keeper.specs.Part.{part_of, keeper_entries}
 use Rattle.sc_keeper.proofs.PassLemmas.{part-step, step_adds_no_keeper_entry, keeper_adds_no_pass_entry}
 use Rattle.sc_board.specs.declared.board.Board.{Board}
 use Rattle.sc_collection.specs.Desks.{Held, KeepsOn, StillFit, KeepsGiven, MayReplace, KeeperMayReplace, SeesGiven, SeesKeeperGiven, AreAtRest, place_added}

@@ -16,7 +16,9 @@ use Rattle.sc_seen.specs.Board.{board_map}
 use Rattle.sc_seen.specs.Seen.{Layout}
 use Rattle.sc_bucket.specs.declared.bucket.Bucket.{Bucket}
 use Rattle.sc_bucket.specs.Cores.{IsNewCore}
-use Rattle.sc_keeper.specs.Part.{CorePart, Part, part_of, part_of_core, part_of_feed, keeper_entries}
+use Rattle.sc_keeper.specs.declared.part.CorePart.{CorePart}
+use Rattle.sc_keeper.specs.declared.part.Part.{Part}
+use Rattle.sc_keeper.specs.Part.{part_of, part_of_core, part_of_feed, keeper_entries}
 use Rattle.sc_board.specs.declared.board.Board.{Board}
 use Rattle.sc_board.specs.Boards.{IsSoundBoard}
 use Rattle.sc_collection.specs.Desks.{IsAtRest, changes_cores}
@@ -24,7 +26,7 @@ use Rattle.sc_collection.specs.Alone.{AloneState, desk_of, layout_of, out_of, bo
 use Rattle.sc_collection.specs.Shapes.{SeesNothing}
 
 -- a bucket on which nothing happened is at rest where the board has no entry
-new_at_rest : (first : List Slice) (limit : ℕ) (bucket : Bucket) → IsNewSlot first limit (Some bucket)
+pub new_at_rest : (first : List Slice) (limit : ℕ) (bucket : Bucket) → IsNewSlot first limit (Some bucket)
     → IsAtRest [] first (part_of bucket) (keeper_entries bucket.journal.entries)
 new_at_rest first limit bucket slot = subst (λ (one : Bucket). IsAtRest [] first (part_of one) (keeper_entries one.journal.entries)) same (record {
   map_is = slot.map_is;

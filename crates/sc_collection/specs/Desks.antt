@@ -17,7 +17,9 @@ use Rattle.sc_bucket.specs.declared.phase.Phase.TheVariants as phases
 use Rattle.sc_bucket.specs.Sound.{IsSound}
 use Rattle.sc_bucket.specs.Events.{IsStep}
 use Rattle.sc_handover.specs.AnyEvent.{IsKeeperEvent}
-use Rattle.sc_keeper.specs.Part.{CorePart, Part, part_of}
+use Rattle.sc_keeper.specs.declared.part.CorePart.{CorePart}
+use Rattle.sc_keeper.specs.declared.part.Part.{Part}
+use Rattle.sc_keeper.specs.Part.{part_of}
 
 -- the bucket is the one of this number: it began with the layout's map and has its limit, and the ids of its writes belong
 -- to it

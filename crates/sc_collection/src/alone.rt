@@ -182,6 +182,7 @@ impl Desk for Alone {
         requires is_of { IsBoardOf self.old.layout board.first board.limit }
         requires is_out { (entries : List BoardEntry) × (self.old.board_out ≡ Some entries)
             × MayReplaceBoard self.old.layout (seen_of self.old) entries board.journal.entries }
+        requires no_bucket { self.old.out ≡ None }
         requires rest { (keepers : Unit {0}) → board.keepers ≡ Some keepers
             → KeepersAreOut self.old × AreAtRest self.old.layout board.journal.entries (keeping_of self.old) }
         ensures seen { (entries : List BoardEntry) → self.old.board_out ≡ Some entries

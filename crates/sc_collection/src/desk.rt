@@ -5,7 +5,8 @@ ghost use Rattle.sc_router.specs.Route.{IsBucketCount};
 ghost use Rattle.sc_seen.specs.Seen.{Layout, Seen, AreLegal};
 ghost use Rattle.sc_seen.specs.declared.board.BoardEntry.{BoardEntry};
 ghost use Rattle.sc_bucket.specs.Sound.{IsSound};
-ghost use Rattle.sc_keeper.specs.Part.{Part, part_of};
+ghost use Rattle.sc_keeper.specs.declared.part.Part.{Part};
+ghost use Rattle.sc_keeper.specs.Part.{part_of};
 ghost use Rattle.sc_board.specs.Boards.{IsSoundBoard};
 ghost use Rattle.sc_collection.specs.Desks.{Out, Held, Keeping, IsBucketOf, IsBoardOf, MayReplace, KeeperMayReplace, MayReplaceBoard, SeesGiven, SeesKeeperGiven, SeesBoardGiven, OwnsSplit, StillFit, KeepsGiven, AreAtRest};
 
@@ -31,7 +32,8 @@ impl Parts for () {
 /// is given back. Others may do so in between: what is handed out extends what was seen of it. What was seen is legal.
 ///
 /// Whoever holds the keepers of all buckets alone does the events of a split, and finds each bucket's part as they left it. The board
-/// has them while no split runs, and then each bucket is as the board says. No call takes memory.
+/// has them while no split runs, and then each bucket is as the board says. The board is taken and given back while no bucket is out, so
+/// that of two who share a collection none waits for the board with a bucket in hand. No call takes memory.
 pub trait Desk {
     /// What stands for the keepers of all buckets.
     type Keepers: Parts + Drop;
@@ -121,6 +123,7 @@ pub trait Desk {
     /// left it.
     fn hold_board(&mut self) -> Board<Self::Keepers>
         requires nothing_out { (out self.old).board ≡ None }
+        requires no_bucket { (out self.old).bucket ≡ None }
         ensures sound { IsSoundBoard result }
         ensures is_of { IsBoardOf (layout self.old) result.first result.limit }
         ensures extends { IsPrefix (seen self.old).board result.journal.entries }
@@ -140,6 +143,7 @@ pub trait Desk {
         requires is_of { IsBoardOf (layout self.old) board.first board.limit }
         requires is_out { (entries : List BoardEntry) × ((out self.old).board ≡ Some entries)
             × MayReplaceBoard (layout self.old) (seen self.old) entries board.journal.entries }
+        requires no_bucket { (out self.old).bucket ≡ None }
         requires rest { (keepers : Self.Keepers) → board.keepers ≡ Some keepers
             → fits self.old keepers × AreAtRest (layout self.old) board.journal.entries (keeping self.old keepers) }
         ensures seen { (entries : List BoardEntry) → (out self.old).board ≡ Some entries

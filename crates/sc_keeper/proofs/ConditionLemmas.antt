@@ -19,7 +19,9 @@ use Rattle.sc_bucket.specs.declared.bucket.Bucket.{Bucket}
 use Rattle.sc_bucket.proofs.CoreLemmas.{IsLeaderOf-from_key}
 use Rattle.sc_handover.specs.Conditions.{IsInMode, IsThereActive, CanBegin, CanFeed, CanStartReplay, CanReplay, CanBeReady, CanGrow, CanSwitch, CanAbort, CanDrop}
 use Rattle.sc_handover.proofs.LastWriteLemmas.{same_from_key}
-use Rattle.sc_keeper.specs.Part.{CorePart, FeedPart, part_of_core, part_of_feed, part_of}
+use Rattle.sc_keeper.specs.declared.part.CorePart.{CorePart}
+use Rattle.sc_keeper.specs.declared.part.FeedPart.{FeedPart}
+use Rattle.sc_keeper.specs.Part.{part_of_core, part_of_feed, part_of}
 use Rattle.sc_keeper.specs.Conditions.{IsThereInMode, IsActiveAt, MayBegin, MayFeed, MayStartReplay, MayReplay, MayBeReady, MayGrow, MaySwitch, MayAbort, MayDrop}
 
 -- what is true of what is made of each element is true of each

@@ -34,7 +34,9 @@ use Rattle.sc_handover.specs.Conditions.{CanReplay}
 use Rattle.sc_handover.specs.Made.{first_core, empty_core, cells_now, first_feed, feed_limit, piece_of, moved_on, settled_sub}
 use Rattle.sc_handover.specs.Events.{Begins, HasSameRest, FeedsPiece, StartsReplay, ReplaysPiece, GetsReady, Grows, Switches, LosesSlices, Aborts, Drops}
 use Rattle.sc_handover.proofs.LastWriteLemmas.{same_from_key}
-use Rattle.sc_keeper.specs.Part.{CorePart, FeedPart, is_of_keeper, keeper_entries, left_in, part_of_core, part_of_feed, part_of}
+use Rattle.sc_keeper.specs.declared.part.CorePart.{CorePart}
+use Rattle.sc_keeper.specs.declared.part.FeedPart.{FeedPart}
+use Rattle.sc_keeper.specs.Part.{is_of_keeper, keeper_entries, left_in, part_of_core, part_of_feed, part_of}
 use Rattle.sc_keeper.specs.Events.{made_core, PartBegins, KeepsPartRest, PartFeeds, PartStartsReplay, replayed_part, PartReplays, PartGetsReady, put_part_by_name, PartGrows, PartSwitches, PartLosesSlices, PartAborts, PartDrops}
 use Rattle.sc_keeper.proofs.PartLemmas.{parts_of, parts-same_cores, part-fed_all, part-received_where, parts-arrived, keeper_entries-own}
 

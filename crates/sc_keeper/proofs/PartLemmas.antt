@@ -16,7 +16,8 @@ use Rattle.sc_bucket.specs.Flight.{in_flight, received_by, delivered, delivered_
 use Rattle.sc_bucket.specs.Events.{AreSameCores, HasSameSplit, detached}
 use Rattle.sc_bucket.specs.declared.bucket.Bucket.{Bucket}
 use Rattle.sc_bucket.proofs.SoundLemmas.{map-same_cores}
-use Rattle.sc_keeper.specs.Part.{CorePart, is_of_keeper, keeper_entries, left_in, part_of_core, part_of_feed, part_of}
+use Rattle.sc_keeper.specs.declared.part.CorePart.{CorePart}
+use Rattle.sc_keeper.specs.Part.{is_of_keeper, keeper_entries, left_in, part_of_core, part_of_feed, part_of}
 
 -- the parts of the cores
 abbrev pub parts_of : List Core → List CorePart

@@ -13,7 +13,9 @@ use Rattle.sc_ulog.specs.declared.mode.Mode.TheVariants.{Active, Buffering, Repl
 use Rattle.sc_bucket.specs.Cores.{slice_keys}
 use Rattle.sc_bucket.specs.declared.phase.Phase.TheVariants as phases
 use Rattle.sc_handover.specs.Conditions.{split_of}
-use Rattle.sc_keeper.specs.Part.{CorePart, FeedPart, Part}
+use Rattle.sc_keeper.specs.declared.part.CorePart.{CorePart}
+use Rattle.sc_keeper.specs.declared.part.FeedPart.{FeedPart}
+use Rattle.sc_keeper.specs.declared.part.Part.{Part}
 
 -- the core of this name is there, in this mode
 abbrev pub IsThereInMode : Part → CoreId → Mode → Type 0

@@ -13,7 +13,9 @@ use Rattle.sc_bucket.specs.Cores.{core_number, is_of_one}
 use Rattle.sc_bucket.specs.declared.phase.Phase.{Phase}
 use Rattle.sc_bucket.specs.declared.phase.Phase.TheVariants as phases
 use Rattle.sc_handover.specs.Made.{first_core, feed_limit}
-use Rattle.sc_keeper.specs.Part.{CorePart, FeedPart, Part}
+use Rattle.sc_keeper.specs.declared.part.CorePart.{CorePart}
+use Rattle.sc_keeper.specs.declared.part.FeedPart.{FeedPart}
+use Rattle.sc_keeper.specs.declared.part.Part.{Part}
 
 -- a core as it is made: it buffers what comes, and has nothing to replay
 abbrev pub made_core : CoreId → CorePart

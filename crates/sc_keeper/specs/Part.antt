@@ -1,37 +1,15 @@
--- What only a bucket's keeper changes of the bucket: its part.
+-- What only a bucket's keeper changes of the bucket: its part, as a value of the types in src/part.rt.
 use Rattle.std.specs.Prelude.{ℕ, Bool, true, false, List, length, map, filter}
-use Rattle.sc_record.specs.declared.slice.CoreId.{CoreId}
 use Rattle.sc_record.specs.declared.entry.Entry.{Entry}
 use Rattle.sc_record.specs.declared.entry.Entry.TheVariants as entry
-use Rattle.sc_cluster.specs.declared.slice.Slice.{Slice}
 use Rattle.sc_ulog.specs.declared.mode.Mode.{Mode}
 use Rattle.sc_ulog.specs.declared.mode.Mode.TheVariants.{Replaying}
 use Rattle.sc_replica.specs.Core.{Core}
 use Rattle.sc_bucket.specs.Kept.{FeedState}
 use Rattle.sc_bucket.specs.declared.bucket.Bucket.{Bucket}
-use Rattle.sc_bucket.specs.declared.phase.Phase.{Phase}
-
--- a core as its keeper left it: the name of its seat, its number, the mode of its log, and how many writes it has still to replay
-pub record CorePart : Type 0 where
-  pub name : CoreId
-  pub number : ℕ
-  pub mode : Mode
-  pub left : ℕ
-
--- a feed as its keeper left it: the core that is fed, the row of the snapshot that comes next, and how many rows there are
-pub record FeedPart : Type 0 where
-  pub core : CoreId
-  pub next : ℕ
-  pub rows : ℕ
-
--- What only the keeper of a bucket changes: the map, the phase, the cores, the feeds, and those of the journal's entries that no
--- other holder makes.
-pub record Part : Type 0 where
-  pub map : List Slice
-  pub phase : Phase
-  pub cores : List CorePart
-  pub feeds : List FeedPart
-  pub entries : List Entry
+use Rattle.sc_keeper.specs.declared.part.CorePart.{CorePart}
+use Rattle.sc_keeper.specs.declared.part.FeedPart.{FeedPart}
+use Rattle.sc_keeper.specs.declared.part.Part.{Part}
 
 -- only the keeper of a bucket makes such an entry
 abbrev pub is_of_keeper : Entry → Bool

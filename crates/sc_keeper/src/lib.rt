@@ -12,9 +12,14 @@
 //! Neither: `rejoin` and `take_lead`, whose conditions speak of cores that are down, which no part tells.
 #![tactic(auto)]
 
+// What a part is.
+mod part;
+
+// What events make of it.
 mod laws;
 
 pub use laws::{
     events_change_the_parts, journals_tell_the_keepers_entries, parts_tell_when_events_may_come,
     passes_keep_the_parts,
 };
+pub use part::{CorePart, FeedPart, Part};

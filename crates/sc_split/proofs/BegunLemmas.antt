@@ -29,7 +29,10 @@ use Rattle.sc_handover.specs.Made.{first_core}
 use Rattle.sc_handover.proofs.PlanLemmas.{sub_above}
 use Rattle.sc_handover.proofs.KeptLemmas.{slice_of_one}
 use Rattle.sc_handover.proofs.BegunCoreLemmas.{core_below}
-use Rattle.sc_keeper.specs.Part.{CorePart, FeedPart, Part, part_of}
+use Rattle.sc_keeper.specs.declared.part.CorePart.{CorePart}
+use Rattle.sc_keeper.specs.declared.part.FeedPart.{FeedPart}
+use Rattle.sc_keeper.specs.declared.part.Part.{Part}
+use Rattle.sc_keeper.specs.Part.{part_of}
 use Rattle.sc_keeper.specs.Conditions.{MayBegin}
 use Rattle.sc_keeper.specs.Events.{PartBegins, made_core, made_feed}
 use Rattle.sc_split.specs.Buckets.{core_names, fed_names, mode_among, IsToFill, HasSubCores, HasBegun, first_cores}

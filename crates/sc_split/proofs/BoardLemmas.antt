@@ -10,7 +10,8 @@ use Rattle.sc_seen.specs.Board.{MayNote, running_split}
 use Rattle.sc_seen.specs.Seen.{Layout, Seen}
 use Rattle.sc_seen.specs.declared.board.BoardEntry.{BoardEntry}
 use Rattle.sc_seen.specs.Rounds.{GoTogether}
-use Rattle.sc_keeper.specs.Part.{CorePart, Part}
+use Rattle.sc_keeper.specs.declared.part.CorePart.{CorePart}
+use Rattle.sc_keeper.specs.declared.part.Part.{Part}
 use Rattle.sc_collection.specs.Desks.{Out, Keeping, KeepsOn, IsBoardOf, MayReplaceBoard, SeesBoardGiven, OwnsSplit, IsAtRest, AreAtRest, changes_cores, place_added}
 use Rattle.sc_split.specs.Steps.{NotesOne}
 

@@ -20,7 +20,9 @@ use Rattle.sc_cluster.proofs.PairLemmas.{Contains-from_map}
 use Rattle.sc_cluster.proofs.StateLemmas.{forming-begun}
 use Rattle.sc_bucket.specs.Cores.{slice_keys}
 use Rattle.sc_bucket.specs.declared.phase.Phase.TheVariants as phases
-use Rattle.sc_keeper.specs.Part.{Part, CorePart, is_of_keeper, keeper_entries}
+use Rattle.sc_keeper.specs.declared.part.CorePart.{CorePart}
+use Rattle.sc_keeper.specs.declared.part.Part.{Part}
+use Rattle.sc_keeper.specs.Part.{is_of_keeper, keeper_entries}
 use Rattle.sc_keeper.specs.Conditions.{MayBeReady, MaySwitch, MayAbort}
 use Rattle.sc_keeper.specs.Events.{PartGetsReady, PartSwitches}
 use Rattle.sc_split.specs.Buckets.{Known, part_in, IsAllSeen, LeavesOthers, KeeperHeld, IsUnderway, IsFilled, KeepsSeats, IsGivenUp, first_cores}

@@ -8,7 +8,8 @@ use Rattle.sc_record.specs.declared.slice.CoreId.{CoreId}
 use Rattle.sc_cluster.proofs.PairLemmas.{Contains-from_map}
 use Rattle.sc_bucket.proofs.CoreLemmas.{is_core-itself}
 use Rattle.sc_handover.specs.Made.{feed_limit}
-use Rattle.sc_keeper.specs.Part.{FeedPart, Part}
+use Rattle.sc_keeper.specs.declared.part.FeedPart.{FeedPart}
+use Rattle.sc_keeper.specs.declared.part.Part.{Part}
 use Rattle.sc_keeper.specs.Conditions.{MayFeed}
 use Rattle.sc_keeper.specs.Events.{PartFeeds}
 use Rattle.sc_split.specs.Buckets.{fed_names, KeepsCores}

@@ -8,7 +8,9 @@ use Rattle.sc_cluster.specs.declared.plan.SplitPlan.{SplitPlan}
 use Rattle.sc_ulog.specs.declared.mode.Mode.TheVariants.{Active}
 use Rattle.sc_bucket.specs.Cores.{is_of_one}
 use Rattle.sc_handover.specs.Conditions.{split_of}
-use Rattle.sc_keeper.specs.Part.{CorePart, FeedPart, Part}
+use Rattle.sc_keeper.specs.declared.part.CorePart.{CorePart}
+use Rattle.sc_keeper.specs.declared.part.FeedPart.{FeedPart}
+use Rattle.sc_keeper.specs.declared.part.Part.{Part}
 use Rattle.sc_split.specs.Buckets.{core_names, fed_names, mode_among, seat_of, AreToFill, IsFirstFed, IsFilled, KeepsCores, KeepsSeats, IsUnderway}
 
 -- the names from one on

@@ -17,7 +17,8 @@ use Rattle.sc_seen.specs.Rounds.{board_entries, GoTogether}
 use Rattle.sc_seen.specs.Seen.{Layout, Seen, AreLegal}
 use Rattle.sc_seen.proofs.BoardLemmas.{failed_leaves_the_map}
 use Rattle.sc_seen.proofs.ExtendsLemmas.{IsPrefix-self, Extends-then}
-use Rattle.sc_keeper.specs.Part.{Part, CorePart}
+use Rattle.sc_keeper.specs.declared.part.CorePart.{CorePart}
+use Rattle.sc_keeper.specs.declared.part.Part.{Part}
 use Rattle.sc_collection.specs.Desks.{OwnsSplit, IsAtRest, AreAtRest}
 use Rattle.sc_split.specs.Buckets.{Known, part_in}
 use Rattle.sc_split.specs.Stages.{OpenSplit, OfBuckets, IsUnbegun, IsFailedIn, IsSameIn, KeepsBoard}

@@ -13,7 +13,9 @@ use Rattle.sc_ulog.specs.declared.mode.Mode.TheVariants.{Active, Buffering}
 use Rattle.sc_bucket.specs.Cores.{core_number, is_of_one}
 use Rattle.sc_bucket.proofs.CoreLemmas.{is_core-itself}
 use Rattle.sc_bucket.proofs.LeftOutLemmas.{apart_too}
-use Rattle.sc_keeper.specs.Part.{CorePart, FeedPart, Part}
+use Rattle.sc_keeper.specs.declared.part.CorePart.{CorePart}
+use Rattle.sc_keeper.specs.declared.part.FeedPart.{FeedPart}
+use Rattle.sc_keeper.specs.declared.part.Part.{Part}
 use Rattle.sc_keeper.specs.Events.{PartGrows, made_core, made_feed, put_part_by_name}
 use Rattle.sc_split.specs.Buckets.{core_names, fed_names, mode_among, AreToFill, HasGrown}
 use Rattle.sc_split.proofs.ModeLemmas.{core_name}

@@ -6,7 +6,8 @@ use Rattle.sc_record.specs.declared.entry.Entry.{Entry}
 use Rattle.sc_seen.specs.Seen.{Layout, Seen, AreLegal}
 use Rattle.sc_seen.proofs.ExtendsLemmas.{IsPrefix-self, IsPrefix-then}
 use Rattle.sc_bucket.specs.declared.bucket.Bucket.{Bucket}
-use Rattle.sc_keeper.specs.Part.{Part, part_of, keeper_entries}
+use Rattle.sc_keeper.specs.declared.part.Part.{Part}
+use Rattle.sc_keeper.specs.Part.{part_of, keeper_entries}
 use Rattle.sc_collection.specs.Desks.{Held, Out, Keeping, KeepsOn, KeepsGiven, SeesKeeperGiven, IsDeskAtRest, nothing_out}
 use Rattle.sc_split.specs.Buckets.{Known, known_of, part_in, IsAllSeen, LeavesOthers, KeeperHeld}
 

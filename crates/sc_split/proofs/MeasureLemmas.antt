@@ -5,7 +5,9 @@ use Rattle.std.proofs.lemmas.Bool.Decides.{leb_tells}
 use Rattle.sc_record.specs.declared.slice.CoreId.{CoreId}
 use Rattle.sc_replica.specs.Core.{replay_limit}
 use Rattle.sc_handover.specs.Made.{feed_limit}
-use Rattle.sc_keeper.specs.Part.{CorePart, FeedPart, Part}
+use Rattle.sc_keeper.specs.declared.part.CorePart.{CorePart}
+use Rattle.sc_keeper.specs.declared.part.FeedPart.{FeedPart}
+use Rattle.sc_keeper.specs.declared.part.Part.{Part}
 use Rattle.sc_keeper.specs.Events.{PartFeeds, PartReplays, replayed_part}
 
 -- what is not at most a number is above it

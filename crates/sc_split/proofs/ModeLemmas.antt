@@ -9,7 +9,7 @@ use Rattle.sc_record.specs.declared.slice.CoreId.{CoreId}
 use Rattle.sc_ulog.specs.declared.mode.Mode.{Mode}
 use Rattle.sc_bucket.proofs.CoreLemmas.{is_core-Decides}
 use Rattle.sc_bucket.proofs.LeftOutLemmas.{apart_too}
-use Rattle.sc_keeper.specs.Part.{CorePart}
+use Rattle.sc_keeper.specs.declared.part.CorePart.{CorePart}
 
 -- the name of a core
 abbrev pub core_name : CorePart → CoreId

@@ -10,7 +10,8 @@ use Rattle.sc_cluster.specs.declared.slice.Slice.{Slice}
 use Rattle.sc_cluster.specs.declared.plan.SplitPlan.{SplitPlan}
 use Rattle.sc_journal.specs.Legal.{MayBegin}
 use Rattle.sc_seen.proofs.ExtendsLemmas.{IsPrefix-self, IsPrefix-then}
-use Rattle.sc_keeper.specs.Part.{Part, is_of_keeper, keeper_entries}
+use Rattle.sc_keeper.specs.declared.part.Part.{Part}
+use Rattle.sc_keeper.specs.Part.{is_of_keeper, keeper_entries}
 use Rattle.sc_split.specs.Buckets.{Known, part_in, IsAllSeen, LeavesOthers, KeeperHeld, IsUnderway, IsToFill, HasSubCores}
 use Rattle.sc_split.specs.Stages.{OpenSplit, Stage, HasOpened, IsOpenIn, IsAtStage, IsUnbegun, IsSameIn, KeepsBoard}
 

@@ -14,7 +14,9 @@ use Rattle.sc_bucket.proofs.CoreLemmas.{is_core-Decides, is_core-itself}
 use Rattle.sc_bucket.proofs.LeftOutLemmas.{apart_too}
 use Rattle.sc_cluster.proofs.PairLemmas.{Contains-from_map}
 use Rattle.sc_handover.specs.Conditions.{split_of}
-use Rattle.sc_keeper.specs.Part.{CorePart, FeedPart, Part}
+use Rattle.sc_keeper.specs.declared.part.CorePart.{CorePart}
+use Rattle.sc_keeper.specs.declared.part.FeedPart.{FeedPart}
+use Rattle.sc_keeper.specs.declared.part.Part.{Part}
 use Rattle.sc_keeper.specs.Conditions.{MayStartReplay, MayReplay}
 use Rattle.sc_keeper.specs.Events.{KeepsPartRest, PartStartsReplay, PartReplays, replayed_part}
 use Rattle.sc_split.specs.Buckets.{core_names, mode_among, AreToFill, KeepsSeats, IsUnderway}

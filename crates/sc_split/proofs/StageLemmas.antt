@@ -19,7 +19,9 @@ use Rattle.sc_bucket.specs.declared.phase.Phase.TheVariants as phases
 use Rattle.sc_bucket.proofs.CoreLemmas.{is_core-Decides}
 use Rattle.sc_handover.specs.Made.{first_core}
 use Rattle.sc_handover.proofs.KeptLemmas.{is_of_one-there}
-use Rattle.sc_keeper.specs.Part.{CorePart, FeedPart, Part}
+use Rattle.sc_keeper.specs.declared.part.CorePart.{CorePart}
+use Rattle.sc_keeper.specs.declared.part.FeedPart.{FeedPart}
+use Rattle.sc_keeper.specs.declared.part.Part.{Part}
 use Rattle.sc_keeper.specs.Conditions.{IsActiveAt, MayBeReady, MayGrow, MaySwitch}
 use Rattle.sc_keeper.specs.Events.{PartGetsReady}
 use Rattle.sc_split.specs.Buckets.{core_names, mode_among, seat_of, IsToFill, IsFilled, HasSubCores, KeepsSeats, IsUnderway, first_cores}

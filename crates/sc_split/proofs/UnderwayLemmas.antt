@@ -20,7 +20,8 @@ use Rattle.sc_bucket.specs.Cores.{is_of_one}
 use Rattle.sc_handover.specs.Conditions.{split_of}
 use Rattle.sc_handover.proofs.KeptLemmas.{All-kept, slice_of_one}
 use Rattle.sc_handover.proofs.PlanLemmas.{sub_above}
-use Rattle.sc_keeper.specs.Part.{CorePart, Part}
+use Rattle.sc_keeper.specs.declared.part.CorePart.{CorePart}
+use Rattle.sc_keeper.specs.declared.part.Part.{Part}
 use Rattle.sc_keeper.specs.Conditions.{MayBeReady, MayGrow}
 use Rattle.sc_keeper.specs.Events.{PartGetsReady, PartGrows, PartAborts, made_core}
 use Rattle.sc_split.specs.Buckets.{IsUnderway, IsGivenUp}

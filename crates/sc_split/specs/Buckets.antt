@@ -19,7 +19,10 @@ use Rattle.sc_bucket.specs.Cores.{is_of_one}
 use Rattle.sc_bucket.specs.declared.phase.Phase.TheVariants as phases
 use Rattle.sc_handover.specs.Conditions.{split_of}
 use Rattle.sc_handover.specs.Made.{first_core}
-use Rattle.sc_keeper.specs.Part.{CorePart, FeedPart, Part, keeper_entries}
+use Rattle.sc_keeper.specs.declared.part.CorePart.{CorePart}
+use Rattle.sc_keeper.specs.declared.part.FeedPart.{FeedPart}
+use Rattle.sc_keeper.specs.declared.part.Part.{Part}
+use Rattle.sc_keeper.specs.Part.{keeper_entries}
 use Rattle.sc_keeper.specs.Events.{KeepsPartRest}
 use Rattle.sc_collection.specs.Desks.{Keeping}
 

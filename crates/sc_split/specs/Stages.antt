@@ -15,7 +15,8 @@ use Rattle.sc_journal.specs.Legal.{MayBegin}
 use Rattle.sc_bucket.specs.declared.phase.Phase.{Phase}
 use Rattle.sc_bucket.specs.declared.phase.Phase.TheVariants as phases
 use Rattle.sc_ulog.specs.declared.mode.Mode.TheVariants.{Active}
-use Rattle.sc_keeper.specs.Part.{CorePart, keeper_entries}
+use Rattle.sc_keeper.specs.declared.part.CorePart.{CorePart}
+use Rattle.sc_keeper.specs.Part.{keeper_entries}
 use Rattle.sc_split.specs.Buckets.{Known, part_in, IsAllSeen, IsToFill, HasSubCores, IsUnderway, IsGivenUp, first_cores}
 
 -- the name of a sub's further replica k, from 0

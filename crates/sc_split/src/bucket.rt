@@ -8,7 +8,7 @@ ghost use Rattle.sc_record.specs.declared.entry.Entry.TheVariants as entry;
 ghost use Rattle.sc_cluster.specs.declared.slice.Slice.{Slice};
 ghost use Rattle.sc_cluster.specs.declared.plan.SplitPlan.{SplitPlan};
 ghost use Rattle.sc_journal.specs.Legal.{MayBegin as JournalMayBegin};
-ghost use Rattle.sc_keeper.specs.Part.{Part};
+ghost use Rattle.sc_keeper.specs.declared.part.Part.{Part};
 ghost use Rattle.sc_keeper.specs.Conditions.{MayBegin, MayFeed, MayStartReplay, MayReplay, MayBeReady, MayGrow, MaySwitch, MayAbort};
 ghost use Rattle.sc_keeper.specs.Events.{PartFeeds, PartStartsReplay, PartReplays, PartGetsReady, PartSwitches};
 ghost use Rattle.sc_collection.specs.Desks.{IsDeskAtRest};

@@ -3,7 +3,7 @@
 ghost use Rattle.std.specs.Prelude.{◌≡◌, ◌≤◌, ◌<◌, ◌+◌, ◌⊎◌, ℕ, [], Err, OnOk, IfErr};
 ghost use Rattle.sc_cluster.specs.declared.slice.Slice.{Slice};
 ghost use Rattle.sc_cluster.specs.declared.plan.SplitPlan.{SplitPlan};
-ghost use Rattle.sc_keeper.specs.Part.{Part};
+ghost use Rattle.sc_keeper.specs.declared.part.Part.{Part};
 ghost use Rattle.sc_keeper.specs.Conditions.{MayBegin, MayGrow};
 ghost use Rattle.sc_collection.specs.Desks.{IsDeskAtRest};
 ghost use Rattle.sc_split.specs.Buckets.{known_of, LeavesOthers, IsAllSeen, KeeperHeld, IsUnderway, HasGrown, HasNoRoomFor, first_cores};

@@ -3,7 +3,7 @@ use Rattle.std.proofs.Common.{refl, sym, ap, ◌∙◌, subst}
 use Rattle.sc_seen.specs.Seen.{Layout}
 use Rattle.sc_bucket.specs.declared.bucket.Bucket.{Bucket}
 use Rattle.sc_handover.specs.AnyEvent.{IsKeeperEvent}
-use Rattle.sc_keeper.specs.Part.{Part}
+use Rattle.sc_keeper.specs.declared.part.Part.{Part}
 use Rattle.sc_collection.specs.Desks.{Out, KeeperMayReplace}
 use Rattle.sc_collection.proofs.KeeperReplaceLemmas.{keeper_may_replace}
 use Rattle.sc_split.specs.Buckets.{known_of}

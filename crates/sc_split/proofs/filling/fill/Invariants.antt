@@ -1,7 +1,7 @@
 -- The cores of a bucket are fed, and then they replay.
 use Rattle.std.proofs.Common.{◌≡◌, [], drop}
 use Rattle.sc_cluster.specs.declared.plan.SplitPlan.{SplitPlan}
-use Rattle.sc_keeper.specs.Part.{Part}
+use Rattle.sc_keeper.specs.declared.part.Part.{Part}
 use Rattle.sc_collection.specs.Desks.{IsDeskAtRest}
 use Rattle.sc_split.specs.Buckets.{known_of, fed_names, IsAllSeen, KeeperHeld, KeepsCores, KeepsSeats, AreToFill, IsUnderway}
 use Rattle.sc_split.proofs.filling.fill.Given as goal

@@ -9,8 +9,15 @@ pub mod StatusLemmas
 pub mod OpenLemmas
 pub mod ServeLemmas
 pub mod EndLemmas
+pub mod WorkLemmas
 pub mod MessageEndLemmas
 pub mod QueryLemmas
 pub mod AskedLemmas
 pub mod OwnWritesLemmas
 pub mod OwnReadsLemmas
+pub mod SplitJournalLemmas
+pub mod SplitSearchLemmas
+pub mod SplitPlaceLemmas
+pub mod SplitRefusedLemmas
+pub mod SplitRouteLemmas
+pub mod SplitExchangeLemmas

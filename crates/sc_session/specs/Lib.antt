@@ -11,4 +11,9 @@ pub mod Asking
 pub mod Answering
 pub mod Serving
 pub mod Ends
+pub mod Listening
+pub mod Stations
+pub mod Working
 pub mod Laws
+pub mod SplitLaws
+pub mod SplitRefusalLaws

@@ -1,0 +1,28 @@
+-- What options ask for has each of its numbers in its range.
+use Rattle.std.proofs.Common.{◌≡◌, ◌≤◌, ℕ, Bool, true, false, ◌&&◌, Some, None, cond, refl, subst, arith}
+use Rattle.std.proofs.lemmas.Bool.Decides.{nat_tests}
+use Rattle.sc_collection.specs.declared.shape.Shape.{Shape}
+use Rattle.sc_collection.specs.Shapes.{is_shape, IsShape, is_in_range}
+use Rattle.sc_arguments.specs.declared.asked.Server.{Server}
+use Rattle.sc_arguments.specs.Arguments.{IsServer}
+
+pub asked_is_shape : (shape asked : Shape) → Some shape ≡ cond (is_shape asked) (Some asked) None → IsShape shape
+asked_is_shape shape asked found = by (is_shape asked) refl found where
+  by : (t : Bool) → is_shape asked ≡ t → Some shape ≡ cond t (Some asked) None → IsShape shape
+  by true is found =
+      let same : asked ≡ shape = cc in
+      subst IsShape same is
+  by false is found = absurd (cc)
+
+in_range : (least most number : ℕ) → (least ≤ number) × (number ≤ most) → is_in_range least most number ≡ true
+in_range least most number within = grind (arith, nat_tests)
+
+four_true : (a b c d : Bool) → a ≡ true → b ≡ true → c ≡ true → d ≡ true → (a && b && c && d) ≡ true
+four_true a b c d ha hb hc hd = rw ha (rw hb (rw hc hd))
+
+-- it can be run where its shape is one that a collection may have, and each of its own numbers is in its range
+pub server_in_range : (server : Server) → IsShape server.shape → (1 ≤ server.port) × (server.port ≤ 65535)
+    → (1 ≤ server.workers) × (server.workers ≤ 64) → (1 ≤ server.max_connections) × (server.max_connections ≤ 4294967295) → IsServer server
+server_in_range server shape port workers connections =
+    four_true (is_shape server.shape) (is_in_range 1 65535 server.port) (is_in_range 1 64 server.workers) (is_in_range 1 4294967295 server.max_connections)
+    shape (in_range 1 65535 server.port port) (in_range 1 64 server.workers workers) (in_range 1 4294967295 server.max_connections connections)

@@ -1,0 +1,79 @@
+-- What the program's arguments ask for.
+use Rattle.std.specs.Prelude.{◌≡◌, ℕ, ◌&&◌, Bool, true, List, [], ◌∷◌, ◌++◌, codes, if◌then◌else◌, Option, Some, None, option_map}
+use Rattle.std.specs.Str.{bytes_eq}
+use Rattle.sc_collection.specs.declared.shape.Shape.{Shape}
+use Rattle.sc_collection.specs.Shapes.{is_shape, IsShape, is_in_range}
+use Rattle.sc_arguments.specs.declared.asked.Asked.{Asked}
+use Rattle.sc_arguments.specs.declared.asked.Asked.TheVariants as asking
+use Rattle.sc_arguments.specs.declared.asked.Script.{Script}
+use Rattle.sc_arguments.specs.declared.asked.Server.{Server}
+use Rattle.sc_arguments.specs.declared.command.Command.{Command}
+use Rattle.sc_arguments.specs.declared.command.Command.TheVariants as commands
+use Rattle.sc_arguments.specs.Options.{Setting, settings, number_given, number_or, are_options}
+
+-- the names of the options that every command takes
+abbrev pub shared_names : List (List ℕ)
+shared_names = codes "--nodes" ∷ codes "--shards" ∷ codes "--replicas" ∷ codes "--buckets" ∷ codes "--log-limit" ∷ codes "--clock" ∷ []
+
+-- the names of the options that a command takes
+abbrev pub option_names : Command → List (List ℕ)
+option_names commands.Script = shared_names
+option_names commands.Serve = shared_names ++ codes "--port" ∷ codes "--workers" ∷ codes "--max-connections" ∷ []
+
+-- the shape that options ask for: by default one node, one shard with one replica, and 64 buckets, whose journals have at most 1048576 entries
+abbrev pub shape_of : List Setting → Shape
+shape_of given = record {
+  nodes = number_or 1 (codes "--nodes") given;
+  shards = number_or 1 (codes "--shards") given;
+  replicas = number_or 1 (codes "--replicas") given;
+  buckets = number_or 64 (codes "--buckets") given;
+  log_limit = number_or 1048576 (codes "--log-limit") given;
+}
+
+-- the script that options ask for; its clock may stand still at any timestamp
+abbrev pub script_of : List Setting → Script
+script_of given = record { shape = shape_of given; clock = number_given (codes "--clock") given }
+
+-- the server that options ask for: by default it listens at port 8983, and four workers serve it, each as many connections as there are numbers for
+abbrev pub server_of : List Setting → Server
+server_of given = record {
+  shape = shape_of given;
+  clock = number_given (codes "--clock") given;
+  port = number_or 8983 (codes "--port") given;
+  workers = number_or 4 (codes "--workers") given;
+  max_connections = number_or 4294967295 (codes "--max-connections") given;
+}
+
+-- each number of the server is in its range
+abbrev pub is_server : Server → Bool
+is_server server =
+    is_shape server.shape && is_in_range 1 65535 server.port && is_in_range 1 64 server.workers && is_in_range 1 4294967295 server.max_connections
+
+-- it is one that can be run
+abbrev pub IsServer : Server → Type 0
+IsServer server = is_server server ≡ true
+
+-- what the options of `script` ask for
+abbrev pub script_by : List Setting → Option Script
+script_by given = if are_options (option_names commands.Script) given && is_shape (shape_of given) then Some (script_of given) else None
+
+-- what the options of `serve` ask for
+abbrev pub server_by : List Setting → Option Server
+server_by given = if are_options (option_names commands.Serve) given && is_server (server_of given) then Some (server_of given) else None
+
+-- `script` or `serve`, and any of its options; no other arguments ask for anything
+abbrev pub asked_of : List (List ℕ) → Option Asked
+asked_of [] = None
+asked_of (command ∷ options) =
+    if bytes_eq command (codes "script") then option_map (λ script. asking.Script script) (script_by (settings options))
+    else (if bytes_eq command (codes "serve") then option_map (λ server. asking.Serve server) (server_by (settings options)) else None)
+
+-- the shape of the collection that is asked for
+abbrev pub shape_asked : Asked → Shape
+shape_asked (asking.Script script) = script.shape
+shape_asked (asking.Serve server) = server.shape
+
+-- each number of what is asked for is in its range
+abbrev pub IsAsked : Asked → Type 0
+IsAsked (asking.Script script) = IsShape script.shape
+IsAsked (asking.Serve server) = IsServer server

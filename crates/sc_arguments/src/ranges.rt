@@ -1,0 +1,53 @@
+ghost use Rattle.std.specs.Prelude.{◌≡◌, ◌≤◌, map, string_bytes, if◌then◌else◌, Some, None, IfSome};
+ghost use Rattle.sc_collection.specs.Shapes.{is_shape, is_in_range, is_bucket_count};
+ghost use Rattle.sc_arguments.specs.Arguments as asked;
+ghost use Rattle.sc_arguments.specs.Options.{settings};
+
+use crate::options::number_or;
+use sc_collection::Shape;
+
+/// The shape that options ask for, where each of its numbers is in its range.
+pub(crate) fn shape_of(options: &[String]) -> Option<Shape>
+    ensures { result ≡ (let shape = asked.shape_of (settings (map string_bytes options.now)) in
+        if is_shape shape then Some shape else None) }
+{
+    let nodes = within(number_or(1, options, "--nodes"), 1, 16)?;
+    let shards = within(number_or(1, options, "--shards"), 1, 64)?;
+    let replicas = within(number_or(1, options, "--replicas"), 1, 4)?;
+    let buckets = bucket_count(number_or(64, options, "--buckets"))?;
+    let least = 16 + shards * (replicas - 1);
+    let limit = within(
+        number_or(1_048_576, options, "--log-limit"),
+        least,
+        16_777_216,
+    )?;
+    Some(Shape {
+        nodes,
+        shards,
+        replicas: replicas as u8,
+        buckets,
+        log_limit: u64::from(limit),
+    })
+}
+
+/// The number, where it is in the range.
+pub(crate) fn within(number: u64, least: u32, most: u32) -> Option<u32>
+    ensures asked { result ≡ (if is_in_range least most number then Some number else None) }
+    ensures range { IfSome result (λ number. (least ≤ number) × (number ≤ most)) }
+{
+    if u64::from(least) <= number && number <= u64::from(most) {
+        Some(number as u32)
+    } else {
+        None
+    }
+}
+
+/// The number, where it is a power of two from 1 to 256.
+fn bucket_count(number: u64) -> Option<u32>
+    ensures { result ≡ (if is_bucket_count number then Some number else None) }
+{
+    match number {
+        1 | 2 | 4 | 8 | 16 | 32 | 64 | 128 | 256 => Some(number as u32),
+        _ => None,
+    }
+}

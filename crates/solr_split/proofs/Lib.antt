@@ -1,8 +1,7 @@
--- What the proofs of the arguments and of a run share, what the options' order means, and examples.
-mod ArgumentExamples
-mod OrderLemmas
+-- What the proofs of a run share, and what the usage's example asks for.
+pub mod MapCoreLemmas
 pub mod RestLemmas
 pub mod RunLemmas
 pub mod ScriptLemmas
-pub mod SettingLemmas
-pub mod ShapeLemmas
+pub mod StartedLemmas
+mod UsageExamples

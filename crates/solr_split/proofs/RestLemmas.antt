@@ -31,7 +31,7 @@ abbrev pub OwnsAll : Layout → Seen → Type 0
 OwnsAll layout seen = seen.own layout.buckets ≡ range_with_len 0 (length seen.board)
 
 -- of one's own entries of the board each was seen
-abbrev OwnsSeen : Layout → Seen → Type 0
+abbrev pub OwnsSeen : Layout → Seen → Type 0
 OwnsSeen layout seen = AllByRecursion (λ (place : ℕ). place < length seen.board) (seen.own layout.buckets)
 
 -- where numbers below a bound, and then others from it on, are all that follow one another, those below it are all up to it
@@ -58,7 +58,7 @@ range_below from (suc count) (n ∷ below) above bound (suc many) is sum few low
     ∙ ap (λ ks. from ∷ ks) (range_below (from + 1) count below above bound many tail (omega (arith, sum)) (omega (arith, few)) low.1 high)
 
 -- where all are one's own after stops, they were before
-owned_before : (layout : Layout) (old new : Seen) (stops : List Stop) → Extends layout old new stops → OwnsSeen layout old
+pub owned_before : (layout : Layout) (old new : Seen) (stops : List Stop) → Extends layout old new stops → OwnsSeen layout old
     → OwnsAll layout new → OwnsAll layout old
 owned_before layout old new stops extends within owns =
     range_below 0 (length old.board) (old.own layout.buckets) extends.notes.added (length old.board) (length new.board)
@@ -66,7 +66,7 @@ owned_before layout old new stops extends within owns =
     within extends.notes.after
 
 -- one's own are seen after stops where they were before
-seen_after : (layout : Layout) (old new : Seen) (stops : List Stop) → Extends layout old new stops → OwnsSeen layout old
+pub seen_after : (layout : Layout) (old new : Seen) (stops : List Stop) → Extends layout old new stops → OwnsSeen layout old
     → OwnsSeen layout new
 seen_after layout old new stops extends within =
     let Early : ℕ → Type 0 = λ (place : ℕ). place < length new.board in
@@ -76,7 +76,7 @@ seen_after layout old new stops extends within =
     subst (AllByRecursion Early) (sym extends.notes.own) (All-append Early (old.own layout.buckets) extends.notes.added old_within extends.notes.within)
 
 -- the same of exchanges
-owned_before_all : (layout : Layout) (old new : Seen) (exchanges : List Exchange) → AreExchanges layout old exchanges new
+pub owned_before_all : (layout : Layout) (old new : Seen) (exchanges : List Exchange) → AreExchanges layout old exchanges new
     → OwnsSeen layout old → OwnsAll layout new → OwnsAll layout old
 owned_before_all layout old new [] each within owns = subst (OwnsAll layout) each owns
 owned_before_all layout old new (x ∷ exchanges) each within owns =
@@ -111,6 +111,24 @@ notes_only : (layout : Layout) (old new : Seen) (before noted : List BoardEntry)
 notes_only layout old new before noted place owned owns begins is own =
     ends_with old.board new.board before noted begins is (added layout old new place (length noted) owned owns own)
 
+-- what a request notes on the board
+abbrev pub noted_of : CommandEnd → List BoardEntry
+noted_of no_command = []
+noted_of (split_ended asked first course end) = noted_by course
+noted_of (delete_ended shard first course end) = deletes.noted_by course
+
+-- so the board goes on by that and by nothing else
+pub board_after_request : (layout : Layout) (stops : List Stop) (end : CommandEnd) (old new : Situation) → Leaves layout stops end old new
+    → IsPrefix old.seen.board new.seen.board → OwnsAll layout old.seen → OwnsAll layout new.seen
+    → new.seen.board ≡ old.seen.board ++ noted_of end
+board_after_request layout stops no_command old new leaves begins owned owns =
+    let own = leaves.board_own ∙ sym (append-nil (old.seen.own layout.buckets)) in
+    notes_only layout old.seen new.seen new.seen.board [] 0 owned owns begins (sym (append-nil new.seen.board)) own
+board_after_request layout stops (split_ended asked first course end) old new leaves begins owned owns =
+    notes_only layout old.seen new.seen leaves.board.before (noted_by course) first.place owned owns begins leaves.board.board_is leaves.board.own
+board_after_request layout stops (delete_ended shard first course end) old new leaves begins owned owns =
+    notes_only layout old.seen new.seen (take first.place new.seen.board) (deletes.noted_by course) first.place owned owns begins leaves.board leaves.own
+
 -- ---- which split runs then
 -- an entry after which none runs comes last
 stopped_by : (entries front : List BoardEntry) (last : BoardEntry)
@@ -136,19 +154,16 @@ over_after_delete entries deletes.kept none = ap running_split (append-nil entri
 over_after_delete entries (deletes.dropped slice) none = running_split-push entries (board.Dropped slice.id) ∙ none
 
 -- nor after any request
+over_after_noted : (entries : List BoardEntry) (end : CommandEnd) → running_split entries ≡ None → running_split (entries ++ noted_of end) ≡ None
+over_after_noted entries no_command none = ap running_split (append-nil entries) ∙ none
+over_after_noted entries (split_ended asked first course end) none = over_after_split entries course none
+over_after_noted entries (delete_ended shard first course end) none = over_after_delete entries course none
+
 over_after_request : (layout : Layout) (stops : List Stop) (end : CommandEnd) (old new : Situation) → Leaves layout stops end old new
     → IsPrefix old.seen.board new.seen.board → OwnsAll layout old.seen → OwnsAll layout new.seen
     → running_split old.seen.board ≡ None → running_split new.seen.board ≡ None
-over_after_request layout stops no_command old new leaves begins owned owns none =
-    let own = leaves.board_own ∙ sym (append-nil (old.seen.own layout.buckets)) in
-    ap running_split (notes_only layout old.seen new.seen new.seen.board [] 0 owned owns begins (sym (append-nil new.seen.board)) own
-    ∙ append-nil old.seen.board) ∙ none
-over_after_request layout stops (split_ended asked first course end) old new leaves begins owned owns none =
-    ap running_split (notes_only layout old.seen new.seen leaves.board.before (noted_by course) first.place owned owns begins leaves.board.board_is leaves.board.own)
-    ∙ over_after_split old.seen.board course none
-over_after_request layout stops (delete_ended shard first course end) old new leaves begins owned owns none =
-    ap running_split (notes_only layout old.seen new.seen (take first.place new.seen.board) (deletes.noted_by course) first.place owned owns begins leaves.board leaves.own)
-    ∙ over_after_delete old.seen.board course none
+over_after_request layout stops end old new leaves begins owned owns none =
+    ap running_split (board_after_request layout stops end old new leaves begins owned owns) ∙ over_after_noted old.seen.board end none
 
 -- nor after exchanges
 over_after_all : (layout : Layout) (old new : Situation) (exchanges : List Exchange) → AreExchanges layout old.seen exchanges new.seen
@@ -164,6 +179,10 @@ over_after_all layout old new (x ∷ exchanges) each rest within owns none =
     over_after_all layout (situation_after x) new exchanges each.1 rest.1 within_x owns none_x
 
 -- ---- a whole connection
+-- where nothing had happened, each of one's own entries was seen
+pub owns_nothing : (layout : Layout) (seen : Seen) → SeesNothing seen → OwnsSeen layout seen
+owns_nothing layout seen nothing = subst (AllByRecursion (λ (place : ℕ). place < length seen.board)) (sym (nothing.own layout.buckets)) tt
+
 -- no split runs once a connection was served over a collection in which nothing had happened, and all entries of the board are one's own
 pub over_after_connection : {C : Type 0} (gives : C → ℕ → C → Type 0) (layout : Layout) (before after : ConnectionState C) (end : End)
     → IsServed gives layout before after end → SeesNothing before.moment.view.seen → OwnsAll layout after.moment.view.seen
@@ -171,8 +190,8 @@ pub over_after_connection : {C : Type 0} (gives : C → ℕ → C → Type 0) (l
 over_after_connection gives layout before after end served nothing owns =
     let old : Situation = situation_in (world_of before) in
     let new : Situation = situation_in (world_of after) in
-    let within : OwnsSeen layout old.seen = subst (AllByRecursion (λ (place : ℕ). place < length old.seen.board)) (sym (nothing.own layout.buckets)) tt in
-    over_after_all layout old new (served.exchanges ++ exchanges_of served.last) served.traces.each served.traces.rest within owns
+    over_after_all layout old new (served.exchanges ++ exchanges_of served.last) served.traces.each served.traces.rest
+    (owns_nothing layout old.seen nothing) owns
     (ap running_split nothing.board)
 
 -- a desk for one thread sees all entries of the board as its own

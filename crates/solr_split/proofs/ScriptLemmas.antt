@@ -1,20 +1,26 @@
 -- A script was run where its first cores were started and its connection was served.
-use Rattle.std.proofs.Common.{◌≡◌, ◌∙◌, ℕ, false, List, Option, Some, None, IfSome, Result, Ok, Err, OnOk, refl, subst}
+use Rattle.std.proofs.Common.{◌≡◌, ◌≤◌, ◌∙◌, ℕ, false, List, Option, Some, None, IfSome, Result, Ok, Err, OnOk, refl, sym, subst, arith}
 use Rattle.std.specs.Result.{is_err}
 use Rattle.sc_io.specs.declared.hosts.Host.{Host}
 use Rattle.sc_cluster.specs.declared.slice.Slice.{Slice}
+use Rattle.sc_cluster.specs.Map.{IsMap}
+use Rattle.sc_cluster.proofs.MapLemmas.{first_is_map}
 use Rattle.sc_cores.specs.Cores.{Outside, outside_of, cores_of_map, with_cores}
 use Rattle.sc_seen.specs.Board.{running_split}
 use Rattle.sc_collection.specs.Kept.{Kept}
 use Rattle.sc_collection.specs.Alone.{AloneState, seen_of, entries_of, keeping_of}
 use Rattle.sc_collection.specs.Desks.{AreAtRest}
-use Rattle.sc_collection.specs.Shapes.{HasShape, SeesNothing}
+use Rattle.sc_collection.specs.declared.shape.Shape.{Shape}
+use Rattle.sc_collection.specs.Shapes.{IsShape, HasShape, SeesNothing}
+use Rattle.sc_collection.proofs.ShapeLemmas.{ranges}
 use Rattle.sc_seen.specs.Seen.{Layout}
 use Rattle.sc_session.specs.Served.{IsServed}
 use Rattle.sc_session.specs.declared.end.End.{End}
-use Rattle.solr_split.specs.declared.arguments.Script.{Script}
+use Rattle.sc_arguments.specs.declared.asked.Script.{Script}
 use Rattle.solr_split.specs.Running.{Machine, StartsFirst, RunsScript, clock_of, state_of, none_kept, exit_status}
+use Rattle.solr_split.proofs.MapCoreLemmas.{first_are_started}
 use Rattle.solr_split.proofs.RestLemmas.{over_after_connection, owns_all}
+use Rattle.solr_split.proofs.StartedLemmas.{started_after_connection}
 
 -- what is so where a call succeeded is so once it is known to be no error
 on_no_error : {A E P : Type 0} (result : Result A E) → is_err result ≡ false → OnOk result P → P
@@ -35,6 +41,14 @@ starts_first result nodes first given cores before now faults faults_now stop_fa
   stops = refl;
 }
 
+-- the first map of a layout of this shape is a map
+first_is_a_map : (shape : Shape) (layout : Layout) → IsShape shape → HasShape shape layout → IsMap layout.first
+first_is_a_map shape layout is_shape has =
+    let shards = (ranges shape is_shape).shards in
+    let least : 1 ≤ shape.shards = shards.0 in
+    let most : shape.shards ≤ 256 = omega (arith, shards.1) in
+    first_is_map shape.shards shape.replicas shape.nodes layout.first least most has.first
+
 -- a script was run where these are so of its collection before and after it
 pub script_runs : {C : Type 0} (script : Script) (gives : C → ℕ → C → Type 0) (before after : Machine C) (began ended : AloneState)
     (hosted : Outside) (trail kept : Kept) (end : End) (status : ℕ) → HasShape script.shape began.layout → SeesNothing (seen_of began)
@@ -42,14 +56,16 @@ pub script_runs : {C : Type 0} (script : Script) (gives : C → ℕ → C → Ty
     → IsServed (clock_of script.clock gives) began.layout (state_of (seen_of began) trail (record before { outside = hosted }))
     (state_of (seen_of ended) kept after) end
     → (running_split (entries_of ended) ≡ None → AreAtRest ended.layout (entries_of ended) (keeping_of ended))
-    → status ≡ exit_status end → RunsScript script gives before after status
-script_runs script gives before after began ended hosted trail kept end status shape empty layout hosts none served rest status_is =
+    → status ≡ exit_status end → IsShape script.shape → RunsScript script gives before after status
+script_runs script gives before after began ended hosted trail kept end status shape empty layout hosts none served rest status_is is_shape =
     let first = state_of (seen_of began) none_kept (record before { outside = hosted }) in
     let last = state_of (seen_of ended) kept after in
     let connection : IsServed (clock_of script.clock gives) began.layout first last end =
     subst (λ (k : Kept). IsServed (clock_of script.clock gives) began.layout (state_of (seen_of began) k (record before { outside = hosted })) last end)
     none served in
-    let over = over_after_connection (clock_of script.clock gives) began.layout first last end connection empty (owns_all ended began.layout layout) in
+    let owns = owns_all ended began.layout layout in
+    let over = over_after_connection (clock_of script.clock gives) began.layout first last end connection empty owns in
+    let is_map = first_is_a_map script.shape began.layout is_shape shape in
     record {
       began = began;
       ended = ended;
@@ -62,5 +78,7 @@ script_runs script gives before after began ended hosted trail kept end status s
       hosts = hosts;
       served = connection;
       rest = subst (λ (l : Layout). AreAtRest l (entries_of ended) (keeping_of ended)) layout (rest over);
+      cores = λ none steady. started_after_connection (clock_of script.clock gives) began.layout first last end connection empty owns is_map
+          (steady ∙ sym hosts.stop_faults) (first_are_started began.layout.nodes began.layout.first before.outside hosted none hosts);
       status_is = status_is;
     }

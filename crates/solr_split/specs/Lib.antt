@@ -1,5 +1,3 @@
--- What the arguments ask for, what a run leaves, and what a person is told.
-pub mod Arguments
-pub mod Laws
+-- What a run leaves, and what a person is told.
 pub mod Running
 pub mod Usage

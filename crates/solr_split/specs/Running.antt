@@ -1,7 +1,9 @@
 -- What a run of the program leaves.
-use Rattle.std.specs.Prelude.{◌≡◌, ◌<◌, ◌⊎◌, ℕ, List, [], Option, Some, None, IfSome}
+use Rattle.std.specs.Prelude.{◌≡◌, ◌<◌, ◌⊎◌, ◌↔◌, ℕ, List, [], Option, Some, None, IfSome, Contains}
 use Rattle.sc_cluster.specs.declared.slice.Slice.{Slice}
+use Rattle.sc_io.specs.declared.hosts.Host.{Host}
 use Rattle.sc_cores.specs.Cores.{Outside, cores_of_map, with_cores}
+use Rattle.sc_seen.specs.Board.{board_map}
 use Rattle.sc_seen.specs.Seen.{Seen}
 use Rattle.sc_seen.specs.Moments.{moment_of}
 use Rattle.sc_collection.specs.Kept.{Kept}
@@ -12,7 +14,20 @@ use Rattle.sc_session.specs.declared.end.End.{End}
 use Rattle.sc_session.specs.declared.end.End.TheVariants as ends
 use Rattle.sc_session.specs.States.{ConnectionState}
 use Rattle.sc_session.specs.Served.{IsServed}
-use Rattle.solr_split.specs.declared.arguments.Script.{Script}
+use Rattle.sc_arguments.specs.declared.asked.Asked.{Asked}
+use Rattle.sc_arguments.specs.declared.asked.Asked.TheVariants as asking
+use Rattle.sc_arguments.specs.declared.asked.Script.{Script}
+use Rattle.sc_arguments.specs.Arguments.{asked_of}
+
+-- the script, where one is asked for
+abbrev pub script_in : Option Asked → Option Script
+script_in (Some (asking.Script script)) = Some script
+script_in (Some (asking.Serve server)) = None
+script_in None = None
+
+-- the script that arguments ask for
+abbrev pub script_of : List (List ℕ) → Option Script
+script_of arguments = script_in (asked_of arguments)
 
 -- the exit status by how the connection ended
 abbrev pub exit_status : End → ℕ
@@ -64,6 +79,12 @@ pub record StartsFirst (nodes : ℕ) (first : List Slice) (old new : Outside) : 
   pub stop_faults : new.stop_faults ≡ old.stop_faults
   pub stops : new.stops ≡ old.stops
 
+-- The hosts report their cores, and those that are started are exactly those of these slices: each is among the ones where it is among
+-- the others.
+abbrev pub AreStarted : ℕ → List Slice → Outside → Type 0
+AreStarted nodes slices outside =
+    (cores : List Host) × (outside.started ≡ Some cores) × ((core : Host) → Contains cores core ↔ Contains (cores_of_map nodes slices) core)
+
 -- The cores of a collection of the script's shape, in which nothing had happened, were started, and one connection was served over it;
 -- the status is that of its end. What was seen after it is all that happened: of a bucket's journal each entry was made at one of the
 -- connection's stops, or its keeper made it, and those go with the board's; each entry of the board was made by a command.
@@ -80,6 +101,10 @@ pub record RunsScript {C : Type 0} (script : Script) (gives : C → ℕ → C �
   pub served : IsServed (clock_of script.clock gives) began.layout (state_of (seen_of began) none_kept (record before { outside = hosted }))
       (state_of (seen_of ended) kept after) end
   pub rest : AreAtRest began.layout (seen_of ended).board (keeping_of ended)
+  -- Where the hosts report their cores, none was started before and stopping one never failed, those that are started in the end are
+  -- exactly those of the board's map.
+  pub cores : before.outside.started ≡ Some [] → after.outside.stop_faults ≡ before.outside.stop_faults
+      → AreStarted began.layout.nodes (board_map began.layout.first (seen_of ended).board) after.outside
   pub status_is : status ≡ exit_status end
 
 -- All but the hosts was left as it was, and starting one of the first cores failed.

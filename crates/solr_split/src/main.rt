@@ -2,14 +2,14 @@
 //!
 //! `run` is all that the program does, and its contract is what it promises: which bytes it writes for
 //! those that it reads, and its status. `main` hands it the machine's streams, clock and folders, and says to a
-//! person what a status other than 0 means. It depends on `sc_session`, whose `serve` it calls, on `sc_collection`, whose
-//! `Alone` keeps the collection, and on `sc_cores`, which names and starts the cores of its first map.
+//! person what a status other than 0 means. It depends on `sc_arguments`, which reads its arguments, on `sc_session`, whose `serve` it
+//! calls, on `sc_collection`, whose `Alone` keeps the collection, and on `sc_cores`, which names and starts the cores of its first map.
 //!
 //! Proved: `run`: the status for all arguments and faults, and the bytes if source and sink report theirs, by the promise of
-//! `sc_session`; that the cores of the first map are started before, if the hosts report theirs; and that no split runs in the end, so
-//! that each bucket is then as the board says. The texts of the usage and of the line for each status (`meaning`). The law
-//! `options_come_in_any_order`: the order of the options changes nothing, also where they are refused. `proofs/ArgumentExamples` has
-//! arguments at the borders of each range, and the usage's example, with what they ask for.
+//! `sc_session`; that the cores of the first map are started before, if the hosts report theirs, and that those which are started in the
+//! end are those of the board's map, if stopping one never failed; and that no split runs in the end, so that each bucket is then as the
+//! board says. The texts of the usage and of the line for each status (`meaning`). `proofs/UsageExamples` has
+//! what the usage's example asks for.
 //!
 //! Tested alone: that `run` does not say "out of memory" while there is memory, and the shipped program's own bytes and status: by the
 //! stored run, which sends a document of over 200,000 bytes through standard input and output and ends with status 3.
@@ -21,11 +21,8 @@
 ghost use Rattle.std.specs.Prelude.{◌≡◌};
 ghost use Rattle.solr_split.specs.Usage.{meaning_of};
 
-mod arguments;
-mod laws;
 mod run;
 
-pub use laws::options_come_in_any_order;
 pub use run::run;
 use sc_io::{FolderHosts, MachineClock, NoPace, StdSink, StdSource};
 use std::alloc::AllocError;

@@ -4,10 +4,9 @@ ghost use Rattle.sc_session.specs.Served.{IsServed};
 ghost use Rattle.sc_collection.specs.Alone.{seen_of};
 ghost use Rattle.sc_collection.specs.Desks.{nothing_out};
 ghost use Rattle.sc_collection.specs.Shapes.{IsShape, HasShape, SeesNothing};
-ghost use Rattle.solr_split.specs.Running.{RunsOrFails, clock_of, state_of, none_kept, exit_status};
-ghost use Rattle.solr_split.specs.Arguments.{script_of};
+ghost use Rattle.solr_split.specs.Running.{RunsOrFails, script_of, clock_of, state_of, none_kept, exit_status};
 
-use crate::arguments::script_of;
+use sc_arguments::{Asked, Script, asked_of};
 use sc_collection::{Alone, Desk, Shape, Trail};
 use sc_cores::{cores_of_map, start_cores};
 use sc_io::{Clock, Fixed, Host, Hosts, Pace, Sink, Source};
@@ -71,7 +70,7 @@ pub fn run<S: Source, W: Sink, C: Clock, H: Hosts, P: Pace>(
     ensures write_fault { (result ≡ 5) ↔ (W.faults sink.old < W.faults sink.new) }
     ensures host_fault { result ≡ 8 → H.start_faults hosts.old < H.start_faults hosts.new }
 {
-    let Some(script) = script_of(arguments) else {
+    let Some(script) = script_asked(arguments) else {
         return 2;
     };
     let Needs {
@@ -100,6 +99,17 @@ pub fn run<S: Source, W: Sink, C: Clock, H: Hosts, P: Pace>(
     desk.leave();
     forget(trail);
     status_of(end)
+}
+
+/// The script that the arguments ask for; nothing where they ask for something else.
+fn script_asked(arguments: &[String]) -> Option<Script>
+    ensures asked { result ≡ script_of (map string_bytes arguments.now) }
+    ensures shape { IfSome result (λ script. IsShape script.shape) }
+{
+    match asked_of(arguments) {
+        Some(Asked::Script(script)) => Some(script),
+        Some(Asked::Serve(_)) | None => None,
+    }
 }
 
 /// Serves one connection over a desk, with the clock that is handed in or with one that stands still at a timestamp.

@@ -1,7 +1,7 @@
 -- What a script was answered is what its connection was served.
 use Rattle.std.proofs.Common.{◌≡◌, ◌∙◌, map, Some, string_bytes, sym, inl}
 use Rattle.sc_cores.specs.Cores.{outside_of}
-use Rattle.solr_split.specs.Arguments.{script_of}
+use Rattle.solr_split.specs.Running.{script_of}
 use Rattle.solr_split.proofs.ScriptLemmas.{starts_first, script_runs}
 use Rattle.solr_split.proofs.run.run.Goals as goal
 
@@ -20,4 +20,4 @@ returns-clause-script g c =
     c.start_cores.ensures.started c.start_cores.ensures.steady c.start_cores.ensures.other_count in
     rw asked (inl (script_runs c.in-Some.script g.C.Clock.gives _ _ began c.serve_script-end.new.desk hosted c.in-Ok.needs.trail
     c.serve_script-end.new.trail c.serve_script-end.result c.status_of.result c.in-Ok.ensures.layout c.in-Ok.ensures.seen
-    c.serve_script-end.ensures.layout hosts c.in-Ok.ensures.trail c.serve_script-end.ensures.served c.leave.ensures.rest c.status_of.ensures))
+    c.serve_script-end.ensures.layout hosts c.in-Ok.ensures.trail c.serve_script-end.ensures.served c.leave.ensures.rest c.status_of.ensures c.in-Some.ensures.shape))

@@ -1,0 +1,2 @@
+-- What a move of a crew changes.
+pub mod MovesLemmas

@@ -3,6 +3,14 @@ use Rattle.std.specs.Prelude.{◌≡◌, ℕ, ◌<◌, ◌≤◌, suc, List, [],
 use Rattle.sc_query.specs.Tokens.{Token, Placed, placed, tokens}
 use Rattle.sc_query.specs.Tree.{Tree}
 
+-- the longest text that is a query, in bytes
+abbrev pub query_limit : ℕ
+query_limit = 4096
+
+-- how many parentheses and NOTs may be open at once
+abbrev pub nesting_limit : ℕ
+nesting_limit = 32
+
 -- the three rules of the grammar, the loosest first
 pub data Rule : Type 0 where
   Query : Rule
@@ -47,7 +55,7 @@ IsQueryWithin room ts t = Reads Rule.Query room ts t []
 
 -- the tokens are a query with this tree, within the language's limit
 abbrev pub IsQuery : List Placed → Tree → Type 0
-IsQuery ts t = IsQueryWithin 32 ts t
+IsQuery ts t = IsQueryWithin nesting_limit ts t
 
 -- some query begins with these tokens
 abbrev pub BeginsQuery : List Placed → Type 0
@@ -68,14 +76,14 @@ pub record EndsEarly (ts : List Placed) : Type 0 where
   pub begins : BeginsQuery ts
   pub no_query : (t : Tree) → ¬ IsQuery ts t
 
--- a text of at most 4,096 bytes is a query with this tree
+-- a text that is not too long is a query with this tree
 pub record HasTree (text : List ℕ) (t : Tree) : Type 0 where
-  pub in_limit : length text ≤ 4096
+  pub in_limit : length text ≤ query_limit
   pub query : IsQuery (tokens text) t
 
 -- A text's fault is at the first token that can't follow those before it, at the text's length where it ends too early,
--- and at 4096 where the text is longer than that, whatever stands in it.
+-- and at the limit where the text is longer than that, whatever stands in it.
 pub data HasFault (text : List ℕ) : ℕ → Type 0 where
-  too_long : 4096 < length text → HasFault text 4096
-  stops : {at : ℕ} → length text ≤ 4096 → StopsAt (tokens text) at → HasFault text at
-  ends : length text ≤ 4096 → EndsEarly (tokens text) → HasFault text (length text)
+  too_long : query_limit < length text → HasFault text query_limit
+  stops : {at : ℕ} → length text ≤ query_limit → StopsAt (tokens text) at → HasFault text at
+  ends : length text ≤ query_limit → EndsEarly (tokens text) → HasFault text (length text)

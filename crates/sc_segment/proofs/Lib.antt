@@ -2,6 +2,9 @@
 pub mod AddingLemmas
 pub mod BitsLemmas
 pub mod BoundsLemmas
+pub mod HasRowLemmas
+pub mod JoinLemmas
 pub mod MembersLemmas
 pub mod RowsLemmas
+pub mod SameRowsLemmas
 pub mod SearchLemmas

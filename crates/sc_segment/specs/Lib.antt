@@ -2,4 +2,5 @@
 pub mod Filing
 pub mod Fresh
 pub mod Index
+pub mod Joining
 pub mod Live

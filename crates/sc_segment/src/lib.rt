@@ -1,18 +1,20 @@
 //! Posting lists: which rows have a key, found by a search among the keys that counts its comparisons.
 //!
-//! A `Builder` takes pairs of a row and a key, and becomes a `Segment`, which gives the rows of a key. A
-//! `LiveBits` says which rows are live. The crate depends on std alone. Contracts see a builder's index and
+//! A `Builder` takes pairs of a row and a key, and becomes a `Segment`, which gives the rows of a key. `join` makes
+//! of two lists of rows the list of those in both, in one of them, or in the first alone. A `LiveBits` says which
+//! rows are live. The crate depends on std alone. Contracts see a builder's index and
 //! a segment as the list of the distinct keys with their rows, and a layer above says by `IsIndexOf` which
 //! pairs it has added: `Segment::postings` then gives a filter of these pairs, and `Steps` bounds the number
 //! of comparisons.
 //!
 //! Proved: `Segment::postings` gives exactly the rows of a key, ascending and each once, within a bound on comparisons;
-//! `LiveBits` is the list of its bits.
+//! `join` keeps exactly the rows that it says, ascending and each once; `LiveBits` is the list of its bits.
 //!
 //! Neither: speed.
 #![tactic(auto)]
 
 mod builder;
+mod joining;
 mod key;
 mod live_bits;
 mod posting_list;
@@ -20,6 +22,7 @@ mod segment;
 mod steps;
 
 pub use builder::Builder;
+pub use joining::{Kept, join};
 pub use key::Key;
 pub use live_bits::LiveBits;
 pub use segment::Segment;

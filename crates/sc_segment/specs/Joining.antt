@@ -1,0 +1,21 @@
+-- Lists of rows, and what is kept of two of them.
+use Rattle.std.specs.Prelude.{◌≡◌, ◌==◌, ℕ, Bool, not, ◌&&◌, ◌||◌, List}
+use Rattle.std.specs.List.{list_any}
+use Rattle.std.specs.List.Sorted.{IsStrictlyIncreasing}
+use Rattle.sc_segment.specs.declared.joining.Kept.{Kept}
+use Rattle.sc_segment.specs.declared.joining.Kept.TheVariants.{Both, Either, LeftAlone}
+
+-- whether a row is in the list
+abbrev pub has_row : List ℕ → ℕ → Bool
+has_row rows row = list_any (λ r. r == row) rows
+
+-- whether a row is kept, by whether it is in the left list and in the right one
+abbrev pub keeps : Kept → (left right : Bool) → Bool
+keeps Both left right = left && right
+keeps Either left right = left || right
+keeps LeftAlone left right = left && not right
+
+-- the rows that two lists give: ascending, each row that is kept, and no other
+pub record IsJoin (how : Kept) (left right rows : List ℕ) : Type 0 where
+  pub members : (row : ℕ) → has_row rows row ≡ keeps how (has_row left row) (has_row right row)
+  pub ascending : IsStrictlyIncreasing rows

@@ -1,2 +1,4 @@
 -- The lemmas of this crate.
 mod RowLemmas
+mod PostingLemmas
+mod LoopLemmas

@@ -1,3 +1,4 @@
 -- What the contracts of this crate cite, lowest first.
 pub mod Rows
+pub mod Postings
 pub mod Laws

@@ -72,4 +72,11 @@ impl Snapshot {
     {
         self.rows.as_slice().get(at as usize)
     }
+
+    pub(crate) fn cells(&self) -> &[Cell]
+        ensures rows { map arc_value result.now ≡ self.now.rows }
+        ensures are_rows { AreRows self.now.rows }
+    {
+        self.rows.as_slice()
+    }
 }

@@ -1,0 +1,92 @@
+-- What a loop over cells has of one cell more.
+use Rattle.std.proofs.Common.{◌≡◌, ℕ, suc, ◌+◌, ◌-◌, ◌<◌, Bool, true, false, cond, List, [], ◌∷◌, ◌++◌, map, take, length, get_or, set, replicate, All, sym, ap, subst, ◌∙◌, arith, append_assoc}
+use Rattle.std.proofs.Math.Seq.{set-append_seam}
+use Rattle.std.proofs.lemmas.List.{take_more, map-append, length-map, length-append, length-replicate, length-take-le}
+use Rattle.std.proofs.lemmas.List.Elements.{All-push}
+use Rattle.sc_record.specs.declared.term.Term.{Term}
+use Rattle.sc_record.specs.declared.write.Write.{Write}
+use Rattle.sc_segment.specs.Index.{IsIndexOf}
+use Rattle.sc_snapshot.proofs.PostingLemmas.{keyed_rows-push}
+use Rattle.sc_snapshot.specs.Postings.{key_order, keyed, keyed_rows, live_terms}
+use Rattle.sc_snapshot.specs.declared.term_key.TermKey.{TermKey}
+
+module _ {C : Type 0} (value : C → Write) (cells : List C) (i : ℕ) (cell : C) (within : i < length cells) (at : cell ≡ get_or cells i cell) where
+  one-more : map value (take (i + 1) cells) ≡ map value (take i cells) ++ value cell ∷ []
+  one-more =
+      ap (map value) (take_more cells i cell within ∙ ap (λ (c : C). take i cells ++ c ∷ []) (sym at))
+      ∙ map-append value (take i cells) (cell ∷ [])
+
+  few : length (map value (take i cells)) ≡ i
+  few = length-map (take i cells) value ∙ length-take-le i cells (omega (arith, within))
+
+  -- the keys of the first rows, and those of the next
+  keyed-next : (number : ℕ) → number ≡ i → keyed_rows 0 (map value (take (i + 1) cells))
+      ≡ keyed_rows 0 (map value (take i cells)) ++ keyed number (live_terms (value cell))
+  keyed-next number is =
+      let place : 0 + length (map value (take i cells)) ≡ number = omega (arith, few, is) in
+      ap (keyed_rows 0) one-more ∙ keyed_rows-push 0 (map value (take i cells)) (value cell)
+      ∙ ap (λ n. keyed_rows 0 (map value (take i cells)) ++ keyed n (live_terms (value cell))) place
+
+  pub rows-next : (number : ℕ) (index : List (TermKey × List ℕ)) → number ≡ i
+      → IsIndexOf key_order (keyed_rows 0 (map value (take i cells)) ++ keyed number (live_terms (value cell))) index
+      → IsIndexOf key_order (keyed_rows 0 (map value (take (i + 1) cells))) index
+  rows-next number index is filed =
+      subst (λ (ps : List (ℕ × TermKey)). IsIndexOf key_order ps index) (sym (keyed-next number is)) filed
+
+  -- what follows for the first rows, and holds of the next
+  pub all-next : (P Q : Write → Type 0) → ((w : Write) → P w → Q w) → All P (map value (take i cells)) → Q (value cell)
+      → All Q (map value (take (i + 1) cells))
+  all-next P Q weaker all here =
+      subst (All Q) (sym one-more) (All-push Q (map value (take i cells)) (value cell) (λ k d lt. weaker _ (all k d lt)) here)
+
+  -- the truths of the first rows, and that of the next, where all others are set
+  pub marked-next : (test : Write → Bool) (live new : List Bool)
+      → live ≡ map test (map value (take i cells)) ++ replicate (length cells - i) true
+      → new ≡ cond (test (value cell)) live (set live i false)
+      → new ≡ map test (map value (take (i + 1) cells)) ++ replicate (length cells - (i + 1)) true
+  marked-next test live new before is =
+      let front = map test (map value (take i cells)) in
+      let rest = replicate (length cells - (i + 1)) true in
+      let more : length cells - i ≡ suc (length cells - (i + 1)) = omega (arith, within) in
+      let whole : live ≡ front ++ true ∷ rest = before ∙ ap (λ n. front ++ replicate n true) more in
+      let place : length front ≡ i = length-map (map value (take i cells)) test ∙ few in
+      let marked : set live i false ≡ front ++ false ∷ rest =
+      ap (λ (l : List Bool). set l i false) whole ∙ ap (λ n. set (front ++ true ∷ rest) n false) (sym place)
+      ∙ set-append_seam front true rest false in
+      let next : map test (map value (take (i + 1) cells)) ≡ front ++ test (value cell) ∷ [] =
+      ap (map test) one-more ∙ map-append test (map value (take i cells)) (value cell ∷ []) in
+      is ∙ by_truth (test (value cell)) whole marked
+      ∙ sym (append_assoc front (test (value cell) ∷ []) rest) ∙ ap (λ (l : List Bool). l ++ rest) (sym next)
+    where
+      by_truth : (b : Bool) → live ≡ map test (map value (take i cells)) ++ true ∷ replicate (length cells - (i + 1)) true
+          → set live i false ≡ map test (map value (take i cells)) ++ false ∷ replicate (length cells - (i + 1)) true
+          → cond b live (set live i false) ≡ map test (map value (take i cells)) ++ b ∷ replicate (length cells - (i + 1)) true
+      by_truth true whole marked = whole
+      by_truth false whole marked = marked
+
+  -- there is a truth for the next
+  pub marked-within : (test : Write → Bool) (live : List Bool) (number : ℕ)
+      → live ≡ map test (map value (take i cells)) ++ replicate (length cells - i) true → number ≡ i → number < length live
+  marked-within test live number before is =
+      let front = length-map (map value (take i cells)) test in
+      let rest : length (replicate (length cells - i) true) ≡ length cells - i = length-replicate (length cells - i) true in
+      let whole : length live ≡ length (map test (map value (take i cells))) + length (replicate (length cells - i) true) =
+      ap (λ (l : List Bool). length l) before ∙ length-append (map test (map value (take i cells))) (replicate (length cells - i) true) in
+      omega (arith, front, few, rest, whole, is, within)
+
+-- a row's keys of the first terms, and that of the next
+keyed-term : (number i : ℕ) (terms : List Term) (term : Term) (key : TermKey) → i < length terms → term ≡ get_or terms i term → key.term ≡ term
+    → keyed number (take (i + 1) terms) ≡ keyed number (take i terms) ++ (number, key) ∷ []
+keyed-term number i terms term key within at is =
+    ap (keyed number) (take_more terms i term within ∙ ap (λ (t : Term). take i terms ++ t ∷ []) (sym at))
+    ∙ map-append (λ (t : Term). (number, record { term = t })) (take i terms) (term ∷ [])
+    ∙ ap (λ (t : Term). keyed number (take i terms) ++ (number, record { term = t }) ∷ []) (sym is)
+
+pub terms-next : (added : List (ℕ × TermKey)) (number i : ℕ) (terms : List Term) (term : Term) (key : TermKey) (index : List (TermKey × List ℕ))
+    → i < length terms → term ≡ get_or terms i term → key.term ≡ term
+    → IsIndexOf key_order ((added ++ keyed number (take i terms)) ++ (number, key) ∷ []) index
+    → IsIndexOf key_order (added ++ keyed number (take (i + 1) terms)) index
+terms-next added number i terms term key index within at is filed =
+    subst (λ (ps : List (ℕ × TermKey)). IsIndexOf key_order ps index)
+    (append_assoc added (keyed number (take i terms)) ((number, key) ∷ [])
+    ∙ ap (λ (ps : List (ℕ × TermKey)). added ++ ps) (sym (keyed-term number i terms term key within at is))) filed

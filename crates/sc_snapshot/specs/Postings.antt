@@ -1,0 +1,42 @@
+-- Which rows of a snapshot have a term, and what an index of them keeps.
+use Rattle.std.specs.Prelude.{◌≡◌, ◌≤ℤ◌, ℕ, ◌+◌, Bool, false, ℤ, if◌then◌else◌, List, [], ◌∷◌, ◌++◌, map, All, Option, None, Some, is_some}
+use Rattle.std.specs.List.{list_any}
+use Rattle.std.specs.declared.cmp.Ordering.{Ordering}
+use Rattle.sc_record.specs.Terms.{term_cmp}
+use Rattle.sc_record.specs.declared.term.Term.{Term}
+use Rattle.sc_record.specs.declared.write.Write.{Write}
+use Rattle.sc_record.proofs.TermLemmas.{same_term}
+use Rattle.sc_segment.specs.Index.{IsIndexOf, distinct_keys}
+use Rattle.sc_snapshot.specs.declared.term_key.TermKey.{TermKey}
+
+-- the order of the keys is that of their terms
+abbrev pub key_order : TermKey → TermKey → Ordering
+key_order one other = term_cmp one.term other.term
+
+-- a row's number with each of these terms as a key
+abbrev pub keyed : ℕ → List Term → List (ℕ × TermKey)
+keyed number terms = map (λ (term : Term). (number, record { term = term })) terms
+
+-- what a search finds a row by: nothing where it is a deletion
+abbrev pub live_terms : Write → List Term
+live_terms row = if is_some row.doc then row.terms else []
+
+-- each row's number, counted from this one, with each of its terms where it is live
+abbrev pub keyed_rows : ℕ → List Write → List (ℕ × TermKey)
+keyed_rows from [] = []
+keyed_rows from (row ∷ rows) = keyed from (live_terms row) ++ keyed_rows (from + 1) rows
+
+-- how many terms the live rows have, each counted once
+abbrev pub term_count : List Write → ℕ
+term_count rows = distinct_keys key_order (keyed_rows 0 rows)
+
+-- there is a live row, and it has the term
+abbrev pub has_term : Term → Option Write → Bool
+has_term term None = false
+has_term term (Some row) = list_any (same_term term) (live_terms row)
+
+-- an index of rows: where each term of the live ones is, which of them are live, and between which hashes theirs are
+pub record IsIndexed (rows : List Write) (index : List (TermKey × List ℕ)) (bits : List Bool) (least greatest : ℤ) : Type 0 where
+  pub terms : IsIndexOf key_order (keyed_rows 0 rows) index
+  pub live : bits ≡ map (λ (row : Write). is_some row.doc) rows
+  pub hashes : All (λ (row : Write). (least ≤ℤ row.hash) × (row.hash ≤ℤ greatest)) rows

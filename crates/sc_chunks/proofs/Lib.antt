@@ -1,0 +1,8 @@
+-- What the proofs of the decoder share.
+pub mod ChunkLemmas
+pub mod LineLemmas
+pub mod CodingLemmas
+pub mod StuckLemmas
+pub mod OpenLemmas
+pub mod StepLemmas
+pub mod TrailerLemmas

@@ -1,6 +1,7 @@
--- What the proofs share of options, numbers and ranges, what the options' order means, and examples.
+-- What the proofs share of options, numbers and ranges, what the options' forms and order mean, and examples.
 mod ArgumentExamples
 pub mod DigitLemmas
+mod FormLemmas
 mod OrderLemmas
 pub mod RangeLemmas
 mod SameLemmas

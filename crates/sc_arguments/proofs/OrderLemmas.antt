@@ -1,7 +1,7 @@
 -- Options that are each given once have the same numbers in any order.
 use Rattle.std.proofs.Common.{◌≡◌, ◌≤◌, ◌+◌, ℕ, suc, zero, Bool, true, false, not, ◌&&◌, List, [], ◌∷◌, Option, Some, None, cond, refl, sym, ap, ◌∙◌, subst, arith}
 use Rattle.std.specs.Prelude.{is_some, option_map}
-use Rattle.std.specs.List.{find, list_any, sum_by, All}
+use Rattle.std.specs.List.{find, list_any, sum_by}
 use Rattle.std.specs.List.Sorted.{IsPermutation}
 use Rattle.std.specs.Str.{bytes_eq}
 use Rattle.std.proofs.lemmas.List.Elements.{All-nil, All-cons, All-head, All-tail}
@@ -9,27 +9,15 @@ use Rattle.std.proofs.lemmas.List.Sums.{sum_by-cons}
 use Rattle.std.proofs.lemmas.List.Sorted.{sum_by-IsPermutation, All-permutation}
 use Rattle.std.proofs.lemmas.Slice.Eq.{bytes_eq-Decides}
 use Rattle.sc_arguments.specs.Options.{Setting, is_number, number_written, number_given, option_value, are_options}
-
--- how often an option is given
-abbrev times : List ℕ → List Setting → ℕ
-times name given = sum_by (λ (setting : Setting). cond (bytes_eq setting.0 name) 1 0) given
+use Rattle.sc_arguments.specs.Laws.{IsOption, times, AreEachOnce, AreTakenOnce}
 
 -- the sum of the numbers that it is given
 abbrev total : List ℕ → List Setting → ℕ
 total name given = sum_by (λ (setting : Setting). cond (bytes_eq setting.0 name) (number_written setting.1) 0) given
 
--- it has one of the names, and a number for its value
-abbrev IsOption : (names : List (List ℕ)) → Setting → Type 0
-IsOption names setting = (list_any (bytes_eq setting.0) names ≡ true) × (is_number setting.1 ≡ true)
-
 -- one for a test that holds
 abbrev as_number : Bool → ℕ
 as_number t = cond t 1 0
-
--- each is an option with a number for its value, and is given at most once
-pub record AreEachOnce (names : List (List ℕ)) (given : List Setting) : Type 0 where
-  pub good : All (IsOption names) given
-  pub once : (name : List ℕ) → times name given ≤ 1
 
 times_step : (name : List ℕ) (setting : Setting) (given : List Setting) → times name (setting ∷ given) ≡ cond (bytes_eq setting.0 name) 1 0 + times name given
 times_step name setting given = sum_by-cons _ setting given
@@ -117,6 +105,9 @@ are_good names ((name, value) ∷ given) each =
     } in
     four_all (list_any (bytes_eq name) names) (is_number value) (is_some (option_value name given)) (are_options names given)
     good.0 good.1 (ap (λ (o : Option (List ℕ)). is_some o) (value_absent name given none)) (are_good names given rest)
+
+pub taken_once : AreTakenOnce
+taken_once names given = (each_once names given, are_good names given)
 
 in_another_order : (names : List (List ℕ)) (given other : List Setting) → IsPermutation given other → AreEachOnce names given → AreEachOnce names other
 in_another_order names given other order each = record {

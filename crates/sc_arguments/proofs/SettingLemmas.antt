@@ -21,12 +21,20 @@ none_at (byte ∷ word) h = by (is_equals_sign byte) h (none_at word) where
   by true h rest = absurd (omega arith)
   by false h rest = rest (omega arith)
 
+-- a word with `=` is an option with its value
+pub in_one_word : (word : List ℕ) (words : List (List ℕ)) → list_any is_equals_sign word ≡ true → settings (word ∷ words) ≡ setting_of word ∷ settings words
+in_one_word word [] h = refl
+in_one_word word (value ∷ words) h = rw h refl
+
+-- a word without `=` is an option, and its value is the word after it
+pub in_two_words : (word value : List ℕ) (words : List (List ℕ)) → list_any is_equals_sign word ≡ false → settings (word ∷ value ∷ words) ≡ (word, value) ∷ settings words
+in_two_words word value words h = rw h refl
+
 pub of_one_word : (word : List ℕ) (words : List (List ℕ)) → position_or_len is_equals_sign word < length word → settings (word ∷ words) ≡ setting_of word ∷ settings words
-of_one_word word [] h = refl
-of_one_word word (value ∷ words) h = rw (any_at word h) refl
+of_one_word word words h = in_one_word word words (any_at word h)
 
 pub of_two_words : (word value : List ℕ) (words : List (List ℕ)) → position_or_len is_equals_sign word ≡ length word → settings (word ∷ value ∷ words) ≡ (word, value) ∷ settings words
-of_two_words word value words h = rw (none_at word h) refl
+of_two_words word value words h = in_two_words word value words (none_at word h)
 
 pub without_value : (word : List ℕ) → position_or_len is_equals_sign word ≡ length word → settings (word ∷ []) ≡ (word, []) ∷ []
 without_value word h =

@@ -3,9 +3,10 @@
 //! It depends on `sc_collection`, whose `Shape` says how a collection is laid out. The layer above uses the clause `asked` of
 //! `asked_of`: which arguments ask for what, and that no others ask for anything.
 //!
-//! Proved: `asked_of`: what all words ask for, both ways, and that each number of it is in its range. The law
-//! `options_come_in_any_order`: the order of the options changes nothing, also where they are refused. `proofs/ArgumentExamples` has
-//! arguments at the borders of each range with what they ask for.
+//! Proved: `asked_of`: what all words ask for, both ways, and that each number of it is in its range. Three laws, of all words, also of
+//! those that are refused: the options that are taken are those of the command, each with a number and none twice
+//! (`options_are_taken_once`); `--name value` and `--name=value` are one (`options_have_two_forms`); and the order of the options changes
+//! nothing (`options_come_in_any_order`). `proofs/ArgumentExamples` has arguments at the borders of each range with what they ask for.
 //!
 //! Neither: how the words come from the system.
 #![tactic(auto)]
@@ -18,4 +19,4 @@ mod options;
 mod ranges;
 
 pub use asked::{Asked, Script, Server, asked_of};
-pub use laws::options_come_in_any_order;
+pub use laws::{options_are_taken_once, options_come_in_any_order, options_have_two_forms};

@@ -89,3 +89,8 @@ pub record IsShared (shared : SharedState) : Type 0 where
   pub bucket : (taken : TakenBucket) → shared.bucket ≡ Some taken → IsTakenBucket shared taken
   pub board_free : shared.board ≡ None → IsFree shared.passes.board
   pub board : (taken : TakenBoard) → shared.board ≡ Some taken → IsTakenBoard shared taken
+
+-- and it is over the collection behind the locks of its home
+pub record IsAtHome (home : Option Locks) (shared : SharedState) : Type 0 where
+  pub shared_is : IsShared shared
+  pub locks_are : home ≡ Some shared.locks

@@ -2,7 +2,8 @@
 //!
 //! `Collection::new` puts the buckets and the board behind locks, and gives the first passes. `split_passes` gives another thread its
 //! own, `join_passes` brings two together again. `Shared` is the desk of one thread: it has that thread's passes, and keeps every clause
-//! of `sc_collection`'s `Desk`, whatever the other threads do in between; so all that is proved over any desk holds of each thread.
+//! of `sc_collection`'s `Desk`, whatever the other threads do in between; so all that is proved over any desk holds of each thread. Its
+//! type names the collection that it is over (`Home`), so that a call over any desk gives it back over the same one.
 //!
 //! It depends on `sc_lock`, whose locks it makes, and on `sc_collection`, whose `Desk` it is. A bucket is kept with its number
 //! (`Numbered`), and its part is what its keeper alone changes (`sc_keeper`'s `Part`). The keepers of all buckets lie on the board while
@@ -37,4 +38,4 @@ pub use collection::Collection;
 pub use keepers::Keepers;
 pub use numbered::Numbered;
 pub use passes::Passes;
-pub use shared::Shared;
+pub use shared::{Home, Shared};

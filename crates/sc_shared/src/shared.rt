@@ -15,13 +15,26 @@ use sc_board::Board;
 use sc_bucket::Bucket;
 use sc_collection::Desk;
 use sc_lock::{Badge, Turn};
-use std::marker::Model;
+use std::marker::{Brand, Model, PhantomData};
 use std::mem;
 use std::sync::Wait;
 
+/// Which collection a desk is over. A function for any `Home` knows of its desk that it is over the same collection, whatever was called
+/// with it meanwhile; who calls that function, at `Brand`, picks the collection.
+pub trait Home {
+    ghost use Rattle.std.specs.Prelude.{Option};
+    ghost use Rattle.sc_shared.specs.Collections.{Locks};
+
+    ghost locks: { Option Locks };
+}
+
+impl Home for Brand {
+    ghost locks = { None };
+}
+
 /// The desk of one thread: it has that thread's passes, and waits for a bucket or the board where another thread has it. It is made in
 /// its thread (`new`) and gives the passes back there (`into_passes`). Its holds take no memory.
-pub struct Shared<'a, R> {
+pub struct Shared<'a, R, N: Home> {
     rt: &'a R,
     collection: &'a Collection,
     passes: Passes,
@@ -29,6 +42,7 @@ pub struct Shared<'a, R> {
     bucket: Option<TakenBucket>,
     /// The board that is out.
     board: Option<TakenBoard>,
+    home: PhantomData<N>,
 }
 
 /// A bucket that is out, by its number; whether its keeper has it; and the turn that is given back with it.
@@ -64,22 +78,23 @@ fn take<T>(slot: &mut Option<T>) -> T
     mem::replace(slot, None).unwrap()
 }
 
-impl<'a, R> Model for Shared<'a, R> {
-    ghost use Rattle.sc_shared.specs.Sharing.{SharedState, shared_of, IsShared};
+impl<'a, R, N: Home> Model for Shared<'a, R, N> {
+    ghost use Rattle.sc_shared.specs.Sharing.{SharedState, shared_of, IsAtHome};
 
     ghost Value = { SharedState };
 
     ghost view = { λ s. shared_of s.collection.now s.passes s.bucket s.board };
 
-    ghost invariant = { λ s. IsShared (shared_of s.collection.now s.passes s.bucket s.board) };
+    ghost invariant = { λ s. IsAtHome N.locks (shared_of s.collection.now s.passes s.bucket s.board) };
 }
 
-impl<'a, R> Shared<'a, R> {
+impl<'a, R, N: Home> Shared<'a, R, N> {
     ghost use Rattle.sc_collection.specs.Desks.{nothing_out};
     ghost use Rattle.sc_shared.specs.Sharing.{ArePasses, out_of};
 
     /// A desk with these passes, out of which nothing is. `rt` is what its holds wait by.
-    pub fn new(rt: &'a R, collection: &'a Collection, passes: Passes) -> Shared<'a, R>
+    pub fn new(rt: &'a R, collection: &'a Collection, passes: Passes) -> Shared<'a, R, N>
+        requires home { N.locks ≡ Some collection.now }
         requires passes { ArePasses collection.now passes }
         ensures locks { result.locks ≡ collection.now }
         ensures passes { result.passes ≡ passes }
@@ -91,12 +106,14 @@ impl<'a, R> Shared<'a, R> {
             passes,
             bucket: None,
             board: None,
+            home: PhantomData,
         }
     }
 
     /// The passes, while nothing is out.
     pub fn into_passes(self) -> Passes
         requires nothing_out { out_of self ≡ nothing_out }
+        ensures home { N.locks ≡ Some self.entry.locks }
         ensures passes { ArePasses self.entry.locks result }
         ensures are { result ≡ self.entry.passes }
     {
@@ -107,6 +124,7 @@ impl<'a, R> Shared<'a, R> {
             passes,
             bucket,
             board,
+            home: _,
         } = self;
         match (bucket, board) {
             (None, None) => passes,
@@ -115,7 +133,7 @@ impl<'a, R> Shared<'a, R> {
     }
 }
 
-impl<'a, R: Wait> Desk for Shared<'a, R> {
+impl<'a, R: Wait, N: Home> Desk for Shared<'a, R, N> {
     ghost use Rattle.sc_shared.specs.Keepers.{keeping_of};
     ghost use Rattle.sc_shared.specs.Passes.{seen_of};
     ghost use Rattle.sc_shared.specs.Collections.{layout_of};

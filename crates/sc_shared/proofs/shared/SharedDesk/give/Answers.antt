@@ -9,16 +9,19 @@ use Rattle.sc_shared.proofs.shared.SharedDesk.give.Goals as goal
 pub invariant_of-self : goal.invariant_of-self
 invariant_of-self g c =
     let out = c.requires.is_out in
-    (given_is_give c.self.inside.collection.now c.self.inside.passes _ c.self.inside.bucket _ c.self.inside.board c.args.self.now out.0
-    c.take-turn.result c.args.b c.args.bucket c.self.view_is c.self.invariant out.1 out.2 c.take-turn.ensures.was out.3 c.take-turn.ensures.empty
-    c.give_bucket.ensures).is
+    record {
+      shared_is = (given_is_give c.self.inside.collection.now c.self.inside.passes _ c.self.inside.bucket _ c.self.inside.board c.args.self.now out.0
+          c.take-turn.result c.args.b c.args.bucket c.self.view_is c.self.invariant.shared_is out.1 out.2 c.take-turn.ensures.was out.3 c.take-turn.ensures.empty
+          c.give_bucket.ensures).is;
+      locks_are = c.self.invariant.locks_are;
+    }
 
 pub returns : goal.returns
 returns g c =
     let out = c.requires.is_out in
     let give =
     given_is_give c.self.inside.collection.now c.self.inside.passes _ c.self.inside.bucket _ c.self.inside.board c.args.self.now out.0
-    c.take-turn.result c.args.b c.args.bucket c.self.view_is c.self.invariant out.1 out.2 c.take-turn.ensures.was out.3 c.take-turn.ensures.empty
+    c.take-turn.result c.args.b c.args.bucket c.self.view_is c.self.invariant.shared_is out.1 out.2 c.take-turn.ensures.was out.3 c.take-turn.ensures.empty
     c.give_bucket.ensures in
     record {
       seen = λ other is_other. subst (λ (held : Held). SeesGiven held c.args.bucket (seen_of c.args.self.now.passes) (seen_of c.give_bucket.new.passes))

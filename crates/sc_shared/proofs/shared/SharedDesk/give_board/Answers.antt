@@ -13,7 +13,7 @@ take-turn-requires g c = record {
 }
 
 pub give-requires-clause-turn : goal.give-requires-clause-turn
-give-requires-clause-turn g c = (c.self.invariant.board c.take-turn.result c.take-turn.ensures.was).turn
+give-requires-clause-turn g c = (c.self.invariant.shared_is.board c.take-turn.result c.take-turn.ensures.was).turn
 
 pub give-requires-clause-value : goal.give-requires-clause-value
 give-requires-clause-value g c =
@@ -37,7 +37,7 @@ give-requires-clause-value g c =
     } in
     let give : IsBoardGive was c.args.self.now c.take-turn.result c.args.board =
     board_is_given locks c.collection.inside.first was c.args.self.now c.take-turn.result c.args.board c.collection.invariant
-    c.collection.view_is c.self.view_is c.self.invariant c.take-turn.ensures.was may in
+    c.collection.view_is c.self.view_is c.self.invariant.shared_is c.take-turn.ensures.was may in
     record { is_sound = give.sound; one_step = inr give.follows; grows = give.follows.grows; owner = give.owner }
 
 pub returns-clause-seen : goal.returns-clause-seen
@@ -61,7 +61,7 @@ returns-clause-seen g c =
       rest = c.requires.rest;
     } in
     (board_is_given locks c.collection.inside.first was c.args.self.now c.take-turn.result c.args.board c.collection.invariant
-    c.collection.view_is c.self.view_is c.self.invariant c.take-turn.ensures.was may).sees c.give.new.pass c.give.ensures.seen
+    c.collection.view_is c.self.view_is c.self.invariant.shared_is c.take-turn.ensures.was may).sees c.give.new.pass c.give.ensures.seen
     c.give.ensures.places
 
 pub returns-clause-keepers : goal.returns-clause-keepers

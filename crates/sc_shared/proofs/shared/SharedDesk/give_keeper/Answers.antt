@@ -17,13 +17,13 @@ give_by_keeper-requires-clause-keeper g c =
     c.args.keepers.now.keepers.items c.args.b
     (subst (λ (desk : SharedState). Fit desk c.args.keepers.now.keepers.items) (sym c.self.view_is) c.requires.fits)
     (out_within c.self.inside.collection.now c.self.inside.passes c.self.inside.bucket c.self.inside.board c.args.self.now out.0
-    c.take-turn.result c.args.b c.self.view_is c.self.invariant out.1 out.2 c.take-turn.ensures.was)
+    c.take-turn.result c.args.b c.self.view_is c.self.invariant.shared_is out.1 out.2 c.take-turn.ensures.was)
 
 pub give_by_keeper-requires-clause-turn : goal.give_by_keeper-requires-clause-turn
 give_by_keeper-requires-clause-turn g c =
     let out = c.requires.is_out in
     out_keeper_turn c.self.inside.collection.now c.self.inside.passes c.self.inside.bucket c.self.inside.board c.args.self.now out.0
-    c.take-turn.result c.args.b c.args.keepers.now.keepers.items c.self.view_is c.self.invariant out.1 out.2 c.take-turn.ensures.was
+    c.take-turn.result c.args.b c.args.keepers.now.keepers.items c.self.view_is c.self.invariant.shared_is out.1 out.2 c.take-turn.ensures.was
     out.3.by_keeper c.requires.fits
 
 pub give_by_keeper-requires-clause-event : goal.give_by_keeper-requires-clause-event
@@ -31,21 +31,24 @@ give_by_keeper-requires-clause-event g c =
     let out = c.requires.is_out in
     subst (λ (held : Held). IsKeeperEvent held.bucket c.args.bucket)
     (sym (held_is c.self.inside.collection.now c.self.inside.passes c.self.inside.bucket c.self.inside.board c.args.self.now out.0
-    c.take-turn.result c.args.b c.self.view_is c.self.invariant out.1 out.2 c.take-turn.ensures.was)) out.3.event
+    c.take-turn.result c.args.b c.self.view_is c.self.invariant.shared_is out.1 out.2 c.take-turn.ensures.was)) out.3.event
 
 pub invariant_of-self : goal.invariant_of-self
 invariant_of-self g c =
     let out = c.requires.is_out in
-    (given_is_keeper_give c.self.inside.collection.now c.self.inside.passes c.self.inside.bucket c.self.inside.board c.args.self.now out.0
-    c.take-turn.result c.args.b c.args.keepers.now.keepers.items c.self.view_is c.self.invariant out.1 out.2 c.take-turn.ensures.was
-    out.3.by_keeper c.requires.fits _ _ c.args.bucket _ out.3 c.take-turn.ensures.empty c.give_by_keeper.ensures).is
+    record {
+      shared_is = (given_is_keeper_give c.self.inside.collection.now c.self.inside.passes c.self.inside.bucket c.self.inside.board c.args.self.now out.0
+          c.take-turn.result c.args.b c.args.keepers.now.keepers.items c.self.view_is c.self.invariant.shared_is out.1 out.2 c.take-turn.ensures.was
+          out.3.by_keeper c.requires.fits _ _ c.args.bucket _ out.3 c.take-turn.ensures.empty c.give_by_keeper.ensures).is;
+      locks_are = c.self.invariant.locks_are;
+    }
 
 pub returns : goal.returns
 returns g c =
     let out = c.requires.is_out in
     let give =
     given_is_keeper_give c.self.inside.collection.now c.self.inside.passes c.self.inside.bucket c.self.inside.board c.args.self.now out.0
-    c.take-turn.result c.args.b c.args.keepers.now.keepers.items c.self.view_is c.self.invariant out.1 out.2 c.take-turn.ensures.was
+    c.take-turn.result c.args.b c.args.keepers.now.keepers.items c.self.view_is c.self.invariant.shared_is out.1 out.2 c.take-turn.ensures.was
     out.3.by_keeper c.requires.fits _ _ c.args.bucket _ out.3 c.take-turn.ensures.empty c.give_by_keeper.ensures in
     record {
       seen = λ other is_other. subst (λ (held : Held). SeesKeeperGiven held c.args.bucket (seen_of c.args.self.now.passes) (seen_of c.give_by_keeper.new.passes))

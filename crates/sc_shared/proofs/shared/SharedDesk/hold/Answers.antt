@@ -6,14 +6,17 @@ use Rattle.sc_shared.proofs.shared.SharedDesk.hold.Goals as goal
 
 pub invariant_of-self : goal.invariant_of-self
 invariant_of-self g c =
-    (held_is_hold c.self.inside.collection.now c.self.inside.passes _ c.self.inside.bucket _ c.self.inside.board c.args.self.now c.args.b _ _
-    c.self.view_is c.self.invariant c.requires.nothing_out c.requires.within c.hold_bucket-bucket.ensures c.put.ensures.full).leaves.is
+    record {
+      shared_is = (held_is_hold c.self.inside.collection.now c.self.inside.passes _ c.self.inside.bucket _ c.self.inside.board c.args.self.now c.args.b _ _
+          c.self.view_is c.self.invariant.shared_is c.requires.nothing_out c.requires.within c.hold_bucket-bucket.ensures c.put.ensures.full).leaves.is;
+      locks_are = c.self.invariant.locks_are;
+    }
 
 pub returns : goal.returns
 returns g c =
     let hold =
     held_is_hold c.self.inside.collection.now c.self.inside.passes _ c.self.inside.bucket _ c.self.inside.board c.args.self.now c.args.b _ _
-    c.self.view_is c.self.invariant c.requires.nothing_out c.requires.within c.hold_bucket-bucket.ensures c.put.ensures.full in
+    c.self.view_is c.self.invariant.shared_is c.requires.nothing_out c.requires.within c.hold_bucket-bucket.ensures c.put.ensures.full in
     record {
       sound = hold.leaves.sound;
       is_of = hold.leaves.is_of;

@@ -14,15 +14,18 @@ hold_by_keeper-bucket-requires-clause-keeper g c =
 
 pub invariant_of-self : goal.invariant_of-self
 invariant_of-self g c =
-    (held_is_keeper_hold c.self.inside.collection.now c.self.inside.passes _ c.self.inside.bucket _ c.self.inside.board c.args.self.now c.args.b
-    _ _ c.args.keepers.now.keepers.items _ c.self.view_is c.self.invariant c.requires.nothing_out c.requires.within c.requires.fits
-    c.hold_by_keeper-bucket.ensures c.put.ensures.full).leaves.is
+    record {
+      shared_is = (held_is_keeper_hold c.self.inside.collection.now c.self.inside.passes _ c.self.inside.bucket _ c.self.inside.board c.args.self.now c.args.b
+          _ _ c.args.keepers.now.keepers.items _ c.self.view_is c.self.invariant.shared_is c.requires.nothing_out c.requires.within c.requires.fits
+          c.hold_by_keeper-bucket.ensures c.put.ensures.full).leaves.is;
+      locks_are = c.self.invariant.locks_are;
+    }
 
 pub returns : goal.returns
 returns g c =
     let hold =
     held_is_keeper_hold c.self.inside.collection.now c.self.inside.passes _ c.self.inside.bucket _ c.self.inside.board c.args.self.now c.args.b
-    _ _ c.args.keepers.now.keepers.items _ c.self.view_is c.self.invariant c.requires.nothing_out c.requires.within c.requires.fits
+    _ _ c.args.keepers.now.keepers.items _ c.self.view_is c.self.invariant.shared_is c.requires.nothing_out c.requires.within c.requires.fits
     c.hold_by_keeper-bucket.ensures c.put.ensures.full in
     record {
       sound = hold.leaves.sound;

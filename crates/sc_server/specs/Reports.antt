@@ -1,0 +1,74 @@
+-- What a worker's crew reports.
+use Rattle.std.specs.Prelude.{◌≡◌, ℕ, List, Option, Some, IfSome}
+use Rattle.sc_cores.specs.Cores.{Outside, with_cores}
+use Rattle.sc_io.specs.declared.hosts.Host.{Host}
+use Rattle.sc_seen.specs.Seen.{Layout, Seen}
+use Rattle.sc_session.specs.declared.listener.Link.{Link}
+use Rattle.sc_session.specs.declared.listener.Taken.{Taken}
+use Rattle.sc_session.specs.declared.station.Crew.{Crew}
+use Rattle.sc_session.specs.Working.{Setting, WorkState}
+use Rattle.sc_server.specs.declared.clock.WorkerClock.{WorkerClock}
+use Rattle.sc_server.specs.Clocks.{gives_at}
+
+-- each of these cores was started, in order, and no call failed
+pub record StartsCores (cores : List Host) (old new : Outside) : Type 0 where
+  pub started : IfSome old.started (λ before. new.started ≡ Some (with_cores cores before))
+  pub start_faults : new.start_faults ≡ old.start_faults
+  pub stop_faults : new.stop_faults ≡ old.stop_faults
+  pub stops : new.stops ≡ old.stops
+
+-- what the parts of a crew report: the clock its moments, hosts and pace what is outside of the collection, the listener its links
+-- and faults, and the links' sources and sinks their bytes and faults
+pub record Reports (C H P L S W : Type 0) : Type 1 where
+  pub gives : C → ℕ → C → Type 0
+  pub outside : H → P → Outside
+  pub coming : L → Option (List (Link S W))
+  pub taken : L → Option (List (Taken S W))
+  pub faults : L → ℕ
+  pub out : L → ℕ
+  pub rest : S → Option (List ℕ)
+  pub read_faults : S → ℕ
+  pub written : W → Option (List ℕ)
+  pub write_faults : W → ℕ
+
+-- a crew whose clock is that of a worker
+abbrev pub WorkerCrew : (C H P L : Type 0) → Type 0
+WorkerCrew C H P L = Crew (WorkerClock C) H P L
+
+-- the crew of a station as a worker has it, whose clock stands still at a moment or not
+abbrev pub with_moment : {C H P L : Type 0} → Option ℕ → Crew C H P L → WorkerCrew C H P L
+with_moment moment crew = record {
+  clock = record { clock = crew.clock; moment = moment };
+  hosts = crew.hosts;
+  pace = crew.pace;
+  listener = crew.listener;
+}
+
+-- and as it is given back
+abbrev pub without_moment : {C H P L : Type 0} → WorkerCrew C H P L → Crew C H P L
+without_moment crew = record { clock = crew.clock.clock; hosts = crew.hosts; pace = crew.pace; listener = crew.listener }
+
+module _ {C H P L S W : Type 0} (reports : Reports C H P L S W) where
+  -- what the clock of a worker gives
+  abbrev pub clock_gives : WorkerClock C → ℕ → WorkerClock C → Type 0
+  clock_gives old now new = gives_at reports.gives old.moment old.clock now new.moment new.clock
+
+  -- what the sources and sinks of a listener's links report, and how the collection is laid out
+  abbrev pub setting : Layout → Setting S W
+  setting layout = record {
+    layout = layout;
+    rest = reports.rest;
+    read_faults = reports.read_faults;
+    written = reports.written;
+    write_faults = reports.write_faults;
+  }
+
+  -- what stands beside a worker with this crew, whose passes have seen this
+  abbrev pub beside : Seen → WorkerCrew C H P L → WorkState (WorkerClock C) S W
+  beside seen crew = record {
+    around = record { seen = seen; clock = crew.clock; outside = reports.outside crew.hosts crew.pace };
+    coming = reports.coming crew.listener;
+    taken = reports.taken crew.listener;
+    faults = reports.faults crew.listener;
+    out = reports.out crew.listener;
+  }

@@ -1,7 +1,9 @@
--- What the proofs of a run share, and what the usage's example asks for.
+-- What the proofs of a run share, and what the usage's examples ask for.
+pub mod CrewLemmas
 pub mod MapCoreLemmas
 pub mod RestLemmas
 pub mod RunLemmas
 pub mod ScriptLemmas
+pub mod ServerLemmas
 pub mod StartedLemmas
 mod UsageExamples

@@ -1,3 +1,4 @@
--- What a run leaves, and what a person is told.
+-- What a run leaves, by itself and by a station's crew, and what a person is told.
 pub mod Running
+pub mod Scripts
 pub mod Usage

@@ -17,6 +17,7 @@ use Rattle.sc_session.specs.Served.{IsServed}
 use Rattle.sc_arguments.specs.declared.asked.Asked.{Asked}
 use Rattle.sc_arguments.specs.declared.asked.Asked.TheVariants as asking
 use Rattle.sc_arguments.specs.declared.asked.Script.{Script}
+use Rattle.sc_arguments.specs.declared.asked.Server.{Server}
 use Rattle.sc_arguments.specs.Arguments.{asked_of}
 
 -- the script, where one is asked for
@@ -28,6 +29,16 @@ script_in None = None
 -- the script that arguments ask for
 abbrev pub script_of : List (List ℕ) → Option Script
 script_of arguments = script_in (asked_of arguments)
+
+-- the server, where one is asked for
+abbrev pub server_in : Option Asked → Option Server
+server_in (Some (asking.Serve server)) = Some server
+server_in (Some (asking.Script script)) = None
+server_in None = None
+
+-- the server that arguments ask for
+abbrev pub server_of : List (List ℕ) → Option Server
+server_of arguments = server_in (asked_of arguments)
 
 -- the exit status by how the connection ended
 abbrev pub exit_status : End → ℕ

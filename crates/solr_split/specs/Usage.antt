@@ -1,22 +1,32 @@
 -- What the program says to a person.
 use Rattle.std.specs.Prelude.{ℕ, ◌==◌, List, ◌++◌, codes, if◌then◌else◌}
 
--- arguments that the usage gives as an example
+-- arguments that the usage gives as an example of `script`
 abbrev pub example : List ℕ
 example = codes "script --buckets=1 --clock 1000"
 
--- the usage: each option with its range and its default, and the example
+-- arguments that the usage gives as an example of `serve`
+abbrev pub server_example : List ℕ
+server_example = codes "serve --port 8984 --workers=8"
+
+-- the usage: each command, each option with its range and its default, and the examples
 abbrev pub usage : List ℕ
 usage =
-    codes "usage: solr_split script [OPTION VALUE | OPTION=VALUE]...\n"
-    ++ codes "  --nodes      1 to 16 nodes (1)\n"
-    ++ codes "  --shards     1 to 64 shards (1)\n"
-    ++ codes "  --replicas   1 to 4 replicas of each shard (1)\n"
-    ++ codes "  --buckets    a power of two from 1 to 256 (64)\n"
-    ++ codes "  --log-limit  16 to 16777216 entries in the journal of a bucket (1048576);\n"
-    ++ codes "               with R replicas of each of S shards at least 16 + S * (R - 1)\n"
-    ++ codes "  --clock      a timestamp from 0 to 18446744073709551615, in milliseconds, at which the clock stands still (the machine's clock)\n"
-    ++ codes "as in: solr_split " ++ example ++ codes " < requests"
+    codes "usage: solr_split script|serve [OPTION VALUE | OPTION=VALUE]...\n"
+    ++ codes "script serves one connection over standard input and output, serve those to a port. Options of both:\n"
+    ++ codes "  --nodes            1 to 16 nodes (1)\n"
+    ++ codes "  --shards           1 to 64 shards (1)\n"
+    ++ codes "  --replicas         1 to 4 replicas of each shard (1)\n"
+    ++ codes "  --buckets          a power of two from 1 to 256 (64)\n"
+    ++ codes "  --log-limit        16 to 16777216 entries in the journal of a bucket (1048576);\n"
+    ++ codes "                     with R replicas of each of S shards at least 16 + S * (R - 1)\n"
+    ++ codes "  --clock            a timestamp from 0 to 18446744073709551615, in milliseconds, at which the clock stands still (the machine's clock)\n"
+    ++ codes "Options of serve:\n"
+    ++ codes "  --port             1 to 65535, the port (8983)\n"
+    ++ codes "  --workers          1 to 64 workers (4)\n"
+    ++ codes "  --max-connections  1 to 4294967295 connections that each worker serves (4294967295)\n"
+    ++ codes "as in: solr_split " ++ example ++ codes " < requests\n"
+    ++ codes "       solr_split " ++ server_example
 
 -- what a status other than 0 means
 abbrev pub meaning_of : ℕ → List ℕ
@@ -25,5 +35,6 @@ meaning_of status =
     else (if status == 3 then codes "the input ended inside a request, or was no request that can be read"
     else (if status == 4 then codes "reading from standard input failed"
     else (if status == 5 then codes "writing to standard output failed"
+    else (if status == 7 then codes "opening the port or accepting a connection failed"
     else (if status == 8 then codes "starting a core of the collection failed"
-    else codes "out of memory"))))
+    else codes "out of memory")))))

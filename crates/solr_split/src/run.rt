@@ -1,194 +1,220 @@
-ghost use Rattle.std.specs.Prelude.{◌≡◌, ◌<◌, ◌≤◌, ◌↔◌, map, IfOk, IfSome, OnOk, OnErr, None, string_bytes};
-ghost use Rattle.sc_cores.specs.Cores.{outside_of, cores_of_map};
-ghost use Rattle.sc_session.specs.Served.{IsServed};
-ghost use Rattle.sc_collection.specs.Alone.{seen_of};
-ghost use Rattle.sc_collection.specs.Desks.{nothing_out};
-ghost use Rattle.sc_collection.specs.Shapes.{IsShape, HasShape, SeesNothing};
-ghost use Rattle.solr_split.specs.Running.{RunsOrFails, script_of, clock_of, state_of, none_kept, exit_status};
+//! All that the program does, by what its arguments ask for.
+ghost use Rattle.std.specs.Prelude.{◌≡◌, ◌≢◌, ◌<◌, ◌↔◌, map, string_bytes, IfSome, None};
+ghost use Rattle.sc_cores.specs.Cores.{outside_of};
+ghost use Rattle.sc_collection.specs.Shapes.{IsShape};
+ghost use Rattle.sc_arguments.specs.Arguments.{asked_of, IsServer};
+ghost use Rattle.sc_server.specs.Serving.{EndsServer};
+ghost use Rattle.solr_split.specs.Running.{script_of, server_of};
+ghost use Rattle.solr_split.specs.Scripts.{EndsScript};
 
-use sc_arguments::{Asked, Script, asked_of};
-use sc_collection::{Alone, Desk, Shape, Trail};
-use sc_cores::{cores_of_map, start_cores};
-use sc_io::{Clock, Fixed, Host, Hosts, Pace, Sink, Source};
-use sc_record::List;
-use sc_session::{End, serve};
-use std::alloc::{AllocError, Global};
-use std::mem::forget;
+use crate::script::run_script;
+use sc_arguments::{Asked, Script, Server, asked_of};
+use sc_io::{Sink, Source};
+use sc_server::run_server;
+use sc_session::Station;
+use std::alloc::Global;
+use std::sync::Wait;
+use std::thread::Threads;
 
-// What a connection needs.
-#[derive(Drop)]
-struct Needs {
-    /// A collection of the shape in which nothing happened yet.
-    desk: Alone,
-    /// An empty trail.
-    trail: Trail,
-    /// The cores of its first map.
-    cores: List<Host>,
-}
-
-/// All that the program does: `script` starts the cores of a new collection of the shape that its options ask for, and serves one connection
-/// over the source, the sink and that collection. Its clock is the one that is handed in or, with `--clock`, one that stands still at
-/// that many milliseconds. Splits start and stop cores by the hosts, and ask the pace.
+/// All that the program does. `script` serves one connection over the source and the sink, by crew 0 of the station. `serve` opens a port,
+/// writes `listening <port>` to the sink, and serves connections by several workers at once, each by a crew of its own. Both give each crew
+/// back to the station. With `--clock` the clock stands still at that many milliseconds.
 ///
-/// The status is 0 where the connection came to its end, 2 for arguments that ask for nothing, 3 where it
-/// ended in a message that can't be read, 4 where the source failed, 5 where the sink did, 6 where
-/// memory ran out, and 8 where starting a core of the first map failed; those before it stay started.
-pub fn run<S: Source, W: Sink, C: Clock, H: Hosts, P: Pace>(
+/// The status is 2 for arguments that ask for nothing, 6 where memory ran out, and 8 where starting a core of the first map failed. Of
+/// `script` it is 0 where the connection came to its end, 3 where it ended in a message that can't be read, 4 where the source failed and
+/// 5 where the sink did; of `serve` 0 where each worker ended without a fault of its listener, 5 where the line wasn't written, and 7
+/// where the port wasn't opened or a listener failed.
+///
+/// It waits for its workers, so it owes no return; what `script` asks for waits for nothing, and returns.
+pub fn run<S: Source, W: Sink, T: Station, R: Threads + Wait + Sync>(
+    rt: &R,
     alloc: Global,
     arguments: &[String],
     source: &mut S,
     sink: &mut W,
-    clock: &mut C,
-    hosts: &mut H,
-    pace: &mut P,
+    station: &mut T,
 ) -> u8
-    ensures bad_arguments { (result ≡ 2) ↔ (script_of (map string_bytes arguments.now) ≡ None) }
+    ensures bad_arguments { (result ≡ 2) ↔ (asked_of (map string_bytes arguments.now) ≡ None) }
 
-    // Where nothing is asked for, nothing is read, written or started.
-    ensures nothing_done { script_of (map string_bytes arguments.now) ≡ None → (source.new ≡ source.old) × (sink.new ≡ sink.old) × (clock.new ≡ clock.old) × (hosts.new ≡ hosts.old) × (pace.new ≡ pace.old) }
+    // Where nothing is asked for, nothing is read, written or opened.
+    ensures nothing_done { asked_of (map string_bytes arguments.now) ≡ None → (source.new ≡ source.old) × (sink.new ≡ sink.old) × (station.new ≡ station.old) }
 
     // A script serves one connection, unless memory ran out or a host failed before it began.
-    ensures script { IfSome (script_of (map string_bytes arguments.now)) (λ script. RunsOrFails script C.gives
+    ensures script { IfSome (script_of (map string_bytes arguments.now)) (λ script. EndsScript script
         (record {
-          clock = clock.old;
-          outside = outside_of (H.started hosts.old) (H.start_faults hosts.old) (H.stop_faults hosts.old) (P.stops pace.old);
+          gives = T.C.gives;
+          outside = λ hosts pace. outside_of (T.H.started hosts) (T.H.start_faults hosts) (T.H.stop_faults hosts) (T.P.stops pace);
+        })
+        (record {
+          front = record {
+            crews = T.crews station.old;
+            crews_back = T.crews_back station.old;
+            out = T.out station.old;
+            open_faults = T.faults station.old;
+            written = W.written sink.old;
+            write_faults = W.faults sink.old;
+          };
           unread = S.rest source.old;
-          written = W.written sink.old;
           read_faults = S.faults source.old;
+        })
+        (record {
+          front = record {
+            crews = T.crews station.new;
+            crews_back = T.crews_back station.new;
+            out = T.out station.new;
+            open_faults = T.faults station.new;
+            written = W.written sink.new;
+            write_faults = W.faults sink.new;
+          };
+          unread = S.rest source.new;
+          read_faults = S.faults source.new;
+        })
+        ((source.new ≡ source.old) × (sink.new ≡ sink.old)) result) }
+
+    // A server serves the connections to its port by all its workers, unless it fails before.
+    ensures serve { IfSome (server_of (map string_bytes arguments.now)) (λ server. EndsServer
+        (record {
+          gives = T.C.gives;
+          outside = λ hosts pace. outside_of (T.H.started hosts) (T.H.start_faults hosts) (T.H.stop_faults hosts) (T.P.stops pace);
+          coming = T.L.coming;
+          taken = T.L.taken;
+          faults = T.L.faults;
+          out = T.L.out;
+          rest = T.L.S.rest;
+          read_faults = T.L.S.faults;
+          written = T.L.W.written;
+          write_faults = T.L.W.faults;
+        })
+        server
+        (record {
+          crews = T.crews station.old;
+          crews_back = T.crews_back station.old;
+          out = T.out station.old;
+          open_faults = T.faults station.old;
+          written = W.written sink.old;
           write_faults = W.faults sink.old;
         })
         (record {
-          clock = clock.new;
-          outside = outside_of (H.started hosts.new) (H.start_faults hosts.new) (H.stop_faults hosts.new) (P.stops pace.new);
-          unread = S.rest source.new;
+          crews = T.crews station.new;
+          crews_back = T.crews_back station.new;
+          out = T.out station.new;
+          open_faults = T.faults station.new;
           written = W.written sink.new;
-          read_faults = S.faults source.new;
           write_faults = W.faults sink.new;
         })
-        ((source.new ≡ source.old) × (sink.new ≡ sink.old) × (clock.new ≡ clock.old) × (pace.new ≡ pace.old)) (hosts.new ≡ hosts.old) result) }
+        result) }
+    ensures server_reads { IfSome (server_of (map string_bytes arguments.now)) (λ server. source.new ≡ source.old) }
     ensures read_fault { (result ≡ 4) ↔ (S.faults source.old < S.faults source.new) }
     ensures write_fault { (result ≡ 5) ↔ (W.faults sink.old < W.faults sink.new) }
-    ensures host_fault { result ≡ 8 → H.start_faults hosts.old < H.start_faults hosts.new }
-{
-    let Some(script) = script_asked(arguments) else {
-        return 2;
-    };
-    let Needs {
-        mut desk,
-        mut trail,
-        cores,
-    } = match needs_of(alloc, &script.shape) {
-        Ok(needs) => needs,
-        Err(_) => return 6,
-    };
-    if start_cores(hosts, cores.as_slice()).is_err() {
-        return 8;
-    }
-    let end = serve_script(
-        alloc,
-        script.clock,
-        &mut desk,
-        source,
-        sink,
-        clock,
-        hosts,
-        pace,
-        &mut trail,
-    );
-    // The program ends here: the system takes their memory at once, which is faster than taking them apart piece by piece.
-    desk.leave();
-    forget(trail);
-    status_of(end)
-}
-
-/// The script that the arguments ask for; nothing where they ask for something else.
-fn script_asked(arguments: &[String]) -> Option<Script>
-    ensures asked { result ≡ script_of (map string_bytes arguments.now) }
-    ensures shape { IfSome result (λ script. IsShape script.shape) }
 {
     match asked_of(arguments) {
-        Some(Asked::Script(script)) => Some(script),
-        Some(Asked::Serve(_)) | None => None,
+        None => 2,
+        Some(Asked::Script(script)) => run_by_crew(alloc, &script, source, sink, station),
+        Some(Asked::Serve(server)) => run_workers(rt, alloc, &server, sink, station),
     }
 }
 
-/// Serves one connection over a desk, with the clock that is handed in or with one that stands still at a timestamp.
-fn serve_script<D: Desk, S: Source, W: Sink, C: Clock, H: Hosts, P: Pace>(
+/// Runs a script by crew 0 of the station, and gives the crew back.
+fn run_by_crew<S: Source, W: Sink, T: Station>(
     alloc: Global,
-    timestamp: Option<u64>,
-    desk: &mut D,
+    script: &Script,
     source: &mut S,
     sink: &mut W,
-    clock: &mut C,
-    hosts: &mut H,
-    pace: &mut P,
-    trail: &mut Trail,
-) -> End
-    requires trail { trail.old ≡ none_kept }
-    requires nothing_out { D.out desk.old ≡ nothing_out }
-    ensures served { IsServed (clock_of timestamp C.gives) (D.layout desk.old)
-        (state_of (D.seen desk.old) trail.old (record {
-          clock = clock.old;
-          outside = outside_of (H.started hosts.old) (H.start_faults hosts.old) (H.stop_faults hosts.old) (P.stops pace.old);
+    station: &mut T,
+) -> u8
+    requires shape { IsShape script.now.shape }
+    ensures script { EndsScript script.now
+        (record {
+          gives = T.C.gives;
+          outside = λ hosts pace. outside_of (T.H.started hosts) (T.H.start_faults hosts) (T.H.stop_faults hosts) (T.P.stops pace);
+        })
+        (record {
+          front = record {
+            crews = T.crews station.old;
+            crews_back = T.crews_back station.old;
+            out = T.out station.old;
+            open_faults = T.faults station.old;
+            written = W.written sink.old;
+            write_faults = W.faults sink.old;
+          };
           unread = S.rest source.old;
-          written = W.written sink.old;
           read_faults = S.faults source.old;
-          write_faults = W.faults sink.old;
-        }))
-        (state_of (D.seen desk.new) trail.new (record {
-          clock = clock.new;
-          outside = outside_of (H.started hosts.new) (H.start_faults hosts.new) (H.stop_faults hosts.new) (P.stops pace.new);
+        })
+        (record {
+          front = record {
+            crews = T.crews station.new;
+            crews_back = T.crews_back station.new;
+            out = T.out station.new;
+            open_faults = T.faults station.new;
+            written = W.written sink.new;
+            write_faults = W.faults sink.new;
+          };
           unread = S.rest source.new;
-          written = W.written sink.new;
           read_faults = S.faults source.new;
+        })
+        ((source.new ≡ source.old) × (sink.new ≡ sink.old)) result }
+    ensures status { result ≢ 2 }
+    ensures read_fault { (result ≡ 4) ↔ (S.faults source.old < S.faults source.new) }
+    ensures write_fault { (result ≡ 5) ↔ (W.faults sink.old < W.faults sink.new) }
+{
+    let Ok(mut crew) = station.crew(alloc, 0) else {
+        return 6;
+    };
+    let status = run_script(
+        alloc,
+        script,
+        source,
+        sink,
+        &mut crew.clock,
+        &mut crew.hosts,
+        &mut crew.pace,
+    );
+    station.back(0, crew);
+    status
+}
+
+/// Serves the connections to a port.
+fn run_workers<W: Sink, T: Station, R: Threads + Wait + Sync>(
+    rt: &R,
+    alloc: Global,
+    server: &Server,
+    sink: &mut W,
+    station: &mut T,
+) -> u8
+    requires server { IsServer server.now }
+    ensures ends { EndsServer
+        (record {
+          gives = T.C.gives;
+          outside = λ hosts pace. outside_of (T.H.started hosts) (T.H.start_faults hosts) (T.H.stop_faults hosts) (T.P.stops pace);
+          coming = T.L.coming;
+          taken = T.L.taken;
+          faults = T.L.faults;
+          out = T.L.out;
+          rest = T.L.S.rest;
+          read_faults = T.L.S.faults;
+          written = T.L.W.written;
+          write_faults = T.L.W.faults;
+        })
+        server.now
+        (record {
+          crews = T.crews station.old;
+          crews_back = T.crews_back station.old;
+          out = T.out station.old;
+          open_faults = T.faults station.old;
+          written = W.written sink.old;
+          write_faults = W.faults sink.old;
+        })
+        (record {
+          crews = T.crews station.new;
+          crews_back = T.crews_back station.new;
+          out = T.out station.new;
+          open_faults = T.faults station.new;
+          written = W.written sink.new;
           write_faults = W.faults sink.new;
-        })) result }
-    ensures layout { D.layout desk.new ≡ D.layout desk.old }
-    ensures nothing_out { D.out desk.new ≡ nothing_out }
+        })
+        result }
+    ensures status { (result ≢ 2) × (result ≢ 4) }
+    ensures write_fault { (result ≡ 5) ↔ (W.faults sink.old < W.faults sink.new) }
 {
-    match timestamp {
-        None => serve(alloc, desk, clock, hosts, pace, source, sink, trail),
-        Some(moment) => serve(
-            alloc,
-            desk,
-            &mut Fixed { moment },
-            hosts,
-            pace,
-            source,
-            sink,
-            trail,
-        ),
-    }
-}
-
-/// What a connection over a new collection of the shape needs.
-fn needs_of(alloc: Global, shape: &Shape) -> Result<Needs, AllocError>
-    requires shape { IsShape shape.now }
-    ensures layout { IfOk result (λ needs. HasShape shape.now needs.desk.layout) }
-    ensures seen { IfOk result (λ needs. SeesNothing (seen_of needs.desk)) }
-    ensures out { IfOk result (λ needs. needs.desk.out ≡ None) }
-    ensures board_out { IfOk result (λ needs. needs.desk.board_out ≡ None) }
-    ensures trail { IfOk result (λ needs. needs.trail ≡ none_kept) }
-    ensures cores { IfOk result (λ needs. needs.cores ≡ cores_of_map needs.desk.layout.nodes needs.desk.layout.first) }
-{
-    let desk = Alone::new(alloc, shape)?;
-    let cores = cores_of_map(alloc, desk.nodes(), desk.first())?;
-    Ok(Needs {
-        desk,
-        trail: Trail::new(alloc)?,
-        cores,
-    })
-}
-
-/// The exit status by how the connection ended.
-fn status_of(end: End) -> u8
-    ensures { result ≡ exit_status end }
-{
-    match end {
-        End::Done | End::Closed | End::Limit => 0,
-        End::Cut | End::BadHead | End::TooLarge => 3,
-        End::ReadFault => 4,
-        End::WriteFault => 5,
-        End::Memory => 6,
-    }
+    run_server(rt, alloc, server, sink, station)
 }

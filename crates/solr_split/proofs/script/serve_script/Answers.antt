@@ -5,7 +5,7 @@ use Rattle.sc_cores.specs.Cores.{outside_of}
 use Rattle.sc_session.specs.States.{ConnectionState}
 use Rattle.solr_split.specs.Running.{state_of}
 use Rattle.solr_split.proofs.RunLemmas.{served_at}
-use Rattle.solr_split.proofs.run.serve_script.Goals as goal
+use Rattle.solr_split.proofs.script.serve_script.Goals as goal
 
 pub returns-in-Some-clause-served : goal.returns-in-Some-clause-served
 returns-in-Some-clause-served g c =

@@ -1,14 +1,11 @@
 -- What a script was answered is what its connection was served.
-use Rattle.std.proofs.Common.{◌≡◌, ◌∙◌, map, Some, string_bytes, sym, inl}
+use Rattle.std.proofs.Common.{◌∙◌, sym, inl}
 use Rattle.sc_cores.specs.Cores.{outside_of}
-use Rattle.solr_split.specs.Running.{script_of}
 use Rattle.solr_split.proofs.ScriptLemmas.{starts_first, script_runs}
-use Rattle.solr_split.proofs.run.run.Goals as goal
+use Rattle.solr_split.proofs.script.run_script.Goals as goal
 
--- src/run.rt:37:1
 pub returns-clause-script : goal.returns-clause-script
 returns-clause-script g c =
-    let asked : script_of (map string_bytes c.args.arguments.now) ≡ Some c.in-Some.script = sym c.in-Some.ensures.asked in
     let began = c.in-Ok.needs.desk in
     let hosted = outside_of (g.H.Hosts.started c.start_cores.new.hosts) (g.H.Hosts.start_faults c.start_cores.new.hosts)
     (g.H.Hosts.stop_faults c.start_cores.new.hosts) (g.P.Pace.stops c.args.pace.now) in
@@ -18,6 +15,6 @@ returns-clause-script g c =
     (g.H.Hosts.stop_faults c.args.hosts.now) (g.H.Hosts.stop_faults c.start_cores.new.hosts) (g.P.Pace.stops c.args.pace.now)
     (sym c.is_err.ensures.value ∙ c.if-is_err.false) c.as_slice.ensures c.in-Ok.ensures.cores
     c.start_cores.ensures.started c.start_cores.ensures.steady c.start_cores.ensures.other_count in
-    rw asked (inl (script_runs c.in-Some.script g.C.Clock.gives _ _ began c.serve_script-end.new.desk hosted c.in-Ok.needs.trail
+    inl (script_runs c.args.script.now g.C.Clock.gives _ _ began c.serve_script-end.new.desk hosted c.in-Ok.needs.trail
     c.serve_script-end.new.trail c.serve_script-end.result c.status_of.result c.in-Ok.ensures.layout c.in-Ok.ensures.seen
-    c.serve_script-end.ensures.layout hosts c.in-Ok.ensures.trail c.serve_script-end.ensures.served c.leave.ensures.rest c.status_of.ensures c.in-Some.ensures.shape))
+    c.serve_script-end.ensures.layout hosts c.in-Ok.ensures.trail c.serve_script-end.ensures.served c.leave.ensures.rest c.status_of.ensures.exit c.requires.shape)

@@ -4,5 +4,6 @@ pub mod LineLemmas
 pub mod CodingLemmas
 pub mod StuckLemmas
 pub mod OpenLemmas
+pub mod EndLemmas
 pub mod StepLemmas
 pub mod TrailerLemmas

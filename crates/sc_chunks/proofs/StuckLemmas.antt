@@ -69,7 +69,7 @@ only_little cs line left tail all little only states =
       | inr within ↦ omega (arith, within.1, states.much, little)
     ]
 
-all_after : (a b : List (List ℕ)) → All IsTrailer (a ++ b) → All IsTrailer b
+pub all_after : (a b : List (List ℕ)) → All IsTrailer (a ++ b) → All IsTrailer b
 all_after [] b all = all
 all_after (t ∷ a) b all = all_after a b (All-tail IsTrailer t (a ++ b) all)
 
@@ -102,7 +102,7 @@ no_empty_line_after text rest none some bad (m ∷ more) rest' all same =
     bad (subst IsTrailer (sym lines.0) is)
 
 -- of two lists with one whole, the longer first part begins with the shorter
-longer_split : (a b x y : List ℕ) → length b ≤ length a → a ++ x ≡ b ++ y → (more : List ℕ) × (a ≡ b ++ more)
+pub longer_split : (a b x y : List ℕ) → length b ≤ length a → a ++ x ≡ b ++ y → (more : List ℕ) × (a ≡ b ++ more)
 longer_split a [] x y long same = (a, refl)
 longer_split [] (c ∷ b) x y long same = absurd (omega (arith, long))
 longer_split (d ∷ a) (c ∷ b) x y long same =
@@ -115,7 +115,7 @@ nothing_left [] b same = refl
 nothing_left (c ∷ a) b same = absurd (omega (arith, ap length same))
 
 -- a part of a line that comes before a whole line is no longer than that
-part_within : (part text whole rest after : List ℕ) → HasNoLineEnd text → HasNoLineEnd whole → (more : List ℕ) → part ++ more ≡ text ++ crlf_bytes
+pub part_within : (part text whole rest after : List ℕ) → HasNoLineEnd text → HasNoLineEnd whole → (more : List ℕ) → part ++ more ≡ text ++ crlf_bytes
     → part ++ rest ≡ whole ++ (crlf_bytes ++ after) → length part ≤ length whole + 2
 part_within part text whole rest after none also more of same =
     elim (cases_lt (length whole + 2) (length part)) [

@@ -1,9 +1,9 @@
 -- How bytes end that begin with no chunked coding.
-use Rattle.std.specs.Prelude.{◌≡◌, ◌<◌, ◌≤◌, ◌⊎◌, ℕ, ◌+◌, List, [], ◌++◌, length, All}
+use Rattle.std.specs.Prelude.{◌≡◌, ◌<◌, ◌≤◌, ◌⊎◌, ℕ, ◌+◌, List, [], ◌++◌, length, take, All}
 use mathlib.Core.List.{IsPrefix}
 use Rattle.httparse.specs.Ascii.{crlf_bytes}
 use Rattle.httparse.specs.Grammar.{ChunkLine, print_chunk_line, IsChunkLine, chunk_size}
-use Rattle.sc_chunks.specs.Coding.{data_limit, trailer_limit, Chunk, IsChunk, print_chunks, data_of, HasNoLineEnd, IsTrailer, print_lines, Coding, ReadsCoding}
+use Rattle.sc_chunks.specs.Coding.{coding_limit, data_limit, trailer_limit, Chunk, IsChunk, print_chunks, data_of, HasNoLineEnd, IsTrailer, print_lines, Coding, ReadsCoding}
 
 -- the bytes begin with no coding
 abbrev pub HasNoCoding : List ℕ → Type 0
@@ -58,3 +58,30 @@ pub record IsOpen (bytes : List ℕ) : Type 0 where
   pub open_ : MayBecomeCoding bytes
   pub little : ¬ (StatesTooMuch bytes)
   pub few : ¬ (PassesTrailers bytes)
+
+-- how bytes that begin with no whole coding end
+pub data CodingEnd : Type 0 where
+  partial malformed too_large : CodingEnd
+
+-- the part of the bytes in which a coding has to be whole
+abbrev pub coding_window : List ℕ → List ℕ
+coding_window bytes = take coding_limit bytes
+
+-- A prefix within the limit of a coding decides that no coding comes, or that its trailer lines are too many bytes, and no chunk
+-- line in it states too much.
+pub record HasMalformedCoding (bytes : List ℕ) : Type 0 where
+  pub prefix : List ℕ
+  pub begins : IsPrefix prefix bytes
+  pub within : length prefix ≤ coding_limit
+  pub decides : NeverHasCoding prefix ⊎ PassesTrailers prefix
+  pub little : ¬ (StatesTooMuch prefix)
+
+-- a chunk line within the limit of a coding states too much, or the bytes go on past that limit and the coding is not whole there
+abbrev pub HasTooLargeCoding : List ℕ → Type 0
+HasTooLargeCoding bytes = StatesTooMuch (coding_window bytes) ⊎ ((coding_limit < length bytes) × IsOpen (coding_window bytes))
+
+-- the bytes begin with no whole coding within its limits, and this is why
+abbrev pub EndsCoding : List ℕ → CodingEnd → Type 0
+EndsCoding bytes partial = (length bytes ≤ coding_limit) × IsOpen bytes
+EndsCoding bytes malformed = HasMalformedCoding bytes
+EndsCoding bytes too_large = HasTooLargeCoding bytes

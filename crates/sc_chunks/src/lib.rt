@@ -4,8 +4,8 @@
 //! a coding from bytes that may be cut into pieces anywhere, or says why they begin with no coding.
 //!
 //! Proved: `take_part` goes on by the grammar of codings, takes nothing only where the coding is whole or its bytes end inside
-//! it, and refuses only what is malformed or states too much; `bytes_have_one_coding`: bytes begin with at most one
-//! coding, so it has one data, and no coding is a proper prefix of another.
+//! it, and refuses only what is malformed or states too much. Bytes begin with at most one coding, end in at most one way, and
+//! not both; what follows a coding, or bytes that are malformed or too large, changes nothing (`laws`).
 #![tactic(auto)]
 
 mod error;
@@ -17,6 +17,9 @@ mod step;
 mod trailer;
 
 pub use error::DecodeError;
-pub use laws::bytes_have_one_coding;
+pub use laws::{
+    bytes_end_in_one_way, bytes_have_one_coding, coding_stays, ended_bytes_have_no_coding,
+    malformed_stays, too_large_stays,
+};
 pub use place::Place;
 pub use step::take_part;

@@ -1,11 +1,11 @@
 -- A coding is a chunk line after chunks, and bytes begin with one coding.
-use Rattle.std.proofs.Common.{◌≡◌, ℕ, ◌+◌, ◌<◌, ◌≤◌, ◌⊎◌, inl, inr, All, List, [], ◌∷◌, ◌++◌, length, refl, sym, ap, ◌∙◌, subst, arith, append_assoc, append-nil, length-append}
+use Rattle.std.proofs.Common.{◌≡◌, ℕ, ◌<◌, inl, inr, All, List, [], ◌∷◌, ◌++◌, length, refl, sym, ap, ◌∙◌, subst, arith, append_assoc, append-nil}
 use Rattle.std.proofs.lemmas.Bool.{false≢true}
 use Rattle.std.proofs.lemmas.List.Elements.{All-head, All-tail}
 use Rattle.httparse.specs.Ascii.{crlf_bytes}
 use Rattle.httparse.specs.Grammar.{ChunkLine, print_chunk_line, IsChunkLine, chunk_size}
 use Rattle.httparse.proofs.ChunkLemmas.{chunk_line_unique}
-use Rattle.sc_chunks.specs.Coding.{Chunk, IsChunk, print_chunks, HasNoLineEnd, IsTrailer, print_lines, Coding, print_coding, ReadsCoding}
+use Rattle.sc_chunks.specs.Coding.{Chunk, IsChunk, print_chunks, IsTrailer, print_lines, Coding, ReadsCoding}
 use Rattle.sc_chunks.specs.Endings.{HasLine}
 use Rattle.sc_chunks.specs.Laws.{OneCoding}
 use Rattle.sc_chunks.proofs.ChunkLemmas.{chunks_then, peel}

@@ -5,5 +5,9 @@ pub mod CodingLemmas
 pub mod StuckLemmas
 pub mod OpenLemmas
 pub mod EndLemmas
-pub mod StepLemmas
-pub mod TrailerLemmas
+pub mod ChunkLineLemmas
+pub mod LineStepLemmas
+pub mod DataStepLemmas
+pub mod TrailerStepLemmas
+pub mod AdvanceLemmas
+pub mod DecoderLemmas

@@ -1,13 +1,9 @@
 -- Lines are told apart by their line ends.
-use Rattle.std.proofs.Common.{◌≡◌, ◌≢◌, ℕ, suc, ◌+◌, ◌<◌, ◌≤◌, ◌⊎◌, inl, inr, All, true, false, List, [], ◌∷◌, ◌++◌, length, get_or, take, drop, refl, sym, ap, ◌∙◌, subst, arith, append_assoc, append-nil, length-append}
-use Rattle.std.specs.List.{flat_map}
-use Rattle.std.proofs.lemmas.List.{take-append-drop, get_or_append_left}
+use Rattle.std.proofs.Common.{◌≡◌, ◌≢◌, ℕ, ◌+◌, ◌≤◌, ◌⊎◌, inl, inr, All, List, [], ◌∷◌, ◌++◌, length, refl, sym, ap, ◌∙◌, subst, arith, append_assoc, length-append}
 use Rattle.std.proofs.lemmas.Bool.{false≢true}
-use Rattle.std.proofs.lemmas.List.Elements.{All-head, All-tail, All-cons, All-nil}
-use mathlib.Core.List.{IsPrefix}
+use Rattle.std.proofs.lemmas.List.Elements.{All-head, All-tail}
 use Rattle.httparse.specs.Ascii.{crlf_bytes}
-use Rattle.sc_chunks.specs.Coding.{HasNoLineEnd, IsTrailer, has_name, print_lines}
-use Rattle.sc_chunks.specs.Endings.{NeverBeginsLineEnd}
+use Rattle.sc_chunks.specs.Coding.{HasNoLineEnd, IsTrailer, print_lines}
 
 pub no_end_in_tail : (b : ℕ) (text : List ℕ) → HasNoLineEnd (b ∷ text) → HasNoLineEnd text
 no_end_in_tail b text none before after same = none (b ∷ before) after (ap (λ xs. b ∷ xs) same)
@@ -44,34 +40,6 @@ no_end_before (c ∷ d ∷ text) b other none [] after same =
     let two : d ≡ 10 = cc in
     none [] text (ap (λ z. z ∷ d ∷ text) one ∙ ap (λ z. 13 ∷ z ∷ text) two)
 no_end_before (c ∷ text) b other none (z ∷ before) after same = no_end_before text b other (no_end_in_tail c text none) before after (cc)
-
--- the bytes of a line end, by their places
-pub end_at : (bytes before after : List ℕ) → bytes ≡ before ++ (crlf_bytes ++ after)
-    → (get_or bytes (length before) 0 ≡ 13) × (get_or bytes (length before + 1) 0 ≡ 10)
-end_at [] [] after same = absurd (omega (arith, ap length same))
-end_at [] (c ∷ before) after same = absurd (omega (arith, ap length same))
-end_at (b ∷ bytes) [] after same = (cc, (let rest : bytes ≡ 10 ∷ after = cc in ap (λ xs. get_or xs 0 0) rest))
-end_at (b ∷ bytes) (c ∷ before) after same =
-    let later = end_at bytes before after (cc) in
-    let next : length (c ∷ before) + 1 ≡ suc (length before + 1) = omega arith in
-    (later.0, ap (λ n. get_or (b ∷ bytes) n 0) next ∙ later.1)
-
--- where no line end begins, there is none
-pub no_end_by_places : (bytes : List ℕ) (end : ℕ) → ((k : ℕ) → k < end → ¬ ((get_or bytes k 0 ≡ 13) × (get_or bytes (k + 1) 0 ≡ 10)))
-    → length bytes ≤ end + 1 → HasNoLineEnd bytes
-no_end_by_places bytes end places short before after same =
-    let long = ap length same in
-    let parts = length-append before (13 ∷ 10 ∷ after) in
-    places (length before) (omega (arith, long, parts, short)) (end_at bytes before after same)
-
-pub no_end_by_prefix : (bytes : List ℕ) (end : ℕ) → ((k : ℕ) → k < end → ¬ ((get_or bytes k 0 ≡ 13) × (get_or bytes (k + 1) 0 ≡ 10)))
-    → length (take end bytes) ≤ end → HasNoLineEnd (take end bytes)
-no_end_by_prefix bytes end places short before after same =
-    let long = ap length same in
-    let parts = length-append before (13 ∷ 10 ∷ after) in
-    let whole : bytes ≡ before ++ (crlf_bytes ++ (after ++ drop end bytes)) =
-    sym (take-append-drop end bytes) ∙ ap (λ xs. xs ++ drop end bytes) same ∙ append_assoc before (crlf_bytes ++ after) (drop end bytes) in
-    places (length before) (omega (arith, long, parts, short)) (end_at bytes before (after ++ drop end bytes) whole)
 
 -- a line before what follows it
 pub lines_then : (text : List ℕ) (lines : List (List ℕ)) (x : List ℕ) → print_lines (text ∷ lines) ++ x ≡ text ++ (crlf_bytes ++ (print_lines lines ++ x))

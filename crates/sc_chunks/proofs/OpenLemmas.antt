@@ -1,6 +1,6 @@
 -- Bytes that end inside a part of a coding become a coding by some that follow.
-use Rattle.std.proofs.Common.{◌≡◌, ◌≢◌, ℕ, zero, suc, ◌==◌, ◌+◌, ◌-◌, ◌<◌, ◌≤◌, All, true, false, Bool, ◌||◌, List, [], ◌∷◌, ◌++◌, length, drop, None, refl, sym, ap, ◌∙◌, subst, arith, append_assoc, append-nil, length-append}
-use Rattle.std.specs.List.{flat_map, list_any}
+use Rattle.std.proofs.Common.{◌≡◌, ℕ, zero, suc, ◌==◌, ◌+◌, ◌-◌, ◌<◌, ◌≤◌, All, true, false, Bool, ◌||◌, List, [], ◌∷◌, ◌++◌, length, None, refl, sym, ap, ◌∙◌, subst, arith, append_assoc, append-nil, length-append}
+use Rattle.std.specs.List.{list_any}
 use Rattle.std.proofs.lemmas.Grind.{flat_map-append}
 use Rattle.std.proofs.lemmas.List.Elements.{All-append, All-cons, All-nil}
 use Rattle.std.specs.Char.{is_ascii_hexdigit}
@@ -15,7 +15,7 @@ use Rattle.sc_chunks.proofs.LineLemmas.{no_end_before, lines_then}
 abbrev pub last_zero : ChunkLine
 last_zero = record { digits = 48 ∷ []; pad = []; extension = None }
 
-zero_is_line : IsChunkLine last_zero
+pub zero_is_line : IsChunkLine last_zero
 zero_is_line = record {
   digits = (omega arith, omega arith, All-cons (λ b. is_ascii_hexdigit b ≡ true) 48 [] refl (All-nil (λ b. is_ascii_hexdigit b ≡ true)));
   pad = All-nil (λ b. is_ows b ≡ true);

@@ -4,9 +4,9 @@ use Rattle.std.proofs.lemmas.Bool.{cases_lt}
 use Rattle.std.proofs.lemmas.List.Elements.{All-head, All-tail}
 use Rattle.httparse.specs.Ascii.{crlf_bytes}
 use Rattle.httparse.specs.Grammar.{ChunkLine, print_chunk_line, chunk_size, HasNoChunkLine}
-use Rattle.sc_chunks.specs.Coding.{data_limit, trailer_limit, Chunk, IsChunk, print_chunks, data_of, HasNoLineEnd, has_name, IsTrailer, print_lines}
-use Rattle.sc_chunks.specs.Endings.{HasNoCoding, HasLine, StatesTooMuch, NeverBeginsLineEnd, PassesTrailers}
-use Rattle.sc_chunks.specs.Parts.{MayBeLineEnd}
+use Rattle.sc_chunks.specs.Coding.{data_limit, trailer_limit, Chunk, IsChunk, print_chunks, data_of, HasNoLineEnd, IsTrailer, print_lines}
+use Rattle.sc_chunks.specs.Endings.{HasNoCoding, HasLine, StatesTooMuch, PassesTrailers}
+use Rattle.sc_chunks.specs.Progress.{MayBeLineEnd}
 use Rattle.sc_chunks.proofs.ChunkLemmas.{chunks_then, peel}
 use Rattle.sc_chunks.proofs.CodingLemmas.{coding_line, Only}
 use Rattle.sc_chunks.proofs.LineLemmas.{no_end_in_nothing, same_line, lines_then, peel_lines, empty_line_after}

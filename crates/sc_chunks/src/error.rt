@@ -7,7 +7,8 @@ pub enum DecodeError {
     /// A chunk line, the line end after data or a trailer line is none, or the trailer lines pass 65,536 bytes.
     #[error("malformed chunks")]
     Malformed,
-    /// A chunk line states more data than 16,777,216 bytes with what came before.
+    /// A chunk line states more data than 16,777,216 bytes with what came before, or the coding is not whole after
+    /// 33,554,432 bytes and more come.
     #[error("chunks are too large")]
     TooLarge,
     #[error("out of memory")]

@@ -1,0 +1,81 @@
+//! Codings in pieces, and chunk lines that are refused.
+
+ghost use Rattle.std.specs.Prelude.{◌<◌};
+
+use crate::{DecodeError, Decoder};
+use std::alloc::Global;
+
+const CODING: &[u8] =
+    b"4;name=\"value\"\r\nWiki\r\n6 \t\r\npedia \r\nE\r\nin \r\n\r\nchunks.\r\n0\r\nExpires: never\r\n\r\n";
+
+// A decoder that took the bytes in pieces of this size, or why it didn't.
+fn taken(alloc: Global, bytes: &[u8], size: usize) -> Result<Decoder, DecodeError>
+    requires { 0 < size }
+{
+    let mut decoder = Decoder::new(alloc);
+    for piece in bytes.chunks(size) {
+        decoder.take(piece)?;
+    }
+    Ok(decoder)
+}
+
+// The data of a whole coding.
+fn decoded(alloc: Global, bytes: &[u8], size: usize) -> Option<Vec<u8>>
+    requires { 0 < size }
+{
+    let decoder = taken(alloc, bytes, size).ok()?;
+    if decoder.is_whole() {
+        Some(decoder.into_data())
+    } else {
+        None
+    }
+}
+
+fn fault(alloc: Global, bytes: &[u8]) -> Option<DecodeError> {
+    taken(alloc, bytes, 3).err()
+}
+
+#[test]
+fn pieces_of_any_size_give_the_data(rt: HostRuntime) {
+    let alloc = rt.alloc();
+    let data = b"Wikipedia in \r\n\r\nchunks.".as_slice();
+    assert!(rt; decoded(alloc, CODING, 1).is_some_and(|found| found.as_slice() == data));
+    assert!(rt; decoded(alloc, CODING, 2).is_some_and(|found| found.as_slice() == data));
+    assert!(rt; decoded(alloc, CODING, 3).is_some_and(|found| found.as_slice() == data));
+    assert!(rt; decoded(alloc, CODING, 7).is_some_and(|found| found.as_slice() == data));
+}
+
+#[test]
+fn what_follows_a_coding_is_left(rt: HostRuntime) {
+    let mut decoder = Decoder::new(rt.alloc());
+    assert_eq!(rt; decoder.take(b"1\r\na"), Ok(4));
+    assert!(rt; !decoder.is_whole());
+    assert_eq!(rt; decoder.take(b"\r\n0\r\n\r\nGET /"), Ok(7));
+    assert!(rt; decoder.is_whole());
+    assert_eq!(rt; decoder.take(b"GET /"), Ok(0));
+    assert_eq!(rt; decoder.into_data().as_slice(), b"a".as_slice());
+}
+
+#[test]
+fn bad_codings_are_refused(rt: HostRuntime) {
+    let alloc = rt.alloc();
+    assert_eq!(rt; fault(alloc, b"1000000\r\n"), None);
+    assert_eq!(rt; fault(alloc, b"1000001\r\n"), Some(DecodeError::TooLarge));
+    assert_eq!(rt;
+        fault(alloc, b"1\r\na\r\n1000000\r\n"),
+        Some(DecodeError::TooLarge)
+    );
+    assert_eq!(rt;
+        fault(alloc, b"FFFFFFFFFFFFFFFF\r\n"),
+        Some(DecodeError::TooLarge)
+    );
+    assert_eq!(rt;
+        fault(alloc, b"00000000000000001"),
+        Some(DecodeError::Malformed)
+    );
+    assert_eq!(rt; fault(alloc, b"g\r\n"), Some(DecodeError::Malformed));
+    assert_eq!(rt; fault(alloc, b"\r\n"), Some(DecodeError::Malformed));
+    assert_eq!(rt; fault(alloc, b"1\n"), Some(DecodeError::Malformed));
+    assert_eq!(rt; fault(alloc, b"1\r\nab"), Some(DecodeError::Malformed));
+    assert_eq!(rt; fault(alloc, b"0\r\n:a\r\n"), Some(DecodeError::Malformed));
+}

@@ -1,5 +1,5 @@
 -- Bytes have one ending, and none where they begin with a request.
-use Rattle.std.proofs.Common.{◌≡◌, ℕ, ◌+◌, ◌<◌, ◌≤◌, ◌⊎◌, inl, inr, Bool, IsTrue, true, false, List, [], ◌∷◌, ◌++◌, length, drop, cond, Ok, Err, Result, refl, sym, ap, ◌∙◌, subst, arith, append_assoc, length-append, length-take}
+use Rattle.std.proofs.Common.{◌≡◌, ℕ, ◌<◌, ◌≤◌, ◌⊎◌, inl, inr, Bool, IsTrue, true, false, List, [], ◌∷◌, ◌++◌, length, drop, Ok, Err, Result, refl, sym, ap, ◌∙◌, subst, arith, append_assoc, length-append, length-take}
 use Rattle.std.specs.Prelude.{nat_le, IsUtf8}
 use Rattle.std.proofs.lemmas.Bool.{cases_lt}
 use Rattle.std.proofs.lemmas.Bool.Decides.{nat_tests}
@@ -9,12 +9,15 @@ use Rattle.std.proofs.lemmas.Str.{IsUtf8-append, IsUtf8-from_ascii}
 use Rattle.std.proofs.lemmas.Str.Ascii.{IsAscii-from_all}
 use Rattle.httparse.specs.Grammar.{AllPass, LineEnd, lf, print_blank, print_version, IsToken, RequestHead, print_request, ReadsRequest, HasNoRequest, NeverHasRequest, MayBecomeRequest, is_token_byte, is_uri_byte}
 use Rattle.httparse.proofs.GrammarLemmas.{print_request-append, request_unique}
-use Rattle.sc_model.specs.Heads.{LengthFault, malformed_length, too_large_length, head_limit, line_limit, is_coded, body_length}
-use Rattle.sc_model.specs.Messages.{HasHead, window, Ending, done, cut, bad_head, too_large, not_built, HasTooManyLines, EndsInHead, HasMalformedHead, HasLongHead, EndsSo}
+use Rattle.sc_chunks.specs.Endings.{partial as partial_coding, malformed as malformed_coding, too_large as too_large_coding}
+use Rattle.sc_chunks.proofs.EndLemmas.{one_coding_end}
+use Rattle.sc_model.specs.Heads.{Framing, of_length, chunked, LengthFault, malformed_length, too_large_length, head_limit, line_limit, body_framing}
+use Rattle.sc_model.specs.Messages.{HasHead, window, Ending, done, cut, bad_head, too_large, HasTooManyLines, EndsInHead, HasMalformedHead, HasLongHead, EndsSo}
 use Rattle.sc_http.specs.Laws.{NoEndingOfRequest, OneEnding, EndsInInvalidTarget, MayEndInTwoWays, open_ending}
 use Rattle.sc_http.proofs.HeadEndLemmas.{head_splits, but_last}
 use Rattle.sc_http.proofs.LineLimitLemmas.{begins_longer, exceeds_ends, few_in_head}
-use Rattle.sc_http.proofs.MessageLemmas.{exceeds-append}
+use Rattle.sc_http.specs.Bodies.{ending_in_coding, EndsBody}
+use Rattle.sc_http.proofs.MessageLemmas.{exceeds-append, no_body}
 
 -- a target that is whole can be that of a head
 abbrev tail : List ℕ
@@ -128,25 +131,32 @@ nothing_well_formed malformed =
 nothing_ends : (other : Ending) → EndsSo [] other → other ≡ done
 nothing_ends done ends = refl
 nothing_ends cut (inl in_head) = absurd (omega (arith, in_head.some))
-nothing_ends cut (inr (h, rest, whole, has, plain, states, short)) = absurd (nothing_read [] h rest refl has.reads)
+nothing_ends cut (inr (inl (h, rest, whole, has, framed, short))) = absurd (nothing_read [] h rest refl has.reads)
+nothing_ends cut (inr (inr (h, rest, has, framed, ends))) = absurd (nothing_read [] h rest refl has.reads)
 nothing_ends bad_head (inl malformed) = absurd (nothing_well_formed malformed)
-nothing_ends bad_head (inr (h, rest, has, plain, states)) = absurd (nothing_read [] h rest refl has.reads)
+nothing_ends bad_head (inr (inl (h, rest, has, states))) = absurd (nothing_read [] h rest refl has.reads)
+nothing_ends bad_head (inr (inr (h, rest, has, framed, ends))) = absurd (nothing_read [] h rest refl has.reads)
 nothing_ends too_large (inl long) = absurd (omega (arith, long.more))
 nothing_ends too_large (inr (inl many)) = absurd (omega (arith, exceeds_ends line_limit [] many))
-nothing_ends too_large (inr (inr (h, rest, has, plain, states))) = absurd (nothing_read [] h rest refl has.reads)
-nothing_ends not_built (h, rest, has, coded) = absurd (nothing_read [] h rest refl has.reads)
+nothing_ends too_large (inr (inr (inl (h, rest, has, states)))) = absurd (nothing_read [] h rest refl has.reads)
+nothing_ends too_large (inr (inr (inr (h, rest, has, framed, ends)))) = absurd (nothing_read [] h rest refl has.reads)
 
--- how bytes end after a whole head
-abbrev by_length : Result ℕ LengthFault → Ending
-by_length (Ok whole) = cut
-by_length (Err malformed_length) = bad_head
-by_length (Err too_large_length) = too_large
+-- how bytes end after a whole head, by the framing that it states
+abbrev ending_of_fault : LengthFault → Ending
+ending_of_fault malformed_length = bad_head
+ending_of_fault too_large_length = too_large
 
-abbrev after_head : RequestHead → Ending
-after_head h = cond (is_coded h) not_built (by_length (body_length h))
+abbrev EndsAfter : Result Framing LengthFault → List ℕ → Ending → Type 0
+EndsAfter (Ok framing) rest ending = EndsBody framing rest ending
+EndsAfter (Err fault) rest ending = ending ≡ ending_of_fault fault
 
 abbrev EndsAfterHead : List ℕ → Ending → Type 0
-EndsAfterHead bytes ending = (h : RequestHead) × (rest : List ℕ) × HasHead bytes h rest × (ending ≡ after_head h)
+EndsAfterHead bytes ending = (h : RequestHead) × (rest : List ℕ) × HasHead bytes h rest × EndsAfter (body_framing h) rest ending
+
+after_one : (r : Result Framing LengthFault) (rest : List ℕ) (ending other : Ending) → EndsAfter r rest ending → EndsAfter r rest other → ending ≡ other
+after_one (Ok (of_length whole)) rest ending other a b = a.0 ∙ sym b.0
+after_one (Ok chunked) rest ending other (end, ends, is) (end', ends', is') = is ∙ ap ending_in_coding (one_coding_end rest end end' ends ends') ∙ sym is'
+after_one (Err fault) rest ending other a b = a ∙ sym b
 
 -- how they end in a head
 data EndsBefore (bytes : List ℕ) : Ending → Type 0 where
@@ -155,22 +165,23 @@ data EndsBefore (bytes : List ℕ) : Ending → Type 0 where
   long : HasLongHead bytes → EndsBefore bytes too_large
   many : HasTooManyLines (window bytes) → EndsBefore bytes too_large
 
-plain_ending : (h : RequestHead) (r : Result ℕ LengthFault) → is_coded h ≡ false → body_length h ≡ r → by_length r ≡ after_head h
-plain_ending h r plain states = ap by_length (sym states) ∙ rw (plain) refl
-
-coded_ending : (h : RequestHead) → is_coded h ≡ true → not_built ≡ after_head h
-coded_ending h coded = rw (coded) refl
+after : (bytes : List ℕ) (h : RequestHead) (rest : List ℕ) (ending : Ending) (r : Result Framing LengthFault) → HasHead bytes h rest
+    → body_framing h ≡ r → EndsAfter r rest ending → EndsAfterHead bytes ending
+after bytes h rest ending r has framed ends = (h, rest, has, subst (λ (x : Result Framing LengthFault). EndsAfter x rest ending) (sym framed) ends)
 
 sides : (bytes : List ℕ) (ending : Ending) → EndsSo bytes ending → (bytes ≡ []) ⊎ (EndsAfterHead bytes ending ⊎ EndsBefore bytes ending)
 sides bytes done ends = inl ends
 sides bytes cut (inl open_) = inr (inr (in_head open_))
-sides bytes cut (inr (h, rest, whole, has, plain, states, short)) = inr (inl (h, rest, has, plain_ending h (Ok whole) plain states))
+sides bytes cut (inr (inl (h, rest, whole, has, framed, short))) = inr (inl (after bytes h rest cut (Ok (of_length whole)) has framed (refl, short)))
+sides bytes cut (inr (inr (h, rest, has, framed, ends))) = inr (inl (after bytes h rest cut (Ok chunked) has framed (partial_coding, ends, refl)))
 sides bytes bad_head (inl bad) = inr (inr (malformed bad))
-sides bytes bad_head (inr (h, rest, has, plain, states)) = inr (inl (h, rest, has, plain_ending h (Err malformed_length) plain states))
+sides bytes bad_head (inr (inl (h, rest, has, states))) = inr (inl (after bytes h rest bad_head (Err malformed_length) has states refl))
+sides bytes bad_head (inr (inr (h, rest, has, framed, ends))) = inr (inl (after bytes h rest bad_head (Ok chunked) has framed (malformed_coding, ends, refl)))
 sides bytes too_large (inl more) = inr (inr (long more))
 sides bytes too_large (inr (inl lines)) = inr (inr (many lines))
-sides bytes too_large (inr (inr (h, rest, has, plain, states))) = inr (inl (h, rest, has, plain_ending h (Err too_large_length) plain states))
-sides bytes not_built (h, rest, has, coded) = inr (inl (h, rest, has, coded_ending h coded))
+sides bytes too_large (inr (inr (inl (h, rest, has, states)))) = inr (inl (after bytes h rest too_large (Err too_large_length) has states refl))
+sides bytes too_large (inr (inr (inr (h, rest, has, framed, ends)))) =
+    inr (inl (after bytes h rest too_large (Ok chunked) has framed (too_large_coding, ends, refl)))
 
 -- no head is whole where they end before it
 not_before : (bytes : List ℕ) (ending : Ending) (h : RequestHead) (rest : List ℕ) → HasHead bytes h rest → EndsBefore bytes ending → ⊥
@@ -223,6 +234,10 @@ both_before bytes ending other (many a) (malformed b) = absurd (malformed_few by
 both_before bytes ending other (many a) (long b) = inl refl
 both_before bytes ending other (many a) (many b) = inl refl
 
+ends_at : (h k : RequestHead) (r q : List ℕ) (ending : Ending) → h ≡ k → r ≡ q → EndsAfter (body_framing k) q ending → EndsAfter (body_framing h) r ending
+ends_at h k r q ending heads rests ends =
+    subst (λ (x : RequestHead). EndsAfter (body_framing x) r ending) (sym heads) (subst (λ (xs : List ℕ). EndsAfter (body_framing k) xs ending) (sym rests) ends)
+
 -- bytes have one ending, but for a target that can't be UTF-8
 pub one_ending : OneEnding
 one_ending bytes ending other a b = by_sides (sides bytes ending a) (sides bytes other b)
@@ -231,41 +246,21 @@ one_ending bytes ending other a b = by_sides (sides bytes ending a) (sides bytes
         → (ending ≡ other) ⊎ MayEndInTwoWays bytes ending other
     by_sides (inl none) y = inl (nothing_ends ending (subst (λ (xs : List ℕ). EndsSo xs ending) none a) ∙ sym (nothing_ends other (subst (λ (xs : List ℕ). EndsSo xs other) none b)))
     by_sides (inr x) (inl none) = inl (nothing_ends ending (subst (λ (xs : List ℕ). EndsSo xs ending) none a) ∙ sym (nothing_ends other (subst (λ (xs : List ℕ). EndsSo xs other) none b)))
-    by_sides (inr (inl (h, r, has, is))) (inr (inl (k, q, has', is'))) = inl (is ∙ ap after_head (request_unique bytes h k r q has.reads has'.reads).0 ∙ sym is')
-    by_sides (inr (inl (h, r, has, is))) (inr (inr y)) = absurd (not_before bytes other h r has y)
-    by_sides (inr (inr x)) (inr (inl (h, r, has, is))) = absurd (not_before bytes ending h r has x)
+    by_sides (inr (inl (h, r, has, ends))) (inr (inl (k, q, has', ends'))) =
+        let same = request_unique bytes h k r q has.reads has'.reads in
+        inl (after_one (body_framing h) r ending other ends (ends_at h k r q other same.0 same.1 ends'))
+    by_sides (inr (inl (h, r, has, ends))) (inr (inr y)) = absurd (not_before bytes other h r has y)
+    by_sides (inr (inr x)) (inr (inl (h, r, has, ends))) = absurd (not_before bytes ending h r has x)
     by_sides (inr (inr x)) (inr (inr y)) = both_before bytes ending other x y
-
-cut_bad : cut ≡ bad_head → ⊥
-cut_bad e = cc
-
-cut_large : cut ≡ too_large → ⊥
-cut_large e = cc
-
-cut_coded : cut ≡ not_built → ⊥
-cut_coded e = cc
 
 -- bytes that end begin with no request
 pub no_ending_of_request : NoEndingOfRequest
-no_ending_of_request bytes done request rest none (h, body, has, plain, states, is) = nothing_read bytes h (body ++ rest) none has.reads
-no_ending_of_request bytes cut request rest (inl open_) (h, body, has, plain, states, is) = open_.partial h (body ++ rest) has.reads
-no_ending_of_request bytes cut request rest (inr (k, part, whole, has', plain', states', short)) (h, body, has, plain, states, is) =
-    let same = request_unique bytes h k (body ++ rest) part has.reads has'.reads in
-    let lengths : Ok whole ≡ Ok (length body) = sym states' ∙ ap body_length (sym same.0) ∙ states in
-    let equal : whole ≡ length body = cc in
-    let fits : length part ≡ length body + length rest = ap length (sym same.1) ∙ length-append body rest in
-    omega (arith, equal, fits, short)
-no_ending_of_request bytes bad_head request rest ends (h, body, has, plain, states, is) = by_sides (sides bytes bad_head ends)
+no_ending_of_request bytes ending request rest ends read = by_sides (sides bytes ending ends)
   where
-    by_sides : (bytes ≡ []) ⊎ (EndsAfterHead bytes bad_head ⊎ EndsBefore bytes bad_head) → ⊥
-    by_sides (inl none) = nothing_read bytes h (body ++ rest) none has.reads
-    by_sides (inr (inl (k, q, has', e))) = cut_bad (plain_ending h (Ok (length body)) plain states ∙ ap after_head (request_unique bytes h k (body ++ rest) q has.reads has'.reads).0 ∙ sym e)
-    by_sides (inr (inr x)) = not_before bytes bad_head h (body ++ rest) has x
-no_ending_of_request bytes too_large request rest ends (h, body, has, plain, states, is) = by_sides (sides bytes too_large ends)
-  where
-    by_sides : (bytes ≡ []) ⊎ (EndsAfterHead bytes too_large ⊎ EndsBefore bytes too_large) → ⊥
-    by_sides (inl none) = nothing_read bytes h (body ++ rest) none has.reads
-    by_sides (inr (inl (k, q, has', e))) = cut_large (plain_ending h (Ok (length body)) plain states ∙ ap after_head (request_unique bytes h k (body ++ rest) q has.reads has'.reads).0 ∙ sym e)
-    by_sides (inr (inr x)) = not_before bytes too_large h (body ++ rest) has x
-no_ending_of_request bytes not_built request rest (k, q, has', coded) (h, body, has, plain, states, is) =
-    cut_coded (plain_ending h (Ok (length body)) plain states ∙ ap after_head (request_unique bytes h k (body ++ rest) q has.reads has'.reads).0 ∙ sym (coded_ending k coded))
+    by_sides : (bytes ≡ []) ⊎ (EndsAfterHead bytes ending ⊎ EndsBefore bytes ending) → ⊥
+    by_sides (inl none) = nothing_read bytes read.head read.after none read.has.reads
+    by_sides (inr (inl (k, q, has, e))) =
+        let same = request_unique bytes read.head k read.after q read.has.reads has.reads in
+        no_body read.framing read.after ending (subst (λ (x : Result Framing LengthFault). EndsAfter x read.after ending) read.framed
+        (ends_at read.head k read.after q ending same.0 same.1 e)) read.body rest read.reads
+    by_sides (inr (inr x)) = not_before bytes ending read.head read.after read.has x

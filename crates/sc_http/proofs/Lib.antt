@@ -7,7 +7,9 @@ pub mod EndingLemmas
 pub mod StreamLemmas
 pub mod MessageLemmas
 pub mod HeaderLemmas
+pub mod FramingLemmas
 pub mod ParsedLemmas
 pub mod PlaceLemmas
+pub mod ChunkedLemmas
 pub mod ReaderLemmas
 pub mod ReplyLemmas

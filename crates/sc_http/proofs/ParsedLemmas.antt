@@ -1,6 +1,6 @@
 -- What the spans of a parsed head say of it.
 use Rattle.std.proofs.Common.{◌≡◌, ◌≢◌, ℕ, ◌<◌, ◌≤◌, ◌⊎◌, inl, inr, Bool, true, false, List, ◌++◌, length, take, drop, map, min, Ok, Err, Option, Some, None, Result, codes, refl, sym, ap, ◌∙◌, subst, arith, length-take, length-append, append_assoc}
-use Rattle.std.specs.Prelude.{IfErr, IfSome, ◌==◌, ◌+◌}
+use Rattle.std.specs.Prelude.{IfErr, IfSome, ◌==◌, ◌+◌, filter, not}
 use Rattle.std.specs.Option.{unwrap_or, is_some}
 use Rattle.std.specs.List.{list_any}
 use Rattle.std.proofs.lemmas.Bool.{cases_lt, eq-eqb, ne_eqb, false≢true}
@@ -14,15 +14,15 @@ use Rattle.httparse.specs.declared.Status.TheVariants as statuses
 use Rattle.httparse.specs.Spans.{header_bytes, name_and_value, IsRequestAt, IsRequestOf, IsRequestWithin, RequestExceeds}
 use Rattle.httparse.specs.declared.spans.HeaderSpan.{HeaderSpan}
 use Rattle.httparse.specs.declared.spans.RequestSpans.{RequestSpans}
-use Rattle.sc_model.specs.Heads.{head_limit, line_limit, has_header, body_length, length_by, asks_close, says_close, is_coding, is_encoded}
-use Rattle.sc_model.specs.Messages.{HasHead, window, HasTooManyLines, EndsInHead, EndsSo, bad_head, too_large, not_built}
+use Rattle.sc_model.specs.Heads.{head_limit, line_limit, is_framing, framing_by, body_framing, is_lengthless, is_head, asks_close, says_close, is_coding, is_encoded}
+use Rattle.sc_model.specs.Messages.{HasHead, window, HasTooManyLines, EndsInHead, EndsSo, bad_head, too_large}
 use Rattle.sc_http.specs.Ends.{ending_of}
-use Rattle.sc_http.specs.Lines.{has_line, line_values, IsHeadOf}
+use Rattle.sc_http.specs.Lines.{line_values, IsHeadOf}
 use Rattle.sc_http.specs.LineEnds.{line_ends, EndsLine}
 use Rattle.sc_http.specs.declared.head.Head.{Head}
 use Rattle.sc_http.specs.declared.end.MessageEnd.{MessageEnd}
 use Rattle.sc_http.specs.declared.end.MessageEnd.TheVariants as ends
-use Rattle.sc_http.proofs.HeaderLemmas.{has_of_head, values_of_head, length_name}
+use Rattle.sc_http.proofs.HeaderLemmas.{values_of_head}
 use Rattle.sc_http.proofs.MessageLemmas.{HasHead-append, ends-append, exceeds-append}
 use Rattle.sc_http.proofs.LineLimitLemmas.{exceeds_ends, few_by_ends, ends_judged, few_fields, few_where_never}
 use Rattle.sc_http.proofs.LineSplitLemmas.{many_where_open}
@@ -32,13 +32,13 @@ module _ (bytes : List ℕ) (headers : List HeaderSpan) (spans : RequestSpans) (
   pub lines_are : (lines : List HeaderSpan) → lines ≡ take spans.headers headers → map (header_bytes bytes) lines ≡ map name_and_value h.fields
   lines_are lines e = ap (map (header_bytes bytes)) e ∙ at.fields
 
-  pub has_said : (lines : List HeaderSpan) → lines ≡ take spans.headers headers → (name : List ℕ) (r : Bool)
-      → r ≡ has_line name (map (header_bytes bytes) lines) → r ≡ has_header name h
-  has_said lines e name r is = is ∙ ap (has_line name) (lines_are lines e) ∙ sym (has_of_head name h)
+  pub framing_said : (lines : List HeaderSpan) → lines ≡ take spans.headers headers
+      → framing_by (filter is_framing (map (header_bytes bytes) lines)) ≡ body_framing h
+  framing_said lines e = ap (λ ps. framing_by (filter is_framing ps)) (lines_are lines e)
 
-  pub length_said : (lines : List HeaderSpan) → lines ≡ take spans.headers headers
-      → length_by (line_values length_name (map (header_bytes bytes) lines)) ≡ body_length h
-  length_said lines e = ap (λ ps. length_by (line_values length_name ps)) (lines_are lines e) ∙ ap length_by (sym (values_of_head length_name h))
+  pub lengthless_said : (lines : List HeaderSpan) → lines ≡ take spans.headers headers → (r : Bool)
+      → r ≡ list_any is_framing (map (header_bytes bytes) lines) → not r ≡ is_lengthless h
+  lengthless_said lines e r is = ap not (is ∙ ap (list_any is_framing) (lines_are lines e))
 
   pub encoded_said : (lines : List HeaderSpan) → lines ≡ take spans.headers headers → (r : Bool)
       → r ≡ list_any is_coding (line_values (codes "content-encoding") (map (header_bytes bytes) lines)) → r ≡ is_encoded h
@@ -50,11 +50,17 @@ module _ (bytes : List ℕ) (headers : List HeaderSpan) (spans : RequestSpans) (
   pub old_closes : spans.version ≡ 0 → true ≡ asks_close h
   old_closes zero = let e : (h.minor == 0) ≡ true = eq-eqb h.minor 0 (sym at.version ∙ zero) in rw (e) refl
 
-  pub close_said : (lines : List HeaderSpan) → lines ≡ take spans.headers headers → spans.version ≢ 0 → (r : Bool)
+  later_version : spans.version ≢ 0 → (h.minor == 0) ≡ false
+  later_version other = ne_eqb h.minor 0 (λ z. other (at.version ∙ z))
+
+  -- an answer to HEAD closes
+  pub head_closes : spans.version ≢ 0 → is_head h.method ≡ true → true ≡ asks_close h
+  head_closes other e = rw (later_version other, e) refl
+
+  pub close_said : (lines : List HeaderSpan) → lines ≡ take spans.headers headers → spans.version ≢ 0 → is_head h.method ≡ false → (r : Bool)
       → r ≡ list_any says_close (line_values (codes "connection") (map (header_bytes bytes) lines)) → r ≡ asks_close h
-  close_said lines same other r is =
-      let e : (h.minor == 0) ≡ false = ne_eqb h.minor 0 (λ z. other (at.version ∙ z)) in
-      rw (e) (is ∙ ap (λ ps. list_any says_close (line_values (codes "connection") ps)) (lines_are lines same)
+  close_said lines same other e r is =
+      rw (later_version other, e) (is ∙ ap (λ ps. list_any says_close (line_values (codes "connection") ps)) (lines_are lines same)
       ∙ ap (list_any says_close) (sym (values_of_head (codes "connection") h)))
 
   -- the head comes first, within its limits
@@ -96,7 +102,6 @@ end_in_more (Err ends.Done) bytes more e not_done not_cut = absurd (not_done ref
 end_in_more (Err ends.Cut) bytes more e not_done not_cut = absurd (not_cut refl)
 end_in_more (Err ends.BadHead) bytes more e not_done not_cut = ends-append bytes more bad_head (λ same. cc) (λ same. cc) e
 end_in_more (Err ends.TooLarge) bytes more e not_done not_cut = ends-append bytes more too_large (λ same. cc) (λ same. cc) e
-end_in_more (Err ends.NotBuilt) bytes more e not_done not_cut = ends-append bytes more not_built (λ same. cc) (λ same. cc) e
 end_in_more (Err ends.ReadFault) bytes more e not_done not_cut = tt
 end_in_more (Err ends.Memory) bytes more e not_done not_cut = tt
 

@@ -3,7 +3,7 @@ use Rattle.std.proofs.Common.{◌≡◌, ℕ, ◌+◌, ◌-◌, ◌<◌, ◌≤�
 use Rattle.std.proofs.lemmas.Bool.{cases_lt}
 use Rattle.std.proofs.lemmas.List.{drop-drop, drop-take, drop_all, take_all, take-append-drop, length-take, take-take, take-append-le, length-take-le}
 use Rattle.std.proofs.Math.Seq.{take-append-add}
-use Rattle.sc_http.specs.Stream.{Gives, TakesMore, KeepsBytes, FallsShort, ReadsWhile, LeavesSuffix}
+use Rattle.sc_http.specs.Stream.{Gives, TakesMore, KeepsBytes, FallsShort, ReadsWhile, HasEnded, LeavesSuffix}
 
 drop-take_prefix : (n m : ℕ) (xs : List ℕ) → drop n (take m xs) ≡ take (m - n) (drop n xs)
 drop-take_prefix n m xs = by_order (cases_lt m n)
@@ -66,10 +66,12 @@ gives_out_more out after before a b c given grown = record {
 }
 
 -- what is left grew
-pub left_more : (left after before : List ℕ) (a b c : Option (List ℕ)) → KeepsBytes [] left before a b → TakesMore left after b c → KeepsBytes [] after before a c
-left_more left after before a b c given grown = record {
+pub left_more : (out left after before : List ℕ) (a b c : Option (List ℕ)) → KeepsBytes out left before a b → TakesMore left after b c
+    → KeepsBytes out after before a c
+left_more out left after before a b c given grown = record {
   piece = given.piece ++ grown.piece;
-  whole = grown.whole ∙ ap (λ xs. xs ++ grown.piece) given.whole ∙ append_assoc before given.piece grown.piece;
+  whole = ap (λ xs. out ++ xs) grown.whole ∙ sym (append_assoc out left grown.piece) ∙ ap (λ xs. xs ++ grown.piece) given.whole
+      ∙ append_assoc before given.piece grown.piece;
   gives = gives_both given.piece grown.piece a b c given.gives grown.gives;
 }
 
@@ -80,6 +82,30 @@ gives_then_none out left before a b c given none = record {
   whole = given.whole;
   gives = subst (λ (p : List ℕ). Gives p a c) (append-nil given.piece) (gives_both given.piece [] a b c given.gives none);
 }
+
+-- the first bytes of what is left are given out
+pub gives_out_first : (out left before : List ℕ) (n : ℕ) (a b : Option (List ℕ)) → KeepsBytes out left before a b
+    → KeepsBytes (out ++ take n left) (drop n left) before a b
+gives_out_first out left before n a b given = record {
+  piece = given.piece;
+  whole = append_assoc out (take n left) (drop n left) ∙ ap (λ xs. out ++ xs) (take-append-drop n left) ∙ given.whole;
+  gives = given.gives;
+}
+
+-- the bytes of the connection are those that came and those that the source has still to give
+pub whole_is : (came before piece bytes more : List ℕ) → came ≡ before ++ piece → bytes ≡ piece ++ more → before ++ bytes ≡ came ++ more
+whole_is came before piece bytes more split rest = ap (λ xs. before ++ xs) rest ∙ sym (append_assoc before piece more) ∙ ap (λ xs. xs ++ more) (sym split)
+
+-- where the source has ended, all its bytes came
+pub all_came : (out before : List ℕ) (bytes : List ℕ) (b c : Option (List ℕ)) → KeepsBytes out [] before (Some bytes) b → Gives [] b c → HasEnded b c
+    → before ++ bytes ≡ out
+all_came out before bytes b c given none ended =
+    let later : Gives [] (Some given.gives.more) c = subst (λ (o : Option (List ℕ)). Gives [] o c) given.gives.left none in
+    let ending : c ≡ Some [] = subst (λ (o : Option (List ℕ)). HasEnded o c) given.gives.left ended in
+    let reported : Some later.more ≡ Some [] = sym later.left ∙ ending in
+    let last : later.more ≡ [] = cc in
+    whole_is out before given.piece bytes given.gives.more (sym (append-nil out) ∙ given.whole) given.gives.whole
+    ∙ ap (λ xs. out ++ xs) (later.whole ∙ last) ∙ append-nil out
 
 -- too few bytes came
 pub falls_short : (out before : List ℕ) (wanted : ℕ) (a b c : Option (List ℕ)) → KeepsBytes out [] before a b → length out < wanted → Gives [] b c

@@ -1,57 +1,41 @@
-ghost use Rattle.std.specs.Prelude.{◌≡◌, ◌≢◌, ◌<◌, ◌≤◌, ◌⊎◌, ◌^◌, [], ◌++◌, length, vec_len, IfOk, IfErr, OnOk, OnErr, Err};
-ghost use Rattle.sc_http.specs.Stream.{KeepsBytes, FallsShort, HasEnded, LeavesSuffix, ReadsWhile};
+ghost use Rattle.std.specs.Prelude.{◌≡◌, ◌≤◌, ◌⊎◌, ◌++◌, length, max, IfOk, IfErr, OnOk, OnErr, Err, IfSome};
+ghost use Rattle.sc_http.specs.Bodies.{HasNoBody, EndsBody, GivesBody, LacksBody};
+ghost use Rattle.sc_http.specs.Ends.{ending_of};
+ghost use Rattle.sc_http.specs.Lines.{framing_said, IsWithinBody};
+ghost use Rattle.sc_http.specs.Stream.{LeavesSuffix, ReadsWhile, reader_limit};
 ghost use Rattle.sc_io.specs.Counts.{CountsFaults};
 
 use crate::buffer::Buffer;
-use crate::refill::refill;
-use crate::stopped::Stopped;
+use crate::chunked::read_chunked;
+use crate::end::MessageEnd;
+use crate::framing::Framing;
+use crate::stated::read_stated;
 use sc_io::Source;
 use std::alloc::Global;
 
-/// The next `whole` bytes: what the buffer has of them is copied once, and the rest is read to its place.
+/// The body that comes next, by its framing.
 pub(crate) fn read_body<S: Source>(
     alloc: Global,
     buffer: &mut Buffer,
     source: &mut S,
-    whole: usize,
-) -> Result<Vec<u8>, Stopped>
-    requires { whole ≤ 2 ^ 32 }
-    ensures body { IfOk result (λ body. KeepsBytes body.items buffer.new buffer.old (S.rest source.old) (S.rest source.new)) }
-    ensures whole { IfOk result (λ body. vec_len body ≡ whole) }
+    framing: Framing,
+) -> Result<Vec<u8>, MessageEnd>
+    requires { IsWithinBody framing }
+    ensures body { IfOk result (λ body. GivesBody (framing_said framing) body.items buffer.new buffer.old (S.rest source.old) (S.rest source.new)) }
     ensures needed { OnOk result ((source.new ≡ source.old)
-        ⊎ ReadsWhile (λ before. length (buffer.old ++ before) < whole) (S.rest source.old) (S.rest source.new)) }
-    ensures shorter { length buffer.new ≤ length buffer.old }
+        ⊎ ReadsWhile (λ before. HasNoBody (framing_said framing) (buffer.old ++ before)) (S.rest source.old) (S.rest source.new)) }
+    ensures bounded { length buffer.new ≤ max (length buffer.old) reader_limit }
+    ensures ends { IfErr result (λ end. IfSome (ending_of end) (λ ending. IfSome (S.rest source.old)
+        (λ bytes. EndsBody (framing_said framing) (buffer.old ++ bytes) ending))) }
+    ensures unfinished { result ≡ Err MessageEnd.ReadFault → LacksBody (framing_said framing) buffer.old (S.rest source.old) (S.rest source.new) }
     ensures order { OnErr result (LeavesSuffix buffer.new buffer.old (S.rest source.old) (S.rest source.new)) }
-    ensures short { IfErr result (λ e. e ≢ Stopped.Memory → FallsShort buffer.old whole (S.rest source.old) (S.rest source.new)) }
-    ensures ended { result ≡ Err Stopped.Ended → HasEnded (S.rest source.old) (S.rest source.new) }
-    ensures faults { CountsFaults (result ≡ Err Stopped.Failed) (S.faults source.old) (S.faults source.new) }
+    ensures faults { CountsFaults (result ≡ Err MessageEnd.ReadFault) (S.faults source.old) (S.faults source.new) }
 {
-    let have = buffer.unread().len();
-    let Ok(mut body) = Vec::from_slice(alloc, &buffer.unread()[..have.min(whole)]) else {
-        return Err(Stopped::Memory);
-    };
-    buffer.give(have.min(whole));
-    if have < whole {
-        read_rest(&mut body, source, whole)?;
+    match framing {
+        Framing::OfLength(whole) => match read_stated(alloc, buffer, source, whole) {
+            Ok(body) => Ok(body),
+            Err(stopped) => Err(stopped.in_body()),
+        },
+        Framing::Chunked => read_chunked(alloc, buffer, source),
     }
-    Ok(body)
-}
-
-/// Reads after what the body has until it is whole.
-fn read_rest<S: Source>(body: &mut Vec<u8>, source: &mut S, whole: usize) -> Result<(), Stopped>
-    requires fits { vec_len body.old ≤ whole }
-    requires small { whole ≤ 2 ^ 32 }
-    ensures body { OnOk result (KeepsBytes body.new.items [] body.old.items (S.rest source.old) (S.rest source.new)) }
-    ensures whole { OnOk result (vec_len body.new ≡ whole) }
-    ensures needed { OnOk result ((source.new ≡ source.old)
-        ⊎ ReadsWhile (λ before. length (body.old.items ++ before) < whole) (S.rest source.old) (S.rest source.new)) }
-    ensures short { OnErr result (FallsShort body.old.items whole (S.rest source.old) (S.rest source.new)) }
-    ensures ended { result ≡ Err Stopped.Ended → HasEnded (S.rest source.old) (S.rest source.new) }
-    ensures faults { CountsFaults (result ≡ Err Stopped.Failed) (S.faults source.old) (S.faults source.new) }
-{
-    let mut filled = body.len();
-    while filled < whole {
-        filled = refill(body, filled, whole, source)?;
-    }
-    Ok(())
 }

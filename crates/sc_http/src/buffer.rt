@@ -2,6 +2,7 @@ ghost use Rattle.std.specs.Prelude.{◌≡◌, ◌<◌, ◌≤◌, ◌^◌, [], 
 ghost use Rattle.sc_http.specs.Stream.{Gives, TakesMore, HasEnded};
 ghost use Rattle.sc_io.specs.Counts.{CountsFaults};
 
+use crate::head::MAX_HEAD;
 use crate::refill::refill;
 use crate::stopped::Stopped;
 use sc_io::Source;
@@ -10,6 +11,9 @@ use std::marker::Model;
 
 /// The room with which a buffer begins, in bytes.
 const FIRST_ROOM: usize = 4096;
+
+/// The most room of a buffer: a head that is too large by one byte, and what a read may give besides.
+pub(crate) const ROOM: usize = MAX_HEAD + 4096;
 
 /// Bytes that were read and not yet given out.
 #[derive(Debug, Drop)]

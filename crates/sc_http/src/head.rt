@@ -1,14 +1,15 @@
 ghost use Rattle.std.specs.Prelude.{◌≡◌, ◌≢◌, ◌<◌, ◌≤◌, length, IfOk, IfErr, IfSome, Err};
 ghost use Rattle.httparse.specs.Spans.{IsRequestWithin, IsRequestOf};
-ghost use Rattle.sc_model.specs.Heads.{head_limit, line_limit, body_limit};
+ghost use Rattle.sc_model.specs.Heads.{head_limit, line_limit};
 ghost use Rattle.sc_model.specs.Messages.{EndsSo, EndsInHead};
 ghost use Rattle.sc_http.specs.Ends.{ending_of};
-ghost use Rattle.sc_http.specs.Lines.{IsHeadOf};
+ghost use Rattle.sc_http.specs.Lines.{IsHeadOf, IsWithinBody};
 
 use crate::end::MessageEnd;
+use crate::framing::{Framing, LengthError, has_framing, stated_framing};
 use crate::line_ends::end_of_line;
-use crate::lines::{LengthError, asks_close, has_line, is_encoded, stated_length};
-use crate::target::{method_of, split_target};
+use crate::lines::{asks_close, is_encoded};
+use crate::target::{is_head, method_of, split_target};
 use httparse::Status;
 use httparse::spans::{EMPTY_HEADER_SPAN, HeaderSpan, RequestSpans, parse_request};
 use sc_model::{Method, Param};
@@ -34,8 +35,8 @@ pub(crate) struct Head {
     pub encoded: bool,
     pub lengthless: bool,
     pub close: bool,
-    /// How many bytes the body has.
-    pub body_length: usize,
+    /// How the end of the body is known.
+    pub framing: Framing,
     /// How many bytes the head has.
     pub size: usize,
 }
@@ -44,7 +45,7 @@ pub(crate) struct Head {
 /// above the most. A whole head of few lines is parsed without a look at what comes after it.
 pub(crate) fn parse_head(alloc: Global, bytes: &[u8]) -> Result<Head, MessageEnd>
     ensures head { IfOk result (IsHeadOf bytes.now) }
-    ensures body { IfOk result (λ head. head.body_length ≤ body_limit) }
+    ensures body { IfOk result (λ head. IsWithinBody head.framing) }
     ensures ends { IfErr result (λ end. IfSome (ending_of end) (EndsSo bytes.now)) }
     ensures cut { result ≡ Err MessageEnd.Cut → EndsInHead bytes.now }
     ensures no_fault { result ≢ Err MessageEnd.ReadFault }
@@ -64,7 +65,7 @@ pub(crate) fn parse_head(alloc: Global, bytes: &[u8]) -> Result<Head, MessageEnd
 fn parse_any_head(alloc: Global, bytes: &[u8]) -> Result<Head, MessageEnd>
     requires some { 0 < length bytes.now }
     ensures head { IfOk result (IsHeadOf bytes.now) }
-    ensures body { IfOk result (λ head. head.body_length ≤ body_limit) }
+    ensures body { IfOk result (λ head. IsWithinBody head.framing) }
     ensures ends { IfErr result (λ end. IfSome (ending_of end) (EndsSo bytes.now)) }
     ensures cut { result ≡ Err MessageEnd.Cut → EndsInHead bytes.now }
     ensures no_fault { result ≢ Err MessageEnd.ReadFault }
@@ -95,18 +96,15 @@ fn describe(
     requires size { length window.now ≤ head_limit }
     requires lines { spans.now.headers ≤ line_limit }
     ensures head { IfOk result (IsHeadOf window.now) }
-    ensures body { IfOk result (λ head. head.body_length ≤ body_limit) }
+    ensures body { IfOk result (λ head. IsWithinBody head.framing) }
     ensures ends { IfErr result (λ end. IfSome (ending_of end) (EndsSo window.now)) }
     ensures not_done { result ≢ Err MessageEnd.Done }
     ensures not_cut { result ≢ Err MessageEnd.Cut }
     ensures no_fault { result ≢ Err MessageEnd.ReadFault }
 {
     let lines = &headers[..spans.headers];
-    if has_line(window, lines, b"transfer-encoding") {
-        return Err(MessageEnd::NotBuilt);
-    }
-    let body_length = match stated_length(window, lines) {
-        Ok(length) => length,
+    let framing = match stated_framing(window, lines) {
+        Ok(framing) => framing,
         Err(LengthError::Malformed) => return Err(MessageEnd::BadHead),
         Err(LengthError::TooLarge) => return Err(MessageEnd::TooLarge),
     };
@@ -116,14 +114,15 @@ fn describe(
     let Ok((path, params)) = split_target(alloc, target) else {
         return Err(MessageEnd::Memory);
     };
+    let method = spans.method.of(window);
     Ok(Head {
-        method: method_of(spans.method.of(window)),
+        method: method_of(method),
         path,
         params,
         encoded: is_encoded(window, lines),
-        lengthless: !has_line(window, lines, b"content-length"),
-        close: spans.version == 0 || asks_close(window, lines),
-        body_length,
+        lengthless: !has_framing(window, lines),
+        close: spans.version == 0 || is_head(method) || asks_close(window, lines),
+        framing,
         size: spans.len,
     })
 }

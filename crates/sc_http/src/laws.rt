@@ -2,7 +2,7 @@ ghost use Rattle.std.specs.Prelude.{◌≡◌};
 ghost use Rattle.sc_model.specs.Heads.{head_limit, line_limit, body_limit};
 ghost use Rattle.sc_model.specs.Replies.{one_write_limit};
 ghost use Rattle.sc_http.specs.declared.head.TheConstants.{MAX_HEAD, MAX_LINES};
-ghost use Rattle.sc_http.specs.declared.lines.TheConstants.{MAX_BODY};
+ghost use Rattle.sc_http.specs.declared.framing.TheConstants.{MAX_BODY};
 ghost use Rattle.sc_http.specs.declared.reply.TheConstants.{ONE_WRITE};
 ghost use Rattle.sc_http.specs.Laws.{NoEndingOfRequest, OneEnding, OneReading};
 

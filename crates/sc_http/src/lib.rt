@@ -1,14 +1,14 @@
 //! Requests as they come over a connection, and replies as they go back (HTTP/1.0 and HTTP/1.1: RFC 9112).
 //!
-//! It may depend on the sources and sinks of `sc_io`, on the model of requests in `sc_model`, and on
-//! `httparse` and `form_urlencoded`. The layer above uses the clauses of `Reader::next_message`: the
+//! It may depend on the sources and sinks of `sc_io`, on the model of requests in `sc_model`, on the decoder of chunks in
+//! `sc_chunks`, and on `httparse` and `form_urlencoded`. The layer above uses the clauses of `Reader::next_message`: the
 //! request that comes first of a connection's bytes, however these are cut into pieces, or why there
 //! is none; and that of `write_reply`: the bytes that a reply is.
 //!
-//! Proved: `Reader::next_message` gives the first request of the bytes however they are cut into pieces, or why there is
-//! none; it reads no further than a request needs (`needed`, `bounded`), and reports each fault; `bytes_end_in_one_way`:
-//! bytes have one ending, but for the one place that is left open; `write_reply` writes the text of a reply in at most two
-//! writes, and one of at most 4,096 bytes in one, as the sink counts them.
+//! Proved: `Reader::next_message` gives the first request of the bytes, its body of a stated length or in chunks, however
+//! they are cut into pieces, or why there is none; it reads no further than a request needs (`needed`, `bounded`), and
+//! reports each fault; `bytes_end_in_one_way`: bytes have one ending, but for the one place that is left open; `write_reply`
+//! writes the text of a reply in at most two writes, and one of at most 4,096 bytes in one, as the sink counts them.
 //!
 //! Tested alone: heads that come byte by byte.
 //!
@@ -17,7 +17,9 @@
 
 mod body;
 mod buffer;
+mod chunked;
 mod end;
+mod framing;
 mod head;
 mod head_end;
 mod laws;
@@ -26,6 +28,7 @@ mod lines;
 mod reader;
 mod refill;
 mod reply;
+mod stated;
 mod stopped;
 mod target;
 

@@ -1,92 +1,19 @@
-ghost use Rattle.std.specs.Prelude.{◌≡◌, ◌<◌, ◌≤◌, ◌==◌, ◌&&◌, ◌↔◌, [], ◌∷◌, length, map, codes, All, IsTrue, IsSome, IfSome, IfOk};
+ghost use Rattle.std.specs.Prelude.{◌≡◌, ◌==◌, ◌&&◌, length, map, codes, All};
 ghost use Rattle.std.specs.List.{list_any, slice_split};
 ghost use Rattle.std.specs.Str.{str_eq_ignore_ascii_case};
-ghost use Rattle.std.specs.Char.{is_ascii_digit, digit_value};
 ghost use Rattle.httparse.specs.Spans.{span_bytes, header_bytes, IsHeaderWithin};
 ghost use Rattle.httparse.specs.Grammar.{is_ows, trim_ows};
-ghost use Rattle.sc_model.specs.Heads.{body_limit, comma, says_close, is_coding, length_by};
-ghost use Rattle.sc_http.specs.Lines.{is_named, line_values, has_line, length_is, is_close};
+ghost use Rattle.sc_model.specs.Heads.{comma, says_close, is_coding};
+ghost use Rattle.sc_http.specs.Lines.{is_named, line_values, is_close};
 
 use httparse::spans::HeaderSpan;
 
-/// The most bytes of a body.
-const MAX_BODY: u64 = 16_777_216;
-
-/// Why the length of a body can't be read.
-#[derive(Clone, Copy, Debug, PartialEq, Eq)]
-pub(crate) enum LengthError {
-    Malformed,
-    TooLarge,
-}
-
-fn is_named(head: &[u8], line: &HeaderSpan, name: &[u8]) -> bool
+/// Whether the line has this name, in any case.
+pub(crate) fn is_named(head: &[u8], line: &HeaderSpan, name: &[u8]) -> bool
     requires { IsHeaderWithin (length head.now) line.now }
     ensures { result ≡ str_eq_ignore_ascii_case (span_bytes head.now line.now.name) name.now }
 {
     line.name.of(head).eq_ignore_ascii_case(name)
-}
-
-/// Whether there is a header of the name.
-pub(crate) fn has_line(head: &[u8], lines: &[HeaderSpan], name: &[u8]) -> bool
-    requires { All (IsHeaderWithin (length head.now)) lines.now }
-    ensures { result ≡ has_line name.now (map (header_bytes head.now) lines.now) }
-{
-    for line in lines {
-        if is_named(head, line, name) {
-            return true;
-        }
-    }
-    false
-}
-
-/// The length of the body, by the headers in order.
-pub(crate) fn stated_length(head: &[u8], lines: &[HeaderSpan]) -> Result<usize, LengthError>
-    requires { All (IsHeaderWithin (length head.now)) lines.now }
-    ensures bounded { IfOk result (λ length. length ≤ body_limit) }
-    ensures length { length_is result ≡ length_by (line_values (codes "content-length") (map (header_bytes head.now) lines.now)) }
-{
-    for (i, line) in lines.iter().enumerate() {
-        if is_named(head, line, b"content-length") {
-            let length = length_of(line.value.of(head))?;
-            if has_line(head, &lines[i + 1..], b"content-length") {
-                return Err(LengthError::Malformed);
-            }
-            return Ok(length);
-        }
-    }
-    Ok(0)
-}
-
-/// The length that one value states.
-fn length_of(value: &[u8]) -> Result<usize, LengthError>
-    ensures length { length_is result ≡ length_by (value.now ∷ []) }
-    ensures bounded { IfOk result (λ length. length ≤ body_limit) }
-{
-    if value.is_empty() {
-        return Err(LengthError::Malformed);
-    }
-    let mut length: u64 = 0;
-    for byte in value {
-        let Some(digit) = digit_of(*byte) else {
-            return Err(LengthError::Malformed);
-        };
-        length = (length * 10 + digit).min(MAX_BODY + 1);
-    }
-    if length > MAX_BODY {
-        return Err(LengthError::TooLarge);
-    }
-    Ok(length as usize)
-}
-
-fn digit_of(byte: u8) -> Option<u64>
-    ensures variant { IsSome result ↔ IsTrue (is_ascii_digit byte) }
-    ensures value { IfSome result (λ digit. digit ≡ digit_value byte) }
-    ensures small { IfSome result (λ digit. digit < 10) }
-{
-    match byte {
-        b'0'..=b'9' => Some(u64::from(byte - b'0')),
-        _ => None,
-    }
 }
 
 /// Whether the body has a content coding.

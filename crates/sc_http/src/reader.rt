@@ -4,12 +4,11 @@ ghost use Rattle.sc_http.specs.Ends.{ending_of};
 ghost use mathlib.Core.List.{IsSuffix};
 ghost use Rattle.sc_http.specs.Stream.{KeepsBytes, HasEnded, HasNoMessageBefore, ReadsWhile, reader_limit};
 ghost use Rattle.sc_http.specs.HeadEnd.{next_place, IsJudged};
-ghost use Rattle.sc_http.specs.Lines.{IsHeadOf};
-ghost use Rattle.sc_model.specs.Heads.{body_limit};
+ghost use Rattle.sc_http.specs.Lines.{IsHeadOf, IsWithinBody};
 ghost use Rattle.sc_io.specs.Counts.{CountsFaults};
 
 use crate::body::read_body;
-use crate::buffer::Buffer;
+use crate::buffer::{Buffer, ROOM};
 use crate::end::MessageEnd;
 use crate::head::{Head, MAX_HEAD, parse_head};
 use crate::head_end::Place;
@@ -18,9 +17,6 @@ use sc_io::Source;
 use sc_model::{Bytes, Incoming};
 use std::alloc::{AllocError, Global};
 use std::marker::Model;
-
-/// The room of a buffer: a head that is too large by one byte, and what a read may give besides.
-const ROOM: usize = MAX_HEAD + 4096;
 
 /// Reads the requests of a connection, one after another. Contracts see the bytes that it took from
 /// its source and has not given out as part of a request.
@@ -46,8 +42,8 @@ impl Reader {
         })
     }
 
-    /// The next request: its head, within 65,536 bytes and 128 header lines, and the body whose length the head states,
-    /// at most 16,777,216 bytes (RFC 9112, sections 2 to 6). Empty lines before it belong to it. A request that has
+    /// The next request: its head, within 65,536 bytes and 128 header lines, and the body whose length the head states, or
+    /// that comes in chunks, at most 16,777,216 bytes (RFC 9112, sections 2 to 7). Empty lines before it belong to it. A request that has
     /// come is given out without another read. After an error the connection is at its end: what was taken of a request
     /// that is not whole may be gone.
     pub fn next_message<S: Source>(
@@ -71,10 +67,7 @@ impl Reader {
     {
         let head = read_head(alloc, &mut self.buffer, source)?;
         self.buffer.give(head.size);
-        let body = match read_body(alloc, &mut self.buffer, source, head.body_length) {
-            Ok(body) => body,
-            Err(stopped) => return Err(stopped.in_body()),
-        };
+        let body = read_body(alloc, &mut self.buffer, source, head.framing)?;
         let Head {
             method,
             path,
@@ -82,7 +75,7 @@ impl Reader {
             encoded,
             lengthless,
             close,
-            body_length: _,
+            framing: _,
             size: _,
         } = head;
         Ok(Incoming {
@@ -108,7 +101,7 @@ fn read_head<S: Source>(
     ensures needed { (source.new ≡ source.old)
         ⊎ ReadsWhile (λ before. HasNoMessage (buffer.old ++ before)) (S.rest source.old) (S.rest source.new) }
     ensures bounded { length buffer.new ≤ max (length buffer.old) reader_limit }
-    ensures body { IfOk result (λ head. head.body_length ≤ body_limit) }
+    ensures body { IfOk result (λ head. IsWithinBody head.framing) }
     ensures ends { IfErr result (λ end. IfSome (ending_of end) (λ ending. IfSome (S.rest source.old) (λ bytes.
         EndsSo (buffer.old ++ bytes) ending))) }
     ensures unfinished { result ≡ Err MessageEnd.ReadFault → HasNoMessage buffer.new }

@@ -1,6 +1,6 @@
 ghost use Rattle.std.specs.Prelude.{◌≡◌, map, IfOk};
 ghost use Rattle.form_urlencoded.specs.Form.{raw_pairs};
-ghost use Rattle.sc_model.specs.Heads.{method_of, path_of, params_of, param_of};
+ghost use Rattle.sc_model.specs.Heads.{method_of, is_head, path_of, params_of, param_of};
 
 use form_urlencoded::parse;
 use sc_model::{Method, Param};
@@ -16,6 +16,13 @@ pub(crate) fn method_of(name: &[u8]) -> Method
         b"POST" => Method::Post,
         _ => Method::Other,
     }
+}
+
+/// Whether the method is HEAD.
+pub(crate) fn is_head(name: &[u8]) -> bool
+    ensures { result ≡ is_head name.now }
+{
+    name == b"HEAD".as_slice()
 }
 
 /// The path and the parameters of a target.

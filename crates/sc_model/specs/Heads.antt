@@ -5,7 +5,8 @@ use Rattle.std.specs.List.{list_all, list_any, before_first, after_first}
 use Rattle.std.specs.Str.{bytes_eq, str_eq_ignore_ascii_case}
 use Rattle.std.specs.Str.Lossy.{utf8_lossy}
 use Rattle.std.specs.Str.Parse.{digits_value}
-use Rattle.httparse.specs.Grammar.{RequestHead, Field, field_value, trim_ows}
+use Rattle.httparse.specs.Grammar.{RequestHead, field_value, trim_ows}
+use Rattle.httparse.specs.Spans.{name_and_value}
 use Rattle.form_urlencoded.specs.Form.{raw_pairs, decode, split}
 use Rattle.sc_model.specs.declared.message.Incoming.{Incoming}
 use Rattle.sc_model.specs.declared.message.Method.{Method}
@@ -28,34 +29,59 @@ body_limit = 16777216
 abbrev pub header_values : List ℕ → RequestHead → List (List ℕ)
 header_values name head = map field_value (filter (λ field. str_eq_ignore_ascii_case field.name name) head.fields)
 
--- there is a header of the name
-abbrev pub has_header : List ℕ → RequestHead → Bool
-has_header name head = list_any (λ (field : Field). str_eq_ignore_ascii_case field.name name) head.fields
+-- the header lines: the name, which is read in any case, and the value without the white space around it
+abbrev pub header_lines : RequestHead → List (List ℕ × List ℕ)
+header_lines head = map name_and_value head.fields
 
--- why the length of a body can't be read
+-- how the end of a body is known (RFC 9112, section 6): by its length, or by the chunked coding
+pub data Framing : Type 0 where
+  of_length : ℕ → Framing
+  chunked : Framing
+
+-- why the end of a body can't be known
 pub data LengthFault : Type 0 where
   malformed_length : LengthFault
   too_large_length : LengthFault
+
+-- the line states the framing of the body
+abbrev pub is_framing : List ℕ × List ℕ → Bool
+is_framing line = str_eq_ignore_ascii_case line.0 (codes "content-length") || str_eq_ignore_ascii_case line.0 (codes "transfer-encoding")
 
 -- one or more decimal digits
 abbrev pub is_digits : List ℕ → Bool
 is_digits text = nat_lt 0 (length text) && list_all is_ascii_digit text
 
--- the length of a body by the values of Content-Length, judged in order (RFC 9112, section 6.3)
-abbrev pub length_by : List (List ℕ) → Result ℕ LengthFault
-length_by [] = Ok 0
-length_by (value ∷ more) =
+-- the framing that a value of Content-Length states (RFC 9112, section 6.2)
+abbrev pub length_of : List ℕ → Result Framing LengthFault
+length_of value =
     if not (is_digits value) then Err malformed_length
-    else (if nat_lt body_limit (digits_value 10 value) then Err too_large_length
-    else (if nat_lt 0 (length more) then Err malformed_length else Ok (digits_value 10 value)))
+    else (if nat_lt body_limit (digits_value 10 value) then Err too_large_length else Ok (of_length (digits_value 10 value)))
 
--- the length of the body that follows a head
-abbrev pub body_length : RequestHead → Result ℕ LengthFault
-body_length head = length_by (header_values (codes "content-length") head)
+-- the framing that a value of Transfer-Encoding states (RFC 9112, section 6.1): no coding but `chunked` is read
+abbrev pub coding_of : List ℕ → Result Framing LengthFault
+coding_of value = if str_eq_ignore_ascii_case value (codes "chunked") then Ok chunked else Err malformed_length
 
--- the body has a transfer coding (RFC 9112, section 6.1)
-abbrev pub is_coded : RequestHead → Bool
-is_coded head = has_header (codes "transfer-encoding") head
+-- the framing that one line states
+abbrev pub framing_of : List ℕ × List ℕ → Result Framing LengthFault
+framing_of line = if str_eq_ignore_ascii_case line.0 (codes "content-length") then length_of line.1 else coding_of line.1
+
+-- a framing stands where no other line states one
+abbrev pub alone : Result Framing LengthFault → Bool → Result Framing LengthFault
+alone (Ok framing) others = if others then Err malformed_length else Ok framing
+alone (Err fault) others = Err fault
+
+-- the framing by the lines that state one, judged in order (RFC 9112, section 6.3): a second line is malformed, whatever its value
+abbrev pub framing_by : List (List ℕ × List ℕ) → Result Framing LengthFault
+framing_by [] = Ok (of_length 0)
+framing_by (line ∷ more) = alone (framing_of line) (nat_lt 0 (length more))
+
+-- the framing of the body that follows a head
+abbrev pub body_framing : RequestHead → Result Framing LengthFault
+body_framing head = framing_by (filter is_framing (header_lines head))
+
+-- no line states the framing of the body
+abbrev pub is_lengthless : RequestHead → Bool
+is_lengthless head = not (list_any is_framing (header_lines head))
 
 -- the value names a content coding: it is not `identity`
 abbrev pub is_coding : List ℕ → Bool
@@ -94,9 +120,13 @@ params_of target = map param_of (raw_pairs (after_first (λ b. b == question_mar
 abbrev pub says_close : List ℕ → Bool
 says_close value = list_any (λ token. str_eq_ignore_ascii_case (trim_ows token) (codes "close")) (split comma value)
 
--- the connection is to be closed: by HTTP/1.0 or by a Connection header
+-- the method is HEAD, to which an answer is to have no content (RFC 9110, section 9.3.2)
+abbrev pub is_head : List ℕ → Bool
+is_head name = bytes_eq name (codes "HEAD")
+
+-- the connection is to be closed: by HTTP/1.0, by the method HEAD or by a Connection header
 abbrev pub asks_close : RequestHead → Bool
-asks_close head = head.minor == 0 || list_any says_close (header_values (codes "connection") head)
+asks_close head = head.minor == 0 || (is_head head.method || list_any says_close (header_values (codes "connection") head))
 
 -- the request that a head and the body after it are
 abbrev pub request_of : RequestHead → List ℕ → Incoming
@@ -106,6 +136,6 @@ request_of head body = record {
   params = params_of head.target;
   body = body;
   encoded = is_encoded head;
-  lengthless = not (has_header (codes "content-length") head);
+  lengthless = is_lengthless head;
   close = asks_close head;
 }

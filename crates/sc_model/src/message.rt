@@ -66,7 +66,7 @@ pub struct Incoming {
     pub body: Bytes,
     /// Whether a `Content-Encoding` header names a coding other than `identity`.
     pub encoded: bool,
-    /// Whether the head states no length of a body.
+    /// Whether the head states neither a length nor a coding of a body.
     pub lengthless: bool,
     /// Whether the connection is to be closed after the answer.
     pub close: bool,

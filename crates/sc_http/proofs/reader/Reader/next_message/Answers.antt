@@ -1,13 +1,14 @@
 -- What was read of the head and of the body is read of the connection's bytes.
-use Rattle.std.proofs.Common.{◌≡◌, ◌<◌, ◌⊎◌, List, ℕ, [], ◌++◌, length, Err, ap, subst, arith}
+use Rattle.std.proofs.Common.{◌≡◌, ◌⊎◌, List, ℕ, [], ◌++◌, Err, ap, subst}
 use Rattle.std.specs.Prelude.{IfSome}
-use Rattle.std.proofs.lemmas.Grind.{common_steps}
 use Rattle.std.proofs.lemmas.Result.{err_from_is_err_and}
 use Rattle.sc_model.specs.Messages.{HasNoMessage, EndsSo}
+use Rattle.sc_http.specs.Bodies.{HasNoBody, EndsBody, GivesBody, LacksBody}
 use Rattle.sc_http.specs.Ends.{ending_of}
-use Rattle.sc_http.specs.Stream.{KeepsBytes, FallsShort, LeavesSuffix, ReadsWhile}
+use Rattle.sc_http.specs.Lines.{framing_said}
+use Rattle.sc_http.specs.Stream.{KeepsBytes, LeavesSuffix, ReadsWhile}
 use Rattle.sc_http.specs.declared.end.MessageEnd.TheVariants as ends
-use Rattle.sc_http.proofs.ReaderLemmas.{message_read, needed_both, head_unfinished, body_ends, body_fault, body_order}
+use Rattle.sc_http.proofs.ReaderLemmas.{message_read, needed_both, head_unfinished, body_ends, body_unfinished, body_order}
 use Rattle.sc_http.proofs.reader.Reader.next_message.Goals as goal
 
 pub returns-in_err-head-clause-ends : goal.returns-in_err-head-clause-ends
@@ -25,32 +26,33 @@ returns-in_err-head-clause-unfinished g c =
     let same : c.in_err-head.field-0.0 ≡ ends.ReadFault = cc (p.1, p.2, e) in
     head_unfinished _ _ _ _ given (c.in_err-head.ensures.unfinished (ap Err same))
 
-pub returns-in-Err-clause-ends : goal.returns-in-Err-clause-ends
-returns-in-Err-clause-ends g c =
-    let given = subst (λ (b : List ℕ). KeepsBytes [] c.read_head.new.buffer b (g.S.Source.rest c.args.source.now) (g.S.Source.rest c.read_head.new.source))
-    c.self.view_is c.read_head.ensures.gives in
-    body_ends c.in-Err.stopped c.in_body.result c.in_ok-head.head _ _ _ _ (g.S.Source.rest c.read_body.new.source) c.in_body.ensures given c.in_ok-head.ensures.head
-    (λ other. subst (λ (b : List ℕ). FallsShort b c.in_ok-head.head.body_length (g.S.Source.rest c.read_head.new.source) (g.S.Source.rest c.read_body.new.source))
-    c.give.ensures (c.in-Err.ensures.short other))
-    (λ same. c.in-Err.ensures.ended (ap Err same))
+pub returns-in_err-body-clause-ends : goal.returns-in_err-body-clause-ends
+returns-in_err-body-clause-ends g c =
+    let p = err_from_is_err_and c.from_residual-in_err-body.result c.from_residual-in_err-body.ensures.1 in
+    let mid = g.S.Source.rest c.read_head.new.source in
+    let given = subst (λ (b : List ℕ). KeepsBytes [] c.read_head.new.buffer b (g.S.Source.rest c.args.source.now) mid) c.self.view_is c.read_head.ensures.gives in
+    rw (p.1, p.2) (body_ends (ending_of c.in_err-body.field-0.0) c.in_ok-head.head _ _ _ _ given c.in_ok-head.ensures.head
+    (subst (λ (b : List ℕ). IfSome (ending_of c.in_err-body.field-0.0) (λ ending. IfSome mid (λ bytes. EndsBody (framing_said c.in_ok-head.head.framing) (b ++ bytes) ending)))
+    c.give.ensures c.in_err-body.ensures.ends))
 
-pub returns-in-Err-clause-unfinished : goal.returns-in-Err-clause-unfinished
-returns-in-Err-clause-unfinished g c =
-    let given = subst (λ (b : List ℕ). KeepsBytes [] c.read_head.new.buffer b (g.S.Source.rest c.args.source.now) (g.S.Source.rest c.read_head.new.source))
-    c.self.view_is c.read_head.ensures.gives in
+pub returns-in_err-body-clause-unfinished : goal.returns-in_err-body-clause-unfinished
+returns-in_err-body-clause-unfinished g c =
+    let p = err_from_is_err_and c.from_residual-in_err-body.result c.from_residual-in_err-body.ensures.1 in
+    let mid = g.S.Source.rest c.read_head.new.source in
+    let given = subst (λ (b : List ℕ). KeepsBytes [] c.read_head.new.buffer b (g.S.Source.rest c.args.source.now) mid) c.self.view_is c.read_head.ensures.gives in
     λ e.
-    let fault : c.in_body.result ≡ ends.ReadFault = cc (e) in
-    body_fault c.in-Err.stopped c.in_body.result c.in_ok-head.head _ _ _ _ (g.S.Source.rest c.read_body.new.source) c.in_body.ensures fault given c.in_ok-head.ensures.head
-    (λ other. subst (λ (b : List ℕ). FallsShort b c.in_ok-head.head.body_length (g.S.Source.rest c.read_head.new.source) (g.S.Source.rest c.read_body.new.source))
-    c.give.ensures (c.in-Err.ensures.short other))
+    let same : c.in_err-body.field-0.0 ≡ ends.ReadFault = cc (p.1, p.2, e) in
+    body_unfinished c.in_ok-head.head _ _ _ _ (g.S.Source.rest c.read_body.new.source) given c.in_ok-head.ensures.head
+    (subst (λ (b : List ℕ). LacksBody (framing_said c.in_ok-head.head.framing) b mid (g.S.Source.rest c.read_body.new.source))
+    c.give.ensures (c.in_err-body.ensures.unfinished (ap Err same)))
 
-pub returns-in-Err-clause-order : goal.returns-in-Err-clause-order
-returns-in-Err-clause-order g c =
-    let given = subst (λ (b : List ℕ). KeepsBytes [] c.read_head.new.buffer b (g.S.Source.rest c.args.source.now) (g.S.Source.rest c.read_head.new.source))
-    c.self.view_is c.read_head.ensures.gives in
-    body_order c.in_ok-head.head.size _ _ _ _ _ (g.S.Source.rest c.read_body.new.source) given
-    (subst (λ (b : List ℕ). LeavesSuffix c.read_body.new.buffer b (g.S.Source.rest c.read_head.new.source) (g.S.Source.rest c.read_body.new.source))
-    c.give.ensures c.in-Err.ensures.order)
+pub returns-in_err-body-clause-order : goal.returns-in_err-body-clause-order
+returns-in_err-body-clause-order g c =
+    let p = err_from_is_err_and c.from_residual-in_err-body.result c.from_residual-in_err-body.ensures.1 in
+    let mid = g.S.Source.rest c.read_head.new.source in
+    let given = subst (λ (b : List ℕ). KeepsBytes [] c.read_head.new.buffer b (g.S.Source.rest c.args.source.now) mid) c.self.view_is c.read_head.ensures.gives in
+    rw p.1 (body_order c.in_ok-head.head.size _ _ _ _ _ (g.S.Source.rest c.read_body.new.source) given
+    (subst (λ (b : List ℕ). LeavesSuffix c.read_body.new.buffer b mid (g.S.Source.rest c.read_body.new.source)) c.give.ensures c.in_err-body.ensures.order))
 
 pub returns-clause-needed : goal.returns-clause-needed
 returns-clause-needed g c =
@@ -60,18 +62,17 @@ returns-clause-needed g c =
     let first = subst (λ (b : List ℕ). (c.read_head.new.source ≡ c.args.source.now) ⊎ ReadsWhile (λ xs. HasNoMessage (b ++ xs)) old mid)
     c.self.view_is c.read_head.ensures.needed in
     let second = subst (λ (b : List ℕ). (c.read_body.new.source ≡ c.read_head.new.source)
-    ⊎ ReadsWhile (λ xs. length (b ++ xs) < c.in_ok-head.head.body_length) mid (g.S.Source.rest c.read_body.new.source))
-    c.give.ensures c.in-Ok.ensures.needed in
+    ⊎ ReadsWhile (λ xs. HasNoBody (framing_said c.in_ok-head.head.framing) (b ++ xs)) mid (g.S.Source.rest c.read_body.new.source))
+    c.give.ensures c.in_ok-body.ensures.needed in
     needed_both g.S.Source.rest c.in_ok-head.head _ _ _ _ _ given c.in_ok-head.ensures.head first second
 
 pub returns-clause-message : goal.returns-clause-message
 returns-clause-message g c =
-    let given = subst (λ (b : List ℕ). KeepsBytes [] c.read_head.new.buffer b (g.S.Source.rest c.args.source.now) (g.S.Source.rest c.read_head.new.source))
-    c.self.view_is c.read_head.ensures.gives in
-    let out = subst (λ (b : List ℕ). KeepsBytes c.in-Ok.body.items c.read_body.new.buffer b (g.S.Source.rest c.read_head.new.source) (g.S.Source.rest c.read_body.new.source))
-    c.give.ensures c.in-Ok.ensures.body in
-    let long : length c.in-Ok.body.items ≡ c.in_ok-head.head.body_length = grind (arith, common_steps) in
-    message_read c.in_ok-head.head _ _ c.in-Ok.body.items c.read_body.new.buffer _ _ _ _ given c.in_ok-head.ensures.head out long
+    let mid = g.S.Source.rest c.read_head.new.source in
+    let given = subst (λ (b : List ℕ). KeepsBytes [] c.read_head.new.buffer b (g.S.Source.rest c.args.source.now) mid) c.self.view_is c.read_head.ensures.gives in
+    let out = subst (λ (b : List ℕ). GivesBody (framing_said c.in_ok-head.head.framing) c.in_ok-body.body.items c.read_body.new.buffer b mid (g.S.Source.rest c.read_body.new.source))
+    c.give.ensures c.in_ok-body.ensures.body in
+    message_read c.in_ok-head.head _ _ c.in_ok-body.body.items c.read_body.new.buffer _ _ _ _ given c.in_ok-head.ensures.head out
     (λ h d i. record {
       method = d.method i;
       path = d.path i;

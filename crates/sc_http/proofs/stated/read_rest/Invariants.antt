@@ -1,7 +1,7 @@
 -- What the body has is what it had and then what the source gave.
 use Rattle.std.proofs.Common.{◌≡◌, ◌<◌, ◌≤◌, ◌⊎◌, ◌-◌, ◌++◌, [], length, take, vec_len}
 use Rattle.sc_http.specs.Stream.{KeepsBytes, ReadsWhile}
-use Rattle.sc_http.proofs.body.read_rest.Given as goal
+use Rattle.sc_http.proofs.stated.read_rest.Given as goal
 
 abbrev pub invariant-loop-filled : goal.invariant-loop-filled
 invariant-loop-filled g l = record {

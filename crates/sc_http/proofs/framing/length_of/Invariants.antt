@@ -3,7 +3,7 @@ use Rattle.std.proofs.Common.{◌≡◌, true, min, take}
 use Rattle.std.specs.List.{list_all}
 use Rattle.std.specs.Char.{is_ascii_digit}
 use Rattle.std.specs.Str.Parse.{digits_value}
-use Rattle.sc_http.proofs.lines.length_of.Given as goal
+use Rattle.sc_http.proofs.framing.length_of.Given as goal
 
 abbrev pub invariant-loop-byte : goal.invariant-loop-byte
 invariant-loop-byte l = record {

@@ -3,7 +3,7 @@ use Rattle.std.proofs.Common.{◌≡◌, true, get_or, arith, refl}
 use Rattle.std.specs.Char.{is_ascii_digit}
 use Rattle.std.proofs.lemmas.List.Folds.{list_all_more}
 use Rattle.std.proofs.lemmas.Int.Digits.{digits_value_more}
-use Rattle.sc_http.proofs.lines.length_of.Goals as goal
+use Rattle.sc_http.proofs.framing.length_of.Goals as goal
 
 pub loop-byte-preserved : goal.loop-byte-preserved
 loop-byte-preserved c =

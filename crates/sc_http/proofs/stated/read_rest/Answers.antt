@@ -4,7 +4,7 @@ use Rattle.std.proofs.lemmas.Grind.{common_steps}
 use Rattle.std.proofs.lemmas.Result.{err_from_is_err_and}
 use Rattle.sc_http.specs.Stream.{KeepsBytes}
 use Rattle.sc_http.proofs.StreamLemmas.{reads_while, gives_out_all, gives_out_more, falls_short}
-use Rattle.sc_http.proofs.body.read_rest.Goals as goal
+use Rattle.sc_http.proofs.stated.read_rest.Goals as goal
 
 pub loop-filled-init : goal.loop-filled-init
 loop-filled-init g c =

@@ -2,6 +2,7 @@
 //! members is an object, or has one in its list, and each number is a whole one of 64 signed bits.
 
 ghost use Rattle.std.specs.Prelude.{◌≡◌, ◌<◌, ◌≤◌, [], length, map, Some, IfOk, OnOk, IfSome, option_and_then};
+ghost use Rattle.std.specs.List.{insert};
 ghost use Rattle.json.specs.Lex.{tokens};
 ghost use Rattle.sc_schema.specs.Raw.{AscendByName, raw_names};
 ghost use Rattle.sc_json.specs.Bodies.{json_of};
@@ -15,10 +16,14 @@ use sc_schema::{RawDoc, RawField, RawValue};
 use std::alloc::{AllocError, Global};
 use std::cmp::Ordering;
 
-/// For how many members a document has room at first.
+/// For how many members a document takes room with its first.
 const FEW_MEMBERS: usize = 8;
 
-/// The documents of a body that is an array of flat objects, each of which has each key once. `None` says nothing of a body.
+/// The most members of a document that is read here: to put each at its place takes time that grows with their square.
+const MOST_MEMBERS: usize = 64;
+
+/// The documents of a body that is an array of flat objects, each of which has at most 64 keys, each once. `None` says nothing
+/// of a body.
 pub fn flat_docs(alloc: Global, body: &[u8]) -> Result<Option<List<RawDoc>>, AllocError>
     ensures { IfOk result (λ found. IfSome found
         (λ docs. option_and_then flat.docs_of (json_of body.now) ≡ Some (map flat.doc_fields docs))) }
@@ -89,8 +94,11 @@ fn rest_of_members(alloc: Global, reader: &mut Reader<'_>) -> Result<RawDoc, Unr
         ≡ Some (doc.fields, reader.new)) }
     ensures shorter { OnOk result (length reader.new < length reader.old) }
 {
-    let mut fields = Vec::with_capacity(alloc, FEW_MEMBERS)?;
+    let mut fields = Vec::new(alloc);
     'members: while let Some(name) = reader.next_key()? {
+        if fields.len() >= MOST_MEMBERS {
+            return Err(Unread::Other);
+        }
         let value = next_flat(alloc, reader)?;
         let Some(at) = place_of(fields.as_slice(), name) else {
             return Err(Unread::Other);
@@ -99,11 +107,28 @@ fn rest_of_members(alloc: Global, reader: &mut Reader<'_>) -> Result<RawDoc, Unr
             name: Text::new(alloc, name)?,
             value: RawValue::Plain(value),
         };
-        fields.insert(at, field)?;
+        insert_at(alloc, &mut fields, at, field)?;
     }
     Ok(RawDoc {
         fields: List::from_vec(fields),
     })
+}
+
+/// Puts a field at its place among the others. The first takes room for a few.
+fn insert_at(
+    alloc: Global,
+    fields: &mut Vec<RawField>,
+    at: usize,
+    field: RawField,
+) -> Result<(), AllocError>
+    requires { at ≤ length fields.old.items }
+    ensures { OnOk result (fields.new.items ≡ insert fields.old.items at field) }
+{
+    if fields.is_empty() {
+        *fields = Vec::with_capacity(alloc, FEW_MEMBERS)?;
+    }
+    fields.insert(at, field)?;
+    Ok(())
 }
 
 /// Where a field of this name comes among fields whose names ascend. `None` where one has the name.

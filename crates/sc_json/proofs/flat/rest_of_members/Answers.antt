@@ -14,8 +14,8 @@ use Rattle.sc_json.proofs.flat.rest_of_members.Goals as goal
 
 pub members-init : goal.members-init
 members-init c =
-    let none = c.in_ok-fields.ensures.items in
-    (no_members, length c.args.reader.now, omega arith, sym none, none_ascend c.in_ok-fields.fields.items none, refl, omega arith)
+    let none = c.new-fields.ensures.items in
+    (no_members, length c.args.reader.now, omega arith, sym none, none_ascend c.new-fields.result.items none, refl, omega arith)
 
 pub members-preserved : goal.members-preserved
 members-preserved c =
@@ -35,8 +35,8 @@ members-preserved c =
     let place : IsNamePlace k (raw_names l.fields.items) at = rw c.as_slice.ensures.value at c.in-Some-place_of.ensures.place in
     let name = c.in_ok-new.field-0 in
     let copied = c.in_ok-new.ensures in
-    let new = c.insert.new.self.items in
-    let more = c.in_ok-insert.ensures.items in (
+    let new = c.insert_at.new.fields.items in
+    let more = c.in_ok-insert_at.ensures in (
       put k d.0 ms,
       n - 1,
       omega (arith, l.invariant.2),

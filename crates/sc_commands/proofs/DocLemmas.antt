@@ -1,6 +1,8 @@
 -- An array of documents asks for the commands that add them.
-use Rattle.std.proofs.Common.{◌≡◌, ℕ, ◌<◌, Bool, true, false, ◌||◌, List, [], ◌∷◌, length, map, Option, Some, None, option_map, option_and_then, Ok, refl, ap, ◌∙◌, arith}
+use Rattle.std.proofs.Common.{◌≡◌, ℕ, ◌<◌, Bool, true, false, ◌||◌, List, [], ◌∷◌, length, map, Option, Some, None, option_map, option_and_then, Ok, Err, nat_lt, refl, ap, ◌∙◌, arith}
 use Rattle.std.proofs.Math.Path.{ap₂}
+use Rattle.std.proofs.lemmas.Bool.{lt-ltb}
+use Rattle.std.proofs.lemmas.List.{length-map}
 use Rattle.serde_json.specs.Data.{Data, null, boolean, number, string, array, object, Items, no_items, item}
 use Rattle.sc_schema.specs.declared.raw.RawDoc.{RawDoc}
 use Rattle.sc_schema.specs.declared.raw.RawField.{RawField}
@@ -9,8 +11,9 @@ use Rattle.sc_json.specs.Flat.{doc_fields, first_doc, docs_in, docs_of}
 use Rattle.sc_json.specs.RawDocs.{raw_fields_of}
 use Rattle.sc_commands.specs.Commands.{add, one, followed_by, each, added, asks_commit, reading}
 use Rattle.sc_commands.specs.Listed.{added_docs}
-use Rattle.sc_commands.specs.Updates.{asked_by, with_commit, read_commands, read_value}
+use Rattle.sc_commands.specs.Updates.{order_limit, asked_by, with_commit, read_commands, read_value}
 use Rattle.sc_commands.specs.declared.batch.Flags.{Flags}
+use Rattle.sc_commands.specs.declared.fault.CommandFault.TheVariants as faults
 
 -- an object is a document to add
 added_object : (value : Data) (fields : List RawField) → raw_fields_of value ≡ Some fields → added value ≡ Some (add fields)
@@ -63,13 +66,29 @@ same_docs : (docs : List RawDoc) → map add (map doc_fields docs) ≡ added_doc
 same_docs [] = refl
 same_docs (doc ∷ docs) = ap (λ more. add doc.fields ∷ more) (same_docs docs)
 
+read_fields : (flags : Flags) (found : Option Data) (docs : List (List RawField)) → option_and_then docs_of found ≡ Some docs → read_value flags found ≡ read_commands flags (Ok (map add docs))
+read_fields flags None docs e = absurd (cc)
+read_fields flags (Some value) docs e = ap₂ read_commands (same_flags flags value (no_commit value docs e)) (reading_docs value docs e)
+
 read_found : (flags : Flags) (found : Option Data) (docs : List RawDoc) → option_and_then docs_of found ≡ Some (map doc_fields docs) → read_value flags found ≡ read_commands flags (Ok (added_docs docs))
-read_found flags None docs e = absurd (cc)
-read_found flags (Some value) docs e =
-    ap₂ read_commands (same_flags flags value (no_commit value (map doc_fields docs) e)) (reading_docs value (map doc_fields docs) e ∙ ap Ok (same_docs docs))
+read_found flags found docs e = read_fields flags found (map doc_fields docs) e ∙ ap (λ commands. read_commands flags (Ok commands)) (same_docs docs)
 
 -- a body that is an array of these documents asks to add them
 pub asks_for_docs : (flags : Flags) (body : List ℕ) (docs : List RawDoc) → 0 < length body → option_and_then docs_of (json_of body) ≡ Some (map doc_fields docs)
     → asked_by flags body ≡ read_commands flags (Ok (added_docs docs))
 asks_for_docs flags [] docs some e = absurd (omega arith)
 asks_for_docs flags (byte ∷ body) docs some e = read_found flags (json_of (byte ∷ body)) docs e
+
+more_docs : (flags : Flags) (docs : List (List RawField)) → order_limit < length docs → read_commands flags (Ok (map add docs)) ≡ Err faults.TooMany
+more_docs flags docs more = let counted : nat_lt order_limit (length (map add docs)) ≡ true = lt-ltb order_limit (length (map add docs)) (omega (arith, more, length-map docs add)) in rw counted
+
+docs_counted : (flags : Flags) (found : Option Data) (docs : Option (List (List RawField))) (count : ℕ) → option_and_then docs_of found ≡ docs → option_map length docs ≡ Some count → order_limit < count
+    → read_value flags found ≡ Err faults.TooMany
+docs_counted flags found None count is e more = absurd (cc)
+docs_counted flags found (Some docs) count is e more =
+    let same : length docs ≡ count = cc in
+    read_fields flags found docs is ∙ more_docs flags docs (rw same more)
+
+-- an array of so many documents asks for too much
+pub too_many_docs : (flags : Flags) (found : Option Data) (count : ℕ) → option_map length (option_and_then docs_of found) ≡ Some count → order_limit < count → read_value flags found ≡ Err faults.TooMany
+too_many_docs flags found count e more = docs_counted flags found (option_and_then docs_of found) count refl e more

@@ -10,7 +10,7 @@ use crate::batch::{Batch, Flags};
 use crate::fault::CommandFault;
 use crate::forms::{FormFault, commands_of};
 use crate::orders::{orders_of, orders_of_docs};
-use sc_json::{JsonFault, flat_docs, read};
+use sc_json::{JsonFault, count_docs, flat_docs, read};
 use sc_record::List;
 use sc_schema::{DocFault, RawDoc};
 use serde_json::Value;
@@ -18,6 +18,9 @@ use std::alloc::{AllocError, Global};
 
 /// The most orders of a body.
 const MAX_ORDERS: usize = 4096;
+
+/// So many bytes may have more documents than that, of two bytes each and a comma.
+const MANY_BYTES: usize = 3 * MAX_ORDERS;
 
 /// The orders that the body of an update asks for (Solr Reference Guide, "Indexing with Update Handlers"), with what the
 /// request's parameters set: an array of documents, or an object that may `add`, `delete` and `commit`, which is done in this
@@ -36,7 +39,26 @@ pub fn read_update(alloc: Global, body: &[u8], flags: &Flags) -> Result<Batch, C
     }
     match flat_docs(alloc, body) {
         Ok(Some(docs)) => read_docs(alloc, docs, flags),
-        Ok(None) => read_tree(alloc, body, flags),
+        Ok(None) => read_other(alloc, body, flags),
+        Err(AllocError) => Err(CommandFault::Memory),
+    }
+}
+
+/// The orders that a body of another form, or of more documents, asks for. No tree is made of too many documents, which may take
+/// a hundred times the body's bytes.
+fn read_other(alloc: Global, body: &[u8], flags: &Flags) -> Result<Batch, CommandFault>
+    ensures ok { IfOk result
+        (λ batch. updates.read_value flags.now (json_of body.now) ≡ Ok (updates.update_of batch)) }
+    ensures fault { IfErr result
+        (updates.IsCommandFault (updates.read_value flags.now (json_of body.now))) }
+    ensures few { IfOk result (λ batch. length batch.orders ≤ updates.order_limit) }
+{
+    if body.len() < MANY_BYTES {
+        return read_tree(alloc, body, flags);
+    }
+    match count_docs(alloc, body) {
+        Ok(Some(count)) if count > MAX_ORDERS => Err(CommandFault::TooMany),
+        Ok(_) => read_tree(alloc, body, flags),
         Err(AllocError) => Err(CommandFault::Memory),
     }
 }

@@ -1,5 +1,5 @@
 -- What is shown of a document is read as that document.
-use Rattle.std.proofs.Common.{◌≡◌, ℕ, ◌<◌, ◌≤◌, ℤ, pos, negsuc, Bool, true, false, ◌&&◌, ◌||◌, not, cond, List, [], ◌∷◌, length, map, codes, Option, Some, None, Result, Ok, Ordering, Less, Equal, Greater, nat_cmp, refl, sym, ap, subst, ◌∙◌, ◌^◌, arith}
+use Rattle.std.proofs.Common.{◌≡◌, ℕ, ◌<◌, ◌≤◌, ℤ, pos, negsuc, Bool, true, false, ◌||◌, cond, List, [], ◌∷◌, length, map, codes, Option, Some, None, Ok, Ordering, Less, Equal, Greater, nat_cmp, refl, sym, ap, subst, ◌∙◌, ◌^◌, arith}
 use Rattle.std.proofs.Math.Path.{ap₂}
 use Rattle.std.specs.Bool.{nat_lt}
 use Rattle.std.specs.Str.{bytes_eq}
@@ -31,7 +31,7 @@ use Rattle.sc_schema.specs.declared.raw.RawField.{RawField}
 use Rattle.sc_schema.specs.declared.raw.RawOne.TheVariants as ones
 use Rattle.sc_json.specs.Documents.{members_of, whole_number, value_data, field_data, field_member}
 use Rattle.sc_json.specs.RawDocs.{raw_number, raw_one, raw_items, raw_value, raw_fields}
-use Rattle.sc_json.specs.Laws.{HasItsBits, IsFieldInRange, IsStoredDocument, ReadsBack}
+use Rattle.sc_json.specs.Laws.{HasItsBits, IsFieldInRange, ReadsBack}
 
 -- names are one just where they compare equal
 name_from : (k l : List ℕ) (o : Ordering) → slice_cmp nat_cmp k l ≡ o → bytes_eq l k ≡ is_eq o

@@ -53,6 +53,10 @@ item_depth = 124
 abbrev pub next_by : {A : Type 0} → (Data → A) → ℕ → List Token → Option (A × List Token)
 next_by f depth tokens = parse_map f (converted of_json (value depth tokens))
 
+-- so many documents were read, and these are the tokens after them
+abbrev pub HasCount : ℕ → List Token → Option (Option (List (List RawField)) × List Token) → Type 0
+HasCount count rest read = (docs : List (List RawField)) × (read ≡ Some (Some docs, rest)) × (length docs ≡ count)
+
 -- what f says of the items up to the end of an array that has begun, and the tokens after it
 abbrev pub items_by : {A : Type 0} → (Items → A) → ℕ → List Token → Option (A × List Token)
 items_by f depth tokens = parse_map f (converted of_items (items (value depth) (length tokens) tokens))

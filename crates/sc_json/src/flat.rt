@@ -19,11 +19,14 @@ use std::cmp::Ordering;
 /// For how many members a document takes room with its first.
 const FEW_MEMBERS: usize = 8;
 
+/// The most documents that are kept. No update has more.
+const MOST_DOCS: usize = 4096;
+
 /// The most members of a document that is read here: to put each at its place takes time that grows with their square.
 const MOST_MEMBERS: usize = 64;
 
-/// The documents of a body that is an array of flat objects, each of which has at most 64 keys, each once. `None` says nothing
-/// of a body.
+/// The documents of a body that is an array of at most 4,096 flat objects, each of which has at most 64 keys, each once. `None`
+/// says nothing of a body.
 pub fn flat_docs(alloc: Global, body: &[u8]) -> Result<Option<List<RawDoc>>, AllocError>
     ensures { IfOk result (λ found. IfSome found
         (λ docs. option_and_then flat.docs_of (json_of body.now) ≡ Some (map flat.doc_fields docs))) }
@@ -70,6 +73,9 @@ fn rest_of_docs(alloc: Global, reader: &mut Reader<'_>) -> Result<List<RawDoc>, 
 {
     let mut docs = List::new(alloc);
     'docs: while !reader.take_end_array() {
+        if docs.len() >= MOST_DOCS {
+            return Err(Unread::Other);
+        }
         let doc = next_doc(alloc, reader)?;
         docs.push(doc)?;
     }
@@ -77,7 +83,7 @@ fn rest_of_docs(alloc: Global, reader: &mut Reader<'_>) -> Result<List<RawDoc>, 
 }
 
 /// The document of a flat object.
-fn next_doc(alloc: Global, reader: &mut Reader<'_>) -> Result<RawDoc, Unread>
+pub(crate) fn next_doc(alloc: Global, reader: &mut Reader<'_>) -> Result<RawDoc, Unread>
     ensures value { IfOk result (λ doc. flat.next_by raw_fields_of flat.doc_depth reader.old
         ≡ Some (Some doc.fields, reader.new)) }
     ensures shorter { OnOk result (length reader.new < length reader.old) }

@@ -18,7 +18,8 @@
 mod body;
 mod raw;
 
-// The documents of a body, read with no tree of its value.
+// The documents of a body, read with no tree of its value, and how many they are.
+mod count;
 mod flat;
 mod flat_value;
 
@@ -30,6 +31,7 @@ mod text;
 mod laws;
 
 pub use body::{JsonFault, read};
+pub use count::count_docs;
 pub use document::doc_value;
 pub use flat::flat_docs;
 pub use laws::shown_document;

@@ -6,7 +6,7 @@ use Rattle.std.specs.Ordering.{nat_cmp}
 use Rattle.std.specs.declared.cmp.Ordering.TheVariants.{Less}
 use Rattle.json.specs.Token.{Token}
 use Rattle.json.specs.Json.{parse_map, items, members, value}
-use Rattle.serde_json.specs.Data.{Data, null, boolean, number, string, array, object, Items, no_items, item, no_members}
+use Rattle.serde_json.specs.Data.{Data, null, boolean, number, string, array, object, Items, no_items, item, Members, no_members}
 use Rattle.serde_json.specs.Read.{of_json, of_items, of_members, converted, number_of}
 use Rattle.sc_schema.specs.declared.raw.RawDoc.{RawDoc}
 use Rattle.sc_schema.specs.declared.raw.RawField.{RawField}
@@ -61,9 +61,13 @@ HasCount count rest read = (docs : List (List RawField)) × (read ≡ Some (Some
 abbrev pub items_by : {A : Type 0} → (Items → A) → ℕ → List Token → Option (A × List Token)
 items_by f depth tokens = parse_map f (converted of_items (items (value depth) (length tokens) tokens))
 
+-- the fields of the first members of an object and of at most n members up to its end, and the tokens after it
+abbrev pub fields_left : ℕ → ℕ → Members → List Token → Option (List RawField × List Token)
+fields_left depth n first tokens = parse_map raw_fields (converted (λ ms. of_members ms first) (members (value depth) n tokens))
+
 -- the fields up to the end of an object that has begun, and the tokens after it
 abbrev pub fields_by : ℕ → List Token → Option (List RawField × List Token)
-fields_by depth tokens = parse_map raw_fields (converted (λ ms. of_members ms no_members) (members (value depth) (length tokens) tokens))
+fields_by depth tokens = fields_left depth (length tokens) no_members tokens
 
 -- the value that one token is
 abbrev pub one_of : Token → Option RawOne

@@ -1,5 +1,4 @@
-//! How many documents a body has that is an array of flat objects. None is kept, so that a body of too many of them takes no more
-//! memory than one of them.
+//! How many documents a body has that is an array of flat objects. Each is let go once it is counted.
 
 ghost use Rattle.std.specs.Prelude.{◌≡◌, length, [], Some, IfOk, IfSome, option_map, option_and_then};
 ghost use Rattle.json.specs.Lex.{tokens};

@@ -1,13 +1,13 @@
 //! The documents of a body that is an array of flat objects, read straight from its text. An object is flat where none of its
 //! members is an object, or has one in its list, and each number is a whole one of 64 signed bits.
 
-ghost use Rattle.std.specs.Prelude.{◌≡◌, ◌<◌, ◌≤◌, [], length, map, Some, IfOk, OnOk, IfSome, option_and_then};
-ghost use Rattle.std.specs.List.{insert};
+ghost use Rattle.std.specs.Prelude.{◌≡◌, ℕ, ◌<◌, ◌≤◌, [], length, map, Some, IfOk, OnOk, IfSome, option_and_then};
 ghost use Rattle.json.specs.Lex.{tokens};
+ghost use Rattle.serde_json.specs.Data.{Members};
 ghost use Rattle.sc_schema.specs.Raw.{AscendByName, raw_names};
 ghost use Rattle.sc_json.specs.Bodies.{json_of};
 ghost use Rattle.sc_json.specs.Flat as flat;
-ghost use Rattle.sc_json.specs.RawDocs.{raw_fields_of};
+ghost use Rattle.sc_json.specs.RawDocs.{raw_value, raw_fields, raw_fields_of};
 
 use crate::flat_value::{Unread, next_flat};
 use json::{Reader, Scratch, Token};
@@ -100,41 +100,56 @@ fn rest_of_members(alloc: Global, reader: &mut Reader<'_>) -> Result<RawDoc, Unr
         ≡ Some (doc.fields, reader.new)) }
     ensures shorter { OnOk result (length reader.new < length reader.old) }
 {
-    let mut fields = Vec::new(alloc);
+    let Some(name) = reader.next_key()? else {
+        return Ok(RawDoc {
+            fields: List::new(alloc),
+        });
+    };
+    let mut fields = Vec::with_capacity(alloc, FEW_MEMBERS)?;
+    let field = next_field(alloc, reader, name)?;
+    fields.push(field)?;
+    with_members(alloc, reader, fields)
+}
+
+/// The document of a flat object whose first fields are these.
+fn with_members(
+    alloc: Global,
+    reader: &mut Reader<'_>,
+    mut fields: Vec<RawField>,
+) -> Result<RawDoc, Unread>
+    requires { AscendByName fields.items }
+    ensures value { (first : Members) (n : ℕ) → raw_fields first ≡ fields.items → length reader.old ≤ n
+        → IfOk result (λ doc. flat.fields_left flat.member_depth n first reader.old
+        ≡ Some (doc.fields, reader.new)) }
+    ensures shorter { OnOk result (length reader.new < length reader.old) }
+{
     'members: while let Some(name) = reader.next_key()? {
         if fields.len() >= MOST_MEMBERS {
             return Err(Unread::Other);
         }
-        let value = next_flat(alloc, reader)?;
         let Some(at) = place_of(fields.as_slice(), name) else {
             return Err(Unread::Other);
         };
-        let field = RawField {
-            name: Text::new(alloc, name)?,
-            value: RawValue::Plain(value),
-        };
-        insert_at(alloc, &mut fields, at, field)?;
+        let field = next_field(alloc, reader, name)?;
+        fields.insert(at, field)?;
     }
     Ok(RawDoc {
         fields: List::from_vec(fields),
     })
 }
 
-/// Puts a field at its place among the others. The first takes room for a few.
-fn insert_at(
-    alloc: Global,
-    fields: &mut Vec<RawField>,
-    at: usize,
-    field: RawField,
-) -> Result<(), AllocError>
-    requires { at ≤ length fields.old.items }
-    ensures { OnOk result (fields.new.items ≡ insert fields.old.items at field) }
+/// The field of this name, whose value comes next.
+fn next_field(alloc: Global, reader: &mut Reader<'_>, name: &str) -> Result<RawField, Unread>
+    ensures value { IfOk result (λ field. flat.next_by raw_value flat.member_depth reader.old
+        ≡ Some (field.value, reader.new)) }
+    ensures named { IfOk result (λ field. field.name ≡ name.now) }
+    ensures shorter { OnOk result (length reader.new < length reader.old) }
 {
-    if fields.is_empty() {
-        *fields = Vec::with_capacity(alloc, FEW_MEMBERS)?;
-    }
-    fields.insert(at, field)?;
-    Ok(())
+    let value = next_flat(alloc, reader)?;
+    Ok(RawField {
+        name: Text::new(alloc, name)?,
+        value: RawValue::Plain(value),
+    })
 }
 
 /// Where a field of this name comes among fields whose names ascend. `None` where one has the name.

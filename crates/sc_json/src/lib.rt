@@ -2,16 +2,18 @@
 //!
 //! It may depend on the documents of `sc_record` and `sc_schema`, on the parser and printer of `serde_json`, and on the reader
 //! of `json` below it, which do all reading, printing and escaping. The layers above use the clauses of `read` and `raw_doc`,
-//! which say which value a body has and what its members are, that of `flat_docs`, which reads the common body with no tree of
-//! its value, and those of `doc_value` and `print`, which say which text a document has.
+//! which say which value a body has and what its members are, those of `flat_docs` and `count_docs`, which read the common body
+//! and count its documents with no tree of its value, and those of `doc_value` and `print`, which say which text a document has.
 //!
 //! Proved: `read`, `raw_doc`, `doc_value` and `print` are the definitions in `specs/` over the JSON values of `serde_json`.
-//! The documents that `flat_docs` gives are those of the body's value. Law `shown_document`: a document that is shown, sent
-//! back as it is, makes the same document, under the condition of its version.
+//! The documents that `flat_docs` gives are those of the body's value, and the number that `count_docs` gives is theirs. Law
+//! `shown_document`: a document that is shown, sent back as it is, makes the same document, under the condition of its
+//! version.
 //!
 //! Tested alone: the worked documents.
 //!
-//! Neither: that `flat_docs` gives the documents of each body that is an array of flat objects.
+//! Neither: that `flat_docs` gives the documents of each body that is an array of flat objects, and that `count_docs` counts
+//! them.
 #![tactic(auto)]
 
 // A body's value, and the members of an object.

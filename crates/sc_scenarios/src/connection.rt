@@ -1,24 +1,26 @@
 ghost use Rattle.std.specs.Prelude.{◌≡◌, None, true, IfOk};
 ghost use Rattle.sc_collection.specs.Shapes.{is_bucket_count};
 
+use crate::wire::Wire;
 use crate::words::{log_limit, number};
 use sc_collection::{Alone, Desk, Shape, Trail};
 use sc_cores::{cores_of_map, start_cores};
-use sc_io::{Fixed, MemHosts, MemPace, MemSink, MemSource};
+use sc_io::{Fixed, MemHosts, MemPace};
 use sc_record::List;
 use sc_session::serve;
 use std::alloc::{AllocError, Global};
 
-/// A collection, with the hosts that have its cores and the pace that its splits ask.
+/// A collection, with the hosts that have its cores, the pace that its splits ask, and the wire of its connections.
 #[derive(Drop)]
 pub struct Collection {
     pub desk: Alone,
     pub hosts: MemHosts,
     pub pace: MemPace,
+    pub wire: Wire,
 }
 
 /// A new collection, by the line `collection SHARDS REPLICAS BUCKETS LIMIT`, on two nodes. Its cores are started, and from here on no call
-/// of its hosts fails and its pace says no stop.
+/// of its hosts fails, its pace says no stop, and its wire is as a new one.
 pub fn new_collection(alloc: Global, words: &[&str]) -> Result<Collection, AllocError>
     ensures out { IfOk result (λ collection. collection.desk.out ≡ None) }
     ensures board_out { IfOk result (λ collection. collection.desk.board_out ≡ None) }
@@ -42,6 +44,7 @@ pub fn new_collection(alloc: Global, words: &[&str]) -> Result<Collection, Alloc
         desk,
         hosts,
         pace: MemPace::new(None),
+        wire: Wire::new(alloc),
     })
 }
 
@@ -103,8 +106,8 @@ pub fn exchange(
     ensures board_out { collection.new.desk.board_out ≡ None }
 {
     let bytes = line.replace(alloc, '|', "\r\n")?.into_bytes();
-    let mut source = MemSource::new(List::from_vec(bytes), 7, List::new(alloc));
-    let mut sink = MemSink::new(alloc, List::new(alloc));
+    let mut source = collection.wire.source(alloc, bytes)?;
+    let mut sink = collection.wire.sink(alloc)?;
     let mut trail = Trail::new(alloc)?;
     let end = serve(
         alloc,

@@ -1,10 +1,11 @@
 //! Scenarios of the upper crates, which answers lines of standard input: a line is an event of a bucket, a request to a collection, what its
-//! hosts or its pace are to refuse, or a question about any of these, and the line of the same number of standard output is its answer. An
-//! empty line and one that begins with `#` are written as they are.
+//! hosts, its pace or the wire of its connections are to refuse, or a question about any of these, and the line of the same number of standard
+//! output is its answer. An empty line and one that begins with `#` are written as they are.
 //!
 //! What is expected comes from outside: from worked examples, for the lists of events that were drawn at random from `plain_bucket.py`, which
-//! follows each event with a bucket of plain lists, and for the splits that are stopped at each step from `stopped_splits.py`. The program
-//! depends on `sc_session`, whose `serve` has all that a request comes to, and on `sc_world`, whose events are all that may happen to a bucket.
+//! follows each event with a bucket of plain lists, for the splits that are stopped at each step from `stopped_splits.py`, and for reads and
+//! writes that fail from `failing_wires.py`. The program depends on `sc_session`, whose `serve` has all that a request comes to, and on
+//! `sc_world`, whose events are all that may happen to a bucket.
 #![tactic(auto)]
 
 // What lines ask for.
@@ -15,8 +16,9 @@ mod bucket;
 mod event;
 mod state;
 
-// A collection with its hosts and its pace, behind one connection for each request.
+// A collection with its hosts and its pace, behind one connection for each line of requests, whose bytes go through a wire.
 mod connection;
+mod wire;
 
 // What is done line by line.
 mod stage;

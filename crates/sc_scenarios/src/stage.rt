@@ -63,6 +63,10 @@ pub fn answer(alloc: Global, stage: &mut Stage, line: &str) -> Result<String, Al
             set_stop(&mut stage.collection.pace, &words);
             String::from_str(alloc, "done")
         }
+        "pieces" | "reads" | "writes" => {
+            stage.collection.wire.set(alloc, &words)?;
+            String::from_str(alloc, "done")
+        }
         "cores" => show_cores(alloc, &stage.collection.hosts),
         "clock" => {
             stage.now = number(&words, 1);

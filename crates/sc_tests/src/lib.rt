@@ -8,6 +8,8 @@
 #[cfg(test)]
 mod boards;
 #[cfg(test)]
+mod collections;
+#[cfg(test)]
 mod commands;
 #[cfg(test)]
 mod hosts;

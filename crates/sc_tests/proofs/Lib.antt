@@ -1,0 +1,2 @@
+-- Passes of threads.
+mod PassLemmas

@@ -3,7 +3,8 @@
 //! It may depend on the sources and sinks of `sc_io`, on the model of requests in `sc_model`, on the decoder of chunks in
 //! `sc_chunks`, and on `httparse` and `form_urlencoded`. The layer above uses the clauses of `Reader::next_message`: the
 //! request that comes first of a connection's bytes, however these are cut into pieces, or why there
-//! is none; and that of `write_reply`: the bytes that a reply is.
+//! is none; that of `form_params`: the pairs of a form; and that of `write_reply`: the bytes that a
+//! reply is.
 //!
 //! Proved: `Reader::next_message` gives the first request of the bytes, its body of a stated length or in chunks, however
 //! they are cut into pieces, or why there is none; it reads no further than a request needs (`needed`, `bounded`), and
@@ -19,6 +20,7 @@ mod body;
 mod buffer;
 mod chunked;
 mod end;
+mod form;
 mod framing;
 mod head;
 mod head_end;
@@ -33,6 +35,7 @@ mod stopped;
 mod target;
 
 pub use end::MessageEnd;
+pub use form::form_params;
 pub use laws::{
     bytes_end_in_one_way, limits_are_as_defined, no_ending_of_a_request, no_request_is_a_prefix,
 };

@@ -1,8 +1,7 @@
-ghost use Rattle.std.specs.Prelude.{◌≡◌, map, IfOk};
-ghost use Rattle.form_urlencoded.specs.Form.{raw_pairs};
-ghost use Rattle.sc_model.specs.Heads.{method_of, is_head, path_of, params_of, param_of};
+ghost use Rattle.std.specs.Prelude.{◌≡◌, IfOk};
+ghost use Rattle.sc_model.specs.Heads.{method_of, is_head, path_of, params_of};
 
-use form_urlencoded::parse;
+use crate::form::form_params;
 use sc_model::{Method, Param};
 use sc_record::{List, Text};
 use std::alloc::{AllocError, Global};
@@ -31,22 +30,10 @@ pub(crate) fn split_target(alloc: Global, target: &str) -> Result<(Text, List<Pa
     ensures params { IfOk result (λ parts. parts.1 ≡ params_of target.now) }
 {
     match target.split_once('?') {
-        Some((path, query)) => Ok((Text::new(alloc, path)?, params_of(alloc, query.as_bytes())?)),
+        Some((path, query)) => Ok((
+            Text::new(alloc, path)?,
+            form_params(alloc, query.as_bytes())?,
+        )),
         None => Ok((Text::new(alloc, target)?, List::new(alloc))),
     }
-}
-
-/// The parameters that a query is, in order.
-fn params_of(alloc: Global, query: &[u8]) -> Result<List<Param>, AllocError>
-    ensures { IfOk result (λ params. params ≡ map param_of (raw_pairs query.now)) }
-{
-    let mut params = List::new(alloc);
-    for pair in parse(alloc, query).into_owned() {
-        let (name, value) = pair?;
-        params.push(Param {
-            name: Text::from_string(alloc, name)?,
-            value: Text::from_string(alloc, value)?,
-        })?;
-    }
-    Ok(params)
 }

@@ -112,9 +112,13 @@ path_of target = before_first (λ b. b == question_mark) target
 abbrev pub param_of : List ℕ × List ℕ → Param
 param_of (name, value) = record { name = utf8_lossy (decode name); value = utf8_lossy (decode value) }
 
+-- the pairs of a form as parameters, in order
+abbrev pub form_params : List ℕ → List Param
+form_params form = map param_of (raw_pairs form)
+
 -- the parameters after the first question mark
 abbrev pub params_of : List ℕ → List Param
-params_of target = map param_of (raw_pairs (after_first (λ b. b == question_mark) target))
+params_of target = form_params (after_first (λ b. b == question_mark) target)
 
 -- the value of a Connection header has the token close, in any case (RFC 9112, section 9.6)
 abbrev pub says_close : List ℕ → Bool

@@ -1,5 +1,5 @@
 -- What was asked of the buckets is answered.
-use Rattle.std.proofs.Common.{◌≡◌, ◌≤◌, ℕ, false, List, [], ◌∷◌, Result, Ok, Err, IfOk, refl, sym, subst, arith, inl}
+use Rattle.std.proofs.Common.{◌≡◌, ℕ, false, List, [], ◌∷◌, Result, Ok, Err, IfOk, refl, sym, subst, arith, inl}
 use Rattle.std.proofs.lemmas.List.Elements.{All-nil}
 use Rattle.std.specs.declared.alloc.AllocError.{AllocError}
 use Rattle.sc_reply.specs.Refusals as refusals
@@ -12,7 +12,7 @@ use Rattle.sc_seen.proofs.GoesOnLemmas.{Keeps-none}
 use Rattle.sc_seen.specs.Moments.{Moment, moment_of}
 use Rattle.sc_admin.specs.Commands.{split, status, delete}
 use Rattle.sc_session.specs.Queries.{HaveFault}
-use Rattle.sc_session.specs.Requests.{Asked, Select, not_built, refused, update, get, get_ids, select, command}
+use Rattle.sc_session.specs.Requests.{Asked, Select, refused, update, get, get_ids, select, command}
 use Rattle.sc_session.specs.Answers.{Answer, replied, ran_out, no_trace, IsAnswer, Stands, refusal_after}
 use Rattle.sc_session.specs.Answering.{AnswersOfBuckets, RefusesQuery, unread, reply_of, answer_of}
 use Rattle.sc_session.specs.declared.reply.Reply.{Reply}
@@ -32,7 +32,6 @@ answered_at_once gives layout asked now answer answered = record {
 
 -- nothing stands where nothing was done
 nothing_stands : (layout : Layout) (seen : Seen) (asked : Asked) → Stands layout seen asked no_trace
-nothing_stands layout seen not_built = refl
 nothing_stands layout seen (refused refusal) = refl
 nothing_stands layout seen (update batch) = inl refl
 nothing_stands layout seen (get id) = ([], record { trace_is = refl; reads = tt })

@@ -29,7 +29,7 @@ use Rattle.sc_journal.proofs.VersionLemmas.{legal_newest}
 use Rattle.sc_seen.proofs.ExtendsLemmas.{IsPrefix-length, entries-grow, entries-bucket}
 use Rattle.sc_seen.proofs.GoesOnLemmas.{SeesMore-self, SeesMore-then, SeesMore-by}
 use Rattle.sc_admin.specs.Commands.{split, status, delete}
-use Rattle.sc_session.specs.Requests.{Asked, asked, not_built, refused, update, get, get_ids, select, command}
+use Rattle.sc_session.specs.Requests.{Asked, asked, refused, update, get, get_ids, select, command}
 use Rattle.sc_session.specs.Answers.{Answer, replied, ran_out, Trace, IsAnswer, EndsBatch, read_trace}
 use Rattle.sc_session.specs.Connection.{Exchange, IsExchange, AreExchanges}
 use Rattle.sc_session.specs.Laws.{AcceptsOrderFor, IsLastSince}
@@ -65,8 +65,6 @@ no_answer trace stops one is given = no_order trace one (ap (λ (t : Trace). t.a
 of_batch : (layout : Layout) (seen : Seen) (what : Asked) (trace : Trace) (answer : Answer) (one : OrderAnswer)
     → IsAnswer layout seen what trace answer → Contains trace.answers one
     → (batch : Batch) × (how : UpdateEnd) × EndsBatch layout seen batch trace how
-of_batch layout seen not_built trace (replied reply) one is given = absurd (no_answer trace [] one is.0 given)
-of_batch layout seen not_built trace ran_out one is given = absurd (no_answer trace [] one is given)
 of_batch layout seen (refused refusal) trace (replied reply) one is given = absurd (no_answer trace [] one is.0 given)
 of_batch layout seen (refused refusal) trace ran_out one is given = absurd (no_answer trace [] one is given)
 of_batch layout seen (update what) trace (replied reply) one is given = (is.0, is.1, is.3)

@@ -23,7 +23,7 @@ use Rattle.sc_split.specs.declared.end.SplitEnd.{SplitEnd}
 use Rattle.sc_split.specs.declared.end.SplitEnd.TheVariants as ends
 use Rattle.sc_split.specs.Splits.{SplitMoment, split_moment, Course, refused, given_up, done, split_stops, HasCause, IsAnswered, IsSplit}
 use Rattle.sc_session.specs.Requests as requests
-use Rattle.sc_session.specs.Requests.{not_built, update, get, get_ids, select, command, asked}
+use Rattle.sc_session.specs.Requests.{update, get, get_ids, select, command, asked}
 use Rattle.sc_session.specs.Answers.{Answer, replied, ran_out, Trace, IsAnswer, EndsSplit, read_trace}
 use Rattle.sc_session.specs.Commands.{CommandEnd, no_command, split_ended, delete_ended, Situation, moment_at, Leaves, LeavesSplit}
 use Rattle.sc_session.specs.Connection.{Exchange, situation_after, IsExchange, AreExchanges, LeaveRest, exchanges_of}
@@ -99,8 +99,6 @@ module _ (layout : Layout) (seen : Seen) (trace : Trace) (asked : Asked) (first 
 
   answers_split : (what : requests.Asked) (answer : Answer) → IsAnswer layout seen what trace answer
       → AnswersSplit layout seen trace asked first course end
-  answers_split not_built (replied reply) is = no_split (read_trace []) refl is.0
-  answers_split not_built ran_out is = no_split (read_trace []) refl is
   answers_split (requests.refused refusal) (replied reply) is = no_split (read_trace []) refl is.0
   answers_split (requests.refused refusal) ran_out is = no_split (read_trace []) refl is
   answers_split (update what) (replied reply) is = none_of_batch is.3.command_is

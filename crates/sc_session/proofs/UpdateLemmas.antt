@@ -1,21 +1,24 @@
 -- An update is answered by what its orders and its commits came to.
-use Rattle.std.proofs.Common.{◌≡◌, ℕ, ℤ, suc, ◌+◌, ◌-◌, ◌<◌, Bool, true, false, List, [], ◌∷◌, ◌++◌, length, Option, Some, None, Result, Ok, Err, refl, sym, ap, ◌∙◌, subst, arith, length-append, append_assoc, inl, inr}
+use Rattle.std.proofs.Common.{◌≡◌, ℕ, ◌+◌, ◌-◌, ◌*◌, ◌^◌, ◌<◌, ◌≤◌, Bool, true, false, List, [], ◌∷◌, ◌++◌, length, Option, Some, None, Result, Ok, Err, refl, sym, ap, ◌∙◌, subst, arith, length-append, append_assoc, inl, inr}
 use Rattle.std.specs.Prelude.{◌≢◌, map, slice_get, IfOk, IfSome}
 use Rattle.std.specs.declared.alloc.AllocError.{AllocError}
 use Rattle.std.proofs.lemmas.List.{map-append, length-map}
+use Rattle.std.proofs.Math.Pow.{pow_mono}
 use mathlib.Core.List.{IsPrefix}
 use Rattle.sc_record.specs.declared.order.Order.{Order}
 use Rattle.sc_record.specs.declared.ack.Ack.{Ack}
 use Rattle.sc_reply.specs.Bodies.{update_text, error_text}
 use Rattle.sc_reply.specs.Refusals as refusals
 use Rattle.sc_commands.specs.declared.batch.Batch.{Batch}
-use Rattle.sc_commands.specs.Updates.{update_of}
+use Rattle.sc_router.specs.Route.{IsBucketCount}
+use Rattle.sc_collection.specs.Kept.{stops_of_request, trail_room}
+use Rattle.sc_commands.specs.Updates.{update_of, order_limit}
 use Rattle.sc_journal.specs.Journal.{last_of}
 use Rattle.sc_journal.specs.Outcomes.{Outcome, accepted, conflict, partial, log_full, out_of_memory}
 use Rattle.sc_seen.specs.Seen.{Layout, Seen, SeesMore}
 use Rattle.sc_seen.specs.Moments.{Moment}
-use Rattle.sc_seen.specs.Batches.{OrderAnswer, AnswersOrders, goes_on, accepted_adds, accepted_deletes, order_stops, order_timestamps}
-use Rattle.sc_seen.specs.Commits.{CommitOutcome, committed_now, commit_full, commit_out_of_memory, CommitAnswer, commit_stops}
+use Rattle.sc_seen.specs.Batches.{OrderAnswer, goes_on, accepted_adds, accepted_deletes, order_stops, order_timestamps}
+use Rattle.sc_seen.specs.Commits.{committed_now, commit_full, commit_out_of_memory, commit_stops}
 use Rattle.std.proofs.lemmas.Option.{slice_get_within}
 use Rattle.sc_journal.proofs.ListLemmas.{last_of_cases, slice_get-append_end}
 use Rattle.sc_seen.proofs.GoesOnLemmas.{SeesMore-self}
@@ -26,7 +29,7 @@ use Rattle.sc_update.specs.declared.end.BatchFault.{BatchFault}
 use Rattle.sc_update.specs.declared.end.BatchFault.TheVariants as reports
 use Rattle.sc_session.specs.Requests.{update}
 use Rattle.sc_session.specs.Commands.{no_command}
-use Rattle.sc_session.specs.Answers.{Answer, replied, ran_out, IsAnswer, Trace, EndsBatch, update_answer, update_reply, refusal_after}
+use Rattle.sc_session.specs.Answers.{replied, IsAnswer, Trace, EndsBatch, update_answer, refusal_after}
 use Rattle.sc_session.specs.Answering.{AnswersOfBuckets, IsOfOrder, RefusesFor, IsReplyTo, reply_of, answer_of}
 use Rattle.sc_session.specs.declared.reply.Reply.{Reply}
 
@@ -40,6 +43,13 @@ done_same : (versions : Bool) (answers : List OrderAnswer) (end : BatchEnd) → 
     → update_text end.adds end.deletes versions ≡ update_text (accepted_adds answers) (accepted_deletes answers) versions
 done_same true answers end shown = ap (λ (adds : List Ack). update_text adds end.deletes true) shown.0 ∙ ap (λ (deletes : List Ack). update_text (accepted_adds answers) deletes true) shown.1
 done_same false answers end shown = refl
+
+-- a batch of no more orders than may be finds room among the stops, its commits too
+pub batch_room : (stops : ℕ) (batch : Batch) (buckets : ℕ) → stops + stops_of_request ≤ trail_room → length batch.orders ≤ order_limit → IsBucketCount buckets
+    → stops + 2 * length batch.orders + buckets ≤ trail_room
+batch_room stops batch buckets room few (k, small, is) =
+    let most : 2 ^ k ≤ 256 = pow_mono {i = k} {j = 8} small in
+    omega (arith, room, few, is, most)
 
 -- the order of an answer
 abbrev order_of : OrderAnswer → Order

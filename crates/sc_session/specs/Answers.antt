@@ -30,7 +30,7 @@ use Rattle.sc_update.specs.Updated.{UpdateEnd, finished, Ends}
 use Rattle.sc_get.specs.Got.{live, ReadsEach, live_writes}
 use Rattle.sc_fanout.specs.Searches.{Search, SearchPage, LooksAtBuckets, ShowsFound}
 use Rattle.sc_session.specs.Queries.{HaveCondition, HaveFault, IsRouteOf}
-use Rattle.sc_session.specs.Requests.{Asked, Select, not_built, refused, update, get, get_ids, select, command}
+use Rattle.sc_session.specs.Requests.{Asked, Select, refused, update, get, get_ids, select, command}
 use Rattle.sc_session.specs.Commands.{CommandEnd, no_command, split_ended, delete_ended, split_refusal, delete_refusal}
 
 -- a refusal, after these orders were accepted
@@ -214,7 +214,6 @@ pub record EndsDelete (layout : Layout) (seen : Seen) (shard : List ℕ) (trace 
 
 -- the reply to what was asked, with the trace that the request left; a refused request looks at no journal
 abbrev pub IsReply : Layout → Seen → Asked → Trace → Reply → Type 0
-IsReply layout seen not_built trace reply = (trace ≡ no_trace) × (reply ≡ not_built_reply)
 IsReply layout seen (refused refusal) trace reply = (trace ≡ no_trace) × (reply ≡ refusal_reply refusal)
 IsReply layout seen (update asked) trace reply =
     (batch : Batch) × (how : UpdateEnd) × (update_of batch ≡ asked) × EndsBatch layout seen batch trace how
@@ -237,7 +236,6 @@ IsReply layout seen (command (delete shard)) trace reply =
 -- looks at its ids' journals up to there, and of a search those at the buckets; of a command what it came to, which may be that it was
 -- done, and nothing of it where its parameters were still read; of a request that looks at no journal nothing.
 abbrev pub Stands : Layout → Seen → Asked → Trace → Type 0
-Stands layout seen not_built trace = trace ≡ no_trace
 Stands layout seen (refused refusal) trace = trace ≡ no_trace
 Stands layout seen (update asked) trace =
     (trace ≡ no_trace) ⊎ ((batch : Batch) × (how : UpdateEnd) × (update_of batch ≡ asked) × EndsBatch layout seen batch trace how)

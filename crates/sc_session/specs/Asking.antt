@@ -17,6 +17,9 @@ use Rattle.sc_session.specs.declared.asked.Refused.TheVariants as refuses
 -- why a request is refused
 abbrev pub refused_of : Refused → refusals.Refusal
 refused_of refuses.NotFound = refusals.not_found
+refused_of refuses.MethodNotAllowed = refusals.method_not_allowed
+refused_of refuses.EncodedBody = refusals.encoded_body
+refused_of refuses.NoLength = refusals.no_length
 refused_of (refuses.BadParam name) = refusals.bad_param name.now
 refused_of (refuses.BadCommand name) = refusals.bad_param name
 refused_of (refuses.Command fault) = asking.command_refusal fault
@@ -32,7 +35,6 @@ RefusesSearch params select_faults.Memory = ⊤
 
 -- what a request asks for
 abbrev pub asked_of : Asked → asking.Asked
-asked_of asks.NotBuilt = asking.not_built
 asked_of (asks.Refused refused) = asking.refused (refused_of refused)
 asked_of (asks.Update batch) = asking.update (update_of batch)
 asked_of (asks.Get id) = asking.get id

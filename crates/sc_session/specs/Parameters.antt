@@ -31,7 +31,7 @@ query_texts params =
     unwrap_or (parameter (codes "q") params) []
     ∷ map (λ (param : Param). param.value) (filter (λ (param : Param). bytes_eq param.name (codes "fq")) params)
 
--- there is a route that is none: it has no byte, or 2^32 and more, which no head has
+-- there is a route that is none: it has no byte, or 2^32 and more, which no request has
 abbrev pub has_bad_route : List Param → Bool
 has_bad_route params =
     option_map_or (λ route. nat_le (length route) 0 || nat_le (2 ^ 32) (length route)) (parameter (codes "_route_") params) false

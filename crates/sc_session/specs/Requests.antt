@@ -1,5 +1,5 @@
 -- What a request asks for.
-use Rattle.std.specs.Prelude.{ℕ, ◌-◌, Bool, true, false, not, ◌&&◌, ◌||◌, List, [], ◌∷◌, length, codes, nat_lt, nat_le, if◌then◌else◌, Option, Some, None, is_some, Result, Ok, Err}
+use Rattle.std.specs.Prelude.{ℕ, ◌-◌, Bool, true, false, not, ◌&&◌, ◌||◌, List, [], ◌∷◌, ◌++◌, length, codes, nat_lt, nat_le, if◌then◌else◌, Option, Some, None, is_some, Result, Ok, Err}
 use Rattle.std.specs.List.{list_any, list_all}
 use Rattle.std.specs.Str.{bytes_eq}
 use Rattle.sc_record.specs.Ids.{id_limit}
@@ -14,9 +14,12 @@ use Rattle.sc_model.specs.declared.message.Incoming.{Incoming}
 use Rattle.sc_model.specs.declared.message.Method.{Method}
 use Rattle.sc_model.specs.declared.message.Method.TheVariants as methods
 use Rattle.sc_model.specs.declared.message.Param.{Param}
+use Rattle.sc_model.specs.Heads.{form_params}
 use Rattle.sc_model.specs.Parameters.{parameter, is_set_to, between_commas}
 use Rattle.sc_admin.specs.Commands.{Command, asked_admin}
 use Rattle.sc_session.specs.Parameters.{count_of, query_texts, other_fault}
+use Rattle.sc_session.specs.declared.path.Path.{Path}
+use Rattle.sc_session.specs.declared.path.Path.TheVariants as paths
 
 -- a search that is asked for: the texts of its queries, the text of its route, and the page that is to be shown
 pub record Select : Type 0 where
@@ -27,8 +30,6 @@ pub record Select : Type 0 where
 
 -- what a request asks for, or why it is refused
 pub data Asked : Type 0 where
-  -- what this program does not do yet
-  not_built : Asked
   refused : refusals.Refusal → Asked
   -- the orders of a batch
   update : Update → Asked
@@ -70,21 +71,6 @@ abbrev pub asked_batch : Result Update CommandFault → Asked
 asked_batch (Ok batch) = update batch
 asked_batch (Err fault) = refused (command_refusal fault)
 
-abbrev pub is_get : Method → Bool
-is_get methods.Get = true
-is_get method = false
-
-abbrev pub is_post : Method → Bool
-is_post methods.Post = true
-is_post method = false
-
--- what a request to update asks for: a GET, or a POST of a stated length, whose body is as it is
-abbrev pub asked_update : Incoming → Asked
-asked_update request =
-    if (is_get request.method || (is_post request.method && not request.lengthless)) && not request.encoded
-    then asked_batch (asked_by (flags_of request.params) request.body)
-    else not_built
-
 -- the text is an id
 abbrev pub is_id : List ℕ → Bool
 is_id text = nat_lt 0 (length text) && nat_le (length text) id_limit
@@ -113,10 +99,6 @@ asked_params params = by_id params (parameter (codes "id") params) (parameter (c
     by_id params (Some id) ids = asked_id id params
     by_id params None (Some ids) = asked_list ids
     by_id params None None = refused (refusals.bad_param (codes "id"))
-
--- what a request to get asks for
-abbrev pub asked_get : Incoming → Asked
-asked_get request = if is_get request.method && not request.encoded then asked_params request.params else not_built
 
 -- the most rows of a page
 abbrev pub most_rows : ℕ
@@ -156,19 +138,10 @@ asked_search params = by_rows params (count_of usual_rows most_rows (parameter (
     by_rows params None = bad_parameter (codes "rows")
     by_rows params (Some rows) = by_start params rows (count_of 0 (last_row - rows) (parameter (codes "start") params))
 
--- what a request to search asks for
-abbrev pub asked_select : Incoming → Asked
-asked_select request = if is_get request.method && not request.encoded then asked_search request.params else not_built
-
 -- what the parameters of a command ask for, or which of them is at fault
 abbrev pub asked_command : Result Command (List ℕ) → Asked
 asked_command (Ok one) = command one
 asked_command (Err name) = refused (refusals.bad_param name)
-
--- what a request to the collection itself asks for
-abbrev pub asked_of_collection : Incoming → Asked
-asked_of_collection request =
-    if is_get request.method && not request.encoded then asked_command (asked_admin request.params) else not_built
 
 -- the paths of updates
 abbrev pub update_paths : List (List ℕ)
@@ -186,11 +159,63 @@ select_path = codes "/solr/docs/select"
 abbrev pub admin_path : List ℕ
 admin_path = codes "/solr/admin/collections"
 
--- what a request asks for; its path is looked at first
+-- the path that a text is, where it is one of those that are served
+abbrev pub served_path : List ℕ → Option Path
+served_path text =
+    if list_any (bytes_eq text) update_paths then Some paths.Update
+    else (if bytes_eq text get_path then Some paths.Get
+    else (if bytes_eq text select_path then Some paths.Select
+    else (if bytes_eq text admin_path then Some paths.Collections
+    else None)))
+
+-- the request is a POST
+abbrev pub is_post : Incoming → Bool
+is_post request = by_method request.method
+  where
+    by_method : Method → Bool
+    by_method methods.Post = true
+    by_method method = false
+
+-- the request is neither a GET nor a POST
+abbrev pub is_other : Incoming → Bool
+is_other request = by_method request.method
+  where
+    by_method : Method → Bool
+    by_method methods.Other = true
+    by_method method = false
+
+-- the parameters of a request that is no update: those of its target, and after them the pairs of the form that the body of a POST is
+abbrev pub all_params : Incoming → List Param
+all_params request = request.params ++ (if is_post request then form_params request.body else [])
+
+-- what a request to this path asks for, where its head gives no cause to refuse it
+abbrev pub asked_at : Path → Incoming → Asked
+asked_at paths.Update request = asked_batch (asked_by (flags_of request.params) request.body)
+asked_at paths.Get request = asked_params (all_params request)
+asked_at paths.Select request = asked_search (all_params request)
+asked_at paths.Collections request = asked_command (asked_admin (all_params request))
+
+-- a POST of an update that states no length of its body (RFC 9110, section 8.6)
+abbrev pub is_lengthless_update : Path → Incoming → Bool
+is_lengthless_update paths.Update request = is_post request && request.lengthless
+is_lengthless_update path request = false
+
+-- the first cause to refuse a request to a path that is served, by its head: its method, the coding of its body, or the missing length
+abbrev pub refused_at : Path → Incoming → Option refusals.Refusal
+refused_at path request =
+    if is_other request then Some refusals.method_not_allowed
+    else (if request.encoded then Some refusals.encoded_body
+    else (if is_lengthless_update path request then Some refusals.no_length
+    else None))
+
+-- what a request asks for; its path is looked at first, then the rest of its head, and then what it says
 abbrev pub asked : Incoming → Asked
-asked request =
-    if list_any (bytes_eq request.path) update_paths then asked_update request
-    else (if bytes_eq request.path get_path then asked_get request
-    else (if bytes_eq request.path select_path then asked_select request
-    else (if bytes_eq request.path admin_path then asked_of_collection request
-    else refused refusals.not_found)))
+asked request = by_path request (served_path request.path)
+  where
+    by_refusal : Path → Incoming → Option refusals.Refusal → Asked
+    by_refusal path request (Some refusal) = refused refusal
+    by_refusal path request None = asked_at path request
+
+    by_path : Incoming → Option Path → Asked
+    by_path request None = refused refusals.not_found
+    by_path request (Some path) = by_refusal path request (refused_at path request)

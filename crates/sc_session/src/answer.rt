@@ -44,12 +44,12 @@ pub(crate) fn answer<D: Desk, C: Clock, H: Hosts, P: Pace>(
     hosts: &mut H,
     pace: &mut P,
     trail: &mut Trail,
-    request: &Incoming,
+    request: Incoming,
 ) -> Result<Reply, AllocError>
     requires rest { IsDeskAtRest (D.layout desk.old) (D.out desk.old) (D.seen desk.old) }
     requires buckets { IsBucketCount (D.layout desk.old).buckets }
     requires room { length trail.old.stops + stops_of_request ≤ trail_room }
-    ensures answers { AnswersAsked C.gives (D.layout desk.old) (asking.asked request.now)
+    ensures answers { AnswersAsked C.gives (D.layout desk.old) (asking.asked request)
         (record {
           moment = moment_of (D.seen desk.old) trail.old.stops clock.old;
           outside = outside_of (H.started hosts.old) (H.start_faults hosts.old) (H.stop_faults hosts.old) (P.stops pace.old);
@@ -64,7 +64,6 @@ pub(crate) fn answer<D: Desk, C: Clock, H: Hosts, P: Pace>(
     ensures requests { trail.new.requests ≡ trail.old.requests }
 {
     match Asked::of(alloc, request)? {
-        Asked::NotBuilt => Ok(Reply::not_built()),
         Asked::Refused(refused) => Reply::refusal(alloc, &refused.cause()),
         Asked::Get(id) => get(alloc, desk, trail, &id),
         Asked::GetIds(ids) => get_ids(alloc, desk, trail, &ids),

@@ -1,14 +1,17 @@
-ghost use Rattle.std.specs.Prelude.{◌≡◌, ◌||◌, ◌&&◌, not, List, IfOk, Some, None, if◌then◌else◌, codes, is_some};
+ghost use Rattle.std.specs.Prelude.{◌≡◌, List, IfOk, Some, None, if◌then◌else◌, codes, is_some};
+ghost use Rattle.std.specs.Option.{option_map};
+ghost use Rattle.sc_admin.specs.Commands.{asked_admin};
 ghost use Rattle.sc_model.specs.declared.message.Param.{Param};
 ghost use Rattle.sc_model.specs.Parameters as parameters;
 ghost use Rattle.sc_session.specs.Requests as asking;
 ghost use Rattle.sc_session.specs.Asking.{asked_of, refused_of, IsWithinLimits};
 ghost use Rattle.sc_reply.specs.Causes.{refusal_of};
 
+use crate::path::Path;
 use crate::select::{Select, SelectFault};
 use sc_admin::{Admin, AdminFault, read_admin};
 use sc_commands::{Batch, CommandFault, Flags, read_update};
-use sc_http::{Incoming, Method, Param};
+use sc_http::{Incoming, Method, Param, form_params};
 use sc_model::{is_set_to, parameter};
 use sc_record::{Id, IdFault, List, Text};
 use sc_reply::Cause;
@@ -23,6 +26,12 @@ const MOST_IDS: usize = 4096;
 pub(crate) enum Refused {
     /// No such path.
     NotFound,
+    /// Neither GET nor POST.
+    MethodNotAllowed,
+    /// A body with a content coding.
+    EncodedBody,
+    /// A POST of an update that states no length.
+    NoLength,
     /// A parameter of this name that has no such value.
     BadParam(&'static str),
     /// A parameter of a command to the collection, of this name, that has no such value.
@@ -34,8 +43,6 @@ pub(crate) enum Refused {
 /// What a request asks for, or why it is refused.
 #[derive(Debug, Drop)]
 pub(crate) enum Asked {
-    /// What this program does not do yet.
-    NotBuilt,
     Refused(Refused),
     /// The orders of a batch, and a commit.
     Update(Batch),
@@ -56,6 +63,9 @@ impl Refused {
     {
         match self {
             Refused::NotFound => Cause::NotFound,
+            Refused::MethodNotAllowed => Cause::MethodNotAllowed,
+            Refused::EncodedBody => Cause::EncodedBody,
+            Refused::NoLength => Cause::NoLength,
             Refused::BadParam(name) => Cause::BadParam { name },
             Refused::BadCommand(name) => Cause::BadParam {
                 name: name.as_str(),
@@ -96,46 +106,81 @@ fn document_cause(fault: &DocFault) -> Cause<'_>
 }
 
 impl Asked {
-    /// What the request asks for, or why it is refused. Its path is looked at first, and the body is read only where nothing
-    /// else refuses the request.
-    pub(crate) fn of(alloc: Global, request: &Incoming) -> Result<Asked, AllocError>
-        ensures asked { IfOk result (λ answer. asked_of answer ≡ asking.asked request.now) }
+    /// What the request asks for, or the first cause to refuse it. The body is read only where nothing else refuses the request. An
+    /// error means out of memory.
+    pub(crate) fn of(alloc: Global, request: Incoming) -> Result<Asked, AllocError>
+        ensures asked { IfOk result (λ answer. asked_of answer ≡ asking.asked request) }
         ensures limits { IfOk result IsWithinLimits }
     {
-        match request.path.as_str() {
-            "/solr/docs/update" | "/solr/docs/update/json" => asked_update(alloc, request),
-            "/solr/docs/get" => asked_get(alloc, request),
-            "/solr/docs/select" => asked_select(alloc, request),
-            "/solr/admin/collections" => asked_of_collection(alloc, request),
-            _ => Ok(Asked::Refused(Refused::NotFound)),
+        let Some(path) = Path::of(request.path.as_str()) else {
+            return Ok(Asked::Refused(Refused::NotFound));
+        };
+        if let Some(refused) = refused_at(path, &request) {
+            return Ok(Asked::Refused(refused));
+        }
+        match path {
+            Path::Update => asked_update(alloc, &request),
+            Path::Get => asked_get(alloc, &all_params(alloc, request)?),
+            Path::Select => asked_select(alloc, &all_params(alloc, request)?),
+            Path::Collections => asked_of_collection(alloc, &all_params(alloc, request)?),
         }
     }
 }
 
+/// The first cause to refuse a request to a path that is served, by its head.
+fn refused_at(path: Path, request: &Incoming) -> Option<Refused>
+    ensures { option_map refused_of result ≡ asking.refused_at path request.now }
+{
+    if request.method == Method::Other {
+        Some(Refused::MethodNotAllowed)
+    } else if request.encoded {
+        Some(Refused::EncodedBody)
+    } else if is_lengthless_update(path, request) {
+        Some(Refused::NoLength)
+    } else {
+        None
+    }
+}
+
+/// Whether the request is a POST of an update that states no length of its body.
+fn is_lengthless_update(path: Path, request: &Incoming) -> bool
+    ensures { result ≡ asking.is_lengthless_update path request.now }
+{
+    match path {
+        Path::Update => request.method == Method::Post && request.lengthless,
+        _ => false,
+    }
+}
+
+/// The parameters of a request: those of its target, and after them the pairs of the form that the body of a POST is. An error means
+/// out of memory.
+fn all_params(alloc: Global, request: Incoming) -> Result<List<Param>, AllocError>
+    ensures { IfOk result (λ params. params ≡ asking.all_params request) }
+{
+    let Incoming {
+        method,
+        params,
+        body,
+        ..
+    } = request;
+    let mut params = params.into_vec();
+    if method == Method::Post {
+        let mut pairs = form_params(alloc, body.as_slice())?.into_vec();
+        params.append(&mut pairs)?;
+    }
+    Ok(List::from_vec(params))
+}
+
 /// What a request to update asks for (Solr Reference Guide, "Indexing with Update Handlers").
 fn asked_update(alloc: Global, request: &Incoming) -> Result<Asked, AllocError>
-    ensures asked { IfOk result (λ answer. asked_of answer ≡ asking.asked_update request.now) }
+    ensures asked { IfOk result (λ answer. asked_of answer ≡ asking.asked_at Path.Update request.now) }
     ensures limits { IfOk result IsWithinLimits }
 {
-    if !takes_update(request) || request.encoded {
-        return Ok(Asked::NotBuilt);
-    }
     let flags = flags_of(request.params.as_slice());
     match read_update(alloc, request.body.as_slice(), &flags) {
         Ok(batch) => Ok(Asked::Update(batch)),
         Err(CommandFault::Memory | CommandFault::Doc(DocFault::Memory)) => Err(AllocError),
         Err(fault) => Ok(Asked::Refused(Refused::Command(fault))),
-    }
-}
-
-/// Whether the request is a GET, or a POST of a stated length.
-fn takes_update(request: &Incoming) -> bool
-    ensures { result ≡ (asking.is_get request.now.method || (asking.is_post request.now.method && not request.now.lengthless)) }
-{
-    match request.method {
-        Method::Get => true,
-        Method::Post => !request.lengthless,
-        Method::Other => false,
     }
 }
 
@@ -150,15 +195,12 @@ fn flags_of(params: &[Param]) -> Flags
     }
 }
 
-/// What a request to get asks for (Solr Reference Guide, "RealTime Get").
-fn asked_get(alloc: Global, request: &Incoming) -> Result<Asked, AllocError>
-    ensures asked { IfOk result (λ answer. asked_of answer ≡ asking.asked_get request.now) }
+/// What the parameters of a get ask for (Solr Reference Guide, "RealTime Get").
+fn asked_get(alloc: Global, params: &List<Param>) -> Result<Asked, AllocError>
+    ensures asked { IfOk result (λ answer. asked_of answer ≡ asking.asked_params params.now) }
     ensures limits { IfOk result IsWithinLimits }
 {
-    if request.method != Method::Get || request.encoded {
-        return Ok(Asked::NotBuilt);
-    }
-    let params = request.params.as_slice();
+    let params = params.as_slice();
     match (parameter("id", params), parameter("ids", params)) {
         (Some(id), ids) => asked_id(alloc, id, ids.is_some()),
         (None, Some(ids)) => asked_list(alloc, ids),
@@ -210,30 +252,24 @@ fn asked_list(alloc: Global, text: &Text) -> Result<Asked, AllocError>
     Ok(Asked::GetIds(ids))
 }
 
-/// What a request to search asks for (Solr Reference Guide, "Common Query Parameters").
-fn asked_select(alloc: Global, request: &Incoming) -> Result<Asked, AllocError>
-    ensures asked { IfOk result (λ answer. asked_of answer ≡ asking.asked_select request.now) }
+/// What the parameters of a search ask for (Solr Reference Guide, "Common Query Parameters").
+fn asked_select(alloc: Global, params: &List<Param>) -> Result<Asked, AllocError>
+    ensures asked { IfOk result (λ answer. asked_of answer ≡ asking.asked_search params.now) }
     ensures limits { IfOk result IsWithinLimits }
 {
-    if request.method != Method::Get || request.encoded {
-        return Ok(Asked::NotBuilt);
-    }
-    match Select::of(alloc, request.params.as_slice()) {
+    match Select::of(alloc, params.as_slice()) {
         Ok(select) => Ok(Asked::Select(select)),
         Err(SelectFault::BadParam(name)) => Ok(Asked::Refused(Refused::BadParam(name))),
         Err(SelectFault::Memory) => Err(AllocError),
     }
 }
 
-/// What a request to the collection itself asks for (Solr Reference Guide, "Collections API").
-fn asked_of_collection(alloc: Global, request: &Incoming) -> Result<Asked, AllocError>
-    ensures asked { IfOk result (λ answer. asked_of answer ≡ asking.asked_of_collection request.now) }
+/// What the parameters of a command to the collection ask for (Solr Reference Guide, "Collections API").
+fn asked_of_collection(alloc: Global, params: &List<Param>) -> Result<Asked, AllocError>
+    ensures asked { IfOk result (λ answer. asked_of answer ≡ asking.asked_command (asked_admin params.now)) }
     ensures limits { IfOk result IsWithinLimits }
 {
-    if request.method != Method::Get || request.encoded {
-        return Ok(Asked::NotBuilt);
-    }
-    match read_admin(alloc, &request.params) {
+    match read_admin(alloc, params) {
         Ok(command) => Ok(Asked::Command(command)),
         Err(AdminFault::BadParam(name)) => Ok(Asked::Refused(Refused::BadCommand(name))),
         Err(AdminFault::Memory) => Err(AllocError),

@@ -67,9 +67,7 @@ pub fn serve<D: Desk, C: Clock, H: Hosts, P: Pace, S: Source, W: Sink>(
     loop {
         match reader.next_message(alloc, source) {
             Ok(request) => {
-                if let Some(end) = exchange(
-                    alloc, desk, clock, hosts, pace, sink, trail, &request,
-                ) {
+                if let Some(end) = exchange(alloc, desk, clock, hosts, pace, sink, trail, request) {
                     return end;
                 }
             }
@@ -87,12 +85,12 @@ fn exchange<D: Desk, C: Clock, H: Hosts, P: Pace, W: Sink>(
     pace: &mut P,
     sink: &mut W,
     trail: &mut Trail,
-    request: &Incoming,
+    request: Incoming,
 ) -> Option<End>
     requires rest { IsDeskAtRest (D.layout desk.old) (D.out desk.old) (D.seen desk.old) }
     requires buckets { IsBucketCount (D.layout desk.old).buckets }
     requires open { is_full trail.old ≡ false }
-    ensures exchange { Exchanges C.gives (D.layout desk.old) request.now
+    ensures exchange { Exchanges C.gives (D.layout desk.old) request
         (record {
           moment = moment_of (D.seen desk.old) trail.old.stops clock.old;
           outside = outside_of (H.started hosts.old) (H.start_faults hosts.old) (H.stop_faults hosts.old) (P.stops pace.old);
@@ -114,9 +112,10 @@ fn exchange<D: Desk, C: Clock, H: Hosts, P: Pace, W: Sink>(
     ensures rest { IsDeskAtRest (D.layout desk.new) (D.out desk.new) (D.seen desk.new) }
     ensures layout { D.layout desk.new ≡ D.layout desk.old }
 {
+    let close = request.close;
     let answer = answer(alloc, desk, clock, hosts, pace, trail, request);
     trail.count_request();
-    let end = end_after(&answer, request.close, trail.is_full());
+    let end = end_after(&answer, close, trail.is_full());
     match &answer {
         Ok(reply) => respond(sink, reply.status, reply.body.as_str(), end),
         Err(_) => respond(sink, 503, memory_body(), end),

@@ -27,6 +27,7 @@
 // What a request asks for, and the replies.
 mod asked;
 mod fixed;
+mod path;
 mod query;
 mod reply;
 mod select;

@@ -4,7 +4,6 @@ ghost use Rattle.sc_reply.specs.Bodies.{error_text};
 ghost use Rattle.sc_reply.specs.Refusals.{status_of, message_of};
 ghost use Rattle.sc_reply.specs.Causes.{refusal_of};
 
-use crate::fixed;
 use sc_record::{Ack, List, Text};
 use sc_reply::{Cause, error_body};
 use std::alloc::{AllocError, Global};
@@ -37,7 +36,7 @@ pub(crate) struct Reply {
 }
 
 impl Reply {
-    ghost use Rattle.sc_session.specs.Answers.{not_built_reply, refusal_reply};
+    ghost use Rattle.sc_session.specs.Answers.{refusal_reply};
     ghost use Rattle.sc_session.specs.Answering.{reply_of};
 
     /// A reply with a fixed body.
@@ -48,13 +47,6 @@ impl Reply {
             status,
             body: Body::Fixed(body),
         }
-    }
-
-    /// The reply where this program does not do that yet.
-    pub(crate) fn not_built() -> Reply
-        ensures { reply_of result ≡ not_built_reply }
-    {
-        Reply::fixed(501, fixed::not_built_body())
     }
 
     /// A reply with a body that was made.

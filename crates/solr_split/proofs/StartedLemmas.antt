@@ -27,7 +27,7 @@ use Rattle.sc_admin.specs.Deletes as deletes
 use Rattle.sc_admin.specs.declared.deleting.DeleteEnd.{DeleteEnd}
 use Rattle.sc_admin.specs.declared.deleting.DeleteEnd.TheVariants as ends
 use Rattle.sc_session.specs.Answers.{Answer, replied, ran_out, Trace, IsAnswer}
-use Rattle.sc_session.specs.Requests.{Asked, not_built, refused as refused_request, update, get, get_ids, select, command, asked}
+use Rattle.sc_session.specs.Requests.{Asked, refused as refused_request, update, get, get_ids, select, command, asked}
 use Rattle.sc_session.specs.Commands.{CommandEnd, no_command, split_ended, delete_ended, Situation, Leaves}
 use Rattle.sc_session.specs.Connection.{Exchange, AreExchanges, LeaveRest, situation_after, exchanges_of}
 use Rattle.sc_session.specs.States.{ConnectionState, world_of, situation_in}
@@ -60,7 +60,6 @@ by_delete layout seen shard first (deletes.dropped slice) end answered = answere
 -- what was answered says so
 says_by_reply : (layout : Layout) (seen : Seen) (ask : Asked) (trace : Trace) (answer : Answer) → IsAnswer layout seen ask trace answer
     → SaysWhatItDropped layout seen trace.command
-says_by_reply layout seen not_built trace (replied reply) is = by_no_command layout seen trace.command (ap (λ (t : Trace). t.command) is.0)
 says_by_reply layout seen (refused_request refusal) trace (replied reply) is = by_no_command layout seen trace.command (ap (λ (t : Trace). t.command) is.0)
 says_by_reply layout seen (update batch) trace (replied reply) (one, how, is_batch, ends_so, answered) =
     by_no_command layout seen trace.command ends_so.command_is
@@ -79,7 +78,6 @@ says_by_reply layout seen (command (commands.split shard pieces)) trace (replied
 says_by_reply layout seen (command (commands.delete shard)) trace (replied reply) (end, delete, rest) =
     subst (λ (t : Trace). SaysWhatItDropped layout seen t.command) (sym delete.trace_is)
     (by_delete layout seen shard delete.first delete.course end delete.answered)
-says_by_reply layout seen not_built trace ran_out is = by_no_command layout seen trace.command (ap (λ (t : Trace). t.command) is)
 says_by_reply layout seen (refused_request refusal) trace ran_out is = by_no_command layout seen trace.command (ap (λ (t : Trace). t.command) is)
 says_by_reply layout seen (update batch) trace ran_out (inl is) = by_no_command layout seen trace.command (ap (λ (t : Trace). t.command) is)
 says_by_reply layout seen (update batch) trace ran_out (inr (one, how, is_batch, ends_so)) =

@@ -1,5 +1,5 @@
 -- One request is answered, and its reply written.
-use Rattle.std.proofs.Common.{◌≡◌, ◌+◌, List, ℕ, Result, None, refl, sym, ap, ◌∙◌, subst}
+use Rattle.std.proofs.Common.{◌≡◌, ◌+◌, List, ℕ, Result, None, sym, ap, ◌∙◌, subst}
 use Rattle.std.specs.declared.alloc.AllocError.{AllocError}
 use Rattle.sc_cores.specs.Cores.{outside_of}
 use Rattle.sc_collection.specs.Kept.{Kept, is_full}
@@ -17,7 +17,7 @@ pub returns-in-Ok-clause-exchange : goal.returns-in-Ok-clause-exchange
 returns-in-Ok-clause-exchange g c =
     let gives = g.C.Clock.gives in
     let layout = g.D.Desk.layout c.args.desk.now in
-    let request = c.args.request.now in
+    let request = c.args.request in
     let old = beside (g.D.Desk.seen c.args.desk.now) c.args.clock.now (outside_of (g.H.Hosts.started c.args.hosts.now) (g.H.Hosts.start_faults c.args.hosts.now) (g.H.Hosts.stop_faults c.args.hosts.now) (g.P.Pace.stops c.args.pace.now)) c.args.trail.now None (g.W.Sink.written c.args.sink.now) 0 (g.W.Sink.faults c.args.sink.now) in
     let kept : Kept = record { stops = c.answer-answer.new.trail.stops; requests = c.answer-answer.new.trail.requests + 1 } in
     let new = beside (g.D.Desk.seen c.answer-answer.new.desk) c.answer-answer.new.clock (outside_of (g.H.Hosts.started c.answer-answer.new.hosts) (g.H.Hosts.start_faults c.answer-answer.new.hosts) (g.H.Hosts.stop_faults c.answer-answer.new.hosts) (g.P.Pace.stops c.answer-answer.new.pace)) kept None (g.W.Sink.written c.respond.new.sink) 0 (g.W.Sink.faults c.respond.new.sink) in
@@ -36,7 +36,7 @@ pub returns-clause-exchange : goal.returns-clause-exchange
 returns-clause-exchange g c =
     let gives = g.C.Clock.gives in
     let layout = g.D.Desk.layout c.args.desk.now in
-    let request = c.args.request.now in
+    let request = c.args.request in
     let old = beside (g.D.Desk.seen c.args.desk.now) c.args.clock.now (outside_of (g.H.Hosts.started c.args.hosts.now) (g.H.Hosts.start_faults c.args.hosts.now) (g.H.Hosts.stop_faults c.args.hosts.now) (g.P.Pace.stops c.args.pace.now)) c.args.trail.now None (g.W.Sink.written c.args.sink.now) 0 (g.W.Sink.faults c.args.sink.now) in
     let kept : Kept = record { stops = c.answer-answer.new.trail.stops; requests = c.answer-answer.new.trail.requests + 1 } in
     let new = beside (g.D.Desk.seen c.answer-answer.new.desk) c.answer-answer.new.clock (outside_of (g.H.Hosts.started c.answer-answer.new.hosts) (g.H.Hosts.start_faults c.answer-answer.new.hosts) (g.H.Hosts.stop_faults c.answer-answer.new.hosts) (g.P.Pace.stops c.answer-answer.new.pace)) kept None (g.W.Sink.written c.respond-in-Err.new.sink) 0 (g.W.Sink.faults c.respond-in-Err.new.sink) in

@@ -125,7 +125,6 @@ fn reason_of(status: u16) -> &'static str
         413 => "Content Too Large",
         415 => "Unsupported Media Type",
         500 => "Internal Server Error",
-        501 => "Not Implemented",
         503 => "Service Unavailable",
         507 => "Insufficient Storage",
         _ => unreachable!(),

@@ -16,7 +16,7 @@ abbrev pub reasons : List (ℕ × List ℕ)
 reasons =
     (200, codes "OK") ∷ (400, codes "Bad Request") ∷ (404, codes "Not Found") ∷ (405, codes "Method Not Allowed")
     ∷ (409, codes "Conflict") ∷ (411, codes "Length Required") ∷ (413, codes "Content Too Large")
-    ∷ (415, codes "Unsupported Media Type") ∷ (500, codes "Internal Server Error") ∷ (501, codes "Not Implemented")
+    ∷ (415, codes "Unsupported Media Type") ∷ (500, codes "Internal Server Error")
     ∷ (503, codes "Service Unavailable") ∷ (507, codes "Insufficient Storage") ∷ []
 
 -- the reason of a status

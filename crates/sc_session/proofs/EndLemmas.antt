@@ -4,7 +4,7 @@ use Rattle.std.specs.Prelude.{◌≢◌, ◌<◌, map, IfSome, IsSome, is_some}
 use Rattle.std.proofs.lemmas.List.{append-nil}
 use Rattle.sc_io.specs.Pieces.{AddsPrefix}
 use Rattle.sc_model.specs.declared.message.Incoming.{Incoming}
-use Rattle.sc_model.specs.Messages.{ReadsMessage, ReadsMessages, Ending, done, cut, bad_head, too_large, not_built}
+use Rattle.sc_model.specs.Messages.{ReadsMessage, ReadsMessages, Ending, done, cut, bad_head, too_large}
 use Rattle.sc_model.specs.Replies.{text_of}
 use Rattle.sc_cores.specs.Cores.{Outside}
 use Rattle.sc_seen.specs.Seen.{Layout, Extends, AreLegal}
@@ -32,7 +32,6 @@ ending_end before done h = absurd (cc)
 ending_end before cut h = absurd (cc)
 ending_end before bad_head h = absurd (cc)
 ending_end before too_large h = absurd (cc)
-ending_end before not_built h = absurd (cc)
 
 -- no last exchange ends a connection by a fault of the sink
 no_fault : (before : List Exchange) (last : Last) → end_of before last ≢ Some ends.WriteFault
@@ -80,7 +79,6 @@ plain_end before (ended done) p = refl
 plain_end before (ended cut) p = refl
 plain_end before (ended bad_head) p = refl
 plain_end before (ended too_large) p = refl
-plain_end before (ended not_built) p = refl
 plain_end before (answered x) p = absurd p
 plain_end before out_of_memory p = refl
 plain_end before read_failed p = refl
@@ -90,7 +88,6 @@ plain_text before (ended done) p = refl
 plain_text before (ended cut) p = refl
 plain_text before (ended bad_head) p = refl
 plain_text before (ended too_large) p = refl
-plain_text before (ended not_built) p = refl
 plain_text before (answered x) p = absurd p
 plain_text before out_of_memory p = refl
 plain_text before read_failed p = refl

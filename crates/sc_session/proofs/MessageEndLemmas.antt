@@ -26,7 +26,6 @@ last_without_request-plain reads.Done = tt
 last_without_request-plain reads.Cut = tt
 last_without_request-plain reads.BadHead = tt
 last_without_request-plain reads.TooLarge = tt
-last_without_request-plain reads.NotBuilt = tt
 last_without_request-plain reads.ReadFault = tt
 last_without_request-plain reads.Memory = tt
 
@@ -39,6 +38,5 @@ ends_as_reported reads.Done held unread then_unread ends unfinished = nested _ u
 ends_as_reported reads.Cut held unread then_unread ends unfinished = nested _ unread then_unread ends
 ends_as_reported reads.BadHead held unread then_unread ends unfinished = nested _ unread then_unread ends
 ends_as_reported reads.TooLarge held unread then_unread ends unfinished = nested _ unread then_unread ends
-ends_as_reported reads.NotBuilt held unread then_unread ends unfinished = nested _ unread then_unread ends
 ends_as_reported reads.ReadFault held unread then_unread ends unfinished = unfinished refl
 ends_as_reported reads.Memory held unread then_unread ends unfinished = nothing_reported unread then_unread

@@ -1,5 +1,5 @@
 -- What a request is answered, by the journals that were seen.
-use Rattle.std.specs.Prelude.{◌≡◌, ◌≤◌, ◌⊎◌, ℕ, Bool, false, List, [], ◌∷◌, ◌++◌, length, codes, take, Option, Some, None}
+use Rattle.std.specs.Prelude.{◌≡◌, ◌≤◌, ◌⊎◌, ℕ, Bool, false, List, [], ◌∷◌, ◌++◌, length, take, Option, Some, None}
 use Rattle.sc_record.specs.declared.write.Write.{Write}
 use Rattle.sc_record.specs.declared.order.Order.{Order}
 use Rattle.sc_commands.specs.declared.batch.Batch.{Batch}
@@ -43,10 +43,6 @@ refusal_after versions answers refusal = record {
 -- a refusal by the request alone
 abbrev pub refusal_reply : refusals.Refusal → Reply
 refusal_reply refusal = refusal_after false [] refusal
-
--- the reply where this program does not do that yet
-abbrev pub not_built_reply : Reply
-not_built_reply = record { status = 501; body = error_text 501 (codes "not built yet") [] [] false }
 
 -- the reply where memory ran out
 abbrev pub memory_reply : Reply

@@ -5,13 +5,13 @@ use mathlib.Core.List.{IsPrefix}
 use Rattle.sc_session.specs.Requests.{asked}
 use Rattle.sc_reply.specs.Refusals as refusals
 use Rattle.sc_model.specs.Replies.{text_of}
-use Rattle.sc_model.specs.Messages.{ReadsMessage, HasNoMessage, Ending, done, cut, bad_head, too_large, not_built, EndsSo, ReadsMessages}
+use Rattle.sc_model.specs.Messages.{ReadsMessage, HasNoMessage, Ending, done, cut, bad_head, too_large, EndsSo, ReadsMessages}
 use Rattle.sc_cores.specs.Cores.{Outside}
 use Rattle.sc_seen.specs.Seen.{Layout, Seen, Extends, EndAtLast, FromNowOn}
 use Rattle.sc_seen.specs.Batches.{WritesOnce}
 use Rattle.sc_seen.specs.declared.stop.Stop.{Stop}
 use Rattle.sc_collection.specs.Kept.{are_enough}
-use Rattle.sc_session.specs.Answers.{Answer, replied, ran_out, Trace, IsAnswer, reply_of, refusal_reply, not_built_reply, memory_reply}
+use Rattle.sc_session.specs.Answers.{Answer, replied, ran_out, Trace, IsAnswer, reply_of, refusal_reply, memory_reply}
 use Rattle.sc_model.specs.declared.message.Incoming.{Incoming}
 use Rattle.sc_session.specs.Commands.{Situation, situation, Leaves}
 use Rattle.sc_session.specs.declared.end.End.{End}
@@ -103,7 +103,6 @@ last_text before (ended done) = []
 last_text before (ended cut) = []
 last_text before (ended bad_head) = text_of (refusal_reply refusals.bad_head) true
 last_text before (ended too_large) = text_of (refusal_reply refusals.too_large) true
-last_text before (ended not_built) = text_of not_built_reply true
 last_text before (answered x) = text_of (reply_of x.answer) (is_some (end_at before x))
 last_text before out_of_memory = text_of memory_reply true
 last_text before read_failed = []
@@ -114,7 +113,6 @@ end_of before (ended done) = Some ends.Done
 end_of before (ended cut) = Some ends.Cut
 end_of before (ended bad_head) = Some ends.BadHead
 end_of before (ended too_large) = Some ends.TooLarge
-end_of before (ended not_built) = Some ends.BadHead
 end_of before (answered x) = end_at before x
 end_of before out_of_memory = Some ends.Memory
 end_of before read_failed = Some ends.ReadFault

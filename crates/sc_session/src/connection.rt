@@ -163,7 +163,6 @@ fn end_with<W: Sink>(sink: &mut W, end: MessageEnd) -> End
         MessageEnd::ReadFault => End::ReadFault,
         MessageEnd::BadHead => last_reply(sink, 400, fixed::bad_head_body(), End::BadHead),
         MessageEnd::TooLarge => last_reply(sink, 413, fixed::too_large_body(), End::TooLarge),
-        MessageEnd::NotBuilt => last_reply(sink, 501, fixed::not_built_body(), End::BadHead),
         MessageEnd::Memory => last_reply(sink, 503, memory_body(), End::Memory),
     }
 }

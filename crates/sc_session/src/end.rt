@@ -9,8 +9,7 @@ pub enum End {
     Limit,
     /// The input ended inside a message, for which nothing was written.
     Cut,
-    /// A head, or how it states a body's length, is malformed; a 400 was written. Or a body has a transfer coding; a
-    /// 501 was written.
+    /// A head, how it states a body's length, or a body in chunks is malformed; a 400 was written.
     BadHead,
     /// A head or a body is too large; a 413 was written.
     TooLarge,

@@ -3,9 +3,9 @@
 
 ghost use Rattle.std.specs.Prelude.{◌≡◌};
 ghost use Rattle.sc_reply.specs.Refusals as refusals;
-ghost use Rattle.sc_session.specs.Answers.{refusal_reply, not_built_reply};
+ghost use Rattle.sc_session.specs.Answers.{refusal_reply};
 
-/// The body of a refusal with 400: the head, or how it states a body's length, can't be read.
+/// The body of a refusal with 400: the head, how it states a body's length, or a body in chunks can't be read.
 pub(crate) fn bad_head_body() -> &'static str
     ensures { result.now ≡ (refusal_reply refusals.bad_head).body }
 {
@@ -17,11 +17,4 @@ pub(crate) fn too_large_body() -> &'static str
     ensures { result.now ≡ (refusal_reply refusals.too_large).body }
 {
     r#"{"error":{"code":413,"msg":"request is too large"},"responseHeader":{"QTime":0,"status":413}}"#
-}
-
-/// The body of a refusal with 501: this program does not do that yet.
-pub(crate) fn not_built_body() -> &'static str
-    ensures { result.now ≡ not_built_reply.body }
-{
-    r#"{"error":{"code":501,"msg":"not built yet"},"responseHeader":{"QTime":0,"status":501}}"#
 }

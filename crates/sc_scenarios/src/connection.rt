@@ -3,11 +3,11 @@ ghost use Rattle.sc_collection.specs.Shapes.{is_bucket_count};
 
 use crate::wire::Wire;
 use crate::words::{log_limit, number};
-use sc_collection::{Alone, Desk, Shape, Trail};
+use sc_collection::{Alone, Desk, Shape, Stop, Trail};
 use sc_cores::{cores_of_map, start_cores};
 use sc_io::{Fixed, MemHosts, MemPace};
 use sc_record::List;
-use sc_session::serve;
+use sc_session::{End, serve};
 use std::alloc::{AllocError, Global};
 
 /// A collection, with the hosts that have its cores, the pace that its splits ask, and the wire of its connections.
@@ -119,15 +119,30 @@ pub fn exchange(
         &mut sink,
         &mut trail,
     );
-    let written = std::str::from_utf8(sink.bytes.as_slice()).unwrap_or("invalid UTF-8");
+    shown_exchange(alloc, end, sink.bytes.as_slice(), &trail)
+}
+
+/// How a connection ended, what it wrote, and its stops.
+fn shown_exchange(
+    alloc: Global,
+    end: End,
+    written: &[u8],
+    trail: &Trail,
+) -> Result<String, AllocError> {
+    let written = std::str::from_utf8(written).unwrap_or("invalid UTF-8");
     let written = written.replace(alloc, "\r\n", "|")?;
     let mut text = format!(in alloc; "{end:?} {}", written.as_str())?;
     for at in 0..trail.len() {
         if let Some(stop) = trail.get(at) {
-            let sign = if stop.made { "+" } else { "" };
-            let shown = format!(in alloc; " {}:{}{sign}", stop.lock, stop.place)?;
-            text.push_str(shown.as_str())?;
+            push_stop(alloc, &mut text, stop)?;
         }
     }
     Ok(text)
+}
+
+/// A stop: its lock and its place, with a sign where it made an entry.
+fn push_stop(alloc: Global, text: &mut String, stop: Stop) -> Result<(), AllocError> {
+    let sign = if stop.made { "+" } else { "" };
+    let shown = format!(in alloc; " {}:{}{sign}", stop.lock, stop.place)?;
+    text.push_str(shown.as_str())
 }

@@ -3,7 +3,7 @@
 ghost use Rattle.sc_bucket.specs.Sound.{IsSound};
 
 use sc_bucket::{Bucket, EntryRef, Standing};
-use sc_record::{Cell, Entry};
+use sc_record::{Cell, CoreId, Entry, SliceId};
 use std::alloc::{AllocError, Global};
 
 /// The phase, how many entries are owed and how many the journal may have; then the entries, the slices, the cores, what is in flight, the
@@ -59,16 +59,37 @@ fn push_entries(alloc: Global, text: &mut String, bucket: &Bucket) -> Result<(),
 
 /// An entry of a split with its slice, or of a core with its name.
 fn push_other(alloc: Global, text: &mut String, entry: &Entry) -> Result<(), AllocError> {
-    let shown = match entry {
-        Entry::Begun { parent, .. } => format!(in alloc; " begun:{}", parent.0)?,
-        Entry::Switched { parent } => format!(in alloc; " switched:{}", parent.0)?,
-        Entry::Failed { parent } => format!(in alloc; " failed:{}", parent.0)?,
-        Entry::Dropped { slice } => format!(in alloc; " dropped:{}", slice.0)?,
-        Entry::Down { core } => format!(in alloc; " down:{}/{}", core.slice.0, core.replica)?,
-        Entry::Up { core } => format!(in alloc; " up:{}/{}", core.slice.0, core.replica)?,
-        Entry::Led { core } => format!(in alloc; " led:{}/{}", core.slice.0, core.replica)?,
-        _ => return Ok(()),
-    };
+    match entry {
+        Entry::Begun { parent, .. } => push_of_slice(alloc, text, "begun", *parent),
+        Entry::Switched { parent } => push_of_slice(alloc, text, "switched", *parent),
+        Entry::Failed { parent } => push_of_slice(alloc, text, "failed", *parent),
+        Entry::Dropped { slice } => push_of_slice(alloc, text, "dropped", *slice),
+        Entry::Down { core } => push_of_core(alloc, text, "down", *core),
+        Entry::Up { core } => push_of_core(alloc, text, "up", *core),
+        Entry::Led { core } => push_of_core(alloc, text, "led", *core),
+        _ => Ok(()),
+    }
+}
+
+/// What came of a slice.
+fn push_of_slice(
+    alloc: Global,
+    text: &mut String,
+    event: &str,
+    slice: SliceId,
+) -> Result<(), AllocError> {
+    let shown = format!(in alloc; " {event}:{}", slice.0)?;
+    text.push_str(shown.as_str())
+}
+
+/// What came of a core.
+fn push_of_core(
+    alloc: Global,
+    text: &mut String,
+    event: &str,
+    core: CoreId,
+) -> Result<(), AllocError> {
+    let shown = format!(in alloc; " {event}:{}/{}", core.slice.0, core.replica)?;
     text.push_str(shown.as_str())
 }
 

@@ -1,8 +1,8 @@
-//! Tests of the lower crates that are behaviour and no table: replays, threads, reads and writes that fail in
-//! mid-stream, searches that count their steps, and trees so deep that a recursion would have no stack for them.
-//! What a table shows, `sc_examples` answers from its standard input.
+//! Tests of what is behaviour and no table: replays, threads, requests that come amid a split, reads and writes that fail in mid-stream,
+//! searches that count their steps, and trees so deep that a recursion would have no stack for them. What a table shows, `sc_examples` and
+//! `sc_scenarios` answer from their standard input.
 //!
-//! Each module tests one crate by its public functions, but for `sharing`. Nothing depends on this crate.
+//! Each module tests one crate by its public functions, but for `sharing` and `splits`. Nothing depends on this crate.
 #![tactic(auto)]
 
 #[cfg(test)]
@@ -25,5 +25,7 @@ mod requests;
 mod segments;
 #[cfg(test)]
 mod sharing;
+#[cfg(test)]
+mod splits;
 #[cfg(test)]
 mod streams;

@@ -1,0 +1,274 @@
+//! `sc_session` over `sc_shared`: requests that come between the steps of a split, by a desk of their own.
+
+ghost use Rattle.std.specs.Prelude.{◌≡◌, Some};
+ghost use Rattle.sc_collection.specs.Desks.{nothing_out};
+ghost use Rattle.sc_shared.specs.Sharing.{ArePasses};
+
+use crate::collections::{new_collection, passes_of};
+use sc_collection::{Desk, Shape, Trail};
+use sc_io::{Faults, Fixed, MemSink, MemSource, Never, NoPace, Pace, SplitStep};
+use sc_record::List;
+use sc_session::serve;
+use sc_shared::{Collection, Home, Passes, Shared};
+use std::alloc::{AllocError, Global};
+use std::collections::VecDeque;
+use std::marker::Brand;
+use std::sync::Wait;
+use std::test::Fail;
+
+/// A request that comes once a split stands at this step.
+#[derive(Drop)]
+struct Visit {
+    step: SplitStep,
+    request: &'static str,
+}
+
+/// A pace that sends requests by a desk of its own: one at a time, each once the split stands at its step. Where memory runs out it says
+/// stop.
+struct Visitor<D: Desk> {
+    alloc: Global,
+    desk: D,
+    /// Those that are still to come.
+    visits: VecDeque<Visit>,
+    /// The bodies of the answers, each in a line.
+    told: String,
+    stops: Faults,
+    ghost rest: { D.out desk ≡ nothing_out },
+}
+
+impl<D: Desk> Visitor<D> {
+    /// Sends the next request, where it is its turn.
+    fn visit(&mut self, step: SplitStep) -> Result<(), AllocError>
+        ensures { self.new.stops ≡ self.old.stops }
+    {
+        match self.visits.front() {
+            Some(visit) if visit.step == step => {}
+            _ => return Ok(()),
+        }
+        let Some(visit) = self.visits.pop_front() else {
+            return Ok(());
+        };
+        let body = exchange(self.alloc, &mut self.desk, &mut NoPace, visit.request)?;
+        self.told.push_str(body.as_str())?;
+        self.told.push_str("\n")
+    }
+}
+
+impl<D: Desk> Pace for Visitor<D> {
+    ghost stops = { λ s. s.stops };
+
+    fn between(&mut self, step: SplitStep) -> bool {
+        if self.visit(step).is_err() {
+            self.stops.rise();
+            return false;
+        }
+        true
+    }
+}
+
+/// The body of the answer to a connection that sends one request, where `|` stands for each end of a line.
+fn exchange<D: Desk, P: Pace>(
+    alloc: Global,
+    desk: &mut D,
+    pace: &mut P,
+    request: &str,
+) -> Result<String, AllocError>
+    requires { D.out desk.old ≡ nothing_out }
+    ensures { D.out desk.new ≡ nothing_out }
+{
+    let bytes = request.replace(alloc, '|', "\r\n")?.into_bytes();
+    let mut source = MemSource::new(List::from_vec(bytes), 4096, List::new(alloc));
+    let mut sink = MemSink::new(alloc, List::new(alloc));
+    let mut trail = Trail::new(alloc)?;
+    let _ = serve(
+        alloc,
+        desk,
+        &mut Fixed { moment: 1000 },
+        &mut Never,
+        pace,
+        &mut source,
+        &mut sink,
+        &mut trail,
+    );
+    let written = std::str::from_utf8(sink.bytes.as_slice()).unwrap_or("");
+    match written.split_once("\r\n\r\n") {
+        Some((_, body)) => String::from_str(alloc, body),
+        None => String::from_str(alloc, "no answer"),
+    }
+}
+
+/// The bodies of the answers to these requests in turn, each in a line.
+fn converse<D: Desk, P: Pace>(
+    alloc: Global,
+    desk: &mut D,
+    pace: &mut P,
+    requests: &[&str],
+) -> Result<String, AllocError>
+    requires { D.out desk.old ≡ nothing_out }
+    ensures { D.out desk.new ≡ nothing_out }
+{
+    let mut told = String::new(alloc);
+    for request in requests {
+        let body = exchange(alloc, desk, pace, request)?;
+        told.push_str(body.as_str())?;
+        told.push_str("\n")?;
+    }
+    Ok(told)
+}
+
+/// What is answered to these requests over one desk, and then what to those that come amid the split, over another.
+fn told_by_two<R: Wait, N: Home>(
+    rt: &R,
+    alloc: Global,
+    collection: &Collection,
+    passes: Passes,
+    others: Passes,
+    visits: VecDeque<Visit>,
+    requests: &[&str],
+) -> Result<String, AllocError>
+    requires home { N.locks ≡ Some collection.now }
+    requires passes { ArePasses collection.now passes }
+    requires others { ArePasses collection.now others }
+{
+    let mut desk = Shared::<R, N>::new(rt, collection, passes);
+    let mut visitor = Visitor {
+        alloc,
+        desk: Shared::<R, N>::new(rt, collection, others),
+        visits,
+        told: String::new(alloc),
+        stops: Faults::none(),
+    };
+    let told = converse(alloc, &mut desk, &mut visitor, requests);
+    let _ = passes_of(collection, desk);
+    let Visitor {
+        alloc: _,
+        desk: other,
+        visits: _,
+        told: amid,
+        stops: _,
+    } = visitor;
+    let _ = passes_of(collection, other);
+    let mut told = told?;
+    told.push_str(amid.as_str())?;
+    Ok(told)
+}
+
+/// The same over a new collection of one bucket.
+fn told<R: Wait>(
+    rt: &R,
+    alloc: Global,
+    visits: Vec<Visit>,
+    requests: &[&str],
+) -> Result<String, AllocError> {
+    let shape = Shape {
+        nodes: 1,
+        shards: 1,
+        replicas: 1,
+        buckets: 1,
+        log_limit: 1_024,
+    };
+    let (collection, passes, others, _) = new_collection(alloc, &shape)?;
+    let visits = VecDeque::from_vec(visits);
+    told_by_two::<R, Brand>(rt, alloc, &collection, passes, others, visits, requests)
+}
+
+const SPLIT: &str =
+    "GET /solr/admin/collections?action=SPLITSHARD&collection=docs&shard=shard1 HTTP/1.1|Host: a||";
+
+const IS_SPLIT: &str =
+    r#"{"committed":true,"responseHeader":{"QTime":0,"status":0},"subs":["shard1_0","shard1_1"]}"#;
+
+// A deletion after an update, both amid a split, is what stands after it.
+#[test]
+fn an_update_and_a_deletion_come_amid_a_split(rt: HostRuntime) -> Result<(), Fail> {
+    let alloc = rt.alloc();
+    let visits = Vec::from_array(
+        alloc,
+        [
+            Visit {
+                step: SplitStep::Fed { bucket: 0 },
+                request: r#"POST /solr/docs/update?versions=true HTTP/1.1|Host: a|Content-Length: 24||[{"id":"abc","t_s":"y"}]"#,
+            },
+            Visit {
+                step: SplitStep::Replayed { bucket: 0 },
+                request: r#"POST /solr/docs/update?versions=true HTTP/1.1|Host: a|Content-Length: 16||{"delete":"abc"}"#,
+            },
+        ],
+    )?;
+    let told = told(
+        &rt,
+        alloc,
+        visits,
+        &[
+            r#"POST /solr/docs/update?versions=true HTTP/1.1|Host: a|Content-Length: 24||[{"id":"abc","t_s":"x"}]"#,
+            SPLIT,
+            "GET /solr/docs/get?id=abc HTTP/1.1|Host: a||",
+            r#"POST /solr/docs/update HTTP/1.1|Host: a|Content-Length: 28||[{"id":"abc","_version_":7}]"#,
+        ],
+    )?;
+    assert_eq!(rt;
+        told.as_str(),
+        r#"{"adds":["abc",1048576000],"responseHeader":{"QTime":0,"status":0}}
+{"committed":true,"responseHeader":{"QTime":0,"status":0},"subs":["shard1_0","shard1_1"]}
+{"doc":null}
+{"error":{"code":409,"msg":"version conflict for abc expected=7 actual=-1048576002"},"responseHeader":{"QTime":0,"status":409}}
+{"adds":["abc",1048576001],"responseHeader":{"QTime":0,"status":0}}
+{"deletes":["abc",-1048576002],"responseHeader":{"QTime":0,"status":0}}
+"#
+    );
+    Ok(())
+}
+
+const SEARCH: &str = "GET /solr/docs/select?q=*:*&rows=0 HTTP/1.1|Host: a||";
+
+const THREE: &str =
+    r#"{"response":{"docs":[],"numFound":3,"numFoundExact":true,"start":0},"responseHeader":{"QTime":0,"status":0}}"#;
+
+const FOUR: &str =
+    r#"{"response":{"docs":[],"numFound":4,"numFoundExact":true,"start":0},"responseHeader":{"QTime":0,"status":0}}"#;
+
+const ADD_THREE: &str =
+    r#"POST /solr/docs/update?commit=true HTTP/1.1|Host: a|Content-Length: 43||[{"id":"test"},{"id":"abc"},{"id":"hello"}]"#;
+
+const ADD_ONE: &str =
+    r#"POST /solr/docs/update?commit=true HTTP/1.1|Host: a|Content-Length: 15||[{"id":"more"}]"#;
+
+const IS_DONE: &str = r#"{"responseHeader":{"QTime":0,"status":0}}"#;
+
+const IS_RUNNING: &str =
+    r#"{"error":{"code":409,"msg":"split of shard1 is running"},"responseHeader":{"QTime":0,"status":409}}"#;
+
+/// A request for each step of a split of one bucket in two: another split, searches, and an update after the first piece was fed.
+fn visits_of_each_step(alloc: Global) -> Result<Vec<Visit>, AllocError> {
+    let mut visits = Vec::new(alloc);
+    for (step, request) in [
+        (SplitStep::Begun, SPLIT),
+        (SplitStep::Started { core: 0 }, SEARCH),
+        (SplitStep::Started { core: 1 }, SEARCH),
+        (SplitStep::Opened { bucket: 0 }, SEARCH),
+        (SplitStep::Fed { bucket: 0 }, ADD_ONE),
+        (SplitStep::Fed { bucket: 0 }, SEARCH),
+        (SplitStep::Replayed { bucket: 0 }, SEARCH),
+        (SplitStep::Replayed { bucket: 0 }, SEARCH),
+        (SplitStep::Recovering, SEARCH),
+        (SplitStep::BeforeSwitch, SEARCH),
+    ] {
+        visits.push(Visit { step, request })?;
+    }
+    Ok(visits)
+}
+
+// A shard is not split amid a split. A search at each further step of it, and one after it, finds each document once: what was committed
+// before it, and what was added and committed amid it.
+#[test]
+fn a_document_that_comes_amid_a_split_is_found_once(rt: HostRuntime) -> Result<(), Fail> {
+    let alloc = rt.alloc();
+    let visits = visits_of_each_step(alloc)?;
+    let told = told(&rt, alloc, visits, &[ADD_THREE, SPLIT, SEARCH])?;
+    let asked = format!(in alloc; "{IS_DONE}\n{IS_SPLIT}\n{FOUR}\n")?;
+    let before = format!(in alloc; "{IS_RUNNING}\n{THREE}\n{THREE}\n{THREE}\n{IS_DONE}\n")?;
+    let after = format!(in alloc; "{FOUR}\n{FOUR}\n{FOUR}\n{FOUR}\n{FOUR}\n")?;
+    let expected = format!(in alloc; "{asked}{before}{after}")?;
+    assert_eq!(rt; told.as_str(), expected.as_str());
+    Ok(())
+}

@@ -8,6 +8,8 @@
 #[cfg(test)]
 mod boards;
 #[cfg(test)]
+mod chunks;
+#[cfg(test)]
 mod collections;
 #[cfg(test)]
 mod commands;
@@ -25,6 +27,8 @@ mod requests;
 mod segments;
 #[cfg(test)]
 mod sharing;
+#[cfg(test)]
+mod snapshots;
 #[cfg(test)]
 mod splits;
 #[cfg(test)]

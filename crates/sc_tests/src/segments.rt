@@ -1,10 +1,10 @@
-//! `sc_segment`: the rows of each key, in how many steps they are found, and which rows are live.
+//! `sc_segment`: the rows of each key, in how many steps they are found, which rows two lists give, and which rows are live.
 
 ghost use Rattle.std.specs.Ordering.{nat_cmp};
 ghost use Rattle.sc_segment.specs.Fresh.{IsFresh};
 ghost use Rattle.std.proofs.lemmas.Cmp.{on_total, nat_cmp_total};
 
-use sc_segment::{Builder, Key, LiveBits, Segment, Steps};
+use sc_segment::{Builder, Kept, Key, LiveBits, Segment, Steps, join};
 use std::alloc::{AllocError, Global};
 use std::cell::Cell;
 use std::cmp::Ordering;
@@ -116,6 +116,26 @@ fn finds_among_many<L: Ledger>(rt: &impl Abort, alloc: Global, blank: Blank) -> 
 #[test]
 fn compares_at_most_ten_of_a_thousand_keys(rt: HostRuntime) -> Result<(), Fail> {
     finds_among_many::<Brand>(&rt, rt.alloc(), Blank::new(1))
+}
+
+// The rows that are kept of two lists.
+fn joined(alloc: Global, how: Kept) -> Result<Vec<u32>, AllocError> {
+    join(alloc, how, &[1, 2, 5, 7, 9], &[2, 3, 7, 10])
+}
+
+#[test]
+fn joins_two_lists(rt: HostRuntime) -> Result<(), Fail> {
+    let alloc = rt.alloc();
+    assert_eq!(rt; joined(alloc, Kept::Both)?.as_slice(), [2, 7].as_slice());
+    assert_eq!(rt;
+        joined(alloc, Kept::Either)?.as_slice(),
+        [1, 2, 3, 5, 7, 9, 10].as_slice()
+    );
+    assert_eq!(rt;
+        joined(alloc, Kept::LeftAlone)?.as_slice(),
+        [1, 5, 9].as_slice()
+    );
+    Ok(())
 }
 
 #[test]

@@ -1,0 +1,108 @@
+//! `sc_snapshot`: the live rows of each term, by the index of a snapshot.
+
+ghost use Rattle.sc_segment.specs.Fresh.{IsFresh};
+
+use sc_record::{Cell, CoreId, Doc, Id, List, SliceId, Term, Text, Write};
+use sc_replica::Replica;
+use sc_segment::Steps;
+use sc_snapshot::{IndexedSnapshot, Snapshot, TermKey};
+use sc_ulog::Mode;
+use std::alloc::{AllocError, Global};
+use std::marker::Brand;
+use std::process::Abort;
+use std::sync::Arc;
+use std::sync::ledger::{Blank, Ledger};
+use std::test::Fail;
+
+/// A word in a field.
+fn term(alloc: Global, word: &str) -> Result<Term, AllocError> {
+    Ok(Term {
+        field: Text::new(alloc, "title_t")?,
+        key: Text::new(alloc, word)?,
+    })
+}
+
+/// A write of the id: a document that is found by these words, or a deletion.
+fn write(alloc: Global, id: &str, words: Option<&str>) -> Result<Cell, Fail> {
+    let mut terms = List::new(alloc);
+    let mut doc = None;
+    if let Some(words) = words {
+        for word in words.split(' ') {
+            terms.push(term(alloc, word)?)?;
+        }
+        doc = Some(Doc::new(List::new(alloc)));
+    }
+    Ok(Arc::new(
+        alloc,
+        Write {
+            id: Id::new(alloc, id)?,
+            hash: 0,
+            version: 1,
+            doc,
+            terms,
+        },
+    )?)
+}
+
+/// A core to which three writes came: of documents `a` and `c`, and of `b`, which was deleted.
+fn core(alloc: Global) -> Result<Replica, Fail> {
+    let core = CoreId {
+        slice: SliceId(0),
+        replica: 1,
+    };
+    let mut replica = Replica::new(alloc, core, Mode::Active);
+    for (id, words) in [
+        ("c", Some("rust")),
+        ("b", None),
+        ("a", Some("action in rust")),
+    ] {
+        replica.reserve(1)?;
+        replica.feed(write(alloc, id, words)?);
+    }
+    Ok(replica)
+}
+
+/// The index of the core's cells, of which there are three.
+fn indexed(rt: &impl Abort, alloc: Global, core: &Replica) -> Result<IndexedSnapshot, Fail> {
+    let cells = core.cells().share(alloc)?;
+    assert!(rt; cells.len() == 3);
+    let snapshot = Snapshot::of(alloc, 3, &cells)?;
+    Ok(IndexedSnapshot::of(alloc, snapshot)?)
+}
+
+/// The numbers of the live rows that have the word.
+fn assert_rows<L: Ledger>(
+    rt: &impl Abort,
+    alloc: Global,
+    indexed: &IndexedSnapshot,
+    word: &str,
+    rows: &[u32],
+    steps: &mut Steps<L>,
+) -> Result<(), Fail> {
+    let key = TermKey::of(&term(alloc, word)?)?;
+    assert_eq!(rt; indexed.postings(&key, steps), rows);
+    Ok(())
+}
+
+fn finds_live_rows<L: Ledger>(rt: &impl Abort, alloc: Global, blank: Blank) -> Result<(), Fail>
+    requires { IsFresh blank L.name L.parts }
+{
+    let mut steps = Steps::<L>::new(blank);
+    let indexed = indexed(rt, alloc, &core(alloc)?)?;
+    assert_rows(rt, alloc, &indexed, "rust", &[0, 2], &mut steps)?;
+    assert_rows(rt, alloc, &indexed, "action", &[0], &mut steps)?;
+    assert_rows(rt, alloc, &indexed, "lucene", &[], &mut steps)?;
+    assert_live(rt, &indexed);
+    Ok(())
+}
+
+/// The first row and the third are live, and there is no fourth.
+fn assert_live(rt: &impl Abort, indexed: &IndexedSnapshot) {
+    assert_eq!(rt; indexed.rows(), 3);
+    assert!(rt; indexed.is_live(0) && !indexed.is_live(1) && indexed.is_live(2));
+}
+
+#[test]
+fn terms_have_their_live_rows(rt: HostRuntime) -> Result<(), Fail> {
+    finds_live_rows::<Brand>(&rt, rt.alloc(), Blank::new(1))
+}

@@ -33,3 +33,5 @@ mod snapshots;
 mod splits;
 #[cfg(test)]
 mod streams;
+#[cfg(test)]
+mod workers;

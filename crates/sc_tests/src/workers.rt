@@ -1,0 +1,259 @@
+//! `sc_server`: two workers serve a connection each, beside each other, and a status says what failed.
+
+ghost use Rattle.std.specs.Prelude.{◌≡◌, true, None};
+ghost use Rattle.sc_collection.specs.Shapes.{is_in_range};
+
+use sc_arguments::Server;
+use sc_collection::{Shape, Trail};
+use sc_io::{Failed, Fixed, MemSink, MemSource, Never, NoPace, Sink, Source};
+use sc_record::List;
+use sc_server::run_server;
+use sc_session::{Crew, Link, MemListener, MemStation};
+use std::alloc::{AllocError, Global};
+use std::hint::spin_loop;
+use std::sync::atomic::{AtomicBool, Ordering};
+use std::sync::{Arc, Wait};
+use std::test::Fail;
+use std::thread::Threads;
+
+/// How often a source looks for its mark before it fails.
+const LOOKS: u32 = 1_000_000_000;
+
+/// What each request begins with.
+const HEAD: &str = "POST /solr/docs/update?versions=true HTTP/1.1\r\nHost: localhost\r\n";
+
+/// A source whose first read gives the head of a request. Each read after it waits for a mark, if there is one, and fails where the mark
+/// is not set after so many looks.
+#[derive(Drop)]
+struct WaitingSource {
+    source: MemSource,
+    mark: Option<Arc<AtomicBool, Global>>,
+}
+
+impl WaitingSource {
+    /// The mark is set, or there is none.
+    fn is_marked(&self) -> bool {
+        let Some(mark) = &self.mark else {
+            return true;
+        };
+        for _ in 0..LOOKS {
+            if mark.load(Ordering::SeqCst) {
+                return true;
+            }
+            spin_loop();
+        }
+        false
+    }
+}
+
+impl Source for WaitingSource {
+    ghost rest = { λ _. None };
+
+    ghost faults = { λ s. s.source.faults };
+
+    fn read(&mut self, into: &mut [u8]) -> Result<usize, Failed> {
+        if self.source.calls > 0 && !self.is_marked() {
+            self.source.faults.rise();
+            return Err(Failed);
+        }
+        self.source.read(into)
+    }
+}
+
+/// A sink that sets a mark as it is written to.
+#[derive(Drop)]
+struct MarkingSink {
+    sink: MemSink,
+    mark: Arc<AtomicBool, Global>,
+}
+
+impl Sink for MarkingSink {
+    ghost written = { λ _. None };
+
+    ghost faults = { λ s. s.sink.faults };
+
+    ghost calls = { λ _. 0 };
+
+    fn write(&mut self, piece: &[u8]) -> Result<(), Failed> {
+        let written = self.sink.write(piece);
+        self.mark.store(true, Ordering::SeqCst);
+        written
+    }
+}
+
+/// A connection that posts this body. Its head is read at once, and its body after the mark is set that the source waits for.
+fn link_of(
+    alloc: Global,
+    body: &str,
+    waits_for: Option<Arc<AtomicBool, Global>>,
+    sets: Arc<AtomicBool, Global>,
+) -> Result<Link<WaitingSource, MarkingSink>, AllocError> {
+    let length = body.len();
+    let head = format!(in alloc; "{HEAD}Content-Length: {length}\r\n\r\n")?;
+    let most = head.len().max(1);
+    let mut bytes = head.into_bytes();
+    bytes.extend_from_slice(body.as_bytes())?;
+    Ok(Link {
+        source: WaitingSource {
+            source: MemSource::new(List::from_vec(bytes), most, List::new(alloc)),
+            mark: waits_for,
+        },
+        sink: MarkingSink {
+            sink: MemSink::new(alloc, List::new(alloc)),
+            mark: sets,
+        },
+    })
+}
+
+/// A crew whose hosts never fail and whose pace always goes on.
+type OneLink = Crew<Fixed, Never, NoPace, MemListener<WaitingSource, MarkingSink>>;
+
+/// The crew of a worker to which this one connection comes.
+fn crew_of(alloc: Global, link: Link<WaitingSource, MarkingSink>) -> Result<OneLink, AllocError> {
+    let links = Vec::from_array(alloc, [link])?;
+    Ok(Crew {
+        clock: Fixed { moment: 1000 },
+        hosts: Never,
+        pace: NoPace,
+        listener: MemListener::new(alloc, links, List::new(alloc))?,
+    })
+}
+
+/// What was written to the connections of the listener, after a word for one that was not read to its end or whose source failed, and then
+/// the stops of each, as its lock and its place, with a sign where it made an entry.
+fn told(
+    alloc: Global,
+    listener: &MemListener<WaitingSource, MarkingSink>,
+) -> Result<String, AllocError> {
+    let mut told = String::new(alloc);
+    for taken in &listener.taken {
+        let source = &taken.link.source.source;
+        if source.faults.count() > 0 {
+            told.push_str("failed ")?;
+        }
+        if source.at < source.bytes.len() {
+            told.push_str("unread ")?;
+        }
+        let written = std::str::from_utf8(taken.link.sink.sink.bytes.as_slice()).unwrap_or("");
+        told.push_str(written)?;
+        told.push_str(stops_shown(alloc, &taken.trail)?.as_str())?;
+    }
+    Ok(told)
+}
+
+/// The stops, each as its lock and its place, with a sign where it made an entry.
+fn stops_shown(alloc: Global, trail: &Trail) -> Result<String, AllocError> {
+    let mut text = String::new(alloc);
+    for at in 0..trail.len() {
+        if let Some(stop) = trail.get(at) {
+            let sign = if stop.made { "+" } else { "" };
+            let shown = format!(in alloc; " {}:{}{sign}", stop.lock, stop.place)?;
+            text.push_str(shown.as_str())?;
+        }
+    }
+    Ok(text)
+}
+
+/// What a server of so many workers comes to, over one bucket, where a connection comes to each worker: its status, what it wrote of itself,
+/// and then in a line for each crew that is back what was written to its connection. The calls whose numbers are in `opens` fail to open the
+/// port, and the writes whose numbers are in `lines` fail.
+fn served<R: Threads + Wait + Sync>(
+    rt: &R,
+    alloc: Global,
+    workers: u32,
+    crews: Vec<OneLink>,
+    opens: List<u64>,
+    lines: List<u64>,
+) -> Result<String, AllocError>
+    requires { is_in_range 1 64 workers ≡ true }
+{
+    let server = Server {
+        shape: Shape {
+            nodes: 1,
+            shards: 1,
+            replicas: 1,
+            buckets: 1,
+            log_limit: 1_024,
+        },
+        clock: Some(1000),
+        port: 8983,
+        workers,
+        max_connections: 1,
+    };
+    let mut station = MemStation::new(alloc, crews, opens)?;
+    let mut sink = MemSink::new(alloc, lines);
+    let status = run_server(rt, alloc, &server, &mut sink, &mut station);
+    let line = std::str::from_utf8(sink.bytes.as_slice()).unwrap_or("");
+    let mut text = format!(in alloc; "{status} {line}")?;
+    for back in &station.back {
+        if let Some(crew) = back {
+            text.push_str(told(alloc, &crew.listener)?.as_str())?;
+            text.push_str("\n")?;
+        }
+    }
+    Ok(text)
+}
+
+// The body of the first connection comes after the second was answered. So both end after their answer, as is wanted of each, only where
+// the second worker serves while the first does. Both write the same id: the journal has the second's write and that it was settled at its
+// first two places, and then the first's, of the next version.
+#[test]
+fn two_workers_serve_beside_each_other(rt: HostRuntime) -> Result<(), Fail> {
+    let alloc = rt.alloc();
+    let first = Arc::new(alloc, AtomicBool::new(false))?;
+    let second = Arc::new(alloc, AtomicBool::new(false))?;
+    let waits_for = Arc::try_clone(&second)?;
+    let slow = link_of(alloc, r#"[{"id":"abc","t_s":"x"}]"#, Some(waits_for), first)?;
+    let quick = link_of(alloc, r#"[{"id":"abc","t_s":"y"}]"#, None, second)?;
+    let crews = Vec::from_array(alloc, [crew_of(alloc, slow)?, crew_of(alloc, quick)?])?;
+    let served = served(&rt, alloc, 2, crews, List::new(alloc), List::new(alloc))?;
+    assert_eq!(rt;
+        served.as_str(),
+        concat!(
+            "0 listening 8983\n",
+            "HTTP/1.1 200 OK\r\nContent-Type: application/json;charset=utf-8\r\nContent-Length: 67\r\n\r\n",
+            r#"{"adds":["abc",1048576001],"responseHeader":{"QTime":0,"status":0}} 0:2+ 0:3+"#,
+            "\n",
+            "HTTP/1.1 200 OK\r\nContent-Type: application/json;charset=utf-8\r\nContent-Length: 67\r\n\r\n",
+            r#"{"adds":["abc",1048576000],"responseHeader":{"QTime":0,"status":0}} 0:0+ 0:1+"#,
+            "\n",
+        )
+    );
+    Ok(())
+}
+
+/// What a server of one worker comes to, where opening the port or writing of it fails at these calls.
+fn served_by_one<R: Threads + Wait + Sync>(
+    rt: &R,
+    alloc: Global,
+    opens: List<u64>,
+    lines: List<u64>,
+) -> Result<String, AllocError> {
+    let mark = Arc::new(alloc, AtomicBool::new(false))?;
+    let link = link_of(alloc, r#"[{"id":"abc","t_s":"x"}]"#, None, mark)?;
+    let crews = Vec::from_array(alloc, [crew_of(alloc, link)?])?;
+    served(rt, alloc, 1, crews, opens, lines)
+}
+
+#[test]
+fn a_status_says_what_failed(rt: HostRuntime) -> Result<(), Fail> {
+    let alloc = rt.alloc();
+    let first = || -> Result<List<u64>, AllocError> {
+        Ok(List::from_vec(Vec::from_array(alloc, [0])?))
+    };
+    let port_fails = served_by_one(&rt, alloc, first()?, List::new(alloc))?;
+    assert_eq!(rt; port_fails.as_str(), "7 ");
+    let line_fails = served_by_one(&rt, alloc, List::new(alloc), first()?)?;
+    assert_eq!(rt; line_fails.as_str(), "5 \n");
+    let none_fails = served_by_one(&rt, alloc, List::new(alloc), List::new(alloc))?;
+    assert_eq!(rt;
+        none_fails.as_str(),
+        concat!(
+            "0 listening 8983\n",
+            "HTTP/1.1 200 OK\r\nContent-Type: application/json;charset=utf-8\r\nContent-Length: 67\r\n\r\n",
+            r#"{"adds":["abc",1048576000],"responseHeader":{"QTime":0,"status":0}} 0:0+ 0:1+"#,
+            "\n",
+        )
+    );
+    Ok(())
+}

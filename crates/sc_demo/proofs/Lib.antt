@@ -1,0 +1,3 @@
+-- Facts on the orders of a worker, batch after batch.
+pub mod WritingLemmas
+pub mod BatchLemmas

@@ -19,7 +19,7 @@ use std::alloc::{AllocError, Global};
 /// The most orders of a body.
 const MAX_ORDERS: usize = 4096;
 
-/// So many bytes may have more documents than that, of two bytes each and a comma.
+/// A body of fewer bytes has no more documents than that: each takes two, and a comma or a bracket.
 const MANY_BYTES: usize = 3 * MAX_ORDERS;
 
 /// The orders that the body of an update asks for (Solr Reference Guide, "Indexing with Update Handlers"), with what the
@@ -44,8 +44,8 @@ pub fn read_update(alloc: Global, body: &[u8], flags: &Flags) -> Result<Batch, C
     }
 }
 
-/// The orders that a body of another form, or of more documents, asks for. No tree is made of too many documents, which may take
-/// a hundred times the body's bytes.
+/// The orders that a body asks for which is no array of flat documents, or one of too many. Of these no tree is made, which may
+/// take a hundred times the body's bytes.
 fn read_other(alloc: Global, body: &[u8], flags: &Flags) -> Result<Batch, CommandFault>
     ensures ok { IfOk result
         (λ batch. updates.read_value flags.now (json_of body.now) ≡ Ok (updates.update_of batch)) }

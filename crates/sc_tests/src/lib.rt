@@ -2,13 +2,11 @@
 //! searches that count their steps, and trees so deep that a recursion would have no stack for them. What a table shows, `sc_examples` and
 //! `sc_scenarios` answer from their standard input.
 //!
-//! Each module tests one crate by its public functions, but for `sharing` and `splits`. Nothing depends on this crate.
+//! Each module tests one crate by its public functions, but for `collections`, `sharing`, `splits` and `workers`. Nothing depends on this crate.
 #![tactic(auto)]
 
 #[cfg(test)]
 mod boards;
-#[cfg(test)]
-mod chunks;
 #[cfg(test)]
 mod collections;
 #[cfg(test)]

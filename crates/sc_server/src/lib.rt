@@ -12,7 +12,7 @@
 //! workers (`RunsServer`) each did what `work` promises over passes of one collection of the shape that was asked for, what all of them have
 //! seen are beginnings of one journal for each bucket and the board, and no two of them made the same entry (`IsOneStory`).
 //!
-//! Tested alone: nothing yet.
+//! Tested alone: two workers, of which one serves amid the other's connection; the statuses of a port and of a line that fail.
 //!
 //! Neither: that the port is opened before the workers run, and that it is the one that was asked for (no station tells it); that workers
 //! run beside each other; that a worker ends.

@@ -17,7 +17,7 @@
 //! its keeper finds its part as it left it; a board that has the keepers has each bucket at rest. What two passes have seen of a lock are
 //! beginnings of one journal, and no entry is of both (`join_passes`).
 //!
-//! Tested alone: nothing yet.
+//! Tested alone: that two desks of one thread hold two buckets at once; that two threads lose no commit; requests amid a split.
 //!
 //! Neither: that each bucket has a lock of its own; that threads run beside each other; that a hold ends.
 #![tactic(auto)]

@@ -62,7 +62,7 @@ fn answer(alloc: Global, question: &str, text: &str) -> Result<String, Fault> {
         "cluster" => clusters::answer(alloc, question, text),
         "document" => documents::answer(alloc, question, text),
         "reply" => replies::answer(alloc, question, text),
-        "update" => updates::answer(alloc, text),
+        "update" => updates::answer(alloc, question, text),
         "query" => queries::answer(alloc, question, text),
         "search" => searches::answer(alloc, text),
         "http" => messages::answer(alloc, question, text),

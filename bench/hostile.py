@@ -189,6 +189,29 @@ class Attacks:
                   (b'Content-Length: 99999999999999999999999', 413), (b'Content-Length: 16777217', 413), (b'Transfer-Encoding: gzip', 400))
         return all(self.sent(head + line + b'\r\n\r\n') in ([status], [status, 'reset']) for line, status in wanted)
 
+    def chunks(self):
+        """bodies in chunks: bytewise, with an extension and a trailer; malformed; with too large a chunk | 200, 400 and 413"""
+        head = b'POST /solr/docs/update HTTP/1.1\r\nHost: x\r\nTransfer-Encoding: chunked\r\n\r\n'
+        with self.open() as stream:
+            for byte in head + b'5;a=b\r\n[{"id\r\n9\r\n":"abc"}]\r\n0\r\nX: y\r\n\r\n':
+                stream.send(bytes([byte]))
+            slow = self.answers(stream, 1)
+        wanted = ((b'zz\r\n', 400), (b'2\r\n[]0\r\n\r\n', 400), (b'0\r\nno name\r\n\r\n', 400), (b'ffffffffffffffff\r\n', 413), (b'1000001\r\n', 413))
+        return slow == [200] and all(self.sent(head + coding) in ([status], [status, 'reset']) for coding, status in wanted)
+
+    def endless_coding(self):
+        """an extension of a chunk of 40 MB, and trailer lines of 80 KB | 413 and 400, and the end, or a reset after it"""
+        head = b'POST /solr/docs/update HTTP/1.1\r\nHost: x\r\nTransfer-Encoding: chunked\r\n\r\n'
+        first, second = self.sent(head + b'1;' + b'x' * 40_000_000), self.sent(head + b'0\r\n' + b'X: y\r\n' * 13_334)
+        return first in ([413], [413, 'reset']) and second in ([400], [400, 'reset'])
+
+    def many_pairs(self):
+        """a search by a form of 8 million pairs (16 MB) | 200 or 400, with no more than a gibibyte for it"""
+        before = self.server.memory()[1]
+        found = self.sent(b'POST /solr/docs/select HTTP/1.1\r\nHost: x\r\nContent-Length: 16000003\r\n\r\n' + b'a&' * 8_000_000 + b'q=a', 1)
+        self.note = f'{found}, {self.server.memory()[1] - before:.0f} MiB more'
+        return found in ([200], [400]) and self.server.memory()[1] - before <= 1024
+
     def no_body(self):
         """twelve updates that announce 16 MB of body and send none, for four seconds | nothing comes for them, others go on"""
         streams = [self.open() for _ in range(12)]
@@ -332,7 +355,7 @@ def measure(options):
         print(f'{options.workers} workers, load {os.getloadavg()[0]:.1f}. Before: {count} gets, at most {longest * 1000:.0f} ms; {server.memory()[0]:.0f} MiB')
         print('\n| What comes | What it has to end in | It did | honest gets | most ms | MiB now | MiB at most |\n|' + '---|' * 7)
         names = ('slow cut_heads cut_bodies broken_off long_head longer_head endless_line many_lines pipelined pipelined_past_the_limit no_http lengths '
-                 'no_body half_bodies deep empty_objects many_fields one_id_often never_reads two_hundred two_hundred_again opens_and_goes').split()
+                 'chunks endless_coding many_pairs no_body half_bodies deep empty_objects many_fields one_id_often never_reads two_hundred two_hundred_again opens_and_goes').split()
         for name in names + ['silent_ones'] * options.patient:
             attack = getattr(attacks, name)
             attacks.note = ''

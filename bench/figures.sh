@@ -9,6 +9,7 @@ PROGRAM=$(realpath "${PROGRAM:-crates/solr_split/out/solr_split}")
 export PROGRAM
 problems=0
 bench/guide.py docs/COMING_FROM_SOLR.md || problems=1
+bench/refused_memory.py || problems=1
 bench/stress.py || problems=1
 bench/split_under_load.py --svg docs/split_under_load.svg --page docs/SPLIT_UNDER_LOAD.md || problems=1
 bench/throughput.py --page bench/README.md || problems=1

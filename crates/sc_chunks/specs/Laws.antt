@@ -1,7 +1,19 @@
 -- What holds of codings and of how they end, whatever decodes them.
-use Rattle.std.specs.Prelude.{◌≡◌, List, ℕ, ◌++◌}
-use Rattle.sc_chunks.specs.Coding.{Coding, ReadsCoding, HasCoding}
+use Rattle.std.specs.Prelude.{◌≡◌, ◌≤◌, List, ℕ, ◌++◌, length, map, All}
+use Rattle.std.specs.List.{flat_map}
+use Rattle.httparse.specs.Grammar.{IsChunkLine, chunk_size}
+use Rattle.sc_chunks.specs.Coding.{coding_limit, data_limit, trailer_limit, Chunk, IsChunk, data_of, IsTrailer, print_lines, Coding, print_coding, ReadsCoding, HasCoding}
 use Rattle.sc_chunks.specs.Endings.{CodingEnd, malformed, too_large, EndsCoding}
+
+-- Data in pieces have each coding that the grammar gives them, within the limits: the pieces as chunks, each with a line that states its
+-- length, a last chunk line and trailer lines. Whatever follows, that coding comes first, and it carries the pieces joined.
+abbrev pub PiecesHaveTheirCodings : Type 0
+PiecesHaveTheirCodings =
+    (pieces : List (List ℕ)) (coding : Coding) (rest : List ℕ)
+    → map (λ (chunk : Chunk). chunk.content) coding.chunks ≡ pieces → All IsChunk coding.chunks
+    → IsChunkLine coding.last → chunk_size coding.last ≡ 0 → All IsTrailer coding.trailers
+    → length (print_coding coding) ≤ coding_limit → length (data_of coding.chunks) ≤ data_limit → length (print_lines coding.trailers) ≤ trailer_limit
+    → HasCoding (print_coding coding ++ rest) coding rest × (data_of coding.chunks ≡ flat_map (λ (piece : List ℕ). piece) pieces)
 
 -- Bytes begin with at most one coding, with one rest, and the bytes that follow don't change it: a coding has one data, and no
 -- coding is a proper prefix of another.

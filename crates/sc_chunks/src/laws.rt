@@ -1,4 +1,9 @@
-ghost use Rattle.sc_chunks.specs.Laws.{CodingStays, MalformedStays, NoEndOfCoding, OneCoding, OneCodingEnd, TooLargeStays};
+ghost use Rattle.sc_chunks.specs.Laws.{CodingStays, MalformedStays, NoEndOfCoding, OneCoding, OneCodingEnd, PiecesHaveTheirCodings, TooLargeStays};
+
+/// Data in pieces have each coding that the grammar gives them, and it carries them.
+pub fn pieces_have_their_codings()
+    ensures { PiecesHaveTheirCodings }
+{}
 
 /// Bytes begin with at most one coding, and no coding is a proper prefix of another.
 pub fn bytes_have_one_coding()

@@ -4,7 +4,7 @@
 //!
 //! Proved: `Decoder::take` goes on by the grammar of codings (`goes_on`), takes all bytes unless the coding is whole (`all`),
 //! and refuses only bytes that are malformed or too large (`refuses`); while it is not whole, its bytes could become a coding
-//! and pass no limit (`is_whole`). Bytes begin with at most one coding, end in at most one way, and not both; what follows a
+//! and pass no limit (`is_whole`). Data in pieces have the codings of the grammar; bytes begin with at most one coding, end in at most one way, and not both; what follows a
 //! coding, or bytes that are malformed or too large, changes nothing (`laws`).
 #![tactic(auto)]
 
@@ -23,5 +23,5 @@ pub use decoder::Decoder;
 pub use error::DecodeError;
 pub use laws::{
     bytes_end_in_one_way, bytes_have_one_coding, coding_stays, ended_bytes_have_no_coding,
-    malformed_stays, too_large_stays,
+    malformed_stays, pieces_have_their_codings, too_large_stays,
 };

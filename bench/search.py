@@ -1,0 +1,197 @@
+#!/usr/bin/env python3
+"""What searches and commits of `solr_split serve` cost over many documents, beside Lucene on the same documents and queries.
+
+It makes documents of some 110 bytes of JSON and ten terms (an id, a language, a price, a title of five to ten words out of twenty thousand),
+loads them, commits, searches for one word, for two joined by AND and by OR, and commits after one changed document, after a thousand and after
+none. Costs are processor time of the server's threads alone, from /proc/PID/task; each count that a search gives is compared with the script's own. Where
+Lucene 8 stands in /usr/share/java (Debian: liblucene8-java) and `javac` is on the path, `LuceneSearch.java` then indexes the same documents and
+answers the same queries on one thread. Prints tables in Markdown; a million documents take some two minutes and 2 GB.
+
+    PROGRAM=crates/solr_split/out/solr_split bench/search.py --documents 1000000
+"""
+import argparse
+import bisect
+import itertools
+import os
+import platform
+import random
+import shutil
+import subprocess
+import sys
+import tempfile
+import urllib.parse
+
+sys.dont_write_bytecode = True
+
+from loopback import PROGRAM, Client, serve, stop_at_signals, written_into
+
+VOCABULARY = 20000
+LANGUAGES = ('en', 'de', 'fr', 'es', 'it')
+JARS = '/usr/share/java/lucene-core-8.7.0.jar:/usr/share/java/lucene-analyzers-common-8.7.0.jar'
+
+
+def arguments():
+    reader = argparse.ArgumentParser(description=__doc__.split('\n')[0])
+    reader.add_argument('--program', default=PROGRAM, help='the built program ($PROGRAM)')
+    reader.add_argument('--documents', type=int, default=1000000, help='documents that are loaded (1000000)')
+    reader.add_argument('--buckets', type=int, default=64, help='buckets of the collection (64)')
+    reader.add_argument('--queries', type=int, default=100, help='queries of each kind (100)')
+    reader.add_argument('--alone', action='store_true', help='without Lucene')
+    reader.add_argument('--page', default='', help='a page into which the tables are written, between its lines `<!-- search -->` and `<!-- end -->`')
+    return reader.parse_args()
+
+
+def words_of(number):
+    """A word of five letters or more for each number: consonants and vowels in turn."""
+    letters = []
+    for _ in range(3):
+        number, last = divmod(number, 100)
+        letters.append('bcdfghklmnprstvwyzjq'[last // 5] + 'aeiou'[last % 5])
+    return ''.join(letters)
+
+
+def documents(count):
+    """Documents, the same at each call: (id, language, price, words)."""
+    draw = random.Random(7)
+    vocabulary = [words_of(number) for number in range(VOCABULARY)]
+    weights = list(itertools.accumulate(1 / (rank + 10) for rank in range(VOCABULARY)))
+    for number in range(count):
+        size = 5 + number % 6
+        words = [vocabulary[bisect.bisect(weights, draw.random() * weights[-1])] for _ in range(size)]
+        yield f'doc-{number:07d}', LANGUAGES[draw.randrange(5)], draw.randrange(10000), words
+
+
+def queries_of(count):
+    """So many pairs of words, from frequent to rare."""
+    draw = random.Random(11)
+    ranks = [int(10 * 100 ** draw.random()) for _ in range(2 * count)]
+    return [(words_of(one), words_of(other if other != one else one + 1)) for one, other in zip(ranks[::2], ranks[1::2])]
+
+
+def load(client, options, wanted):
+    """Sends all documents, and returns the documents of each word that is wanted, by their numbers, and how many bytes of JSON came."""
+    rows = {word: set() for word in wanted}
+    batch, size = [], 0
+
+    def send():
+        status, _ = client.exchange(b'POST /solr/docs/update HTTP/1.1\r\nHost: localhost\r\nContent-Length: %d\r\n\r\n' % len(text) + text)
+        assert status == 200, status
+
+    for number, (name, language, price, words) in enumerate(documents(options.documents)):
+        batch.append('{"id":"%s","lang_s":"%s","price_i":%d,"title_t":"%s"}' % (name, language, price, ' '.join(words)))
+        for word in words:
+            if word in rows:
+                rows[word].add(number)
+        if len(batch) == 4096 or number + 1 == options.documents:
+            text = ('[' + ','.join(batch) + ']').encode()
+            size += len(text)
+            send()
+            batch = []
+    return rows, size
+
+
+def nanoseconds(server):
+    """Processor time of the server's threads."""
+    total = 0
+    for task in os.listdir(f'/proc/{server.child.pid}/task'):
+        with open(f'/proc/{server.child.pid}/task/{task}/schedstat') as file:
+            total += int(file.read().split()[0])
+    return total
+
+
+def spent(server, calls):
+    """Processor milliseconds of the server in these calls."""
+    before = nanoseconds(server)
+    for call in calls:
+        call()
+    return (nanoseconds(server) - before) / 1e6
+
+
+def commit(client):
+    status, body = client.ask('GET', '/solr/docs/update?commit=true')
+    assert status == 200, body
+
+
+def change(client, options, first, count):
+    body = [{'id': f'doc-{(first + 7919 * turn) % options.documents:07d}', 'lang_s': 'en', 'price_i': turn, 'title_t': 'changed once more'} for turn in range(count)]
+    status, answer = client.ask('POST', '/solr/docs/update', body)
+    assert status == 200, answer
+
+
+def search(client, query, expected):
+    status, body = client.ask('GET', '/solr/docs/select?rows=10&q=' + urllib.parse.quote(query))
+    assert status == 200, body
+    found = body['response']['numFound']
+    assert found == expected, (query, found, expected)
+
+
+def kinds(queries, rows):
+    yield 'term', [(f'title_t:{one}', len(rows[one])) for one, _ in queries]
+    yield 'AND', [(f'title_t:{one} AND title_t:{other}', len(rows[one] & rows[other])) for one, other in queries]
+    yield 'OR', [(f'title_t:{one} OR title_t:{other}', len(rows[one] | rows[other])) for one, other in queries]
+
+
+def lucene(options, queries):
+    """Milliseconds a search of each kind, by Lucene; empty where it is not there."""
+    here = os.path.dirname(os.path.abspath(__file__))
+    if options.alone or not shutil.which('javac') or not os.path.exists(JARS.split(':')[0]):
+        return {}
+    folder = tempfile.mkdtemp(prefix='lucene_')
+    try:
+        subprocess.run(['javac', '-cp', JARS, '-d', folder, f'{here}/LuceneSearch.java'], check=True)
+        with open(f'{folder}/documents', 'w') as file:
+            for name, language, price, words in documents(options.documents):
+                file.write(f'{name}\t{language}\t{price}\t{" ".join(words)}\n')
+        with open(f'{folder}/queries', 'w') as file:
+            for one, other in queries:
+                file.write(f'{one}\t{other}\n')
+        said = subprocess.run(['java', '-Xmx2g', '-cp', f'{JARS}:{folder}', 'LuceneSearch', folder], check=True, stdout=subprocess.PIPE, text=True).stdout
+    finally:
+        shutil.rmtree(folder, ignore_errors=True)
+    return {line.split('\t')[0]: float(line.split('\t')[1]) for line in said.splitlines()}
+
+
+def tables(options):
+    load_before = os.getloadavg()[0]
+    queries = queries_of(options.queries)
+    server, port = serve(options.program, workers=1, more=['--buckets', str(options.buckets)])
+    try:
+        client = Client(port, 600)
+        start = nanoseconds(server)
+        rows, size = load(client, options, {word for pair in queries for word in pair})
+        loaded = nanoseconds(server) - start
+        before = server.memory()[0]
+        first = spent(server, [lambda: commit(client)])
+        after = server.memory()[0]
+        print(f'{os.cpu_count()} processors ({platform.machine()}), load before {load_before:.1f}; {options.documents} documents of {size / options.documents:.0f} bytes of JSON; {options.buckets} buckets.\n')
+        print('| What | costs |\n|---|---|')
+        print(f'| to load a document | {loaded / 1e3 / options.documents:.1f} µs |')
+        print(f'| first commit, a document | {first * 1000 / options.documents:.2f} µs |')
+        print(f'| memory before and after it, a document | {before * 2**20 / options.documents:.0f} and {after * 2**20 / options.documents:.0f} bytes |')
+        costs = {}
+        for kind, asked in kinds(queries, rows):
+            search(client, *asked[0])
+            costs[kind] = spent(server, [lambda one=one: search(client, *one) for one in asked]) / len(asked), sum(count for _, count in asked) / len(asked)
+        for count, rounds in ((0, 50), (1, 50), (1000, 10)):
+            total = 0
+            for turn in range(rounds):
+                if count:
+                    change(client, options, turn * 31, count)
+                total += spent(server, [lambda: commit(client)])
+            print(f'| a commit after {count} changed documents | {total / rounds:.2f} ms |')
+        print(f'| memory at most, a document | {server.memory()[1] * 2**20 / options.documents:.0f} bytes |')
+    finally:
+        server.stop()
+    other = lucene(options, queries)
+    print('\n| Search | found | processor time | Lucene 8, one thread |\n|---|---|---|---|')
+    for kind, (cost, found) in costs.items():
+        print(f'| {kind} | {found:.0f} | {cost:.3f} ms | ' + (f'{other[kind]:.3f} ms |' if kind in other else 'not measured |'))
+    if 'index' in other:
+        print(f'\nLucene takes {other["index"]:.1f} µs to index a document.')
+
+
+if __name__ == '__main__':
+    stop_at_signals()
+    options = arguments()
+    with written_into(options.page, 'search'):
+        tables(options)

@@ -1,5 +1,7 @@
 -- Facts on buckets.
 pub mod EntriesLemmas
+pub mod UncommittedLemmas
+pub mod UnchangedLemmas
 pub mod CoreLemmas
 pub mod InOrderLemmas
 pub mod SearcherLemmas

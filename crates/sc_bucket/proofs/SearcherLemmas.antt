@@ -84,11 +84,9 @@ AreLed-from_keys slices cores leaders slice there active =
     (core, (k, slice_get_within cores k core at, get_or_from_slice_get cores k core core at), IsLeaderOf-from_key slice.id core is)
 
 -- no cells may be rows
-pub AreRows-new : (cores : List Core) → All IsNewCore cores → All (λ (core : Core). AreRows core.cells) cores
+pub no_rows : AreRows []
 unfolding IsStrictlySortedBy
-AreRows-new cores new = All-weaker IsNewCore (λ (core : Core). AreRows core.cells) none cores new where
-  none : (core : Core) → IsNewCore core → AreRows core.cells
-  none core is = subst AreRows (sym is.cells) (record { ascend = tt; bounded = omega arith })
+no_rows = record { ascend = tt; bounded = omega arith }
 
 -- the searchers of new cores show nothing, as nothing was committed
 pub HasSearchers-new : (b : Bucket) (first : List Slice) (cores : List Core) → IsMap first → b.map ≡ first → b.journal.entries ≡ []

@@ -1,10 +1,14 @@
--- How a journal's entries are kept: a mark for each, and apart from them, in order, what the entries of a kind have besides.
-use Rattle.std.specs.Prelude.{◌≡◌, ℕ, Bool, true, false, List, [], ◌∷◌, length, filter}
+-- How a journal's entries are kept: a mark for each, and apart from them, in order, what the entries of a kind have besides; and
+-- whether one of them is a write that is not committed.
+use Rattle.std.specs.Prelude.{◌≡◌, ℕ, Bool, true, false, List, [], ◌∷◌, length, filter, drop, is_some}
+use Rattle.std.specs.List.{list_any}
 use Rattle.std.specs.declared.sync.Arc.{Arc}
 use Rattle.std.specs.declared.alloc.Global.{Global}
 use Rattle.sc_record.specs.declared.write.Write.{Write}
 use Rattle.sc_record.specs.declared.entry.Entry.{Entry}
 use Rattle.sc_record.specs.declared.entry.Entry.TheVariants as entry
+use Rattle.sc_journal.specs.Journal.{as_write}
+use Rattle.sc_journal.specs.Committed.{last_commit}
 use Rattle.sc_bucket.specs.declared.entries.Mark.{Mark}
 use Rattle.sc_bucket.specs.declared.entries.Mark.TheVariants as mark
 use Rattle.sc_bucket.specs.declared.entries.EntryRef.{EntryRef}
@@ -45,3 +49,7 @@ entry_of (lent.Write cell) = entry.Write cell.now
 entry_of (lent.Settled place) = entry.Settled place
 entry_of lent.Committed = entry.Committed
 entry_of (lent.Other other) = other.now
+
+-- a write came after the last entry that commits, or at all where none does
+abbrev pub has_uncommitted : List Entry → Bool
+has_uncommitted journal = list_any (λ (one : Entry). is_some (as_write one)) (drop (last_commit journal) journal)

@@ -9,3 +9,4 @@ pub mod Sound
 pub mod Room
 pub mod Events
 pub mod Accepting
+pub mod Taking

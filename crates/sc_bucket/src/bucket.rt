@@ -2,7 +2,7 @@ ghost use Rattle.std.specs.Prelude.{◌≡◌, ◌<◌, ◌+◌, [], None, lengt
 ghost use Rattle.sc_journal.specs.Down.{all_followers};
 ghost use Rattle.sc_bucket.specs.Sound.{AreActive};
 
-use crate::commit::searchers_at;
+use crate::commit::first_searchers;
 use crate::feeds::Feeds;
 use crate::flight::Flight;
 use crate::journal::Journal;
@@ -71,7 +71,7 @@ impl Bucket {
         ensures feeds { IfOk result (λ bucket. bucket.feeds ≡ []) }
     {
         let replicas = Replicas::new(alloc, map)?;
-        let searchers = searchers_at(alloc, map, &replicas, 0)?;
+        let searchers = first_searchers(alloc, map)?;
         let first = map.clone_in(alloc)?;
         let slices = map.clone_in(alloc)?;
         let _ = map.get(0); // by it the proof knows that it is a map

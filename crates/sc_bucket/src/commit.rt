@@ -1,21 +1,23 @@
-ghost use Rattle.std.specs.Prelude.{◌≡◌, ◌<◌, ◌+◌, ◌↔◌, Err, List, length, All, Contains, IfOk, OnOk, OnErr};
-ghost use Rattle.sc_snapshot.specs.Rows.{AreRows};
+ghost use Rattle.std.specs.Prelude.{◌≡◌, ◌<◌, ◌+◌, ◌↔◌, Err, List, length, false, IsTrue, All, Contains, IfOk, OnOk, OnErr};
+ghost use Rattle.sc_hash.specs.Range.{IsWithin};
+ghost use Rattle.sc_record.specs.declared.write.Write.{Write};
 ghost use Rattle.sc_cluster.specs.declared.slice.State.TheVariants as states;
-ghost use Rattle.sc_cluster.specs.declared.slice.Slice.{Slice};
-ghost use Rattle.sc_replica.specs.Core.{Core, IsCore};
-ghost use Rattle.sc_bucket.specs.Cores.{IsLeaderOf};
+ghost use Rattle.sc_replica.specs.Core.{Core};
+ghost use Rattle.sc_bucket.specs.Entries.{has_uncommitted};
+ghost use Rattle.sc_bucket.specs.Cores.{IsNewCore};
 ghost use Rattle.sc_bucket.specs.Room.{BucketHasRoom, BucketIsFull};
-ghost use Rattle.sc_bucket.specs.Sound.{IsSound};
+ghost use Rattle.sc_bucket.specs.Sound.{AreActive, IsInRange, IsSound};
 ghost use Rattle.sc_bucket.specs.declared.standing.Standing.{Standing};
-ghost use Rattle.sc_bucket.specs.Searchers.{AreLed, AreTaken, IsTaken, HasParentSearcher, ArePrepared};
+ghost use Rattle.sc_bucket.specs.Searchers.{rows_of, AreLed, AreTaken, IsTaken, HasParentSearcher, ArePrepared};
+ghost use Rattle.sc_bucket.specs.Taking.{IsLastOf, IsOfLeader};
 ghost use Rattle.sc_bucket.specs.Events.{IsSameButRoom, Commits};
 
 use crate::bucket::Bucket;
 use crate::phase::Phase;
-use crate::replicas::Replicas;
 use crate::spares::hand_on;
-use crate::standing::Standing;
+use crate::standing::{Standing, searcher_for};
 use sc_cluster::{ClusterMap, Slice, State};
+use sc_hash::Range;
 use sc_record::{CoreId, Entry, List};
 use sc_snapshot::Snapshot;
 use std::alloc::{AllocError, Global};
@@ -58,7 +60,7 @@ impl Bucket {
         if self.limit < place + self.owed + 1 {
             return Err(CommitFault::LogFull);
         }
-        let searchers = searchers_at(alloc, &self.map, &self.replicas, place)?;
+        let searchers = searchers_at(alloc, self)?;
         let spares = spares_at(alloc, self.phase, &self.map, &searchers)?;
         self.journal.reserve(self.owed as usize + 1)?;
         self.put_commit(searchers, spares);
@@ -81,22 +83,18 @@ impl Bucket {
     }
 }
 
-/// A searcher for each active slice, of its leader's cells as they are when the journal has `place` entries.
-pub fn searchers_at(
-    alloc: Global,
-    slices: &ClusterMap,
-    replicas: &Replicas,
-    place: u64,
-) -> Result<List<Standing>, AllocError>
-    requires led { AreLed slices.now replicas.now }
-    requires rows { All (λ (core : Core). IsCore core → AreRows core.cells) replicas.now }
-    ensures { IfOk result (AreTaken slices.now replicas.now place) }
+/// A searcher for each active slice, of its leader's cells as they are. The bucket is only read. A slice's snapshot is made of its last
+/// one; where no write came since the last commit it has the same rows, and none of them is looked at. The only error is that memory
+/// was refused.
+pub fn searchers_at(alloc: Global, bucket: &Bucket) -> Result<List<Standing>, AllocError>
+    requires sound { IsSound bucket.now }
+    ensures { IfOk result (AreTaken bucket.now.map bucket.now.replicas (length bucket.now.journal.entries)) }
 {
     let mut searchers = Vec::new(alloc);
-    for at in 0..slices.len() {
-        let slice = slices.get(at).unwrap();
+    for at in 0..bucket.map.len() {
+        let slice = bucket.map.get(at).unwrap();
         if slice.state == State::Active {
-            searchers.push(searcher_of(alloc, slice, replicas, place)?)?;
+            searchers.push(searcher_of(alloc, bucket, slice)?)?;
         }
     }
     searchers.shrink_to_fit();
@@ -121,29 +119,103 @@ fn spares_at(
     }
 }
 
-// The searcher of an active slice, of its leader's cells.
-fn searcher_of(
-    alloc: Global,
-    slice: &Slice,
-    replicas: &Replicas,
-    place: u64,
-) -> Result<Standing, AllocError>
+// The searcher of an active slice, of its leader's cells as they are.
+fn searcher_of(alloc: Global, bucket: &Bucket, slice: &Slice) -> Result<Standing, AllocError>
+    requires sound { IsSound bucket.now }
+    requires there { Contains bucket.now.map slice.now }
     requires active { slice.now.state ≡ states.Active }
-    requires led { (core : Core) × Contains replicas.now core × IsLeaderOf slice.now.id core }
-    requires rows { All (λ (core : Core). IsCore core → AreRows core.cells) replicas.now }
     ensures of_slice { IfOk result (λ searcher. searcher.slice ≡ slice.now.id) }
-    ensures taken { (slices : List Slice) → Contains slices slice.now → IfOk result (IsTaken slices replicas.now place) }
+    ensures taken { IfOk result (IsTaken bucket.now.map bucket.now.replicas (length bucket.now.journal.entries)) }
 {
-    let leader = replicas
+    let last = searcher_for(&bucket.searchers, slice.id);
+    let snapshot = snapshot_of(alloc, bucket, slice, last)?;
+    Ok(Standing {
+        slice: slice.id,
+        range: slice.range,
+        snapshot: Arc::new(alloc, snapshot)?,
+    })
+}
+
+// The snapshot of the cells of the slice's leader as they are, which is made of its last searcher's.
+fn snapshot_of(
+    alloc: Global,
+    bucket: &Bucket,
+    slice: &Slice,
+    last: &Standing,
+) -> Result<Snapshot, AllocError>
+    requires sound { IsSound bucket.now }
+    requires last { IsLastOf bucket.now slice.now last.now }
+    ensures { IfOk result (IsOfLeader bucket.now slice.now) }
+{
+    if bucket.journal.has_uncommitted() || !are_within(&last.snapshot, &slice.range) {
+        changed_snapshot(alloc, bucket, slice, last)
+    } else {
+        unchanged_snapshot(bucket, slice, last)
+    }
+}
+
+// Whether the hashes of all rows are in the range, as far as the least and the greatest of them tell.
+fn are_within(snapshot: &Snapshot, range: &Range) -> bool
+    ensures { IsTrue result → All (λ (row : Write). IsWithin range.now.min range.now.max row.hash) snapshot.now.rows }
+{
+    range.min <= snapshot.least_hash() && snapshot.greatest_hash() <= range.max
+}
+
+// The rows of the slice's last searcher, which are its leader's cells still.
+fn unchanged_snapshot(
+    bucket: &Bucket,
+    slice: &Slice,
+    last: &Standing,
+) -> Result<Snapshot, AllocError>
+    requires sound { IsSound bucket.now }
+    requires last { IsLastOf bucket.now slice.now last.now }
+    requires committed { has_uncommitted bucket.now.journal.entries ≡ false }
+    requires within { All (IsInRange slice.now) (rows_of last.now) }
+    ensures { IfOk result (IsOfLeader bucket.now slice.now) }
+{
+    let _ = last.snapshot.rows(); // by it the proof knows that they are rows
+    last.snapshot.at(bucket.entries())
+}
+
+// The next snapshot after that of the slice's last searcher, of its leader's cells.
+fn changed_snapshot(
+    alloc: Global,
+    bucket: &Bucket,
+    slice: &Slice,
+    last: &Standing,
+) -> Result<Snapshot, AllocError>
+    requires sound { IsSound bucket.now }
+    requires last { IsLastOf bucket.now slice.now last.now }
+    ensures { IfOk result (IsOfLeader bucket.now slice.now) }
+{
+    let leader = bucket
+        .replicas
         .position(CoreId {
             slice: slice.id,
             replica: 1,
         })
         .unwrap();
-    let rows = replicas.get(leader).cells().share(alloc)?;
-    Ok(Standing {
-        slice: slice.id,
-        range: slice.range,
-        snapshot: Arc::new(alloc, Snapshot::from_list(place, rows))?,
-    })
+    let cells = bucket.replicas.get(leader).cells().share(alloc)?;
+    last.snapshot.next(alloc, bucket.entries(), cells)
+}
+
+/// The searchers of cores without cells, one for each slice of a map, all of which are active.
+pub(crate) fn first_searchers(
+    alloc: Global,
+    slices: &ClusterMap,
+) -> Result<List<Standing>, AllocError>
+    requires active { AreActive slices.now }
+    ensures { (cores : List Core) → AreLed slices.now cores → All IsNewCore cores → IfOk result (AreTaken slices.now cores 0) }
+{
+    let mut searchers = Vec::new(alloc);
+    for at in 0..slices.len() {
+        let slice = slices.get(at).unwrap();
+        searchers.push(Standing {
+            slice: slice.id,
+            range: slice.range,
+            snapshot: Arc::new(alloc, Snapshot::from_list(alloc, 0, List::new(alloc))?)?,
+        })?;
+    }
+    searchers.shrink_to_fit();
+    Ok(List::from_vec(searchers))
 }

@@ -6,7 +6,7 @@ ghost use Rattle.sc_bucket.specs.Pending.{is_within, left_of, new_feed};
 
 use sc_hash::Range;
 use sc_record::{Cell, CoreId};
-use sc_snapshot::Snapshot;
+use sc_snapshot::Rows;
 use std::alloc::{AllocError, Global};
 use std::collections::VecDeque;
 use std::marker::Model;
@@ -18,7 +18,7 @@ use std::sync::Arc;
 pub struct Feed {
     core: CoreId,
     range: Range,
-    snapshot: Arc<Snapshot>,
+    snapshot: Arc<Rows>,
     // the next row to look at
     next: u32,
     // the rows from there on that are in the range, in order
@@ -52,7 +52,7 @@ impl Feed {
         alloc: Global,
         core: CoreId,
         range: Range,
-        snapshot: Arc<Snapshot>,
+        snapshot: Arc<Rows>,
     ) -> Result<Feed, AllocError>
         ensures { IfOk result (λ feed. feed ≡ new_feed core range (arc_value snapshot)) }
     {

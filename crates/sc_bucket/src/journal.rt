@@ -1,4 +1,5 @@
 ghost use Rattle.std.specs.Prelude.{◌≡◌, ◌<◌, ◌≤◌, ◌-◌, [], ◌∷◌, ◌++◌, length, max, IfOk, OnOk, OnErr};
+ghost use Rattle.sc_bucket.specs.Entries.{has_uncommitted};
 
 use crate::entries::{Entries, Mark};
 use sc_record::{Cell, Entry};
@@ -19,12 +20,14 @@ pub struct Journal {
     others: Vec<Entry>,
     // how many more entries fit, as far as callers have asked for room
     room: usize,
+    // a write came after the last entry that commits
+    uncommitted: bool,
 }
 
 impl Model for Journal {
-    ghost use Rattle.std.specs.Prelude.{◌+◌, ◌≤◌, vec_len, vec_capacity};
+    ghost use Rattle.std.specs.Prelude.{◌≡◌, ◌+◌, ◌≤◌, vec_len, vec_capacity};
     ghost use Rattle.sc_bucket.specs.Kept.{JournalState};
-    ghost use Rattle.sc_bucket.specs.Entries.{entries_of, AreParts};
+    ghost use Rattle.sc_bucket.specs.Entries.{entries_of, AreParts, has_uncommitted};
 
     ghost Value = { JournalState };
 
@@ -32,7 +35,8 @@ impl Model for Journal {
 
     ghost invariant = { λ a. AreParts a.marks.items a.writes.items a.settled.items a.others.items
         × (vec_len a.marks + a.room ≤ vec_capacity a.marks) × (vec_len a.writes + a.room ≤ vec_capacity a.writes)
-        × (vec_len a.settled + a.room ≤ vec_capacity a.settled) × (vec_len a.others + a.room ≤ vec_capacity a.others) };
+        × (vec_len a.settled + a.room ≤ vec_capacity a.settled) × (vec_len a.others + a.room ≤ vec_capacity a.others)
+        × (a.uncommitted ≡ has_uncommitted (entries_of a.marks.items a.writes.items a.settled.items a.others.items)) };
 }
 
 impl Journal {
@@ -46,6 +50,7 @@ impl Journal {
             settled: Vec::new(alloc),
             others: Vec::new(alloc),
             room: 0,
+            uncommitted: false,
         }
     }
 
@@ -77,6 +82,13 @@ impl Journal {
         }
     }
 
+    /// Whether a write came after the last entry that commits, or at all where none does.
+    pub fn has_uncommitted(&self) -> bool
+        ensures { result ≡ has_uncommitted self.now.entries }
+    {
+        self.uncommitted
+    }
+
     /// Makes room for at least `n` more entries. An error means out of memory.
     pub fn reserve(&mut self, n: usize) -> Result<(), AllocError>
         ensures ok { OnOk result (self.new ≡ record self.old { room = max self.old.room n }) }
@@ -102,12 +114,21 @@ impl Journal {
             Entry::Write(cell) => {
                 self.marks.push_reserved(Mark::Write);
                 self.writes.push_reserved(cell);
+                self.uncommitted = true;
             }
             Entry::Settled { place } => {
                 self.marks.push_reserved(Mark::Settled);
                 self.settled.push_reserved(place);
             }
-            Entry::Committed => self.marks.push_reserved(Mark::Committed),
+            Entry::Committed => {
+                self.marks.push_reserved(Mark::Committed);
+                self.uncommitted = false;
+            }
+            Entry::Begun { parent, subs } => {
+                self.marks.push_reserved(Mark::Other);
+                self.others.push_reserved(Entry::Begun { parent, subs });
+                self.uncommitted = false;
+            }
             other => {
                 self.marks.push_reserved(Mark::Other);
                 self.others.push_reserved(other);

@@ -1,28 +1,30 @@
 //! One bucket: the journal of its ids, its own copy of the cluster's map, and the cells of its cores. Each event of it is
 //! one call, which keeps what `IsSound` says of every bucket, and changes what its own definition in `specs/Events` says.
 //!
-//! Proved: `accept`, `deliver`, `deliver_nth`, `settle`, `commit` and `detach` keep what `IsSound` says of a bucket, and do
-//! what `specs/Events` says: `accept` gives the answer of `IsOutcome`, both ways, with a version after its leader's clock,
-//! sends the write to each other core that takes its hash and is not down, and changes nothing but room if it refuses;
-//! `deliver` hands one message to its core; `settle` delivers what is left of a write's, so that none of a settled write is in
-//! flight; `commit` gives each active slice a searcher of its leader's cells, is refused for a full log exactly if the journal
-//! has no room for one entry more than it owes, and changes nothing if it is refused; `detach` marks a follower as down, which
-//! keeps what it has, and leaves the messages to it out; `can_detach` says exactly of which cores it may be called, and
-//! `is_down` exactly which cores the journal says are down; `seat_of` gives the seat of a core by its number; `read` gives the
-//! last write of the id, `is_settled` whether an entry settles a write, and `Journal::iter` lends the entries, the oldest
-//! first. By `IsSound`, in and between splits, each core of a slice that is not inactive, unless it is down, has the last write
-//! of each id of its range, or it is pending for it (in flight, in its update log, or among the rows that it is still to be
-//! fed); only the cores of a slice that a split is making and, while no split is open, the followers of active slices may be
-//! catching up, by a feed or a replay, and each other core is active; each core has the mark and the number that the journal
-//! gives to its seat; no message is in flight to a core that is down, and each searcher has of each id of its range the last
-//! write before the last commit; ids of a core ascend, no cell is newer than its core's clock, and an active core buffers
-//! nothing; the snapshots of searchers and feeds have the places at which they were taken. `Replicas::exchange` has two cores
-//! change seats with all that they have, and `Replicas::renew` puts a new core in the place of one, whose number it takes.
+//! Proved: `accept`, `deliver`, `deliver_nth`, `settle`, `commit` and `detach` keep what `IsSound` says of a bucket, and do what
+//! `specs/Events` says: `accept` gives the answer of `IsOutcome`, both ways, with a version after its leader's clock, sends the
+//! write to each other core that takes its hash and is not down, and changes nothing but room if it refuses; `deliver` hands one
+//! message to its core; `settle` delivers what is left of a write's, so that none of a settled write is in flight; `commit` gives
+//! each active slice a searcher of its leader's cells, is refused for a full log exactly if the journal has no room for one entry
+//! more than it owes, and changes nothing if it is refused; `detach` marks a follower as down, which keeps what it has, and
+//! leaves the messages to it out; `can_detach` says exactly of which cores it may be called, and `is_down` exactly which cores
+//! the journal says are down; `seat_of` gives the seat of a core by its number; `read` gives the last write of the id,
+//! `is_settled` whether an entry settles a write, `Journal::iter` lends the entries, the oldest first, and
+//! `Journal::has_uncommitted` says whether a write came after the last entry that commits. By `IsSound`, in and between splits,
+//! each core of a slice that is not inactive, unless it is down, has the last write of each id of its range, or it is pending for
+//! it (in flight, in its update log, or among the rows that it is still to be fed); only the cores of a slice that a split is
+//! making and, while no split is open, the followers of active slices may be catching up, by a feed or a replay, and each other
+//! core is active; each core has the mark and the number that the journal gives to its seat; no message is in flight to a core
+//! that is down, and each searcher has of each id of its range the last write before the last commit; ids of a core ascend, no
+//! cell is newer than its core's clock, and an active core buffers nothing; the snapshots of searchers and feeds have the places
+//! at which they were taken. `Replicas::exchange` has two cores change seats with all that they have, and `Replicas::renew` puts
+//! a new core in the place of one, whose number it takes.
 //!
 //! Tested alone: the worked orders; a full log; two and three replicas; two commits of two shards.
 //!
-//! Neither: speed: a look-up is one binary search, an accepted order moves the shorter side of one list at most, and a
-//! delivery the same, by construction.
+//! Neither: speed: a look-up is one binary search, an accepted order moves the shorter side of one list at most, and a delivery
+//! the same, by construction; so does a commit share the rows of each searcher as they are where no write came since the last
+//! commit, but of those that a switch handed on.
 #![tactic(auto)]
 
 // What a bucket keeps.

@@ -18,7 +18,7 @@ use sc_cluster::{ClusterMap, SplitPlan};
 use sc_hash::Range;
 use sc_record::{CloneIn, CoreId, Entry, List, SliceId, SubSlice};
 use sc_replica::Replica;
-use sc_snapshot::Snapshot;
+use sc_snapshot::Rows;
 use sc_ulog::Mode;
 use std::alloc::{AllocError, Global};
 use std::sync::Arc;
@@ -86,8 +86,8 @@ fn prepare(alloc: Global, bucket: &Bucket, plan: &SplitPlan) -> Result<Beginning
     ensures subs { IfOk result (λ beginning. beginning.subs ≡ plan.now.subs) }
     ensures prepared { IfOk result (IsPreparedFor bucket.now plan.now.parent) }
 {
-    let searchers = searchers_at(alloc, &bucket.map, &bucket.replicas, bucket.entries())?;
-    let snapshot = snapshot_of(&searchers, plan.parent)?;
+    let searchers = searchers_at(alloc, bucket)?;
+    let snapshot = snapshot_of(alloc, &searchers, plan.parent)?;
     let (cores, feeds) = made(alloc, plan.subs.as_slice(), &snapshot)?;
     let mut slices = bucket.map.clone_in(alloc)?;
     slices.begin(plan)?;
@@ -142,20 +142,25 @@ fn entries_of_split(subs: &[SubSlice]) -> u64
     entries
 }
 
-// A share of the snapshot that the searcher of this slice looks at.
-fn snapshot_of(searchers: &List<Standing>, slice: SliceId) -> Result<Arc<Snapshot>, AllocError>
+// The rows that the searcher of this slice looks at, for feeds.
+fn snapshot_of(
+    alloc: Global,
+    searchers: &List<Standing>,
+    slice: SliceId,
+) -> Result<Arc<Rows>, AllocError>
     requires { Contains (map (λ (searcher : Standing). searcher.slice) searchers.now) slice }
     ensures { IfOk result (λ snapshot. (searcher : Standing) × Contains searchers.now searcher × (searcher.slice ≡ slice)
         × (arc_value snapshot ≡ arc_value searcher.snapshot)) }
 {
-    Arc::try_clone(&searcher_for(searchers, slice).snapshot)
+    let rows = searcher_for(searchers, slice).snapshot.share_rows()?;
+    Ok(Arc::new(alloc, rows)?)
 }
 
 // The leaders of the subs, each with room for all that it is to be fed, and their feeds.
 fn made(
     alloc: Global,
     subs: &[SubSlice],
-    snapshot: &Arc<Snapshot>,
+    snapshot: &Arc<Rows>,
 ) -> Result<(Vec<Replica>, Vec<Feed>), AllocError>
     ensures cores { IfOk result (λ made. map without_room made.0.items ≡ map (λ sub. empty_core (first_core sub)) subs.now) }
     ensures feeds { IfOk result (λ made. made.1.items ≡ map (first_feed (arc_value snapshot.now)) subs.now) }
@@ -175,7 +180,7 @@ fn made(
 fn core_of(
     alloc: Global,
     sub: &SubSlice,
-    snapshot: &Arc<Snapshot>,
+    snapshot: &Arc<Rows>,
 ) -> Result<(Replica, Feed), AllocError>
     ensures core { IfOk result (λ made. without_room made.0 ≡ empty_core (first_core sub.now)) }
     ensures feed { IfOk result (λ made. made.1 ≡ first_feed (arc_value snapshot.now) sub.now) }
@@ -214,7 +219,7 @@ pub(crate) fn empty_fed(
     alloc: Global,
     name: CoreId,
     range: Range,
-    snapshot: Arc<Snapshot>,
+    snapshot: Arc<Rows>,
 ) -> Result<(Replica, Feed), AllocError>
     ensures core { IfOk result (λ made. without_room made.0 ≡ empty_core name) }
     ensures feed { IfOk result (λ made. made.1 ≡ new_feed name range (arc_value snapshot)) }

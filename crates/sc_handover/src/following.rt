@@ -8,7 +8,7 @@ use crate::beginning::empty_fed;
 use sc_bucket::{Bucket, Feed};
 use sc_record::CoreId;
 use sc_replica::Replica;
-use sc_snapshot::Snapshot;
+use sc_snapshot::Rows;
 use std::alloc::{AllocError, Global};
 use std::sync::Arc;
 
@@ -26,8 +26,8 @@ pub(crate) fn follower(
     ensures { IfOk result (λ made. (slice : Slice) → CanFollow bucket.now core slice → IsMade bucket.now core slice made.0 made.1) }
 {
     let at = bucket.replicas.position(leader).unwrap();
-    let rows = bucket.replicas.get(at).cells().share(alloc)?;
+    let cells = bucket.replicas.get(at).cells().share(alloc)?;
     let range = bucket.map.by_id(core.slice).unwrap().range;
-    let snapshot = Snapshot::from_list(bucket.entries(), rows);
+    let snapshot = Rows::from_list(alloc, bucket.entries(), cells)?;
     empty_fed(alloc, core, range, Arc::new(alloc, snapshot)?)
 }

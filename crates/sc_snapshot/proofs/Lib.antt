@@ -2,3 +2,4 @@
 mod RowLemmas
 mod PostingLemmas
 mod LoopLemmas
+mod LiveLemmas

@@ -1,12 +1,15 @@
 -- Which rows of a snapshot have a term, and what an index of them keeps.
-use Rattle.std.specs.Prelude.{◌≡◌, ◌≤ℤ◌, ℕ, ◌+◌, Bool, false, ℤ, if◌then◌else◌, List, [], ◌∷◌, ◌++◌, map, All, Option, None, Some, is_some}
+use Rattle.std.specs.Prelude.{◌≡◌, ◌≤ℤ◌, ℕ, ◌+◌, Bool, false, if◌then◌else◌, slice_get, List, [], ◌∷◌, ◌++◌, map, All, Option, None, Some, is_some}
 use Rattle.std.specs.List.{list_any}
+use Rattle.std.specs.List.Sorted.{IsStrictlyIncreasing}
 use Rattle.std.specs.declared.cmp.Ordering.{Ordering}
 use Rattle.sc_record.specs.Terms.{term_cmp}
 use Rattle.sc_record.specs.declared.term.Term.{Term}
 use Rattle.sc_record.specs.declared.write.Write.{Write}
 use Rattle.sc_record.proofs.TermLemmas.{same_term}
 use Rattle.sc_segment.specs.Index.{IsIndexOf, distinct_keys}
+use Rattle.sc_segment.specs.Joining.{has_row}
+use Rattle.sc_snapshot.specs.declared.index.Index.{Index}
 use Rattle.sc_snapshot.specs.declared.term_key.TermKey.{TermKey}
 
 -- the order of the keys is that of their terms
@@ -35,8 +38,19 @@ abbrev pub has_term : Term → Option Write → Bool
 has_term term None = false
 has_term term (Some row) = list_any (same_term term) (live_terms row)
 
+-- there is a row, and it is live
+abbrev pub is_live_at : Option Write → Bool
+is_live_at None = false
+is_live_at (Some row) = is_some row.doc
+
+-- the numbers of the live rows, ascending
+pub record AreLiveRows (rows : List Write) (numbers : List ℕ) : Type 0 where
+  pub members : (number : ℕ) → has_row numbers number ≡ is_live_at (slice_get rows number)
+  pub ascending : IsStrictlyIncreasing numbers
+
 -- an index of rows: where each term of the live ones is, which of them are live, and between which hashes theirs are
-pub record IsIndexed (rows : List Write) (index : List (TermKey × List ℕ)) (bits : List Bool) (least greatest : ℤ) : Type 0 where
-  pub terms : IsIndexOf key_order (keyed_rows 0 rows) index
-  pub live : bits ≡ map (λ (row : Write). is_some row.doc) rows
-  pub hashes : All (λ (row : Write). (least ≤ℤ row.hash) × (row.hash ≤ℤ greatest)) rows
+pub record IsIndexed (rows : List Write) (index : Index) : Type 0 where
+  pub terms : IsIndexOf key_order (keyed_rows 0 rows) index.segment
+  pub live_rows : AreLiveRows rows index.live_rows.items
+  pub live_bits : index.live_bits ≡ map (λ (row : Write). is_some row.doc) rows
+  pub hashes : All (λ (row : Write). (index.least_hash ≤ℤ row.hash) × (row.hash ≤ℤ index.greatest_hash)) rows

@@ -1,5 +1,5 @@
 -- The rows of a snapshot.
-use Rattle.std.specs.Prelude.{ℕ, ◌≤◌, ◌^◌, List, length}
+use Rattle.std.specs.Prelude.{◌≡◌, ℕ, ◌≤◌, ◌^◌, List, length, Contains}
 use Rattle.sc_record.specs.declared.write.Write.{Write}
 use Rattle.sc_record.specs.Writes.{AscendById}
 
@@ -12,3 +12,7 @@ pub record SnapshotState : Type 0 where
 pub record AreRows (rows : List Write) : Type 0 where
   pub ascend : AscendById rows
   pub bounded : length rows ≤ 2 ^ 24
+
+-- a row of the old and one of the new that have one id and one version are the same write
+abbrev pub AreOfOneHistory : (old new : List Write) → Type 0
+AreOfOneHistory old new = (one other : Write) → Contains old one → Contains new other → one.id ≡ other.id → one.version ≡ other.version → one ≡ other

@@ -1,25 +1,25 @@
 //! The committed rows of a core: of each id the write that a search sees, a deletion too, ascending by the ids' bytes.
 //!
 //! It depends on `sc_record` and on `sc_segment` for posting lists, and does no input and no output. The layers above take a
-//! snapshot of the cells of a core by `Snapshot::of` and read it by `place`, `rows` and `row`. Contracts see a `Snapshot` as a
-//! `SnapshotState`, whose rows ascend and are at most 2^24, and an `IndexedSnapshot`, which nothing above uses yet, as that of
-//! its snapshot.
+//! `Snapshot` of the cells of a core, which a searcher searches by `postings`, `live`, `is_live` and `row`, and whose `Rows` a feed
+//! reads by `row`. Contracts see both as a `SnapshotState`, whose rows ascend and are at most 2^24.
 //!
-//! Proved: `Snapshot::of` and `from_list` have the rows of the cells that they are given, deletions too, and `row` gives each
-//! by its place; `IndexedSnapshot::postings` gives exactly the live rows that have a term, ascending and within a bound on
-//! comparisons, and `is_live` tells which rows are live.
+//! Proved: `Snapshot::of`, `from_list` and `next`, and `Rows::from_list`, have the rows of the cells that they are given, deletions
+//! too, and `row` gives each by its place; `Snapshot::postings` gives exactly the live rows that have a term, ascending and within a
+//! bound on comparisons; `live` gives exactly the live rows and `is_live` tells them; `at` and `share_rows` have the same rows.
 //!
 //! Tested alone: the worked rows.
 //!
 //! Neither: speed; that a snapshot shares the writes holds by construction.
 #![tactic(auto)]
 
-mod indexed;
+mod index;
 mod laws;
+mod plain;
 mod snapshot;
 mod term_key;
 
-pub use indexed::IndexedSnapshot;
 pub use laws::rows_are_each_of_one_id;
+pub use plain::Rows;
 pub use snapshot::Snapshot;
 pub use term_key::TermKey;

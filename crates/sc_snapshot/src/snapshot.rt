@@ -1,36 +1,44 @@
-ghost use Rattle.std.specs.Prelude.{◌≡◌, ◌≤◌, ◌^◌, length, map, slice_get, IfOk, option_copied, option_map};
+ghost use Rattle.std.specs.Prelude.{◌≡◌, ℕ, ◌+◌, ◌-◌, ◌*◌, ◌^◌, ◌<◌, ◌≤◌, ◌≤ℤ◌, All, length, map, is_some, slice_get, IfOk, Some, option_copied, option_map};
 ghost use Rattle.std.specs.Arc.{arc_value};
-ghost use Rattle.sc_record.specs.Writes.{AscendById};
-ghost use Rattle.sc_snapshot.specs.Rows.{AreRows};
+ghost use Rattle.std.specs.List.Sorted.{IsStrictlyIncreasing};
+ghost use Rattle.sc_record.specs.declared.write.Write.{Write};
+ghost use Rattle.sc_segment.specs.Joining.{has_row};
+ghost use Rattle.sc_snapshot.specs.Rows.{AreRows, AreOfOneHistory};
+ghost use Rattle.sc_snapshot.specs.Postings.{has_term, term_count, is_live_at};
 
+use crate::index::Index;
+use crate::plain::Rows;
+use crate::term_key::TermKey;
 use sc_record::{Cell, List};
+use sc_segment::Steps;
 use std::alloc::{AllocError, Global};
 use std::marker::Model;
 use std::sync::Arc;
+use std::sync::ledger::Ledger;
 
-/// The cells of a core as they were when the journal had `place` entries, which contracts see as a `SnapshotState`. It shares
-/// each cell with the core and never changes.
-#[derive(Debug, Drop)]
+/// The cells of a core as they were when the journal had `place` entries, with what a search needs in place of looking at each row.
+/// Contracts see it as a `SnapshotState`. It shares each cell with the core and never changes.
+#[derive(Drop)]
 pub struct Snapshot {
-    place: u64,
-    rows: List<Cell>,
+    rows: Rows,
+    index: Arc<Index>,
 }
 
 impl Model for Snapshot {
-    ghost use Rattle.std.specs.Prelude.{map};
     ghost use Rattle.std.specs.Arc.{arc_value};
-    ghost use Rattle.sc_snapshot.specs.Rows.{SnapshotState, AreRows};
+    ghost use Rattle.sc_snapshot.specs.Rows.{SnapshotState};
+    ghost use Rattle.sc_snapshot.specs.Postings.{IsIndexed};
 
     ghost Value = { SnapshotState };
 
-    ghost view = { λ a. record { place = a.place; rows = map arc_value a.rows } };
+    ghost view = { λ a. a.rows };
 
-    ghost invariant = { λ a. AreRows (map arc_value a.rows) };
+    ghost invariant = { λ a. IsIndexed a.rows.rows (arc_value a.index) };
 }
 
 impl Snapshot {
-    /// The cells as the rows of a snapshot at this place of the journal. Room for just these rows is taken first, and each
-    /// cell is shared. The only error is that memory was refused.
+    /// The cells as the rows of a snapshot at this place of the journal. Each cell is shared, and each of its terms is filed. The
+    /// only error is that memory was refused.
     pub fn of(alloc: Global, place: u64, cells: &List<Cell>) -> Result<Snapshot, AllocError>
         requires { AreRows (map arc_value cells.now) }
         ensures { IfOk result (λ snapshot. snapshot ≡ record { place = place; rows = map arc_value cells.now }) }
@@ -39,22 +47,52 @@ impl Snapshot {
         for cell in cells.as_slice() {
             rows.push(Arc::try_clone(cell)?)?;
         }
-        Ok(Snapshot::from_list(place, List::from_vec(rows)))
+        Snapshot::from_list(alloc, place, List::from_vec(rows))
     }
 
-    /// The same of cells that are handed over, which takes no memory.
-    pub fn from_list(place: u64, cells: List<Cell>) -> Snapshot
+    /// The same of cells that are handed over.
+    pub fn from_list(alloc: Global, place: u64, cells: List<Cell>) -> Result<Snapshot, AllocError>
         requires { AreRows (map arc_value cells) }
-        ensures { result ≡ record { place = place; rows = map arc_value cells } }
+        ensures { IfOk result (λ snapshot. snapshot ≡ record { place = place; rows = map arc_value cells }) }
     {
-        Snapshot { place, rows: cells }
+        let index = Index::of(alloc, cells.as_slice())?;
+        Ok(Snapshot {
+            rows: Rows::from_list(alloc, place, cells)?,
+            index: Arc::new(alloc, index)?,
+        })
+    }
+
+    /// The same rows at another place: no row is copied. The only error is that memory was refused.
+    pub fn at(&self, place: u64) -> Result<Snapshot, AllocError>
+        ensures { IfOk result (λ snapshot. snapshot ≡ record self.now { place = place }) }
+    {
+        Ok(Snapshot {
+            rows: self.rows.at(place)?,
+            index: Arc::try_clone(&self.index)?,
+        })
+    }
+
+    /// The snapshot of these cells, made of this one. The only error is that memory was refused.
+    pub fn next(&self, alloc: Global, place: u64, cells: List<Cell>) -> Result<Snapshot, AllocError>
+        requires rows { AreRows (map arc_value cells) }
+        requires one_history { AreOfOneHistory self.now.rows (map arc_value cells) }
+        ensures { IfOk result (λ snapshot. snapshot ≡ record { place = place; rows = map arc_value cells }) }
+    {
+        Snapshot::from_list(alloc, place, cells)
+    }
+
+    /// Its rows, for a feed: no row is copied. The only error is that memory was refused.
+    pub fn share_rows(&self) -> Result<Rows, AllocError>
+        ensures { IfOk result (λ rows. rows ≡ self.now) }
+    {
+        self.rows.at(self.rows.place())
     }
 
     /// How many entries the journal had.
     pub fn place(&self) -> u64
         ensures { result ≡ self.now.place }
     {
-        self.place
+        self.rows.place()
     }
 
     /// How many rows there are.
@@ -62,21 +100,55 @@ impl Snapshot {
         ensures count { result ≡ length self.now.rows }
         ensures rows { AreRows self.now.rows }
     {
-        self.rows.len() as u32
+        self.rows.rows()
     }
 
-    /// The row at this index, counted from 0; None from the number of rows on.
-    pub fn row(&self, at: u32) -> Option<&Cell>
+    /// The row with this number, counted from 0; None from the number of rows on. It takes one step.
+    pub fn row<L: Ledger>(&self, at: u32, steps: &mut Steps<L>) -> Option<&Cell>
         ensures row { option_map arc_value (option_copied result) ≡ slice_get self.now.rows at }
-        ensures rows { AreRows self.now.rows }
+        ensures counted { steps.new ≡ steps.old + 1 }
     {
-        self.rows.as_slice().get(at as usize)
+        steps.tick();
+        self.rows.row(at)
     }
 
-    pub(crate) fn cells(&self) -> &[Cell]
-        ensures rows { map arc_value result.now ≡ self.now.rows }
-        ensures are_rows { AreRows self.now.rows }
+    /// The numbers of the live rows that have the term. A step is one comparison of terms.
+    pub fn postings<L: Ledger>(&self, key: &TermKey, steps: &mut Steps<L>) -> &[u32]
+        ensures members { (number : ℕ) → has_row result.now number ≡ has_term key.now.term (slice_get self.now.rows number) }
+        ensures ascending { IsStrictlyIncreasing result.now }
+        ensures counted { steps.old ≤ steps.new }
+        ensures bound { 2 ^ (steps.new - steps.old) ≤ 2 * term_count self.now.rows + 1 }
     {
-        self.rows.as_slice()
+        self.index.segment.postings(key, steps)
+    }
+
+    /// The numbers of the live rows, ascending. It takes no step.
+    pub fn live(&self) -> &[u32]
+        ensures members { (number : ℕ) → has_row result.now number ≡ is_live_at (slice_get self.now.rows number) }
+        ensures ascending { IsStrictlyIncreasing result.now }
+    {
+        self.index.live_rows.as_slice()
+    }
+
+    /// Whether the row is live, and no deletion. It takes no step.
+    pub fn is_live(&self, at: u32) -> bool
+        requires { at < length self.now.rows }
+        ensures { option_map (λ (row : Write). is_some row.doc) (slice_get self.now.rows at) ≡ Some result }
+    {
+        self.index.live_bits.is_live(at)
+    }
+
+    /// A hash that is none of the rows' above: the least, where there are rows.
+    pub fn least_hash(&self) -> i32
+        ensures { All (λ (row : Write). result ≤ℤ row.hash) self.now.rows }
+    {
+        self.index.least_hash
+    }
+
+    /// A hash that is none of the rows' below: the greatest, where there are rows.
+    pub fn greatest_hash(&self) -> i32
+        ensures { All (λ (row : Write). row.hash ≤ℤ result) self.now.rows }
+    {
+        self.index.greatest_hash
     }
 }

@@ -1,5 +1,5 @@
--- Each active slice has a core that leads it, and gets its searcher.
-use Rattle.std.proofs.Common.{◌∙◌, ◌+◌, Global, Vec, sym, ap, subst, take, All}
+-- Each active slice gets its searcher.
+use Rattle.std.proofs.Common.{◌∙◌, ◌+◌, Global, Vec, length, sym, ap, subst, take, All}
 use Rattle.std.specs.Option.{option_copied}
 use Rattle.std.proofs.lemmas.List.Elements.{All-push}
 use Rattle.sc_bucket.specs.Searchers.{AreOfEachSlice, IsTaken}
@@ -8,19 +8,20 @@ use Rattle.sc_bucket.proofs.TakenLemmas.{Contains-slice_get, active_from_test, i
 use Rattle.sc_bucket.proofs.commit.searchers_at.Goals as goal
 use Rattle.sc_bucket.proofs.commit.searchers_at.Goals.{then-eq+in_ok-searcher_of+in_ok-push, else-eq}
 
-pub searcher_of-requires-clause-led : goal.searcher_of-requires-clause-led
-searcher_of-requires-clause-led c =
-    let slice = c.unwrap-slice.result.now in
-    let there = sym c.get.ensures.slice ∙ ap option_copied c.unwrap-slice.ensures in
-    let active = active_from_test slice.state (sym c.eq.ensures ∙ c.if-eq.true) in
-    c.requires.led slice (Contains-slice_get c.args.slices.now c.loop-at.at slice there) active
+pub searcher_of-requires-clause-there : goal.searcher_of-requires-clause-there
+searcher_of-requires-clause-there c =
+    Contains-slice_get c.args.bucket.now.map c.loop-at.at c.unwrap-slice.result.now (sym c.get.ensures.slice ∙ ap option_copied c.unwrap-slice.ensures)
+
+pub searcher_of-requires-clause-active : goal.searcher_of-requires-clause-active
+searcher_of-requires-clause-active c = active_from_test c.unwrap-slice.result.now.state (sym c.eq.ensures ∙ c.if-eq.true)
 
 pub loop-at-preserved : goal.loop-at-preserved
 loop-at-preserved c =
+    let b = c.args.bucket.now in
     let slice = c.unwrap-slice.result.now in
     let there = sym c.get.ensures.slice ∙ ap option_copied c.unwrap-slice.ensures in
-    let slices = c.args.slices.now in
-    let IsOne = IsTaken slices c.args.replicas.now c.args.place in
+    let slices = b.map in
+    let IsOne = IsTaken slices b.replicas (length b.journal.entries) in
     elim c.if-eq.branch [
       | then-eq+in_ok-searcher_of+in_ok-push w ↦
           let searcher = w.in_ok-searcher_of.field-0 in
@@ -31,8 +32,7 @@ loop-at-preserved c =
                 (AreOfEachSlice-active slices c.loop-at.at slice c.loop-at.searchers.items searcher there active
                 w.in_ok-searcher_of.ensures.of_slice c.loop-at.invariant.each_slice);
             taken = subst (All IsOne) (sym items)
-                (All-push IsOne c.loop-at.searchers.items searcher c.loop-at.invariant.taken
-                (w.in_ok-searcher_of.ensures.taken slices (Contains-slice_get slices c.loop-at.at slice there)));
+                (All-push IsOne c.loop-at.searchers.items searcher c.loop-at.invariant.taken w.in_ok-searcher_of.ensures.taken);
           }
       | else-eq w ↦
           let inactive = inactive_from_test slice.state (sym c.eq.ensures ∙ w.if-eq.false) in

@@ -13,9 +13,7 @@ use Rattle.sc_bucket.specs.Kept.{FeedState}
 use Rattle.sc_bucket.specs.Cores.{IsLeaderOf}
 use Rattle.sc_bucket.specs.Searchers.{AreOfEachSlice, IsTaken, AreTaken}
 use Rattle.sc_bucket.specs.declared.standing.Standing.{Standing}
-use Rattle.sc_bucket.proofs.SearcherLemmas.{AreLed-from_keys}
 use Rattle.sc_bucket.proofs.TakenLemmas.{slice_of, has_searcher}
-use Rattle.sc_bucket.proofs.CommitLemmas.{AreRows-sound}
 use Rattle.sc_handover.specs.Made.{first_feed}
 use Rattle.sc_handover.proofs.MadeLemmas.{made_core}
 use Rattle.sc_handover.proofs.beginning.prepare.Goals as goal
@@ -47,13 +45,6 @@ fed_from_leader slices cores place searchers parent snapshot subs others feeds t
           ∙ ap (map (first_feed (record { place = place; rows = is.core.cells }))) same_subs,
     )
 
-pub searchers_at-requires-clause-led : goal.searchers_at-requires-clause-led
-searchers_at-requires-clause-led c =
-    AreLed-from_keys c.args.bucket.now.map c.args.bucket.now.replicas c.requires.sound.cores.leaders
-
-pub searchers_at-requires-clause-rows : goal.searchers_at-requires-clause-rows
-searchers_at-requires-clause-rows c = AreRows-sound c.args.bucket.now c.requires.sound
-
 pub snapshot_of-requires : goal.snapshot_of-requires
 snapshot_of-requires c =
     parent_is_searched c.args.bucket.now.map c.args.plan.now.parent c.args.plan.now.subs c.in_ok-searchers.searchers
@@ -70,7 +61,6 @@ returns-clause-prepared c =
     let plan = c.args.plan.now in
     let same : c.as_slice.result.now ≡ c.in_ok-subs.subs = c.as_slice.ensures ∙ sym c.in_ok-subs.ensures in
     let taken : AreTaken b.map b.replicas (length b.journal.entries) c.in_ok-searchers.searchers =
-    subst (λ (place : ℕ). AreTaken b.map b.replicas place c.in_ok-searchers.searchers) c.entries.ensures.count
     c.in_ok-searchers.ensures in
     let (leader, there, is, feeds) =
     fed_from_leader b.map b.replicas _ c.in_ok-searchers.searchers plan.parent (arc_value c.in_ok-snapshot.snapshot)

@@ -22,14 +22,14 @@ get-requires c =
     let (core, there, named) = place_of_core b.replicas c.args.leader c.position.result c.unwrap-at.result c.position.ensures c.unwrap-at.ensures in
     slice_get_within b.replicas c.unwrap-at.result core there
 
-pub from_list-snapshot-requires : goal.from_list-snapshot-requires
-from_list-snapshot-requires c =
+pub from_list-requires : goal.from_list-requires
+from_list-requires c =
     let b = c.args.bucket.now in
     let core = c.get.result.now in
     let there = (leader_of_slice_is b c.args.core c.args.leader c.requires.can.0 c.position.result c.unwrap-at.result core c.requires.can.1
     c.requires.leads c.position.ensures c.unwrap-at.ensures c.get.ensures).0 in
     let rows = All-contains (λ (one : Core). IsCore one → AreRows one.cells) b.replicas core (AreRows-sound b c.requires.sound) there c.cells.ensures.core in
-    subst AreRows (sym (c.in_ok-rows.ensures.cells ∙ ap (λ (cells : CellsState). cells.writes) c.cells.ensures.value)) rows
+    subst AreRows (sym (c.in_ok-cells.ensures.cells ∙ ap (λ (cells : CellsState). cells.writes) c.cells.ensures.value)) rows
 
 pub returns : goal.returns
 returns c =
@@ -45,7 +45,7 @@ returns c =
       leader_there = leads.0;
       leader_is = leads.1;
       last = can.led core leads.0 leads.1;
-      snapshot_is = taken_now b core _ _ _ (c.in_ok-new.ensures.ok ∙ c.from_list-snapshot.ensures) c.entries.ensures.count
-          (c.in_ok-rows.ensures.cells ∙ ap (λ (cells : CellsState). cells.writes) c.cells.ensures.value);
+      snapshot_is = taken_now b core _ _ _ (c.in_ok-new.ensures.ok ∙ c.in_ok-snapshot.ensures) c.entries.ensures.count
+          (c.in_ok-cells.ensures.cells ∙ ap (λ (cells : CellsState). cells.writes) c.cells.ensures.value);
       range_is = ap (λ (s : Slice). s.range) (found_slice b name slice c.by_id.result c.unwrap.result c.requires.sound can c.by_id.ensures.slice c.unwrap.ensures);
     })

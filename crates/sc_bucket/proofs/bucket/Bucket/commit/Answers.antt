@@ -1,20 +1,11 @@
--- Each active slice has a leader, whose cells are few enough, and a bucket with more room is sound.
+-- Where a split is open its parent has a searcher, and a bucket with more room is sound.
 use Rattle.std.proofs.Common.{refl, sym, ap, subst, arith}
 use Rattle.sc_bucket.specs.Kept.{JournalState}
 use Rattle.sc_bucket.specs.Sound.{IsSound}
-use Rattle.sc_bucket.proofs.SearcherLemmas.{AreLed-from_keys}
 use Rattle.sc_bucket.proofs.TakenLemmas.{IsSearched-in_phase}
 use Rattle.sc_bucket.proofs.RoomLemmas.{IsSound-with_parts}
 use Rattle.sc_bucket.proofs.RoomierLemmas.{roomier-itself}
-use Rattle.sc_bucket.proofs.CommitLemmas.{AreRows-sound}
 use Rattle.sc_bucket.proofs.bucket.Bucket.commit.Goals as goal
-
-pub searchers_at-requires-clause-led : goal.searchers_at-requires-clause-led
-searchers_at-requires-clause-led c =
-    AreLed-from_keys c.args.self.now.map c.args.self.now.replicas c.requires.sound.cores.leaders
-
-pub searchers_at-requires-clause-rows : goal.searchers_at-requires-clause-rows
-searchers_at-requires-clause-rows c = AreRows-sound c.args.self.now c.requires.sound
 
 pub spares_at-requires : goal.spares_at-requires
 spares_at-requires c =

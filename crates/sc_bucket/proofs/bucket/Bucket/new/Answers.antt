@@ -1,27 +1,13 @@
 -- A new bucket is sound.
 use Rattle.std.proofs.Common.{[], None, refl, sym, subst, arith}
-use Rattle.std.proofs.lemmas.List.Elements.{All-weaker}
-use Rattle.sc_snapshot.specs.Rows.{AreRows}
 use Rattle.sc_cluster.specs.Map.{IsMap}
-use Rattle.sc_replica.specs.Core.{Core, IsCore}
 use Rattle.sc_bucket.specs.Sound.{IsSound}
 use Rattle.sc_bucket.specs.declared.bucket.Bucket.{Bucket}
 use Rattle.sc_bucket.specs.declared.phase.Phase.TheVariants as phases
 use Rattle.sc_bucket.proofs.CoreLemmas.{have_leaders}
 use Rattle.sc_bucket.proofs.NewLemmas.{IsMade, has_room_for, IsSound-new}
-use Rattle.sc_bucket.proofs.SearcherLemmas.{AreLed-from_keys, AreRows-new}
+use Rattle.sc_bucket.proofs.SearcherLemmas.{AreLed-from_keys}
 use Rattle.sc_bucket.proofs.bucket.Bucket.new.Goals as goal
-
-pub searchers_at-requires-clause-led : goal.searchers_at-requires-clause-led
-searchers_at-requires-clause-led c =
-    AreLed-from_keys c.args.map.now c.in_ok-replicas.replicas
-    (have_leaders c.args.map.now c.in_ok-replicas.replicas c.in_ok-replicas.ensures.keys)
-
-pub searchers_at-requires-clause-rows : goal.searchers_at-requires-clause-rows
-searchers_at-requires-clause-rows c =
-    let cores = c.in_ok-replicas.replicas in
-    All-weaker (λ (core : Core). AreRows core.cells) (λ (core : Core). IsCore core → AreRows core.cells) (λ core rows is. rows) cores
-    (AreRows-new cores c.in_ok-replicas.ensures.new)
 
 pub returns-clause-sound : goal.returns-clause-sound
 returns-clause-sound c =
@@ -53,7 +39,9 @@ returns-clause-sound c =
       messages = refl;
       new = c.in_ok-replicas.ensures.new;
       counted = c.in_ok-replicas.ensures.counted;
-      searchers = c.in_ok-searchers.ensures;
+      searchers = c.in_ok-searchers.ensures c.in_ok-replicas.replicas
+          (AreLed-from_keys c.args.map.now c.in_ok-replicas.replicas
+          (have_leaders c.args.map.now c.in_ok-replicas.replicas c.in_ok-replicas.ensures.keys)) c.in_ok-replicas.ensures.new;
       phase_is = refl;
       feeds_are = refl;
       spares_are = refl;

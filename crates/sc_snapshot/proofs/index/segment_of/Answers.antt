@@ -6,7 +6,7 @@ use Rattle.sc_record.specs.declared.term.Term.{Term}
 use Rattle.sc_segment.specs.Index.{IsIndexOf}
 use Rattle.sc_snapshot.specs.Postings.{key_order, keyed, keyed_rows, live_terms}
 use Rattle.sc_snapshot.proofs.LoopLemmas.{rows-next}
-use Rattle.sc_snapshot.proofs.indexed.segment_of.Goals as goal
+use Rattle.sc_snapshot.proofs.index.segment_of.Goals as goal
 
 pub overflow_add-number : goal.overflow_add-number
 overflow_add-number c =

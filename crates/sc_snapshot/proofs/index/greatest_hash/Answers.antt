@@ -4,7 +4,7 @@ use Rattle.std.proofs.lemmas.Int.{ints}
 use Rattle.std.specs.Arc.{arc_value}
 use Rattle.sc_record.specs.declared.write.Write.{Write}
 use Rattle.sc_snapshot.proofs.LoopLemmas.{all-next}
-use Rattle.sc_snapshot.proofs.indexed.greatest_hash.Goals as goal
+use Rattle.sc_snapshot.proofs.index.greatest_hash.Goals as goal
 
 pub loop-row-preserved : goal.loop-row-preserved
 loop-row-preserved c =

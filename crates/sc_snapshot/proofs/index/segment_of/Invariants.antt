@@ -3,7 +3,7 @@ use Rattle.std.proofs.Common.{◌≡◌, ◌≤◌, map, take}
 use Rattle.std.specs.Arc.{arc_value}
 use Rattle.sc_segment.specs.Index.{IsIndexOf}
 use Rattle.sc_snapshot.specs.Postings.{key_order, keyed_rows}
-use Rattle.sc_snapshot.proofs.indexed.segment_of.Given as goal
+use Rattle.sc_snapshot.proofs.index.segment_of.Given as goal
 
 abbrev pub invariant-loop-row : goal.invariant-loop-row
 invariant-loop-row l = record {

@@ -1,0 +1,81 @@
+ghost use Rattle.std.specs.Prelude.{◌≡◌, length, map, slice_get, IfOk, option_copied, option_map};
+ghost use Rattle.std.specs.Arc.{arc_value};
+ghost use Rattle.sc_snapshot.specs.Rows.{AreRows};
+
+use sc_record::{Cell, List};
+use std::alloc::{AllocError, Global};
+use std::marker::Model;
+use std::sync::Arc;
+
+/// The cells of a core as they were when the journal had `place` entries, without an index: what a feed reads. Contracts see it as
+/// a `SnapshotState`. It shares each cell with the core and never changes.
+#[derive(Debug, Drop)]
+pub struct Rows {
+    place: u64,
+    cells: Arc<List<Cell>>,
+}
+
+impl Model for Rows {
+    ghost use Rattle.std.specs.Prelude.{map};
+    ghost use Rattle.std.specs.Arc.{arc_value};
+    ghost use Rattle.sc_snapshot.specs.Rows.{SnapshotState, AreRows};
+
+    ghost Value = { SnapshotState };
+
+    ghost view = { λ a. record { place = a.place; rows = map arc_value (arc_value a.cells) } };
+
+    ghost invariant = { λ a. AreRows (map arc_value (arc_value a.cells)) };
+}
+
+impl Rows {
+    /// The cells, which are handed over, as the rows at this place of the journal. The only error is that memory was refused.
+    pub fn from_list(alloc: Global, place: u64, cells: List<Cell>) -> Result<Rows, AllocError>
+        requires { AreRows (map arc_value cells) }
+        ensures { IfOk result (λ rows. rows ≡ record { place = place; rows = map arc_value cells }) }
+    {
+        Ok(Rows {
+            place,
+            cells: Arc::new(alloc, cells)?,
+        })
+    }
+
+    /// How many entries the journal had.
+    pub fn place(&self) -> u64
+        ensures { result ≡ self.now.place }
+    {
+        self.place
+    }
+
+    /// How many rows there are.
+    pub fn rows(&self) -> u32
+        ensures count { result ≡ length self.now.rows }
+        ensures rows { AreRows self.now.rows }
+    {
+        self.cells.len() as u32
+    }
+
+    /// The row at this index, counted from 0; None from the number of rows on.
+    pub fn row(&self, at: u32) -> Option<&Cell>
+        ensures row { option_map arc_value (option_copied result) ≡ slice_get self.now.rows at }
+        ensures rows { AreRows self.now.rows }
+    {
+        self.cells.as_slice().get(at as usize)
+    }
+
+    /// The same rows at another place: no row is copied.
+    pub(crate) fn at(&self, place: u64) -> Result<Rows, AllocError>
+        ensures { IfOk result (λ rows. rows ≡ record self.now { place = place }) }
+    {
+        Ok(Rows {
+            place,
+            cells: Arc::try_clone(&self.cells)?,
+        })
+    }
+
+    pub(crate) fn cells(&self) -> &[Cell]
+        ensures rows { map arc_value result.now ≡ self.now.rows }
+        ensures are_rows { AreRows self.now.rows }
+    {
+        self.cells.as_slice()
+    }
+}

@@ -2,5 +2,7 @@
 mod WorkLemmas
 mod SpineLemmas
 mod TermLemmas
-mod RowLemmas
+mod OperandLemmas
+pub mod NumberLemmas
+mod StepLemmas
 mod FaultLemmas

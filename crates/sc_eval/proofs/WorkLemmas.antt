@@ -1,4 +1,4 @@
--- How many steps it takes at most to drop a bound query, and how many nodes it has.
+-- How many steps it takes at most to drop a bound query.
 use Rattle.std.proofs.Common.{ℕ, ◌+◌, ◌*◌, Option, Some, None, Box, Global}
 use Rattle.sc_eval.specs.declared.bound.Bound.{Bound}
 use Rattle.sc_eval.specs.declared.bound.Bound.TheVariants.{All, Leaf, Not', And', Or'}
@@ -15,11 +15,3 @@ work (Or' p left q right) = 2 * work left + work right + 1
 abbrev pub work_left : Bound → Option (Box Bound Global) → ℕ
 work_left query None = work query
 work_left query (Some b) = 2 * work query + work b.value
-
--- how many nodes a query has
-abbrev pub size : Bound → ℕ
-size All = 1
-size (Leaf term) = 1
-size (Not' p operand) = size operand + 1
-size (And' p left q right) = size left + size right + 1
-size (Or' p left q right) = size left + size right + 1

@@ -3,4 +3,6 @@ pub mod Conditions
 pub mod Binding
 pub mod Spine
 pub mod Matching
+pub mod Operands
+pub mod Numbers
 pub mod Laws

@@ -1,56 +1,92 @@
-ghost use Rattle.std.specs.Prelude.{◌≡◌, not, if◌then◌else◌};
-ghost use Rattle.std.specs.List.{list_any};
-ghost use Rattle.std.specs.List.Sorted.{IsStrictlySortedBy};
-ghost use Rattle.sc_record.specs.Terms.{term_cmp};
-ghost use Rattle.sc_eval.specs.Conditions.{condition_of};
-ghost use Rattle.sc_eval.specs.Matching.{is_term, matches_by};
+//! Which rows match a query, whatever their hashes, by joining the posting lists of its terms.
+
+ghost use Rattle.std.specs.Prelude.{◌≡◌, ◌-◌, ◌≤◌, All, IfOk};
+ghost use Rattle.sc_record.specs.declared.write.Write.{Write};
+ghost use Rattle.sc_journal.specs.Legal.{HasTerms};
+ghost use Rattle.std.specs.List.Sorted.{IsStrictlyIncreasing};
+ghost use Rattle.sc_segment.specs.Joining.{IsJoin};
+ghost use Rattle.sc_eval.specs.Conditions.{Condition, condition_of};
+ghost use Rattle.sc_eval.specs.Numbers.{numbers_of, is_match, AreNumbersOf, AreStepsOfLeaves};
 
 use crate::bound::Bound;
+use crate::numbers::Numbers;
+use crate::operand::{Operand, Right, first_operand};
 use sc_record::Term;
+use sc_segment::{Kept, Steps, join};
+use sc_snapshot::{Snapshot, TermKey};
+use std::alloc::{AllocError, Global};
+use std::sync::ledger::Ledger;
 
-/// Whether what is found by these terms meets the condition. Right operands are tested first, so that a long row of AND and OR
-/// takes no stack and no memory.
-pub(crate) fn matches(query: &Bound, terms: &[Term]) -> bool
-    requires { IsStrictlySortedBy term_cmp terms.now }
-    ensures { result ≡ matches_by terms.now (condition_of query.now) }
+/// The numbers of the live rows that match the query. A step is one comparison of terms, and no row is read. A posting list is
+/// copied nowhere: it is lent, or joined with another. The only error is that memory was refused.
+pub(crate) fn matching<'a, L: Ledger>(
+    alloc: Global,
+    query: &Bound,
+    snapshot: &'a Snapshot,
+    steps: &mut Steps<L>,
+) -> Result<Numbers<'a>, AllocError>
+    requires { All (λ (row : Write). HasTerms row.id row.doc row.terms) snapshot.now.rows }
+    ensures numbers { IfOk result (λ found. AreNumbersOf (is_match (condition_of query.now)) snapshot.now.rows (numbers_of found)) }
+    ensures counted { steps.old ≤ steps.new }
+    ensures bound { AreStepsOfLeaves (condition_of query.now) snapshot.now.rows (steps.new - steps.old) }
 {
-    let mut query = query;
-    let mut negated = false;
-    loop {
-        match query {
-            Bound::All => return turned(negated, true),
-            Bound::Leaf(term) => return turned(negated, has(terms, term)),
-            Bound::Not(operand) => {
-                negated = !negated;
-                query = operand;
-            }
-            Bound::And(left, right) => {
-                if !matches(right, terms) {
-                    return turned(negated, false);
-                }
-                query = left;
-            }
-            Bound::Or(left, right) => {
-                if matches(right, terms) {
-                    return turned(negated, true);
-                }
-                query = left;
-            }
+    let mut waiting = Vec::new(alloc);
+    let mut found = match first_operand(&mut waiting, query)? {
+        Operand::All => Numbers::Lent(snapshot.live()),
+        Operand::Leaf(term) => numbers_with(term, snapshot, steps)?,
+        Operand::Not(operand) => {
+            let left_out = matching(alloc, operand, snapshot, steps)?;
+            all_but(alloc, snapshot, left_out)?
         }
+    };
+    while let Some(Right { how, operand }) = waiting.pop() {
+        let others = matching(alloc, operand, snapshot, steps)?;
+        found = joined(alloc, how, found, others)?;
     }
+    Ok(found)
 }
 
-// The truth value, turned round where it is negated.
-fn turned(negated: bool, value: bool) -> bool
-    ensures { result ≡ (if negated then not value else value) }
+// The numbers of the live rows that have the term.
+fn numbers_with<'a, L: Ledger>(
+    term: &Term,
+    snapshot: &'a Snapshot,
+    steps: &mut Steps<L>,
+) -> Result<Numbers<'a>, AllocError>
+    requires { All (λ (row : Write). HasTerms row.id row.doc row.terms) snapshot.now.rows }
+    ensures numbers { IfOk result (λ found. AreNumbersOf (is_match (Condition.Leaf term.now)) snapshot.now.rows (numbers_of found)) }
+    ensures counted { steps.old ≤ steps.new }
+    ensures bound { AreStepsOfLeaves (Condition.Leaf term.now) snapshot.now.rows (steps.new - steps.old) }
 {
-    value != negated
+    let key = TermKey::of(term)?;
+    Ok(Numbers::Lent(snapshot.postings(&key, steps)))
 }
 
-// Whether the term is among the terms: a binary search.
-fn has(terms: &[Term], term: &Term) -> bool
-    requires { IsStrictlySortedBy term_cmp terms.now }
-    ensures { result ≡ list_any (is_term term.now) terms.now }
+// The numbers of all live rows but these.
+fn all_but<'a>(
+    alloc: Global,
+    snapshot: &Snapshot,
+    left_out: Numbers<'_>,
+) -> Result<Numbers<'a>, AllocError>
+    requires { IsStrictlyIncreasing (numbers_of left_out) }
+    ensures { IfOk result (λ found. (operand : Condition) → AreNumbersOf (is_match operand) snapshot.now.rows (numbers_of left_out.entry)
+        → AreNumbersOf (is_match (Condition.Not operand)) snapshot.now.rows (numbers_of found)) }
 {
-    terms.binary_search(term).is_ok()
+    let live = snapshot.live();
+    let rest = join(alloc, Kept::LeftAlone, live, left_out.as_slice())?;
+    Ok(Numbers::Made(rest))
+}
+
+// The numbers that are kept of two lists.
+fn joined<'a>(
+    alloc: Global,
+    how: Kept,
+    left: Numbers<'_>,
+    right: Numbers<'_>,
+) -> Result<Numbers<'a>, AllocError>
+    requires left { IsStrictlyIncreasing (numbers_of left) }
+    requires right { IsStrictlyIncreasing (numbers_of right) }
+    ensures { IfOk result (λ both. IsJoin how (numbers_of left.entry) (numbers_of right.entry) (numbers_of both)) }
+{
+    let both = join(alloc, how, left.as_slice(), right.as_slice())?;
+    Ok(Numbers::Made(both))
 }

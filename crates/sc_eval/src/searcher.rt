@@ -1,60 +1,138 @@
-ghost use Rattle.std.specs.Prelude.{◌≡◌, map, filter, IfOk, All};
+ghost use Rattle.std.specs.Prelude.{◌≡◌, ℕ, ◌+◌, ◌-◌, ◌≤◌, true, map, filter, length, slice_get, is_some, option_copied, option_map, option_to_list, IfOk, All};
+ghost use Rattle.std.specs.Bool.{OnTrue};
 ghost use Rattle.std.specs.Arc.{arc_value};
+ghost use Rattle.std.specs.List.{flat_map};
+ghost use Rattle.std.specs.List.Sorted.{IsStrictlyIncreasing};
 ghost use Rattle.sc_hash.specs.Bounds.{bounds, contains};
 ghost use Rattle.sc_record.specs.declared.write.Write.{Write};
 ghost use Rattle.sc_journal.specs.Legal.{HasTerms};
+ghost use Rattle.sc_segment.specs.Joining.{has_row};
 ghost use Rattle.sc_eval.specs.Conditions.{condition_of};
-ghost use Rattle.sc_eval.specs.Matching.{finds, is_live};
+ghost use Rattle.sc_eval.specs.Matching.{finds};
+ghost use Rattle.sc_eval.specs.Numbers.{finds_at, row_in, AreStepsOfSearch};
 
 use crate::bound::Bound;
-use crate::matching::matches;
+use crate::matching::matching;
 use sc_hash::Range;
-use sc_record::{Cell, List, Write};
+use sc_record::{Cell, List};
+use sc_segment::Steps;
 use sc_snapshot::Snapshot;
 use std::alloc::{AllocError, Global};
 use std::sync::Arc;
+use std::sync::ledger::Ledger;
 
-/// The rows of a snapshot that the query finds in the range, in their order, so ascending by the ids' bytes. Each row is
-/// looked at once, and each that is found is shared. The only error is that memory was refused.
-pub fn evaluate(
+/// The numbers of the rows that the query finds in the range, counted from 0 and ascending, so in the order of their ids. A step
+/// is one comparison of terms, or one row that is read: none is where the hashes of all rows are in the range. The only error is
+/// that memory was refused.
+pub fn find<L: Ledger>(
     alloc: Global,
     query: &Bound,
     snapshot: &Snapshot,
     range: &Range,
+    steps: &mut Steps<L>,
+) -> Result<Vec<u32>, AllocError>
+    requires { All (λ (row : Write). HasTerms row.id row.doc row.terms) snapshot.now.rows }
+    ensures members { IfOk result (λ found. (number : ℕ)
+        → has_row found.items number ≡ finds_at range.now (condition_of query.now) (slice_get snapshot.now.rows number)) }
+    ensures ascending { IfOk result (λ found. IsStrictlyIncreasing found.items) }
+    ensures counted { steps.old ≤ steps.new }
+    ensures bound { AreStepsOfSearch (condition_of query.now) snapshot.now.rows (steps.new - steps.old) }
+{
+    let numbers = matching(alloc, query, snapshot, steps)?;
+    if has_all(range, snapshot) {
+        return numbers.into_vec(alloc);
+    }
+    numbers_in(alloc, snapshot, range, numbers.as_slice(), steps)
+}
+
+/// The rows of a snapshot that the query finds in the range, in their order, so ascending by the ids' bytes. Each row that
+/// matches the query is read once, no other is, and each that is found is shared. The only error is that memory was refused.
+pub fn evaluate<L: Ledger>(
+    alloc: Global,
+    query: &Bound,
+    snapshot: &Snapshot,
+    range: &Range,
+    steps: &mut Steps<L>,
 ) -> Result<List<Cell>, AllocError>
     requires { All (λ (row : Write). HasTerms row.id row.doc row.terms) snapshot.now.rows }
-    ensures { IfOk result (λ found. map arc_value found ≡ filter (finds range.now (condition_of query.now)) snapshot.now.rows) }
+    ensures found { IfOk result (λ found. map arc_value found ≡ filter (finds range.now (condition_of query.now)) snapshot.now.rows) }
+    ensures counted { steps.old ≤ steps.new }
+    ensures bound { AreStepsOfSearch (condition_of query.now) snapshot.now.rows (steps.new - steps.old) }
 {
-    let mut found = List::new(alloc);
-    for at in 0..snapshot.rows() {
-        if let Some(row) = snapshot.row(at) {
-            if finds(query, range, row) {
-                found.push(Arc::try_clone(row)?)?;
-            }
+    let numbers = matching(alloc, query, snapshot, steps)?;
+    cells_in(alloc, snapshot, range, numbers.as_slice(), steps)
+}
+
+// Whether the range has the hashes of all rows.
+fn has_all(range: &Range, snapshot: &Snapshot) -> bool
+    ensures { OnTrue result (All (λ (row : Write). contains row.hash (bounds range.now) ≡ true) snapshot.now.rows) }
+{
+    range.contains(snapshot.least_hash()) && range.contains(snapshot.greatest_hash())
+}
+
+// Those of the numbers whose rows have their hashes in the range. Each row is read.
+fn numbers_in<L: Ledger>(
+    alloc: Global,
+    snapshot: &Snapshot,
+    range: &Range,
+    numbers: &[u32],
+    steps: &mut Steps<L>,
+) -> Result<Vec<u32>, AllocError>
+    ensures found { IfOk result (λ found.
+        found.items ≡ filter (λ number. is_some (row_in range.now (slice_get snapshot.now.rows number))) numbers.now) }
+    ensures counted { steps.old ≤ steps.new }
+    ensures bound { steps.new ≤ steps.old + length numbers.now }
+{
+    let mut found = Vec::new(alloc);
+    for number in numbers {
+        if row_in(snapshot, range, *number, steps).is_some() {
+            found.push(*number)?;
         }
     }
     Ok(found)
 }
 
-// Whether the query finds the write in the range.
-fn finds(query: &Bound, range: &Range, write: &Write) -> bool
-    requires { HasTerms write.now.id write.now.doc write.now.terms }
-    ensures { result ≡ finds range.now (condition_of query.now) write.now }
+// The rows of the numbers, each shared, where their hashes are in the range. Each row is read.
+fn cells_in<L: Ledger>(
+    alloc: Global,
+    snapshot: &Snapshot,
+    range: &Range,
+    numbers: &[u32],
+    steps: &mut Steps<L>,
+) -> Result<List<Cell>, AllocError>
+    ensures found { IfOk result (λ found.
+        map arc_value found ≡ flat_map (λ number. option_to_list (row_in range.now (slice_get snapshot.now.rows number))) numbers.now) }
+    ensures counted { steps.old ≤ steps.new }
+    ensures bound { steps.new ≤ steps.old + length numbers.now }
 {
-    let hash = write.hash;
-    is_live(write) && is_in(range, hash) && matches(query, write.terms.as_slice())
+    let mut found = List::new(alloc);
+    for number in numbers {
+        if let Some(row) = row_in(snapshot, range, *number, steps) {
+            found.push(Arc::try_clone(row)?)?;
+        }
+    }
+    Ok(found)
 }
 
-// Whether the write is of a document, and no deletion.
-fn is_live(write: &Write) -> bool
-    ensures { result ≡ is_live write.now }
+// The row of this number, where its hash is in the range. It takes one step.
+fn row_in<'a, L: Ledger>(
+    snapshot: &'a Snapshot,
+    range: &Range,
+    number: u32,
+    steps: &mut Steps<L>,
+) -> Option<&'a Cell>
+    ensures row { option_map arc_value (option_copied result) ≡ row_in range.now (slice_get snapshot.now.rows number) }
+    ensures counted { steps.new ≡ steps.old + 1 }
 {
-    write.doc.is_some()
+    match snapshot.row(number, steps) {
+        Some(row) if is_in(range, row) => Some(row),
+        _ => None,
+    }
 }
 
-// Whether the hash is in the range.
-fn is_in(range: &Range, hash: i32) -> bool
-    ensures { result ≡ contains hash (bounds range.now) }
+// Whether the row's hash is in the range.
+fn is_in(range: &Range, row: &Cell) -> bool
+    ensures { result ≡ contains (arc_value row.now).hash (bounds range.now) }
 {
-    range.contains(hash)
+    range.contains(row.hash)
 }

@@ -1,7 +1,9 @@
 -- The test decides which hashes are within the range.
-use Rattle.std.proofs.Common.{◌≡◌, Bool, true, false, ◌↔◌, to_z, of_z, w32, refl, sym, arith}
-use Rattle.std.specs.Bool.{IsTrue, Decides}
+use Rattle.std.proofs.Common.{◌≡◌, Bool, true, false, ◌↔◌, to_z, of_z, w32, refl, sym, ap, arith}
 use Rattle.std.proofs.lemmas.Int.{ints}
+use Rattle.std.specs.Bool.{IsTrue, Decides}
+use Rattle.std.specs.Arc.{arc_value}
+use Rattle.sc_record.specs.declared.write.Write.{Write}
 use Rattle.sc_hash.specs.Range.{IsWithin}
 use Rattle.sc_hash.specs.Bounds.{contains}
 use Rattle.sc_hash.proofs.BoundsLemmas.{contains-Decides}
@@ -15,7 +17,9 @@ one_answer false false told decides = refl
 
 pub returns : goal.returns
 returns c =
-    let hash : to_z w32 (of_z w32 c.args.hash) ≡ c.args.hash = omega (arith, ints) in
-    let told : IsTrue c.contains.result ↔ IsWithin c.args.range.now.min c.args.range.now.max c.args.hash = rw hash at c.contains.ensures in
-    one_answer c.contains.result (contains c.args.hash (c.args.range.now.min, c.args.range.now.max)) told
-    (contains-Decides c.args.hash c.args.range.now.min c.args.range.now.max)
+    let same : c.deref.result.now.hash ≡ (arc_value c.args.row.now).hash = ap (λ (row : Write). row.hash) c.deref.ensures in
+    let hash : to_z w32 (of_z w32 c.deref.result.now.hash) ≡ (arc_value c.args.row.now).hash = omega (arith, ints, same) in
+    let told : IsTrue c.contains.result ↔ IsWithin c.args.range.now.min c.args.range.now.max (arc_value c.args.row.now).hash =
+    rw hash at c.contains.ensures in
+    one_answer c.contains.result (contains (arc_value c.args.row.now).hash (c.args.range.now.min, c.args.range.now.max)) told
+    (contains-Decides (arc_value c.args.row.now).hash c.args.range.now.min c.args.range.now.max)

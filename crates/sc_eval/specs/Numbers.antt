@@ -1,0 +1,61 @@
+-- Which rows a condition finds, by their numbers, and in how many steps.
+use Rattle.std.specs.Prelude.{◌≡◌, ℕ, ◌+◌, ◌*◌, ◌^◌, ◌<◌, ◌≤◌, Bool, false, ◌&&◌, if◌then◌else◌, List, filter, length, Option, None, Some, slice_get}
+use Rattle.std.specs.List.Sorted.{IsStrictlyIncreasing}
+use Rattle.sc_hash.specs.Bounds.{bounds, contains}
+use Rattle.sc_hash.specs.declared.range.Range.{Range}
+use Rattle.sc_record.specs.declared.write.Write.{Write}
+use Rattle.sc_segment.specs.Joining.{has_row}
+use Rattle.sc_snapshot.specs.Postings.{term_count}
+use Rattle.sc_eval.specs.Conditions.{Condition}
+use Rattle.sc_eval.specs.Matching.{matches, is_live, finds}
+use Rattle.sc_eval.specs.declared.numbers.Numbers.{Numbers}
+use Rattle.sc_eval.specs.declared.numbers.Numbers.TheVariants.{Lent, Made}
+
+-- the numbers as a list, whoever keeps it
+abbrev pub numbers_of : Numbers → List ℕ
+numbers_of (Lent numbers) = numbers.now
+numbers_of (Made numbers) = numbers.items
+
+-- there is a row, and it passes the test
+abbrev pub passes : (Write → Bool) → Option Write → Bool
+passes test None = false
+passes test (Some row) = test row
+
+-- there is a row, and the condition finds it in the range
+abbrev pub finds_at : Range → Condition → Option Write → Bool
+finds_at range condition = passes (finds range condition)
+
+-- the row is live and its document meets the condition, whatever its hash
+abbrev pub is_match : Condition → Write → Bool
+is_match condition row = is_live row && matches condition row
+
+-- the row, where there is one and its hash is in the range
+abbrev pub row_in : Range → Option Write → Option Write
+row_in range None = None
+row_in range (Some row) = if contains row.hash (bounds range) then Some row else None
+
+-- the numbers of the rows that pass the test, counted from 0, ascending
+pub record AreNumbersOf (test : Write → Bool) (rows : List Write) (numbers : List ℕ) : Type 0 where
+  pub members : (number : ℕ) → has_row numbers number ≡ passes test (slice_get rows number)
+  pub ascending : IsStrictlyIncreasing numbers
+
+-- how many leaves a condition has
+abbrev pub leaves : Condition → ℕ
+leaves Condition.All = 0
+leaves (Condition.Leaf term) = 1
+leaves (Condition.Not operand) = leaves operand
+leaves (Condition.And left right) = leaves left + leaves right
+leaves (Condition.Or left right) = leaves left + leaves right
+
+-- to look a term up among those of these rows takes at most so many comparisons, where each halves what is left of them
+abbrev pub IsLookUp : List Write → ℕ → Type 0
+IsLookUp rows most = 2 * term_count rows + 1 < 2 ^ (most + 1)
+
+-- these are no more steps than a look-up for each leaf of the condition
+abbrev pub AreStepsOfLeaves : Condition → List Write → ℕ → Type 0
+AreStepsOfLeaves condition rows steps = (most : ℕ) → IsLookUp rows most → steps ≤ leaves condition * most
+
+-- these are no more steps than a look-up for each leaf of the condition, and one for each live row that matches
+abbrev pub AreStepsOfSearch : Condition → List Write → ℕ → Type 0
+AreStepsOfSearch condition rows steps = (most : ℕ) → IsLookUp rows most
+    → steps ≤ leaves condition * most + length (filter (is_match condition) rows)

@@ -1,0 +1,71 @@
+//! A bound query is gone through from left to right, as it was bound: what is to the right of the operand that is looked up
+//! stands in a vector, so that a long row of AND and OR takes no stack.
+
+ghost use Rattle.std.specs.Prelude.{◌≡◌, [], IfOk};
+ghost use Rattle.sc_eval.specs.Conditions.{Condition, condition_of};
+ghost use Rattle.sc_eval.specs.Operands.{condition_with, operand_condition, joined_by};
+
+use crate::bound::Bound;
+use sc_record::Term;
+use sc_segment::Kept;
+use std::alloc::AllocError;
+
+/// An operand whose left one is being looked up, and which rows of both are then kept.
+#[derive(Clone, Copy)]
+pub(crate) struct Right<'a> {
+    pub(crate) how: Kept,
+    pub(crate) operand: &'a Bound,
+}
+
+/// A bound query that is no AND and no OR.
+#[derive(Clone, Copy)]
+pub(crate) enum Operand<'a> {
+    All,
+    Leaf(&'a Term),
+    Not(&'a Bound),
+}
+
+/// The operand that stands leftmost in a query. What is to the right of it waits, the innermost last.
+pub(crate) fn first_operand<'a>(
+    waiting: &mut Vec<Right<'a>>,
+    query: &'a Bound,
+) -> Result<Operand<'a>, AllocError>
+    requires { waiting.old.items ≡ [] }
+    ensures { IfOk result (λ operand. condition_of query.now ≡ condition_with waiting.new.items (operand_condition operand)) }
+{
+    let mut query = query;
+    loop {
+        match query {
+            Bound::All => return Ok(Operand::All),
+            Bound::Leaf(term) => return Ok(Operand::Leaf(term)),
+            Bound::Not(operand) => return Ok(Operand::Not(operand)),
+            Bound::And(left, right) => {
+                waiting.push(joined_by_and(right))?;
+                query = left;
+            }
+            Bound::Or(left, right) => {
+                waiting.push(Right {
+                    how: Kept::Either,
+                    operand: right,
+                })?;
+                query = left;
+            }
+        }
+    }
+}
+
+// The right operand of an AND. Of a NOT it is the operand that is looked up, and what is found by it is left out.
+fn joined_by_and(right: &Bound) -> Right<'_>
+    ensures { (left : Condition) → joined_by result.how left (condition_of result.operand.now) ≡ Condition.And left (condition_of right.now) }
+{
+    match right {
+        Bound::Not(operand) => Right {
+            how: Kept::LeftAlone,
+            operand,
+        },
+        _ => Right {
+            how: Kept::Both,
+            operand: right,
+        },
+    }
+}

@@ -3,6 +3,7 @@
 ghost use Rattle.std.specs.Prelude.{◌≡◌, map, All, IfOk};
 ghost use Rattle.std.specs.Arc.{arc_value};
 ghost use Rattle.sc_record.specs.declared.write.Write.{Write};
+ghost use Rattle.sc_segment.specs.Fresh.{IsFresh};
 ghost use Rattle.sc_snapshot.specs.Rows.{AreRows};
 ghost use Rattle.sc_journal.specs.Legal.{HasTerms};
 
@@ -13,15 +14,18 @@ use sc_hash::{Range, parse_range};
 use sc_query::parse;
 use sc_record::{Cell, Doc, Id, List, Write};
 use sc_schema::terms_of;
+use sc_segment::Steps;
 use sc_snapshot::Snapshot;
 use std::alloc::Global;
+use std::marker::Brand;
 use std::sync::Arc;
+use std::sync::ledger::{Blank, Ledger};
 
 pub fn answer(alloc: Global, text: &str) -> Result<String, Fault> {
     let (range, query) = text.split_once(' ').ok_or(Fault::Unreadable)?;
     let range = parse_range(range).ok_or(Fault::Unreadable)?;
     let snapshot = Snapshot::of(alloc, 3, &cells(alloc)?)?;
-    found(alloc, &snapshot, &range, query)
+    found::<Brand>(alloc, &snapshot, &range, query, Blank::new(1))
 }
 
 /// A write of the id: a document, or a deletion.
@@ -69,16 +73,24 @@ fn cells(alloc: Global) -> Result<List<Cell>, Fault>
 }
 
 /// The ids that a query finds, or the place of its fault.
-fn found(alloc: Global, snapshot: &Snapshot, range: &Range, text: &str) -> Result<String, Fault>
-    requires { All (λ (row : Write). HasTerms row.id row.doc row.terms) snapshot.now.rows }
+fn found<L: Ledger>(
+    alloc: Global,
+    snapshot: &Snapshot,
+    range: &Range,
+    text: &str,
+    blank: Blank,
+) -> Result<String, Fault>
+    requires terms { All (λ (row : Write). HasTerms row.id row.doc row.terms) snapshot.now.rows }
+    requires fresh { IsFresh blank L.name L.parts }
 {
+    let mut steps = Steps::<L>::new(blank);
     let Ok(query) = parse(alloc, text) else {
         return Err(Fault::Unreadable);
     };
     match bind(alloc, &query) {
         Ok(bound) => {
             let mut ids = String::new(alloc);
-            for cell in evaluate(alloc, &bound, snapshot, range)?.as_slice() {
+            for cell in evaluate(alloc, &bound, snapshot, range, &mut steps)?.as_slice() {
                 ids.push_str(cell.id.as_str())?;
             }
             Ok(ids)

@@ -5,7 +5,7 @@ ghost use Rattle.sc_segment.specs.Fresh.{IsFresh};
 use sc_record::{Cell, CoreId, Doc, Id, List, SliceId, Term, Text, Write};
 use sc_replica::Replica;
 use sc_segment::Steps;
-use sc_snapshot::{IndexedSnapshot, Snapshot, TermKey};
+use sc_snapshot::{Snapshot, TermKey};
 use sc_ulog::Mode;
 use std::alloc::{AllocError, Global};
 use std::marker::Brand;
@@ -62,25 +62,24 @@ fn core(alloc: Global) -> Result<Replica, Fail> {
     Ok(replica)
 }
 
-/// The index of the core's cells, of which there are three.
-fn indexed(rt: &impl Abort, alloc: Global, core: &Replica) -> Result<IndexedSnapshot, Fail> {
+/// The snapshot of the core's cells, of which there are three.
+fn snapshot(rt: &impl Abort, alloc: Global, core: &Replica) -> Result<Snapshot, Fail> {
     let cells = core.cells().share(alloc)?;
     assert!(rt; cells.len() == 3);
-    let snapshot = Snapshot::of(alloc, 3, &cells)?;
-    Ok(IndexedSnapshot::of(alloc, snapshot)?)
+    Ok(Snapshot::of(alloc, 3, &cells)?)
 }
 
 /// The numbers of the live rows that have the word.
 fn assert_rows<L: Ledger>(
     rt: &impl Abort,
     alloc: Global,
-    indexed: &IndexedSnapshot,
+    snapshot: &Snapshot,
     word: &str,
     rows: &[u32],
     steps: &mut Steps<L>,
 ) -> Result<(), Fail> {
     let key = TermKey::of(&term(alloc, word)?)?;
-    assert_eq!(rt; indexed.postings(&key, steps), rows);
+    assert_eq!(rt; snapshot.postings(&key, steps), rows);
     Ok(())
 }
 
@@ -88,18 +87,19 @@ fn finds_live_rows<L: Ledger>(rt: &impl Abort, alloc: Global, blank: Blank) -> R
     requires { IsFresh blank L.name L.parts }
 {
     let mut steps = Steps::<L>::new(blank);
-    let indexed = indexed(rt, alloc, &core(alloc)?)?;
-    assert_rows(rt, alloc, &indexed, "rust", &[0, 2], &mut steps)?;
-    assert_rows(rt, alloc, &indexed, "action", &[0], &mut steps)?;
-    assert_rows(rt, alloc, &indexed, "lucene", &[], &mut steps)?;
-    assert_live(rt, &indexed);
+    let snapshot = snapshot(rt, alloc, &core(alloc)?)?;
+    assert_rows(rt, alloc, &snapshot, "rust", &[0, 2], &mut steps)?;
+    assert_rows(rt, alloc, &snapshot, "action", &[0], &mut steps)?;
+    assert_rows(rt, alloc, &snapshot, "lucene", &[], &mut steps)?;
+    assert_live(rt, &snapshot);
     Ok(())
 }
 
 /// The first row and the third are live, and there is no fourth.
-fn assert_live(rt: &impl Abort, indexed: &IndexedSnapshot) {
-    assert_eq!(rt; indexed.rows(), 3);
-    assert!(rt; indexed.is_live(0) && !indexed.is_live(1) && indexed.is_live(2));
+fn assert_live(rt: &impl Abort, snapshot: &Snapshot) {
+    assert_eq!(rt; snapshot.rows(), 3);
+    assert!(rt; snapshot.is_live(0) && !snapshot.is_live(1) && snapshot.is_live(2));
+    assert_eq!(rt; snapshot.live(), &[0, 2]);
 }
 
 #[test]

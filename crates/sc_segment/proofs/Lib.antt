@@ -2,7 +2,11 @@
 pub mod AddingLemmas
 pub mod BitsLemmas
 pub mod BoundsLemmas
+pub mod CarryLemmas
+pub mod EntryLemmas
+pub mod FlatLemmas
 pub mod HasRowLemmas
+pub mod IndexLemmas
 pub mod JoinLemmas
 pub mod MembersLemmas
 pub mod RowsLemmas

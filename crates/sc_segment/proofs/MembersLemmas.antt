@@ -7,7 +7,7 @@ use Rattle.std.specs.Ordering.{is_eq}
 use Rattle.sc_segment.proofs.RowsLemmas.{same}
 use Rattle.sc_segment.specs.Index.{rows_with, WasAddedWith}
 
-Contains-cases : (x : ℕ) (xs : List ℕ) (row : ℕ) → Contains (x ∷ xs) row → (x ≡ row) ⊎ Contains xs row
+pub Contains-cases : (x : ℕ) (xs : List ℕ) (row : ℕ) → Contains (x ∷ xs) row → (x ≡ row) ⊎ Contains xs row
 Contains-cases x xs row (zero, within, at) = inl at
 Contains-cases x xs row (suc k, within, at) = inr (k, omega arith, at)
 
@@ -22,7 +22,7 @@ module _ {X : Type 0} (P : X → Type 0) where
   Any-cases x xs (zero, y, within, at, here) = inl (rw at here)
   Any-cases x xs (suc k, y, within, at, there) = inr (k, y, omega arith, at, there)
 
-Equal-from_is_eq : (o : Ordering) → is_eq o ≡ true → o ≡ Equal
+pub Equal-from_is_eq : (o : Ordering) → is_eq o ≡ true → o ≡ Equal
 Equal-from_is_eq Less equal = cc
 Equal-from_is_eq Equal equal = refl
 Equal-from_is_eq Greater equal = cc

@@ -68,7 +68,7 @@ module _ {K : Type 0} {order : K → K → Ordering} (o : IsTotalOrder order) wh
   rows_with-equal added key q equal =
       ap (λ ps. dedup same (map (λ p. p.0) ps)) (filter_agree (λ (p : ℕ × K). is_eq (order q p.1)) (λ p. is_eq (order key p.1)) (λ p. laws.congr q key p.1 equal) added)
 
-  some-rows_with : (added : List (ℕ × K)) (key : K) → is_some (non_empty (rows_with order added key)) ≡ list_any (λ p. is_eq (order key p.1)) added
+  pub some-rows_with : (added : List (ℕ × K)) (key : K) → is_some (non_empty (rows_with order added key)) ≡ list_any (λ p. is_eq (order key p.1)) added
   some-rows_with [] key = refl
   some-rows_with (p ∷ ps) key =
       elim (is_eq (order key p.1)) as (λ b. is_some (non_empty (dedup same (map (λ r. r.0) (cond b (p ∷ filter (λ r. is_eq (order key r.1)) ps) (filter (λ r. is_eq (order key r.1)) ps))))) ≡ (b || list_any (λ r. is_eq (order key r.1)) ps)) [

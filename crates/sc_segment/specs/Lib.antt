@@ -1,6 +1,8 @@
 -- The definitions of posting lists and live rows.
 pub mod Filing
+pub mod Flat
 pub mod Fresh
 pub mod Index
 pub mod Joining
 pub mod Live
+pub mod Searching

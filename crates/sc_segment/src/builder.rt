@@ -1,8 +1,9 @@
-ghost use Rattle.std.specs.Prelude.{◌≡◌, ℕ, ◌≤◌, List, [], ◌∷◌, ◌++◌, IfOk, OnOk, OnErr};
+ghost use Rattle.std.specs.Prelude.{◌≡◌, ℕ, ◌≤◌, List, [], ◌∷◌, ◌++◌, All, IfOk, OnOk, OnErr};
 ghost use Rattle.std.specs.BTreeMap.{IsUnchanged};
-ghost use Rattle.sc_segment.specs.Index.{IsIndexOf};
+ghost use Rattle.sc_segment.specs.Index.{IsIndexOf, HasRows};
 ghost use Rattle.sc_segment.specs.Filing.{NoRowAbove, FilesRow};
 
+use crate::flat_index::FlatIndex;
 use crate::key::Key;
 use crate::posting_list::PostingList;
 use crate::segment::Segment;
@@ -57,7 +58,7 @@ impl<K: Key + Ord + Drop> Builder<K> {
         Ok(())
     }
 
-    /// The segment of what was added. No row is copied. An error means out of memory, and the builder is then gone.
+    /// The segment of what was added. An error means out of memory, and the builder is then gone.
     pub fn finish(self) -> Result<Segment<K>, AllocError>
         ensures { IfOk result (λ segment. segment ≡ self.index) }
     {
@@ -67,8 +68,25 @@ impl<K: Key + Ord + Drop> Builder<K> {
             alloc,
         } = self;
         let entries = lists.into_iter().collect(alloc)?;
-        Ok(Segment::new(entries))
+        let index = flattened(alloc, entries)?;
+        Ok(Segment::new(index))
     }
+}
+
+// The keys with their rows, laid out flat.
+fn flattened<K: Drop>(
+    alloc: Global,
+    entries: Vec<(K, PostingList)>,
+) -> Result<FlatIndex<K>, AllocError>
+    ensures entries { IfOk result (λ index. index.entries ≡ entries.items) }
+    ensures rows { IfOk result (λ index. All HasRows index.entries) }
+{
+    let mut index = FlatIndex::with_room(alloc, entries.len(), 0)?;
+    for (key, list) in entries {
+        index.add_rows(list.as_slice())?;
+        index.close(key)?;
+    }
+    Ok(index)
 }
 
 fn file_row<K: Ord + Drop>(

@@ -14,6 +14,7 @@
 #![tactic(auto)]
 
 mod builder;
+mod flat_index;
 mod joining;
 mod key;
 mod live_bits;

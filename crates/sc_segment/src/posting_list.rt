@@ -1,4 +1,4 @@
-ghost use Rattle.std.specs.Prelude.{◌≡◌, ◌≤◌, ℕ, List, [], ◌∷◌, ◌++◌, All, OnOk, OnErr, IfOk};
+ghost use Rattle.std.specs.Prelude.{◌≡◌, ◌<◌, ◌≤◌, ℕ, length, List, [], ◌∷◌, ◌++◌, All, OnOk, OnErr, IfOk};
 ghost use Rattle.std.specs.List.Sorted.{IsStrictlyIncreasing};
 ghost use Rattle.sc_segment.specs.Index.{without_repeats};
 
@@ -16,7 +16,7 @@ impl Model for PostingList {
 
     ghost view = { λ a. a.rows.items };
 
-    ghost invariant = { λ a. IsStrictlyIncreasing a.rows.items };
+    ghost invariant = { λ a. (0 < length a.rows.items) × IsStrictlyIncreasing a.rows.items };
 }
 
 impl PostingList {
@@ -43,6 +43,7 @@ impl PostingList {
 
     pub(crate) fn as_slice(&self) -> &[u32]
         ensures rows { result.now ≡ self.now }
+        ensures some { 0 < length self.now }
         ensures ascending { IsStrictlyIncreasing self.now }
     {
         self.rows.as_slice()

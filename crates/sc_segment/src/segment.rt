@@ -1,11 +1,10 @@
-ghost use Rattle.std.specs.Prelude.{◌≡◌, ℕ, ◌+◌, ◌-◌, ◌*◌, ◌^◌, ◌≤◌, ◌↔◌, List, [], length, Contains, unwrap_or};
+ghost use Rattle.std.specs.Prelude.{◌≡◌, ℕ, ◌+◌, ◌-◌, ◌*◌, ◌^◌, ◌≤◌, ◌↔◌, List, length, Contains};
 ghost use Rattle.std.specs.List.Sorted.{IsStrictlyIncreasing, IsStrictlySortedBy};
-ghost use Rattle.std.specs.Map.{keys_of, lookup};
-ghost use Rattle.std.specs.BTreeMap.{is_at};
-ghost use Rattle.sc_segment.specs.Index.{IsIndexOf, rows_with, WasAddedWith};
+ghost use Rattle.sc_segment.specs.Index.{IsIndexOf, IsInOrder, rows_with, WasAddedWith};
+ghost use Rattle.sc_segment.specs.Searching.{IsPlace};
 
+use crate::flat_index::FlatIndex;
 use crate::key::Key;
-use crate::posting_list::PostingList;
 use crate::steps::Steps;
 use std::cmp::Ordering;
 use std::marker::Model;
@@ -14,23 +13,28 @@ use std::sync::ledger::Ledger;
 /// For each distinct key the list of its rows, the keys in ascending order.
 #[derive(Drop)]
 pub struct Segment<K: Key> {
-    entries: Vec<(K, PostingList)>,
+    pub(crate) index: FlatIndex<K>,
 }
 
 impl<K: Key> Model for Segment<K> {
+    ghost use Rattle.std.specs.Prelude.{ℕ, List};
+    ghost use Rattle.sc_segment.specs.Index.{IsInOrder};
+
     ghost Value = { List (K × List ℕ) };
 
-    ghost view = { λ a. a.entries.items };
+    ghost view = { λ a. a.index.entries };
 
-    ghost invariant = { λ a. IsStrictlySortedBy K.order (keys_of a.entries.items) };
+    ghost invariant = { λ a. IsInOrder K.order a.index.entries };
 }
 
 impl<K: Key> Segment<K> {
-    pub(crate) fn new(entries: Vec<(K, PostingList)>) -> Self
-        requires { IsStrictlySortedBy K.order (keys_of entries.items) }
-        ensures { result ≡ entries.items }
+    pub(crate) fn new(index: FlatIndex<K>) -> Self
+        requires { IsInOrder K.order index.entries }
+        ensures { result ≡ index.entries }
     {
-        Segment { entries }
+        let mut index = index;
+        index.shrink();
+        Segment { index }
     }
 
     /// The rows that were added with a key that compares equal, none where no row was. The key is sought by
@@ -42,31 +46,33 @@ impl<K: Key> Segment<K> {
         ensures counted { steps.old ≤ steps.new }
         ensures bound { 2 ^ (steps.new - steps.old) ≤ 2 * length self.now + 1 }
     {
-        search(self.entries.as_slice(), key, steps)
+        match search(self.index.keys(), key, steps) {
+            Ok(at) => self.index.rows_of(at),
+            Err(_) => &[],
+        }
     }
 }
 
-fn search<'a, K: Key, L: Ledger>(
-    entries: &'a [(K, PostingList)],
+/// Where the key stands among keys that ascend, or else where it would have to stand.
+pub(crate) fn search<K: Key, L: Ledger>(
+    keys: &[K],
     key: &K,
     steps: &mut Steps<L>,
-) -> &'a [u32]
-    requires { IsStrictlySortedBy K.order (keys_of entries.now) }
-    ensures rows { result.now ≡ unwrap_or (lookup (is_at (K.order key.now)) entries.now) [] }
-    ensures ascending { IsStrictlyIncreasing result.now }
+) -> Result<usize, usize>
+    requires { IsStrictlySortedBy K.order keys.now }
+    ensures place { IsPlace K.order keys.now key.now result }
     ensures counted { steps.old ≤ steps.new }
-    ensures bound { 2 ^ (steps.new - steps.old) ≤ 2 * length entries.now + 1 }
+    ensures bound { 2 ^ (steps.new - steps.old) ≤ 2 * length keys.now + 1 }
 {
     let mut low = 0;
-    let mut high = entries.len();
+    let mut high = keys.len();
     'halving: while low < high {
         let middle = low + (high - low) / 2;
-        let (found, list) = &entries[middle];
-        match key.compare(found, steps) {
+        match key.compare(&keys[middle], steps) {
             Ordering::Less => high = middle,
-            Ordering::Equal => return list.as_slice(),
+            Ordering::Equal => return Ok(middle),
             Ordering::Greater => low = middle + 1,
         }
     }
-    &[]
+    Err(low)
 }

@@ -6,12 +6,12 @@ use Rattle.sc_segment.proofs.segment.search.Given as goal
 abbrev pub invariant-halving : goal.invariant-halving
 invariant-halving g l = record {
   in_order : l.low ≤ l.high;
-  within : l.high ≤ length l.entries;
-  greater : (j : ℕ) (e : _) → j < l.low → slice_get l.entries j ≡ Some e → g.K.Key.order l.key e.0 ≡ Greater;
-  less : (j : ℕ) (e : _) → l.high ≤ j → slice_get l.entries j ≡ Some e → g.K.Key.order l.key e.0 ≡ Less;
+  within : l.high ≤ length l.keys;
+  greater : (j : ℕ) (k : _) → j < l.low → slice_get l.keys j ≡ Some k → g.K.Key.order l.key k ≡ Greater;
+  less : (j : ℕ) (k : _) → l.high ≤ j → slice_get l.keys j ≡ Some k → g.K.Key.order l.key k ≡ Less;
   counted : l.initial.steps ≤ l.steps;
-  halved : 2 ^ (l.steps - l.initial.steps) * (l.high - l.low) ≤ length l.entries;
-  bound : 2 ^ (l.steps - l.initial.steps) ≤ 2 * length l.entries + 1;
+  halved : 2 ^ (l.steps - l.initial.steps) * (l.high - l.low) ≤ length l.keys;
+  bound : 2 ^ (l.steps - l.initial.steps) ≤ 2 * length l.keys + 1;
 }
 
 abbrev pub decreases-halving : goal.decreases-halving

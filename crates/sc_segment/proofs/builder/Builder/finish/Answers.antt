@@ -7,4 +7,7 @@ use Rattle.sc_segment.proofs.builder.Builder.finish.Goals as goal
 pub new-requires : goal.new-requires
 new-requires g c =
     let same : c.in_ok-entries.entries.items ≡ c.self.inside.lists.entries = search rules in
-    rw same (IsStrictlySortedBy-alike c.self.invariant.0 (keys_of c.self.inside.lists.entries) c.into_iter.ensures.into_iter_gives.5)
+    record {
+      keys = rw (c.in_ok-index.ensures.entries, same) (IsStrictlySortedBy-alike c.self.invariant.0 (keys_of c.self.inside.lists.entries) c.into_iter.ensures.into_iter_gives.5);
+      rows = c.in_ok-index.ensures.rows;
+    }

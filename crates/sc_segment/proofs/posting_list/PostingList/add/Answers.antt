@@ -14,4 +14,4 @@ pub returns-else-ne-clause-ok : goal.returns-else-ne-clause-ok
 returns-else-ne-clause-ok c =
     let found = row_from_equal c.copied.result c.args.row (sym c.ne.ensures ∙ c.if-ne.false) in
     let last = rw c.deref.ensures.value at (sym c.last.ensures.value) in
-    rw (← c.self.view_is) (sym (dedup-again c.self.inside.rows.items c.args.row c.self.invariant (last ∙ sym c.copied.ensures ∙ found)))
+    rw (← c.self.view_is) (sym (dedup-again c.self.inside.rows.items c.args.row c.self.invariant.1 (last ∙ sym c.copied.ensures ∙ found)))

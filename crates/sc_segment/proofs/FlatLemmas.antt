@@ -1,0 +1,134 @@
+-- An index laid out flat: what it has at each place, and after rows or a key were put at its end.
+use Rattle.std.proofs.Common.{◌≡◌, ℕ, zero, suc, ◌-◌, ◌<◌, ◌≤◌, List, [], ◌∷◌, ◌++◌, length, take, drop, get_or, slice_get, Some, refl, sym, ap, ◌∙◌, arith}
+use Rattle.std.proofs.lemmas.List.{length-drop, drop-append-le, take-append-le, take_rest, drop_all}
+use Rattle.std.specs.Map.{keys_of}
+use Rattle.std.specs.List.{slice_range}
+use Rattle.sc_segment.specs.Flat.{FlatState, entries_from, last_end, AreEnds}
+
+-- where the rows of the key at a place begin
+abbrev pub begin : ℕ → List ℕ → ℕ → ℕ
+begin from ends zero = from
+begin from ends (suc i) = get_or ends i 0
+
+begin-rest : (from end : ℕ) (ends : List ℕ) (i : ℕ) → begin end ends i ≡ begin from (end ∷ ends) (suc i)
+begin-rest from end ends zero = refl
+begin-rest from end ends (suc i) = refl
+
+from_within : (from : ℕ) (ends : List ℕ) (n : ℕ) → AreEnds from ends n → from ≤ n
+from_within from [] n are = are
+from_within from (e ∷ es) n are =
+    let first = are.0 in
+    let rest = from_within e es n are.1 in omega (arith, first, rest)
+
+pub last_within : (from : ℕ) (ends : List ℕ) (n : ℕ) → AreEnds from ends n → last_end from ends ≤ n
+last_within from [] n are = are
+last_within from (e ∷ es) n are = last_within e es n are.1
+
+pub end_within : (from : ℕ) (ends : List ℕ) (n i : ℕ) → AreEnds from ends n → i < length ends → get_or ends i 0 ≤ n
+end_within from [] n i are within = absurd (omega arith)
+end_within from (e ∷ es) n zero are within = from_within e es n are.1
+end_within from (e ∷ es) n (suc i) are within = end_within e es n i are.1 (omega arith)
+
+pub begin_before_end : (from : ℕ) (ends : List ℕ) (n i : ℕ) → AreEnds from ends n → i < length ends → begin from ends i ≤ get_or ends i 0
+begin_before_end from [] n i are within = absurd (omega arith)
+begin_before_end from (e ∷ es) n zero are within = are.0
+begin_before_end from (e ∷ es) n (suc i) are within = rw (← begin-rest from e es i) (begin_before_end e es n i are.1 (omega arith))
+
+pub AreEnds-more : (from : ℕ) (ends : List ℕ) (n m : ℕ) → n ≤ m → AreEnds from ends n → AreEnds from ends m
+AreEnds-more from [] n m le are = omega (arith, are, le)
+AreEnds-more from (e ∷ es) n m le are = (are.0, AreEnds-more e es n m le are.1)
+
+pub AreEnds-push : (from : ℕ) (ends : List ℕ) (n : ℕ) → AreEnds from ends n → AreEnds from (ends ++ n ∷ []) n
+AreEnds-push from [] n are = (are, omega arith)
+AreEnds-push from (e ∷ es) n are = (are.0, AreEnds-push e es n are.1)
+
+pub last_end-push : (from : ℕ) (ends : List ℕ) (n : ℕ) → last_end from (ends ++ n ∷ []) ≡ n
+last_end-push from [] n = refl
+last_end-push from (e ∷ es) n = last_end-push e es n
+
+-- rows put at the end are no part of those before them
+range-more : (rows more : List ℕ) (a b : ℕ) → a ≤ b → b ≤ length rows → slice_range (rows ++ more) a b ≡ slice_range rows a b
+range-more rows more a b le within =
+    let here : a ≤ length rows = omega arith in
+    let enough : b - a ≤ length (drop a rows) = rw (length-drop a rows) (omega arith) in
+    ap (take (b - a)) (drop-append-le a rows more here) ∙ take-append-le (b - a) (drop a rows) more enough
+
+module _ {K : Type 0} where
+  pub length-entries : (from : ℕ) (keys : List K) (ends rows : List ℕ) → length keys ≡ length ends → length (entries_from from keys ends rows) ≡ length ends
+  length-entries from [] [] rows same = refl
+  length-entries from [] (e ∷ es) rows same = cc
+  length-entries from (k ∷ ks) [] rows same = cc
+  length-entries from (k ∷ ks) (e ∷ es) rows same = ap suc (length-entries e ks es rows (omega (arith, same)))
+
+  pub keys_of-entries : (from : ℕ) (keys : List K) (ends rows : List ℕ) → length keys ≡ length ends → keys_of (entries_from from keys ends rows) ≡ keys
+  keys_of-entries from [] ends rows same = refl
+  keys_of-entries from (k ∷ ks) [] rows same = cc
+  keys_of-entries from (k ∷ ks) (e ∷ es) rows same = ap (λ (qs : List K). k ∷ qs) (keys_of-entries e ks es rows (omega (arith, same)))
+
+  pub entry_at : (from : ℕ) (keys : List K) (ends rows : List ℕ) (i : ℕ) (k : K) → slice_get keys i ≡ Some k → i < length ends
+      → slice_get (entries_from from keys ends rows) i ≡ Some (k, slice_range rows (begin from ends i) (get_or ends i 0))
+  entry_at from [] ends rows i k at within = cc
+  entry_at from (q ∷ qs) [] rows i k at within = absurd (omega arith)
+  entry_at from (q ∷ qs) (e ∷ es) rows zero k at within =
+      let same : q ≡ k = cc in
+      ap (λ (x : K). Some (x, slice_range rows from e)) same
+  entry_at from (q ∷ qs) (e ∷ es) rows (suc i) k at within =
+      entry_at e qs es rows i k at (omega arith) ∙ ap (λ (a : ℕ). Some (k, slice_range rows a (get_or es i 0))) (begin-rest from e es i)
+
+  entries-more : (from : ℕ) (keys : List K) (ends rows more : List ℕ) → AreEnds from ends (length rows)
+      → entries_from from keys ends (rows ++ more) ≡ entries_from from keys ends rows
+  entries-more from [] ends rows more are = refl
+  entries-more from (k ∷ ks) [] rows more are = refl
+  entries-more from (k ∷ ks) (e ∷ es) rows more are =
+      let here = range-more rows more from e are.0 (from_within e es (length rows) are.1) in
+      ap (λ (rs : List ℕ). (k, rs) ∷ entries_from e ks es (rows ++ more)) here
+      ∙ ap (λ (xs : List (K × List ℕ)). (k, slice_range rows from e) ∷ xs) (entries-more e ks es rows more are.1)
+
+  entries-push : (from : ℕ) (keys : List K) (ends rows : List ℕ) (k : K) (e : ℕ) → length keys ≡ length ends
+      → entries_from from (keys ++ k ∷ []) (ends ++ e ∷ []) rows ≡ entries_from from keys ends rows ++ (k, slice_range rows (last_end from ends) e) ∷ []
+  entries-push from [] [] rows k e same = refl
+  entries-push from [] (a ∷ es) rows k e same = cc
+  entries-push from (q ∷ qs) [] rows k e same = cc
+  entries-push from (q ∷ qs) (a ∷ es) rows k e same =
+      ap (λ (xs : List (K × List ℕ)). (q, slice_range rows from a) ∷ xs) (entries-push a qs es rows k e (omega (arith, same)))
+
+  -- what these three lists stand for
+  abbrev pub flat : List K → List ℕ → List ℕ → FlatState K
+  flat keys ends rows = record { entries = entries_from 0 keys ends rows; pending = drop (last_end 0 ends) rows }
+
+  -- rows more wait for their key
+  pub flat-rows : (keys : List K) (ends rows more : List ℕ) (old : FlatState K) → AreEnds 0 ends (length rows) → flat keys ends rows ≡ old
+      → flat keys ends (rows ++ more) ≡ record { entries = old.entries; pending = old.pending ++ more }
+  flat-rows keys ends rows more old are was =
+      let a = entries-more 0 keys ends rows more are ∙ ap (λ (s : FlatState K). s.entries) was in
+      let b = drop-append-le (last_end 0 ends) rows more (last_within 0 ends (length rows) are) ∙ ap (λ (s : FlatState K). s.pending ++ more) was in
+      cc (a, b)
+
+  -- one key more has the rows that waited
+  pub flat-close : (keys : List K) (ends rows : List ℕ) (k : K) (old : FlatState K) → length keys ≡ length ends → AreEnds 0 ends (length rows) → flat keys ends rows ≡ old
+      → flat (keys ++ k ∷ []) (ends ++ length rows ∷ []) rows ≡ record { entries = old.entries ++ (k, old.pending) ∷ []; pending = [] }
+  flat-close keys ends rows k old same are was =
+      let a = entries-push 0 keys ends rows k (length rows) same
+      ∙ ap (λ (rs : List ℕ). entries_from 0 keys ends rows ++ (k, rs) ∷ []) (take_rest rows (last_end 0 ends))
+      ∙ ap (λ (s : FlatState K). s.entries ++ (k, s.pending) ∷ []) was in
+      let b : drop (last_end 0 (ends ++ length rows ∷ [])) rows ≡ [] =
+      ap (λ (n : ℕ). drop n rows) (last_end-push 0 ends (length rows)) ∙ drop_all (length rows) rows (omega arith) in
+      cc (a, b)
+
+  -- a place among the entries is one among the ends
+  pub place_within : (keys : List K) (ends rows : List ℕ) (old : FlatState K) (at : ℕ) → length keys ≡ length ends → flat keys ends rows ≡ old → at < length old.entries → at < length ends
+  place_within keys ends rows old at same was within =
+      let a = length-entries 0 keys ends rows same in
+      let b : length (entries_from 0 keys ends rows) ≡ length old.entries = ap (λ (s : FlatState K). length s.entries) was in
+      omega (arith, a, b, within)
+
+  -- the rows of a key are those from where the rows before it end
+  pub flat-rows_of : (keys : List K) (ends rows : List ℕ) (old : FlatState K) (at start end : ℕ) (key : K) → length keys ≡ length ends → flat keys ends rows ≡ old → at < length ends
+      → start ≡ begin 0 ends at → end ≡ get_or ends at 0 → slice_get (keys_of old.entries) at ≡ Some key → slice_get old.entries at ≡ Some (key, slice_range rows start end)
+  flat-rows_of keys ends rows old at start end key same was within starts ends_at found =
+      let there : slice_get keys at ≡ Some key =
+      ap (λ (ks : List K). slice_get ks at) (sym (keys_of-entries 0 keys ends rows same)) ∙ ap (λ (s : FlatState K). slice_get (keys_of s.entries) at) was ∙ found in
+      ap (λ (s : FlatState K). slice_get s.entries at) (sym was)
+      ∙ entry_at 0 keys ends rows at key there within
+      ∙ ap (λ (a : ℕ). Some (key, slice_range rows a (get_or ends at 0))) (sym starts)
+      ∙ ap (λ (b : ℕ). Some (key, slice_range rows start b)) (sym ends_at)

@@ -14,6 +14,16 @@ begin-rest : (from end : ℕ) (ends : List ℕ) (i : ℕ) → begin end ends i �
 begin-rest from end ends zero = refl
 begin-rest from end ends (suc i) = refl
 
+-- a place is where rows begin, by the case of the first one
+pub begin_from_clauses : (ends : List ℕ) (at start : ℕ) → (at ≡ 0 → start ≡ 0) → (0 < at → start ≡ get_or ends (at - 1) 0) → start ≡ begin 0 ends at
+begin_from_clauses ends zero start first later = first refl
+begin_from_clauses ends (suc i) start first later = later (omega arith) ∙ ap (λ (n : ℕ). get_or ends n 0) (omega arith)
+
+-- the rows after the last key begin where its own end
+pub last_end-begin : (from : ℕ) (ends : List ℕ) → last_end from ends ≡ begin from ends (length ends)
+last_end-begin from [] = refl
+last_end-begin from (e ∷ es) = last_end-begin e es ∙ begin-rest from e es (length es)
+
 from_within : (from : ℕ) (ends : List ℕ) (n : ℕ) → AreEnds from ends n → from ≤ n
 from_within from [] n are = are
 from_within from (e ∷ es) n are =
@@ -132,3 +142,10 @@ module _ {K : Type 0} where
       ∙ entry_at 0 keys ends rows at key there within
       ∙ ap (λ (a : ℕ). Some (key, slice_range rows a (get_or ends at 0))) (sym starts)
       ∙ ap (λ (b : ℕ). Some (key, slice_range rows start b)) (sym ends_at)
+
+  -- rows wait where there are rows after those of the last key
+  pub length-pending : (keys : List K) (ends rows : List ℕ) (old : FlatState K) (start : ℕ) → flat keys ends rows ≡ old → start ≡ begin 0 ends (length ends) → length old.pending ≡ length rows - start
+  length-pending keys ends rows old start was starts =
+      ap (λ (s : FlatState K). length s.pending) (sym was)
+      ∙ length-drop (last_end 0 ends) rows
+      ∙ ap (λ (n : ℕ). length rows - n) (last_end-begin 0 ends ∙ sym starts)

@@ -2,6 +2,8 @@
 pub mod AddingLemmas
 pub mod BitsLemmas
 pub mod BoundsLemmas
+pub mod CarryLemmas
+pub mod EntryLemmas
 pub mod FlatLemmas
 pub mod HasRowLemmas
 pub mod IndexLemmas

@@ -22,7 +22,7 @@ module _ {X : Type 0} (P : X → Type 0) where
   Any-cases x xs (zero, y, within, at, here) = inl (rw at here)
   Any-cases x xs (suc k, y, within, at, there) = inr (k, y, omega arith, at, there)
 
-Equal-from_is_eq : (o : Ordering) → is_eq o ≡ true → o ≡ Equal
+pub Equal-from_is_eq : (o : Ordering) → is_eq o ≡ true → o ≡ Equal
 Equal-from_is_eq Less equal = cc
 Equal-from_is_eq Equal equal = refl
 Equal-from_is_eq Greater equal = cc

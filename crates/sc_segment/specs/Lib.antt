@@ -1,4 +1,5 @@
 -- The definitions of posting lists and live rows.
+pub mod Carrying
 pub mod Filing
 pub mod Flat
 pub mod Fresh

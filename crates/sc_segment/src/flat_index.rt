@@ -1,4 +1,4 @@
-ghost use Rattle.std.specs.Prelude.{◌≡◌, ◌<◌, List, [], ◌∷◌, ◌++◌, length, slice_get, slice_index, Some, IfOk, OnOk, ◌-◌};
+ghost use Rattle.std.specs.Prelude.{◌≡◌, ◌<◌, ◌≤◌, ◌↔◌, IsTrue, List, [], ◌∷◌, ◌++◌, length, slice_get, slice_index, Some, IfOk, OnOk, ◌-◌};
 ghost use Rattle.std.specs.Map.{keys_of};
 ghost use Rattle.sc_segment.specs.Flat.{FlatState};
 
@@ -81,6 +81,13 @@ impl<K> FlatIndex<K> {
         self.keys.as_slice()
     }
 
+    /// Whether rows wait for their key.
+    pub(crate) fn has_pending(&self) -> bool
+        ensures { IsTrue result ↔ (0 < length self.now.pending) }
+    {
+        start_of(&self.ends, self.ends.len()) < self.rows.len()
+    }
+
     /// How many rows there are, those of each key counted.
     pub(crate) fn row_count(&self) -> usize {
         self.rows.len()
@@ -97,9 +104,9 @@ impl<K> FlatIndex<K> {
     }
 }
 
-// Where the rows of the key at this place begin.
+// Where the rows of the key at this place begin, or those that follow the last key.
 fn start_of(ends: &[usize], at: usize) -> usize
-    requires { at < length ends.now }
+    requires { at ≤ length ends.now }
     ensures first { at ≡ 0 → result ≡ 0 }
     ensures later { 0 < at → result ≡ slice_index ends.now (at - 1) }
 {

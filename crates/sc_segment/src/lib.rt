@@ -1,19 +1,22 @@
 //! Posting lists: which rows have a key, found by a search among the keys that counts its comparisons.
 //!
-//! A `Builder` takes pairs of a row and a key, and becomes a `Segment`, which gives the rows of a key. `join` makes
+//! A `Builder` takes pairs of a row and a key, and becomes a `Segment`, which gives the rows of a key. Where some rows change,
+//! `Segment::carried` gives the segment of the new rows out of the old one and a small one of what changed. `join` makes
 //! of two lists of rows the list of those in both, in one of them, or in the first alone. A `LiveBits` says which
 //! rows are live. The crate depends on std alone. Contracts see a builder's index and
 //! a segment as the list of the distinct keys with their rows, and a layer above says by `IsIndexOf` which
 //! pairs it has added: `Segment::postings` then gives a filter of these pairs, and `Steps` bounds the number
-//! of comparisons.
+//! of comparisons. `proofs/IndexLemmas.antt` says of which pairs an index in order is one, by the rows that it has for each key.
 //!
 //! Proved: `Segment::postings` gives exactly the rows of a key, ascending and each once, within a bound on comparisons;
+//! `Segment::carried` has for each key exactly the rows that stay, under their new numbers, and those that are added;
 //! `join` keeps exactly the rows that it says, ascending and each once; `LiveBits` is the list of its bits.
 //!
 //! Neither: speed.
 #![tactic(auto)]
 
 mod builder;
+mod carrying;
 mod flat_index;
 mod joining;
 mod key;

@@ -1,4 +1,5 @@
-ghost use Rattle.std.specs.Prelude.{◌≡◌, ℕ, ◌+◌, ◌-◌, ◌*◌, ◌^◌, ◌≤◌, ◌↔◌, List, length, Contains};
+ghost use Rattle.std.specs.Prelude.{◌≡◌, ℕ, ◌+◌, ◌-◌, ◌*◌, ◌^◌, ◌<◌, ◌≤◌, ◌↔◌, List, length, slice_get, Some, Contains, MatchResult};
+ghost use Rattle.std.specs.declared.cmp.Ordering.TheVariants.{Greater};
 ghost use Rattle.std.specs.List.Sorted.{IsStrictlyIncreasing, IsStrictlySortedBy};
 ghost use Rattle.sc_segment.specs.Index.{IsIndexOf, IsInOrder, rows_with, WasAddedWith};
 ghost use Rattle.sc_segment.specs.Searching.{IsPlace};
@@ -46,25 +47,30 @@ impl<K: Key> Segment<K> {
         ensures counted { steps.old ≤ steps.new }
         ensures bound { 2 ^ (steps.new - steps.old) ≤ 2 * length self.now + 1 }
     {
-        match search(self.index.keys(), key, steps) {
+        match search(self.index.keys(), 0, key, steps) {
             Ok(at) => self.index.rows_of(at),
             Err(_) => &[],
         }
     }
 }
 
-/// Where the key stands among keys that ascend, or else where it would have to stand.
+/// Where the key stands among keys that ascend, or else where it would have to stand. It is sought from a place on, before which all
+/// keys are below it.
 pub(crate) fn search<K: Key, L: Ledger>(
     keys: &[K],
+    from: usize,
     key: &K,
     steps: &mut Steps<L>,
 ) -> Result<usize, usize>
-    requires { IsStrictlySortedBy K.order keys.now }
+    requires ascending { IsStrictlySortedBy K.order keys.now }
+    requires within { from ≤ length keys.now }
+    requires before { (i : ℕ) → (k : K) → i < from → slice_get keys.now i ≡ Some k → K.order key.now k ≡ Greater }
     ensures place { IsPlace K.order keys.now key.now result }
+    ensures from { MatchResult result (λ at. from ≤ at) (λ at. from ≤ at) }
     ensures counted { steps.old ≤ steps.new }
     ensures bound { 2 ^ (steps.new - steps.old) ≤ 2 * length keys.now + 1 }
 {
-    let mut low = 0;
+    let mut low = from;
     let mut high = keys.len();
     'halving: while low < high {
         let middle = low + (high - low) / 2;

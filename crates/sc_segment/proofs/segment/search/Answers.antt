@@ -12,10 +12,11 @@ halving-preserved-in-Less g c =
     let at_middle = slice_get_read c.args.keys.now _ middle k refl (omega arith) c.index-keys-middle.is in
     let steps = ap (λ n. 2 ^ (n - c.args.steps.now)) c.in-Less.ensures.counted ∙ pow-step c.args.steps.now c.halving.steps i.counted in
     record {
+      from = omega (arith, i.from);
       in_order = omega arith;
       within = omega arith;
       greater = i.greater;
-      less = less_from g.met.K.Key.total c.args.key.now c.args.keys.now middle k c.requires at_middle (sym c.in-Less.ensures.answer);
+      less = less_from g.met.K.Key.total c.args.key.now c.args.keys.now middle k c.requires.ascending at_middle (sym c.in-Less.ensures.answer);
       counted = omega (arith, c.in-Less.ensures.counted);
       halved = rw steps (halved_more (2 ^ (c.halving.steps - c.args.steps.now)) (c.halving.high - c.halving.low) (middle - c.halving.low) (length c.args.keys.now) i.halved (omega arith));
       bound = rw steps (bound_more _ _ _ i.halved (omega arith));
@@ -29,9 +30,10 @@ halving-preserved g c =
     let at_middle = slice_get_read c.args.keys.now _ middle k refl (omega arith) c.index-keys-middle.is in
     let steps = ap (λ n. 2 ^ (n - c.args.steps.now)) c.in-Greater.ensures.counted ∙ pow-step c.args.steps.now c.halving.steps i.counted in
     record {
+      from = omega (arith, i.from);
       in_order = omega arith;
       within = i.within;
-      greater = greater_up_to g.met.K.Key.total c.args.key.now c.args.keys.now middle k c.requires at_middle (sym c.in-Greater.ensures.answer);
+      greater = greater_up_to g.met.K.Key.total c.args.key.now c.args.keys.now middle k c.requires.ascending at_middle (sym c.in-Greater.ensures.answer);
       less = i.less;
       counted = omega (arith, c.in-Greater.ensures.counted);
       halved = rw steps (halved_more (2 ^ (c.halving.steps - c.args.steps.now)) (c.halving.high - c.halving.low) (c.halving.high - (middle + 1)) (length c.args.keys.now) i.halved (omega arith));

@@ -5,6 +5,7 @@ use Rattle.sc_segment.proofs.segment.search.Given as goal
 
 abbrev pub invariant-halving : goal.invariant-halving
 invariant-halving g l = record {
+  from : l.from ≤ l.low;
   in_order : l.low ≤ l.high;
   within : l.high ≤ length l.keys;
   greater : (j : ℕ) (k : _) → j < l.low → slice_get l.keys j ≡ Some k → g.K.Key.order l.key k ≡ Greater;

@@ -22,8 +22,8 @@ invariant_of-self-2 g c =
     let ks = c.self.inside.keys.items in
     let es = c.self.inside.ends.items in
     let rs = c.self.inside.rows.items in
-    let keys = c.in_ok-push-2.ensures.items ∙ ap (λ qs. qs ++ c.args.key ∷ []) c.reserve.ensures.items in
-    let ends = c.in_ok-push.ensures.items ∙ ap (λ (n : ℕ). es ++ n ∷ []) (c.len.ensures ∙ c.self.inside.rows.ok.0) in (
+    let keys : c.push-2.new.self.items ≡ ks ++ c.args.key ∷ [] = c.in_ok-push-2.ensures.items ∙ ap (λ qs. qs ++ c.args.key ∷ []) c.reserve.ensures.items in
+    let ends : c.push.new.self.items ≡ es ++ length rs ∷ [] = c.in_ok-push.ensures.items ∙ ap (λ (n : ℕ). es ++ n ∷ []) (c.len.ensures ∙ c.self.inside.rows.ok.0) in (
       as_long ks c.push-2.new.self.items es c.push.new.self.items rs c.args.key c.args.self.now c.self.invariant.0 c.self.invariant.1 keys ends,
       still ks c.push-2.new.self.items es c.push.new.self.items rs c.args.key c.args.self.now c.self.invariant.0 c.self.invariant.1 keys ends,
     )
@@ -33,6 +33,6 @@ returns g c =
     let ks = c.self.inside.keys.items in
     let es = c.self.inside.ends.items in
     let rs = c.self.inside.rows.items in
-    let keys = c.in_ok-push-2.ensures.items ∙ ap (λ qs. qs ++ c.args.key ∷ []) c.reserve.ensures.items in
-    let ends = c.in_ok-push.ensures.items ∙ ap (λ (n : ℕ). es ++ n ∷ []) (c.len.ensures ∙ c.self.inside.rows.ok.0) in
+    let keys : c.push-2.new.self.items ≡ ks ++ c.args.key ∷ [] = c.in_ok-push-2.ensures.items ∙ ap (λ qs. qs ++ c.args.key ∷ []) c.reserve.ensures.items in
+    let ends : c.push.new.self.items ≡ es ++ length rs ∷ [] = c.in_ok-push.ensures.items ∙ ap (λ (n : ℕ). es ++ n ∷ []) (c.len.ensures ∙ c.self.inside.rows.ok.0) in
     closed ks c.push-2.new.self.items es c.push.new.self.items rs c.args.key c.args.self.now c.self.invariant.0 c.self.invariant.1 keys ends c.self.view_is

@@ -1,16 +1,13 @@
 -- The rows from where those of the key before end.
-use Rattle.std.proofs.Common.{◌≡◌, ℕ, zero, suc, ◌-◌, ◌<◌, List, length, get_or, refl, ap, ◌∙◌, arith}
+use Rattle.std.proofs.Common.{length, ◌∙◌, arith}
 use Rattle.std.proofs.lemmas.List.{get_or_default}
-use Rattle.sc_segment.proofs.FlatLemmas.{begin, place_within, flat-rows_of, begin_before_end, end_within}
+use Rattle.sc_segment.proofs.FlatLemmas.{begin_from_clauses, place_within, flat-rows_of, begin_before_end, end_within}
 use Rattle.sc_segment.proofs.flat_index.FlatIndex.rows_of.Goals as goal
-
-starts : (ends : List ℕ) (at start : ℕ) → (at ≡ 0 → start ≡ 0) → (0 < at → start ≡ get_or ends (at - 1) 0) → start ≡ begin 0 ends at
-starts ends zero start first later = first refl
-starts ends (suc i) start first later = later (omega arith) ∙ ap (λ (n : ℕ). get_or ends n 0) (omega arith)
 
 pub start_of-start-requires : goal.start_of-start-requires
 start_of-start-requires g c =
-    rw c.deref.ensures.value (place_within c.self.inside.keys.items c.self.inside.ends.items c.self.inside.rows.items c.args.self.now c.args.at c.self.invariant.0 c.self.view_is c.requires)
+    let within = place_within c.self.inside.keys.items c.self.inside.ends.items c.self.inside.rows.items c.args.self.now c.args.at c.self.invariant.0 c.self.view_is c.requires in
+    rw c.deref.ensures.value (omega (arith, within))
 
 pub index-end-requires : goal.index-end-requires
 index-end-requires g c =
@@ -22,7 +19,7 @@ slice_bounds-result-count g c =
     let ends = c.self.inside.ends.items in
     let rows = c.self.inside.rows.items in
     let within = place_within c.self.inside.keys.items ends rows c.args.self.now c.args.at c.self.invariant.0 c.self.view_is c.requires in
-    let first = rw c.deref.ensures.value at (starts c.deref.result.now c.args.at c.start_of-start.result c.start_of-start.ensures.first c.start_of-start.ensures.later) in
+    let first = rw c.deref.ensures.value at (begin_from_clauses c.deref.result.now c.args.at c.start_of-start.result c.start_of-start.ensures.first c.start_of-start.ensures.later) in
     let last = c.index-end.ensures ∙ get_or_default ends c.args.at c.index-end.result.now 0 within in
     omega (arith, first, last, begin_before_end 0 ends (length rows) c.args.at c.self.invariant.1 within)
 
@@ -50,6 +47,6 @@ returns g c = λ key found.
     let ends = c.self.inside.ends.items in
     let rows = c.self.inside.rows.items in
     let within = place_within c.self.inside.keys.items ends rows c.args.self.now c.args.at c.self.invariant.0 c.self.view_is c.requires in
-    let first = rw c.deref.ensures.value at (starts c.deref.result.now c.args.at c.start_of-start.result c.start_of-start.ensures.first c.start_of-start.ensures.later) in
+    let first = rw c.deref.ensures.value at (begin_from_clauses c.deref.result.now c.args.at c.start_of-start.result c.start_of-start.ensures.first c.start_of-start.ensures.later) in
     let last = c.index-end.ensures ∙ get_or_default ends c.args.at c.index-end.result.now 0 within in
     rw c.deref-2.ensures.value (flat-rows_of c.self.inside.keys.items ends rows c.args.self.now c.args.at c.start_of-start.result c.index-end.result.now key c.self.invariant.0 c.self.view_is within first last found)

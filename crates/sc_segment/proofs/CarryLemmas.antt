@@ -1,0 +1,89 @@
+-- An index carried over entry by entry, and the rows of one key carried over row by row.
+use Rattle.std.proofs.Common.{◌≡◌, ℕ, zero, suc, ◌+◌, ◌<◌, ◌≤◌, List, [], ◌∷◌, ◌++◌, length, take, drop, get_or, Option, Some, None, append-nil, append_assoc, refl, sym, ap, ◌∙◌, arith, ◌⊎◌, inl, inr}
+use Rattle.std.proofs.lemmas.List.{take_more, drop_all}
+use Rattle.std.proofs.lemmas.List.Elements.{filter_map-append}
+use Rattle.std.specs.List.{filter_map, cons_option}
+use Rattle.std.specs.List.Sorted.{IsStrictlyIncreasing}
+use Rattle.sc_segment.proofs.JoinLemmas.{AscendFrom, ascend_from_increasing, increasing_from_ascend, joined}
+use Rattle.sc_segment.specs.Carrying.{new_number, new_numbers, KeepsOrder}
+use Rattle.sc_segment.specs.Flat.{FlatState}
+use Rattle.sc_segment.specs.declared.joining.Kept.TheVariants.{Either}
+use Rattle.sc_segment.specs.Joining.{keeps}
+
+-- ---- rows
+-- one row more, whose new number was put at the end where it has one
+pub carried-more : {K : Type 0} (moved : List (Option ℕ)) (rows : List ℕ) (i : ℕ) (number : Option ℕ) (first now next : FlatState K) → i < length rows → number ≡ new_number moved (get_or rows i 0)
+    → now ≡ record { entries = first.entries; pending = first.pending ++ new_numbers moved (take i rows) }
+    → next ≡ record { entries = now.entries; pending = now.pending ++ cons_option number [] }
+    → next ≡ record { entries = first.entries; pending = first.pending ++ new_numbers moved (take (i + 1) rows) }
+carried-more {K} moved rows i number first now next within is before after =
+    let entries : next.entries ≡ first.entries = ap (λ (s : FlatState K). s.entries) after ∙ ap (λ (s : FlatState K). s.entries) before in
+    let one : new_numbers moved (take (i + 1) rows) ≡ new_numbers moved (take i rows) ++ cons_option number [] =
+    ap (new_numbers moved) (take_more rows i 0 within) ∙ filter_map-append (new_number moved) (take i rows) (get_or rows i 0 ∷ [])
+    ∙ ap (λ (n : Option ℕ). new_numbers moved (take i rows) ++ cons_option n []) (sym is) in
+    let pending : next.pending ≡ first.pending ++ new_numbers moved (take (i + 1) rows) =
+    ap (λ (s : FlatState K). s.pending) after
+    ∙ ap (λ (s : FlatState K). s.pending ++ cons_option number []) before
+    ∙ append_assoc first.pending (new_numbers moved (take i rows)) (cons_option number [])
+    ∙ ap (λ (ns : List ℕ). first.pending ++ ns) (sym one) in
+    cc pending
+
+-- a row without a new number leaves all as it was
+pub stays : {K : Type 0} (now next : FlatState K) → next ≡ now → next ≡ record { entries = now.entries; pending = now.pending ++ [] }
+stays {K} now next same = same ∙ ap (λ (ns : List ℕ). record { entries = now.entries; pending = ns }) (sym (append-nil now.pending))
+
+-- a new number is none of those below which none is
+number-from : (low : ℕ) (moved : List (Option ℕ)) (i n : ℕ) → AscendFrom low (filter_map (λ number. number) moved) → new_number moved i ≡ Some n → low ≤ n
+number-from low [] i n up is = cc
+number-from low (None ∷ ms) zero n up is = cc
+number-from low (None ∷ ms) (suc i) n up is = number-from low ms i n up is
+number-from low (Some m ∷ ms) zero n up is = let same : m ≡ n = cc in omega (arith, up.0, same)
+number-from low (Some m ∷ ms) (suc i) n up is =
+    let later = number-from (m + 1) ms i n up.1 is in omega (arith, up.0, later)
+
+number-rises : (low : ℕ) (moved : List (Option ℕ)) (i j m n : ℕ) → AscendFrom low (filter_map (λ number. number) moved) → i < j
+    → new_number moved i ≡ Some m → new_number moved j ≡ Some n → m + 1 ≤ n
+number-rises low [] i j m n up before first last = cc
+number-rises low (x ∷ ms) i zero m n up before first last = absurd (omega arith)
+number-rises low (None ∷ ms) zero (suc j) m n up before first last = cc
+number-rises low (Some k ∷ ms) zero (suc j) m n up before first last =
+    let same : k ≡ m = cc in
+    let later = number-from (k + 1) ms j n up.1 last in omega (arith, same, later)
+number-rises low (None ∷ ms) (suc i) (suc j) m n up before first last = number-rises low ms i j m n up (omega arith) first last
+number-rises low (Some k ∷ ms) (suc i) (suc j) m n up before first last = number-rises (k + 1) ms i j m n up.1 (omega arith) first last
+
+new_numbers-from : (moved : List (Option ℕ)) → AscendFrom 0 (filter_map (λ number. number) moved) → (low bound : ℕ) (rows : List ℕ) → AscendFrom low rows
+    → ((r n : ℕ) → low ≤ r → new_number moved r ≡ Some n → bound ≤ n) → AscendFrom bound (new_numbers moved rows)
+new_numbers-from moved ascend low bound [] up bounded = tt
+new_numbers-from moved ascend low bound (r ∷ rs) up bounded =
+    by_number (λ b rest. new_numbers-from moved ascend (r + 1) b rs up.1 rest) (new_number moved r) refl
+  where
+    by_number : ((b : ℕ) → ((q n : ℕ) → r + 1 ≤ q → new_number moved q ≡ Some n → b ≤ n) → AscendFrom b (new_numbers moved rs))
+        → (number : Option ℕ) → new_number moved r ≡ number → AscendFrom bound (new_numbers moved (r ∷ rs))
+    by_number later None is = rw is (later bound (λ q n above has. bounded q n (omega (arith, up.0, above)) has))
+    by_number later (Some n) is = rw is (bounded r n up.0 is, later (n + 1) (λ q m above has. number-rises 0 moved r q n m ascend (omega arith) is has))
+
+-- rows that ascend have new numbers that do
+pub new_numbers-ascend : (moved : List (Option ℕ)) (rows : List ℕ) → KeepsOrder moved → IsStrictlyIncreasing rows → IsStrictlyIncreasing (new_numbers moved rows)
+new_numbers-ascend moved rows ascend up =
+    increasing_from_ascend 0 (new_numbers moved rows)
+    (new_numbers-from moved (ascend_from_increasing (filter_map (λ number. number) moved) ascend) 0 0 rows (ascend_from_increasing rows up) (λ r n above is. omega arith))
+
+-- ---- the rows of one key joined with those that are added
+joined-left : (xs : List ℕ) → joined (keeps Either) xs [] ≡ xs
+joined-left [] = refl
+joined-left (x ∷ xs) = refl
+
+-- what is left of one list, once the other one is passed
+pub merged-rest : (moved : List (Option ℕ)) (rows added pending whole : List ℕ) (i j : ℕ) → pending ++ joined (keeps Either) (new_numbers moved (drop i rows)) (drop j added) ≡ whole
+    → (length rows ≤ i) ⊎ (length added ≤ j) → (pending ++ new_numbers moved (drop i rows)) ++ drop j added ≡ whole
+merged-rest moved rows added pending whole i j same (inl past) =
+    let none : drop i rows ≡ [] = drop_all i rows past in
+    let start : (pending ++ new_numbers moved (drop i rows)) ++ drop j added ≡ (pending ++ []) ++ drop j added = ap (λ (rs : List ℕ). (pending ++ new_numbers moved rs) ++ drop j added) none in
+    let end : pending ++ joined (keeps Either) (new_numbers moved (drop i rows)) (drop j added) ≡ pending ++ drop j added = ap (λ (rs : List ℕ). pending ++ joined (keeps Either) (new_numbers moved rs) (drop j added)) none in
+    start ∙ ap (λ (rs : List ℕ). rs ++ drop j added) (append-nil pending) ∙ sym end ∙ same
+merged-rest moved rows added pending whole i j same (inr past) =
+    let none : drop j added ≡ [] = drop_all j added past in
+    let end : pending ++ joined (keeps Either) (new_numbers moved (drop i rows)) (drop j added) ≡ pending ++ new_numbers moved (drop i rows) =
+    ap (λ (rs : List ℕ). pending ++ joined (keeps Either) (new_numbers moved (drop i rows)) rs) none ∙ ap (λ (rs : List ℕ). pending ++ rs) (joined-left (new_numbers moved (drop i rows))) in
+    ap (λ (rs : List ℕ). (pending ++ new_numbers moved (drop i rows)) ++ rs) none ∙ append-nil (pending ++ new_numbers moved (drop i rows)) ∙ sym end ∙ same

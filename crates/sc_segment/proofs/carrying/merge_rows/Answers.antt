@@ -1,0 +1,29 @@
+-- What is left of one list, once the other one is passed, follows as a whole.
+use Rattle.std.proofs.Common.{◌≡◌, ℕ, List, ◌++◌, drop, ap, ◌∙◌, inl, inr}
+use Rattle.std.proofs.lemmas.List.{take_rest}
+use Rattle.sc_segment.proofs.CarryLemmas.{new_numbers-ascend, merged-rest}
+use Rattle.sc_segment.proofs.JoinLemmas.{joined, IsJoin-joined}
+use Rattle.sc_segment.specs.Carrying.{new_numbers}
+use Rattle.sc_segment.specs.Joining.{keeps}
+use Rattle.sc_segment.specs.declared.joining.Kept.TheVariants.{Either}
+use Rattle.sc_segment.proofs.carrying.merge_rows.Goals.{then-merging-test+else-high-added, else-merging-test}
+use Rattle.sc_segment.proofs.carrying.merge_rows.Goals as goal
+
+pub returns-clause-rows : goal.returns-clause-rows
+returns-clause-rows g c =
+    let moved = c.args.moved.now in
+    let rows = c.args.rows.now in
+    let added = c.args.added.now in
+    let low = c.merging.low in
+    let high = c.merging.high in
+    let made : c.add_rows.new.self.pending ≡ (c.merging.index.pending ++ new_numbers moved (drop low rows)) ++ drop high added =
+    ap (λ s. s.pending) c.in_ok-add_rows.ensures
+    ∙ ap (λ (rs : List ℕ). c.carry_rows.new.index.pending ++ rs) (take_rest added high)
+    ∙ ap (λ s. s.pending ++ drop high added) c.in_ok-carry_rows.ensures
+    ∙ ap (λ (rs : List ℕ). (c.merging.index.pending ++ new_numbers moved rs) ++ drop high added) (take_rest rows low) in
+    IsJoin-joined Either (new_numbers moved rows) added c.add_rows.new.self.pending (new_numbers-ascend moved rows c.requires.moved c.requires.rows) c.requires.added
+    (made ∙ merged-rest moved rows added c.merging.index.pending (joined (keeps Either) (new_numbers moved rows) added) low high c.merging.invariant.same
+    (elim c.merging-test.branch [
+      | then-merging-test+else-high-added w ↦ inr w.if-high-added.false
+      | else-merging-test w ↦ inl w.merging-test.false
+    ]))

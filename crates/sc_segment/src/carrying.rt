@@ -1,0 +1,211 @@
+ghost use Rattle.std.specs.Prelude.{◌≡◌, ◌≤◌, ℕ, List, [], ◌∷◌, ◌++◌, length, take, IfOk, OnOk};
+ghost use Rattle.std.specs.declared.cmp.Ordering.TheVariants.{Less};
+ghost use Rattle.std.specs.List.Sorted.{IsStrictlyIncreasing};
+ghost use Rattle.sc_segment.specs.declared.joining.Kept.TheVariants.{Either};
+ghost use Rattle.sc_segment.specs.Carrying.{new_number, new_numbers, KeepsOrder, IsCarried, IsCarriedSoFar, IsAbove, AreBefore, HasEntryMore};
+ghost use Rattle.sc_segment.specs.Fresh.{IsFresh};
+ghost use Rattle.sc_segment.specs.Index.{IsInOrder, HasRows};
+ghost use Rattle.sc_segment.specs.Joining.{IsJoin};
+
+use crate::flat_index::FlatIndex;
+use crate::key::Key;
+use crate::segment::{Segment, search};
+use crate::steps::Steps;
+use std::alloc::{AllocError, Global};
+use std::cmp::Ordering;
+use std::marker::Brand;
+use std::sync::ledger::{Blank, Ledger};
+
+impl<K: Key + Drop> Segment<K> {
+    /// What becomes of a segment when some rows change: its rows under new numbers, and beside them those of another segment, which
+    /// has the rows that are new or changed. `moved` has the new number of each old row, and None where it is gone; a row past its
+    /// end is gone too. A key whose rows are all gone is left out. Each row that stays is looked up once in `moved`, and only the
+    /// keys that are added are sought. The keys are shared. An error means out of memory.
+    pub fn carried(
+        &self,
+        alloc: Global,
+        moved: &[Option<u32>],
+        added: &Segment<K>,
+    ) -> Result<Segment<K>, AllocError>
+        requires { KeepsOrder moved.now }
+        ensures { IfOk result (λ new. IsCarried K.order moved.now self.now added.now new) }
+    {
+        let old = &self.index;
+        let more = &added.index;
+        let keys = old.keys().len().saturating_add(more.keys().len());
+        let rows = old.row_count().saturating_add(more.row_count());
+        let mut index = FlatIndex::with_room(alloc, keys, rows)?;
+        carry_all::<K, Brand>(&mut index, old, moved, more, Blank::new(1))?;
+        Ok(Segment::new(index))
+    }
+}
+
+// Carries all keys of an index, with those that are added among them. How often keys are compared is counted for proofs alone.
+fn carry_all<K: Key + Drop, L: Ledger>(
+    index: &mut FlatIndex<K>,
+    old: &FlatIndex<K>,
+    moved: &[Option<u32>],
+    added: &FlatIndex<K>,
+    blank: Blank,
+) -> Result<(), AllocError>
+    requires fresh { IsFresh blank L.name L.parts }
+    requires moved { KeepsOrder moved.now }
+    requires old { IsInOrder K.order old.now.entries }
+    requires added { IsInOrder K.order added.now.entries }
+    requires empty { index.old ≡ record { entries = []; pending = [] } }
+    ensures { OnOk result (IsCarried K.order moved.now old.now.entries added.now.entries index.new.entries) }
+{
+    let mut steps = Steps::<L>::new(blank);
+    let keys = added.keys();
+    let mut from = 0;
+    'adding: for at in 0..keys.len() {
+        let rows = added.rows_of(at);
+        from = carry_to_key(index, old, from, moved, &keys[at], rows, &mut steps)?;
+    }
+    carry_keys(index, old, from, old.keys().len(), moved)?;
+    Ok(())
+}
+
+// Carries the keys up to the one that is added, and then this one with the rows of both. Gives the place of the old keys after it.
+fn carry_to_key<K: Key + Drop, L: Ledger>(
+    index: &mut FlatIndex<K>,
+    old: &FlatIndex<K>,
+    from: usize,
+    moved: &[Option<u32>],
+    key: &K,
+    added: &[u32],
+    steps: &mut Steps<L>,
+) -> Result<usize, AllocError>
+    requires moved { KeepsOrder moved.now }
+    requires old { IsInOrder K.order old.now.entries }
+    requires within { from ≤ length old.now.entries }
+    requires above { IsAbove K.order key.now (take from old.now.entries) }
+    requires rows { HasRows (key.now, added.now) }
+    requires none { index.old.pending ≡ [] }
+    ensures within { IfOk result (λ to. to ≤ length old.now.entries) }
+    ensures none { OnOk result (index.new.pending ≡ []) }
+    ensures passed { IfOk result (λ to. (later : K) → K.order key.now later ≡ Less → IsAbove K.order later (take to old.now.entries)) }
+    ensures before { IfOk result (λ to. (before : List (K × List ℕ)) → AreBefore K.order before old.now.entries from
+        → AreBefore K.order (before ++ (key.now, added.now) ∷ []) old.now.entries to) }
+    ensures carried { IfOk result (λ to. (before : List (K × List ℕ)) → AreBefore K.order before old.now.entries from → IsAbove K.order key.now before
+        → IsCarriedSoFar K.order moved.now (take from old.now.entries) before index.old.entries
+        → IsCarriedSoFar K.order moved.now (take to old.now.entries) (before ++ (key.now, added.now) ∷ []) index.new.entries) }
+{
+    match search(old.keys(), from, key, steps) {
+        Ok(at) => {
+            carry_keys(index, old, from, at, moved)?;
+            merge_rows(index, old.rows_of(at), moved, added)?;
+            close_shared(index, key)?;
+            Ok(at + 1)
+        }
+        Err(at) => {
+            carry_keys(index, old, from, at, moved)?;
+            index.add_rows(added)?;
+            close_shared(index, key)?;
+            Ok(at)
+        }
+    }
+}
+
+// Carries the keys from one place up to another, each where rows of it are left.
+fn carry_keys<K: Key + Drop>(
+    index: &mut FlatIndex<K>,
+    old: &FlatIndex<K>,
+    from: usize,
+    to: usize,
+    moved: &[Option<u32>],
+) -> Result<(), AllocError>
+    requires moved { KeepsOrder moved.now }
+    requires old { IsInOrder K.order old.now.entries }
+    requires rises { from ≤ to }
+    requires within { to ≤ length old.now.entries }
+    requires none { index.old.pending ≡ [] }
+    ensures none { OnOk result (index.new.pending ≡ []) }
+    ensures carried { OnOk result ((before : List (K × List ℕ)) → AreBefore K.order before old.now.entries from
+        → IsCarriedSoFar K.order moved.now (take from old.now.entries) before index.old.entries
+        → IsCarriedSoFar K.order moved.now (take to old.now.entries) before index.new.entries) }
+{
+    let keys = old.keys();
+    'carrying: for at in from..to {
+        carry_rows(index, old.rows_of(at), moved)?;
+        close_shared(index, &keys[at])?;
+    }
+    Ok(())
+}
+
+// Puts the new numbers of rows at the end.
+fn carry_rows<K: Drop>(
+    index: &mut FlatIndex<K>,
+    rows: &[u32],
+    moved: &[Option<u32>],
+) -> Result<(), AllocError>
+    ensures { OnOk result (index.new ≡ record { entries = index.old.entries; pending = index.old.pending ++ new_numbers moved.now rows.now }) }
+{
+    for row in rows {
+        if let Some(number) = new_number(moved, *row) {
+            index.add_row(number)?;
+        }
+    }
+    Ok(())
+}
+
+// Puts the new numbers of rows at the end, with the rows that are added among them.
+fn merge_rows<K: Drop>(
+    index: &mut FlatIndex<K>,
+    rows: &[u32],
+    moved: &[Option<u32>],
+    added: &[u32],
+) -> Result<(), AllocError>
+    requires moved { KeepsOrder moved.now }
+    requires rows { IsStrictlyIncreasing rows.now }
+    requires added { IsStrictlyIncreasing added.now }
+    requires none { index.old.pending ≡ [] }
+    ensures entries { OnOk result (index.new.entries ≡ index.old.entries) }
+    ensures rows { OnOk result (IsJoin Either (new_numbers moved.now rows.now) added.now index.new.pending) }
+{
+    let mut low = 0;
+    let mut high = 0;
+    'merging: while low < rows.len() && high < added.len() {
+        let other = added[high];
+        match new_number(moved, rows[low]) {
+            None => low += 1,
+            Some(number) => match number.cmp(&other) {
+                Ordering::Less => {
+                    index.add_row(number)?;
+                    low += 1;
+                }
+                Ordering::Equal => {
+                    index.add_row(number)?;
+                    low += 1;
+                    high += 1;
+                }
+                Ordering::Greater => {
+                    index.add_row(other)?;
+                    high += 1;
+                }
+            },
+        }
+    }
+    carry_rows(index, &rows[low..], moved)?;
+    index.add_rows(&added[high..])?;
+    Ok(())
+}
+
+// Puts a key that compares equal at the end, where rows wait for it.
+fn close_shared<K: Key + Drop>(index: &mut FlatIndex<K>, key: &K) -> Result<(), AllocError>
+    ensures none { OnOk result (index.new.pending ≡ []) }
+    ensures entries { OnOk result (HasEntryMore K.order key.now index.old.pending index.old.entries index.new.entries) }
+{
+    if index.has_pending() {
+        let shared = key.share()?;
+        index.close(shared)?;
+    }
+    Ok(())
+}
+
+// The new number of a row, None where it has none.
+fn new_number(moved: &[Option<u32>], row: u32) -> Option<u32>
+    ensures { result ≡ new_number moved.now row }
+{
+    moved.get(row as usize).copied().flatten()
+}

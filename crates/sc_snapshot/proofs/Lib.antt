@@ -3,3 +3,5 @@ mod RowLemmas
 mod PostingLemmas
 mod LoopLemmas
 mod LiveLemmas
+mod ChangeLemmas
+mod NextLemmas

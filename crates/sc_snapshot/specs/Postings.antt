@@ -10,6 +10,7 @@ use Rattle.sc_record.proofs.TermLemmas.{same_term}
 use Rattle.sc_segment.specs.Index.{IsIndexOf, distinct_keys}
 use Rattle.sc_segment.specs.Joining.{has_row}
 use Rattle.sc_snapshot.specs.declared.index.Index.{Index}
+use Rattle.sc_snapshot.specs.declared.survey.Survey.{Survey}
 use Rattle.sc_snapshot.specs.declared.term_key.TermKey.{TermKey}
 
 -- the order of the keys is that of their terms
@@ -48,9 +49,13 @@ pub record AreLiveRows (rows : List Write) (numbers : List ℕ) : Type 0 where
   pub members : (number : ℕ) → has_row numbers number ≡ is_live_at (slice_get rows number)
   pub ascending : IsStrictlyIncreasing numbers
 
--- an index of rows: where each term of the live ones is, which of them are live, and between which hashes theirs are
+-- which rows are live, and between which hashes the rows' are
+pub record IsSurvey (rows : List Write) (survey : Survey) : Type 0 where
+  pub live_rows : AreLiveRows rows survey.live_rows.items
+  pub live_bits : survey.live_bits ≡ map (λ (row : Write). is_some row.doc) rows
+  pub hashes : All (λ (row : Write). (survey.least_hash ≤ℤ row.hash) × (row.hash ≤ℤ survey.greatest_hash)) rows
+
+-- an index of rows: where each term of the live ones is, and what there is to know of all
 pub record IsIndexed (rows : List Write) (index : Index) : Type 0 where
   pub terms : IsIndexOf key_order (keyed_rows 0 rows) index.segment
-  pub live_rows : AreLiveRows rows index.live_rows.items
-  pub live_bits : index.live_bits ≡ map (λ (row : Write). is_some row.doc) rows
-  pub hashes : All (λ (row : Write). (index.least_hash ≤ℤ row.hash) × (row.hash ≤ℤ index.greatest_hash)) rows
+  pub survey : IsSurvey rows index.survey

@@ -2,7 +2,8 @@
 //!
 //! It depends on `sc_record` and on `sc_segment` for posting lists, and does no input and no output. The layers above take a
 //! `Snapshot` of the cells of a core, which a searcher searches by `postings`, `live`, `is_live` and `row`, and whose `Rows` a feed
-//! reads by `row`. Contracts see both as a `SnapshotState`, whose rows ascend and are at most 2^24.
+//! reads by `row`. At the next commit `Snapshot::next` makes the new snapshot of the last one: what both have is carried over in the
+//! index, and only what changed is filed. Contracts see both types as a `SnapshotState`, whose rows ascend and are at most 2^24.
 //!
 //! Proved: `Snapshot::of`, `from_list` and `next`, and `Rows::from_list`, have the rows of the cells that they are given, deletions
 //! too, and `row` gives each by its place; `Snapshot::postings` gives exactly the live rows that have a term, ascending and within a
@@ -10,13 +11,16 @@
 //!
 //! Tested alone: the worked rows.
 //!
-//! Neither: speed; that a snapshot shares the writes holds by construction.
+//! Neither: speed, and so how much less `next` takes than `of`; that a snapshot shares the writes holds by construction.
 #![tactic(auto)]
 
+mod change;
+mod filing;
 mod index;
 mod laws;
 mod plain;
 mod snapshot;
+mod survey;
 mod term_key;
 
 pub use laws::rows_are_each_of_one_id;

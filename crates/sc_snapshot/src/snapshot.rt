@@ -72,13 +72,18 @@ impl Snapshot {
         })
     }
 
-    /// The snapshot of these cells, made of this one. The only error is that memory was refused.
+    /// The snapshot of these cells, made of this one: a cell of an id and version that this one has keeps its place in the index, and
+    /// only the terms of the other cells are filed. The only error is that memory was refused.
     pub fn next(&self, alloc: Global, place: u64, cells: List<Cell>) -> Result<Snapshot, AllocError>
         requires rows { AreRows (map arc_value cells) }
         requires one_history { AreOfOneHistory self.now.rows (map arc_value cells) }
         ensures { IfOk result (λ snapshot. snapshot ≡ record { place = place; rows = map arc_value cells }) }
     {
-        Snapshot::from_list(alloc, place, cells)
+        let index = self.index.next(alloc, self.rows.cells(), cells.as_slice())?;
+        Ok(Snapshot {
+            rows: Rows::from_list(alloc, place, cells)?,
+            index: Arc::new(alloc, index)?,
+        })
     }
 
     /// Its rows, for a feed: no row is copied. The only error is that memory was refused.
@@ -127,7 +132,7 @@ impl Snapshot {
         ensures members { (number : ℕ) → has_row result.now number ≡ is_live_at (slice_get self.now.rows number) }
         ensures ascending { IsStrictlyIncreasing result.now }
     {
-        self.index.live_rows.as_slice()
+        self.index.survey.live_rows.as_slice()
     }
 
     /// Whether the row is live, and no deletion. It takes no step.
@@ -135,20 +140,20 @@ impl Snapshot {
         requires { at < length self.now.rows }
         ensures { option_map (λ (row : Write). is_some row.doc) (slice_get self.now.rows at) ≡ Some result }
     {
-        self.index.live_bits.is_live(at)
+        self.index.survey.live_bits.is_live(at)
     }
 
     /// A hash that is none of the rows' above: the least, where there are rows.
     pub fn least_hash(&self) -> i32
         ensures { All (λ (row : Write). result ≤ℤ row.hash) self.now.rows }
     {
-        self.index.least_hash
+        self.index.survey.least_hash
     }
 
     /// A hash that is none of the rows' below: the greatest, where there are rows.
     pub fn greatest_hash(&self) -> i32
         ensures { All (λ (row : Write). row.hash ≤ℤ result) self.now.rows }
     {
-        self.index.greatest_hash
+        self.index.survey.greatest_hash
     }
 }

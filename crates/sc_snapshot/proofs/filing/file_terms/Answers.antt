@@ -2,7 +2,7 @@
 use Rattle.std.proofs.Common.{◌++◌, take, arith}
 use Rattle.sc_snapshot.specs.Postings.{keyed}
 use Rattle.sc_snapshot.proofs.LoopLemmas.{terms-next}
-use Rattle.sc_snapshot.proofs.index.file_terms.Goals as goal
+use Rattle.sc_snapshot.proofs.filing.file_terms.Goals as goal
 
 pub loop-term-preserved : goal.loop-term-preserved
 loop-term-preserved c =

@@ -3,7 +3,7 @@ use Rattle.std.proofs.Common.{ℕ, List, ◌++◌, ◌≤◌, take}
 use Rattle.sc_segment.specs.Index.{IsIndexOf}
 use Rattle.sc_snapshot.specs.Postings.{key_order, keyed}
 use Rattle.sc_snapshot.specs.declared.term_key.TermKey.{TermKey}
-use Rattle.sc_snapshot.proofs.index.file_terms.Given as goal
+use Rattle.sc_snapshot.proofs.filing.file_terms.Given as goal
 
 abbrev pub invariant-loop-term : goal.invariant-loop-term
 invariant-loop-term l = record {

@@ -1,0 +1,219 @@
+-- What becomes of the rows of a snapshot: of one row more.
+use Rattle.std.proofs.Common.{◌≡◌, ℕ, zero, suc, ◌+◌, ◌<◌, ◌≤◌, ◌==◌, Bool, true, false, true≢false, cond, ◌||◌, List, [], ◌∷◌, ◌++◌, take, map, length, slice_get, get_or, Option, Some, None, refl, sym, ap, subst, ◌∙◌, arith, append-nil, append_assoc, ◌⊎◌, ⊎_elim, inl, inr, length-append}
+use Rattle.std.proofs.lemmas.Bool.Decides.{nat_tests}
+use Rattle.std.proofs.lemmas.List.{take_more, length-take-le}
+use Rattle.std.proofs.lemmas.List.Folds.{list_any-append}
+use Rattle.std.proofs.lemmas.Option.{slice_get_within, slice_get_read, slice_get-map, get_or_from_slice_get}
+use Rattle.std.proofs.lemmas.Map.Text.{is_eq-slice_cmp}
+use Rattle.std.proofs.lemmas.Slice.Eq.{bytes_eq-Decides}
+use Rattle.std.specs.Cmp.Lexicographic.{slice_cmp}
+use Rattle.std.specs.Option.{option_map}
+use Rattle.std.specs.Ordering.{nat_cmp, is_eq}
+use Rattle.std.specs.declared.cmp.Ordering.TheVariants.{Equal}
+use Rattle.sc_record.specs.declared.write.Write.{Write}
+use Rattle.sc_segment.specs.Index.{IsIndexOf}
+use Rattle.sc_snapshot.specs.Change.{moves_to, is_kept, keyed_new, IsChange}
+use Rattle.sc_snapshot.specs.Rows.{AreOfOneHistory}
+use Rattle.sc_snapshot.specs.Postings.{key_order, keyed, live_terms}
+use Rattle.sc_snapshot.specs.declared.change.Change.{Change}
+use Rattle.sc_snapshot.specs.declared.term_key.TermKey.{TermKey}
+
+or-false : (b : Bool) → (b || false) ≡ b
+or-false true = refl
+or-false false = refl
+
+or-true : (b : Bool) → (b || true) ≡ true
+or-true true = refl
+or-true false = refl
+
+itself : (x : ℕ) → (x == x) ≡ true
+itself x = grind (arith, nat_tests)
+
+apart : (x y : ℕ) → x < y → (y == x) ≡ false
+apart x y h = grind (arith, nat_tests)
+
+one_number : (x y : ℕ) → (x == y) ≡ true → x ≡ y
+one_number x y h = grind (arith, nat_tests)
+
+-- ---- which new rows are kept
+is_kept-push : (moved : List (Option ℕ)) (o : Option ℕ) (number : ℕ) → is_kept (moved ++ o ∷ []) number ≡ (is_kept moved number || moves_to number o)
+is_kept-push moved o number =
+    list_any-append (moves_to number) moved (o ∷ []) ∙ ap (λ b. is_kept moved number || b) (or-false (moves_to number o))
+
+moved_there : (number : ℕ) (o : Option ℕ) → moves_to number o ≡ true → o ≡ Some number
+moved_there number None h = absurd (true≢false (sym h))
+moved_there number (Some other) h = ap (λ n. Some n) (one_number other number h)
+
+-- what is kept has an old row
+pub kept_at : (moved : List (Option ℕ)) (number : ℕ) → is_kept moved number ≡ true → (at : ℕ) × (slice_get moved at ≡ Some (Some number))
+kept_at [] number h = absurd (true≢false (sym h))
+kept_at (o ∷ os) number h =
+    elim (moves_to number o) as (λ b. moves_to number o ≡ b → (b || is_kept os number) ≡ true → (at : ℕ) × (slice_get (o ∷ os) at ≡ Some (Some number))) [
+      | true ↦ λ here _. (0, ap (λ (x : Option ℕ). Some x) (moved_there number o here))
+      | false ↦ λ _ later. let rest = kept_at os number later in (suc rest.0, rest.1)
+    ] refl h
+
+-- a number that no old row has is not kept
+pub not_kept : (moved : List (Option ℕ)) (number : ℕ) → ((at : ℕ) → ¬ (slice_get moved at ≡ Some (Some number))) → is_kept moved number ≡ false
+not_kept moved number none =
+    elim (is_kept moved number) as (λ b. is_kept moved number ≡ b → b ≡ false) [
+      | true ↦ λ h. let found = kept_at moved number h in absurd (none found.0 found.1)
+      | false ↦ λ _. refl
+    ] refl
+
+-- what stands in a list with one more at the end
+pub at-push : {X : Type 0} (xs : List X) (x y : X) (at : ℕ) → slice_get (xs ++ x ∷ []) at ≡ Some y → (slice_get xs at ≡ Some y) ⊎ ((at ≡ length xs) × (x ≡ y))
+at-push [] x y zero is = inr (refl, cc)
+at-push [] x y (suc at) is = inl is
+at-push (z ∷ zs) x y zero is = inl is
+at-push (z ∷ zs) x y (suc at) is = ⊎_elim (λ before. inl before) (λ last. inr (ap suc last.0, last.1)) (at-push zs x y at is)
+
+-- a cell that was read is the row of that number
+pub row_at : {C : Type 0} (value : C → Write) (cells : List C) (number : ℕ) (cell : C) → number < length cells → cell ≡ get_or cells number cell
+    → slice_get (map value cells) number ≡ Some (value cell)
+row_at value cells number cell within is =
+    slice_get-map value cells number ∙ ap (option_map value) (slice_get_read cells (length cells) number cell refl within is)
+
+-- rows of one history that have one id and one version are one
+pub one_write : (old new : List Write) → AreOfOneHistory old new → (low high : ℕ) (row other : Write)
+    → slice_get old low ≡ Some row → slice_get new high ≡ Some other → row.id ≡ other.id → row.version ≡ other.version → row ≡ other
+one_write old new history low high row other at_old at_new id version =
+    history row other
+    (low, slice_get_within old low row at_old, get_or_from_slice_get old low row row at_old)
+    (high, slice_get_within new high other at_new, get_or_from_slice_get new high other other at_new) id version
+
+-- ids that compare equal are one
+pub one_id : (id other : List ℕ) → Equal ≡ slice_cmp nat_cmp id other → id ≡ other
+one_id id other equal = (bytes_eq-Decides id other).0 (sym (is_eq-slice_cmp id other) ∙ ap is_eq (sym equal))
+
+-- ---- the terms that are filed
+keyed_new-agree : (one other : List (Option ℕ)) (from : ℕ) (rows : List Write)
+    → ((number : ℕ) → number < from + length rows → is_kept one number ≡ is_kept other number) → keyed_new one from rows ≡ keyed_new other from rows
+keyed_new-agree one other from [] agree = refl
+keyed_new-agree one other from (row ∷ rows) agree =
+    ap (λ b. cond b [] (keyed from (live_terms row)) ++ keyed_new one (from + 1) rows) (agree from (omega arith))
+    ∙ ap (λ (ps : List (ℕ × TermKey)). cond (is_kept other from) [] (keyed from (live_terms row)) ++ ps)
+    (keyed_new-agree one other (from + 1) rows (λ number below. agree number (omega (arith, below))))
+
+keyed_new-push : (moved : List (Option ℕ)) (from number : ℕ) (rows : List Write) (row : Write) → from + length rows ≡ number
+    → keyed_new moved from (rows ++ row ∷ []) ≡ keyed_new moved from rows ++ cond (is_kept moved number) [] (keyed number (live_terms row))
+keyed_new-push moved from number [] row place =
+    let here : from ≡ number = omega (arith, place) in
+    append-nil (cond (is_kept moved from) [] (keyed from (live_terms row)))
+    ∙ ap (λ n. cond (is_kept moved n) [] (keyed n (live_terms row))) here
+keyed_new-push moved from number (first ∷ rows) row place =
+    let head = cond (is_kept moved from) [] (keyed from (live_terms first)) in
+    ap (λ (ps : List (ℕ × TermKey)). head ++ ps) (keyed_new-push moved (from + 1) number rows row (omega (arith, place)))
+    ∙ sym (append_assoc head (keyed_new moved (from + 1) rows) (cond (is_kept moved number) [] (keyed number (live_terms row))))
+
+take-next : (rows : List Write) (number : ℕ) (row : Write) → slice_get rows number ≡ Some row → take (number + 1) rows ≡ take number rows ++ row ∷ []
+take-next rows number row is =
+    take_more rows number row (slice_get_within rows number row is)
+    ∙ ap (λ (w : Write). take number rows ++ w ∷ []) (get_or_from_slice_get rows number row row is)
+
+-- the keys of the first rows, and those of the next
+keyed_new-next : (moved : List (Option ℕ)) (number : ℕ) (rows : List Write) (row : Write) → slice_get rows number ≡ Some row
+    → keyed_new moved 0 (take (number + 1) rows)
+    ≡ keyed_new moved 0 (take number rows) ++ cond (is_kept moved number) [] (keyed number (live_terms row))
+keyed_new-next moved number rows row is =
+    let within = slice_get_within rows number row is in
+    let long = length-take-le number rows (omega (arith, within)) in
+    ap (keyed_new moved 0) (take-next rows number row is)
+    ∙ keyed_new-push moved 0 number (take number rows) row (omega (arith, long))
+
+few : (number : ℕ) (rows : List Write) → length (take number rows) ≤ number
+few zero rows = omega arith
+few (suc number) [] = omega arith
+few (suc number) (row ∷ rows) = let rest = few number rows in omega (arith, rest)
+
+-- one more that is told is of none of the first numbers
+same_kept : (moved : List (Option ℕ)) (o : Option ℕ) (number : ℕ) → moves_to number o ≡ false → is_kept (moved ++ o ∷ []) number ≡ is_kept moved number
+same_kept moved o number h = is_kept-push moved o number ∙ ap (λ b. is_kept moved number || b) h ∙ or-false (is_kept moved number)
+
+module _ (old new : List Write) (low high : ℕ) (change : Change) (is : IsChange old new low high change) where
+  abbrev moved : List (Option ℕ)
+  moved = change.moved.items
+
+  -- no number that is still to come is kept
+  later_not_kept : (number : ℕ) → high ≤ number → is_kept moved number ≡ false
+  later_not_kept number later =
+      not_kept moved number (λ at h. let below = (is.kept at number h).0 in omega (arith, below, later))
+
+  told-push : (o : Option ℕ) (next : Change) → next.moved.items ≡ moved ++ o ∷ [] → length next.moved.items ≡ low + 1
+  told-push o next pushed =
+      let long : length next.moved.items ≡ length moved + 1 = ap (λ (os : List (Option ℕ)). length os) pushed ∙ length-append moved (o ∷ []) in
+      omega (arith, long, is.told)
+
+  -- what is kept after one more is told
+  kept-push : (o : Option ℕ) (next : Change) → next.moved.items ≡ moved ++ o ∷ [] → (bound : ℕ) → high ≤ bound
+      → ((number : ℕ) → o ≡ Some number → (number < bound) × (slice_get old low ≡ slice_get new number))
+      → (at number : ℕ) → slice_get next.moved.items at ≡ Some (Some number) → (number < bound) × (slice_get old at ≡ slice_get new number)
+  kept-push o next pushed bound more last at number h = ⊎_elim
+      (λ before. let told = is.kept at number before in (let below = told.0 in omega (arith, below, more), told.1))
+      (λ here.
+      let told = last number here.1 in
+      let place : low ≡ at = omega (arith, here.0, is.told) in
+      (told.0, subst (λ n. slice_get old n ≡ slice_get new number) place told.1))
+      (at-push moved o (Some number) at (ap (λ (os : List (Option ℕ)). slice_get os at) (sym pushed) ∙ h))
+
+  ascending-push : (o : Option ℕ) (next : Change) → next.moved.items ≡ moved ++ o ∷ [] → ((number : ℕ) → o ≡ Some number → high ≤ number)
+      → (at later number other : ℕ) → at < later → slice_get next.moved.items at ≡ Some (Some number)
+      → slice_get next.moved.items later ≡ Some (Some other) → number < other
+  ascending-push o next pushed last at later number other before h k = ⊎_elim
+      (λ first. ⊎_elim
+      (λ second. is.ascending at later number other before first second)
+      (λ second. let below = (is.kept at number first).0 in let above = last other second.1 in omega (arith, below, above))
+      (at-push moved o (Some other) later (read later (Some other) k)))
+      (λ first. ⊎_elim
+      (λ second. let within = slice_get_within moved later (Some other) second in absurd (omega (arith, before, first.0, within)))
+      (λ second. absurd (omega (arith, before, first.0, second.0)))
+      (at-push moved o (Some other) later (read later (Some other) k)))
+      (at-push moved o (Some number) at (read at (Some number) h))
+    where
+      read : (place : ℕ) (x : Option ℕ) → slice_get next.moved.items place ≡ Some x → slice_get (moved ++ o ∷ []) place ≡ Some x
+      read place x is = ap (λ (os : List (Option ℕ)). slice_get os place) (sym pushed) ∙ is
+
+  -- the next old row is not kept
+  pub leave-step : (next : Change) → next.moved.items ≡ moved ++ None ∷ [] → next.added ≡ change.added → IsChange old new (low + 1) high next
+  leave-step next pushed same = record {
+    told = told-push None next pushed;
+    kept = kept-push None next pushed high (omega arith) (λ number h. cc);
+    ascending = ascending-push None next pushed (λ number h. cc);
+    filed = rw (pushed, same, keyed_new-agree (moved ++ None ∷ []) moved 0 (take high new) (λ number _. same_kept moved None number refl)) is.filed;
+    last_row = rw same is.last_row;
+  }
+
+  -- the next old row is the next new one
+  pub keep-step : (row : Write) (next : Change) → next.moved.items ≡ moved ++ Some high ∷ [] → next.added ≡ change.added
+      → slice_get old low ≡ Some row → slice_get new high ≡ Some row → IsChange old new (low + 1) (high + 1) next
+  keep-step row next pushed same at_old at_new = record {
+    told = told-push (Some high) next pushed;
+    kept = kept-push (Some high) next pushed (high + 1) (omega arith)
+        (λ number h. let place : high ≡ number = cc in (omega (arith, place), at_old ∙ sym at_new ∙ ap (slice_get new) place));
+    ascending = ascending-push (Some high) next pushed (λ number h. let place : high ≡ number = cc in omega (arith, place));
+    filed = rw (pushed, same, kept_filed) is.filed;
+    last_row = let last = is.last_row in rw same (omega (arith, last));
+  }
+    where
+      kept_filed : keyed_new (moved ++ Some high ∷ []) 0 (take (high + 1) new) ≡ keyed_new moved 0 (take high new)
+      kept_filed =
+          let short = few high new in
+          let kept : is_kept (moved ++ Some high ∷ []) high ≡ true =
+          is_kept-push moved (Some high) high ∙ ap (λ b. is_kept moved high || b) (itself high) ∙ or-true (is_kept moved high) in
+          keyed_new-next (moved ++ Some high ∷ []) high new row at_new
+          ∙ ap (λ b. keyed_new (moved ++ Some high ∷ []) 0 (take high new) ++ cond b [] (keyed high (live_terms row))) kept
+          ∙ append-nil (keyed_new (moved ++ Some high ∷ []) 0 (take high new))
+          ∙ keyed_new-agree (moved ++ Some high ∷ []) moved 0 (take high new)
+          (λ number below. same_kept moved (Some high) number (apart number high (omega (arith, below, short))))
+
+  -- the next new row is none of the old ones
+  pub file-step : (row : Write) (next : Change) → next.moved ≡ change.moved → slice_get new high ≡ Some row → next.added.last_row ≤ high
+      → ((added : List (ℕ × TermKey)) → IsIndexOf key_order added change.added.index → IsIndexOf key_order (added ++ keyed high (live_terms row)) next.added.index)
+      → IsChange old new low (high + 1) next
+  file-step row next same at_new last filed = record {
+    told = rw same is.told;
+    kept = rw same (λ at number h. let told = is.kept at number h in (let below = told.0 in omega (arith, below), told.1));
+    ascending = rw same is.ascending;
+    filed = rw (same, keyed_new-next moved high new row at_new, later_not_kept high (omega arith)) (filed (keyed_new moved 0 (take high new)) is.filed);
+    last_row = omega (arith, last);
+  }

@@ -1,0 +1,37 @@
+ghost use Rattle.std.specs.Prelude.{◌≡◌, ℕ, ◌≤◌, List, ◌++◌, OnOk};
+ghost use Rattle.sc_segment.specs.Index.{IsIndexOf};
+ghost use Rattle.sc_snapshot.specs.Postings.{key_order, keyed, live_terms};
+ghost use Rattle.sc_snapshot.specs.declared.term_key.TermKey.{TermKey};
+
+use crate::term_key::TermKey;
+use sc_record::{Term, Write};
+use sc_segment::Builder;
+use std::alloc::AllocError;
+
+/// What a search finds the row by.
+pub(crate) fn live_terms(row: &Write) -> &[Term]
+    ensures { result.now ≡ live_terms row.now }
+{
+    match &row.doc {
+        Some(_) => row.terms.as_slice(),
+        None => &[],
+    }
+}
+
+/// Files a row under each of these terms. The only error is that memory was refused.
+pub(crate) fn file_terms(
+    builder: &mut Builder<TermKey>,
+    number: u32,
+    terms: &[Term],
+) -> Result<(), AllocError>
+    requires { builder.old.last_row ≤ number }
+    ensures index { OnOk result ((added : List (ℕ × TermKey)) → IsIndexOf key_order added builder.old.index
+        → IsIndexOf key_order (added ++ keyed number terms.now) builder.new.index) }
+    ensures last_row { OnOk result (builder.new.last_row ≤ number) }
+{
+    for term in terms {
+        let key = TermKey::of(term)?;
+        builder.add(number, key)?;
+    }
+    Ok(())
+}

@@ -1,5 +1,5 @@
 -- The numbers of the rows that pass a test lead to these rows, in their order.
-use Rattle.std.proofs.Common.{◌≡◌, ℕ, zero, suc, ◌+◌, ◌<◌, ◌==◌, Bool, true, false, cond, ◌&&◌, ◌||◌, List, [], ◌∷◌, ◌++◌, map, filter, length, is_some, option_to_list, Option, Some, None, Result, Ok, Err, IfOk, slice_get, All, refl, sym, ap, subst, ◌∙◌, arith}
+use Rattle.std.proofs.Common.{◌≡◌, ℕ, zero, suc, ◌+◌, ◌<◌, ◌==◌, Bool, true, false, cond, ◌&&◌, ◌||◌, List, [], ◌∷◌, ◌++◌, map, filter, length, is_some, option_to_list, Option, Some, None, slice_get, All, refl, sym, ap, subst, ◌∙◌, arith}
 use Rattle.std.proofs.lemmas.List.{length-map}
 use Rattle.std.specs.List.{flat_map}
 use Rattle.std.proofs.lemmas.Bool.Decides.{nat_tests}
@@ -14,10 +14,6 @@ use Rattle.sc_segment.proofs.SameRowsLemmas.{same_rows}
 use Rattle.sc_eval.specs.Conditions.{Condition}
 use Rattle.sc_eval.specs.Matching.{matches, is_live, finds}
 use Rattle.sc_eval.specs.Numbers.{passes, is_match, finds_at, row_in, AreNumbersOf}
-
-pub IfOk-then : {T E : Type 0} {P Q : T → Type 0} (r : Result T E) → ((x : T) → P x → Q x) → IfOk r P → IfOk r Q
-IfOk-then (Ok x) f h = f x h
-IfOk-then (Err e) f h = h
 
 apart : (x y : ℕ) → x < y → (x == y) ≡ false
 apart x y h = grind (arith, nat_tests)

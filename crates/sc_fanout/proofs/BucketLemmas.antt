@@ -310,19 +310,20 @@ few-asked layout number journal route searchers asked =
     )
 
 -- what is found may be merged
+pub is-found : (condition : Condition) (searcher : Searcher) → AreRows (rows_in searcher) → AreFound (found_in condition searcher)
+is-found condition searcher are =
+    let keeps = finds searcher.range condition in
+    record {
+      ascend = AscendById-filter keeps (rows_in searcher) are.ascend;
+      bounded = omega (arith, length-filter keeps (rows_in searcher), count_by-le-length keeps (rows_in searcher), are.bounded);
+    }
+
 pub are-found : (condition : Condition) (searchers : List Searcher) → All (λ (searcher : Searcher). AreRows (rows_in searcher)) searchers
     → All AreFound (map (found_in condition) searchers)
 are-found condition searchers rows =
     All-map AreFound (found_in condition) searchers
-    (All-weaker (λ (searcher : Searcher). AreRows (rows_in searcher)) (λ (searcher : Searcher). AreFound (found_in condition searcher)) one searchers rows)
-  where
-    one : (searcher : Searcher) → AreRows (rows_in searcher) → AreFound (found_in condition searcher)
-    one searcher are =
-        let keeps = finds searcher.range condition in
-        record {
-          ascend = AscendById-filter keeps (rows_in searcher) are.ascend;
-          bounded = omega (arith, length-filter keeps (rows_in searcher), count_by-le-length keeps (rows_in searcher), are.bounded);
-        }
+    (All-weaker (λ (searcher : Searcher). AreRows (rows_in searcher)) (λ (searcher : Searcher). AreFound (found_in condition searcher))
+    (is-found condition) searchers rows)
 
 -- what was taken of a sound bucket
 pub asked : {E : Type 0} {V : Type 0} (layout : Layout) (number : ℕ) (bucket : Bucket) (route : Option Range) (items : V → List Searcher) (taken : Result V E)

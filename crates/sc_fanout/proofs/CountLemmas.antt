@@ -1,28 +1,34 @@
--- The count of what lists hold, one list more.
-use Rattle.std.proofs.Common.{◌≡◌, ℕ, ◌+◌, ◌<◌, ◌≤◌, ◌^◌, List, [], ◌∷◌, ◌++◌, map, take, length, get_or, sym, ap, subst, ◌∙◌, arith, append-nil, All}
-use Rattle.std.proofs.lemmas.List.{length-append, length-map, get_or-map, map_more}
+-- How many documents lists hold.
+use Rattle.std.proofs.Common.{◌≡◌, ℕ, ◌+◌, ◌*◌, ◌≤◌, ◌^◌, List, [], ◌∷◌, ◌++◌, length, map, ap, ◌∙◌, arith, All}
+use Rattle.std.specs.List.{AllByRecursion}
+use Rattle.std.proofs.lemmas.List.{append-nil, length-append, map-append}
 use Rattle.std.proofs.lemmas.List.Concat.{flat_map-append}
+use Rattle.std.proofs.lemmas.List.Elements.{recursion_from_All}
 use Rattle.sc_record.specs.declared.write.Write.{Write}
 use Rattle.sc_fanout.specs.Pages.{AreFound, all_of}
 
-module _ {C : Type 0} (value : C → Write) (lists : List (List C)) (i : ℕ) (list : List C) (within : i < length lists) (is : list ≡ get_or lists i list) where
-  pub length-bounded : All AreFound (map (map value) lists) → length list ≤ 2 ^ 24
-  length-bounded all =
-      let same : get_or (map (map value) lists) i (map value list) ≡ map value list =
-      get_or-map (map value) lists i list (map value list) within ∙ sym (ap (map value) is) in
-      let inside : i < length (map (map value) lists) = omega (arith, within, length-map lists (map value)) in
-      let found : AreFound (map value list) = subst AreFound same (all i (map value list) inside) in
-      omega (arith, found.bounded, length-map list value)
+-- each has at most 2^24
+pub count-bounded : (lists : List (List Write)) → All AreFound lists → length (all_of lists) ≤ 2 ^ 24 * length lists
+count-bounded lists found = by lists (recursion_from_All AreFound lists found)
+  where
+    by : (ls : List (List Write)) → AllByRecursion AreFound ls → length (all_of ls) ≤ 2 ^ 24 * length ls
+    by [] each = omega arith
+    by (list ∷ rest) each =
+        let here = each.0.bounded in
+        let later = by rest each.1 in
+        omega (arith, here, later, length-append list (all_of rest))
 
-  pub count-more : length (all_of (map (map value) (take (i + 1) lists)))
-      ≡ length (all_of (map (map value) (take i lists))) + length list
-  count-more =
-      let before = map (map value) (take i lists) in
-      let more : map (map value) (take (i + 1) lists) ≡ before ++ map value list ∷ [] =
-      map_more (map value) lists i list within ∙ ap (λ (l : List C). before ++ map value l ∷ []) (sym is) in
-      let joined : all_of (before ++ map value list ∷ []) ≡ all_of before ++ map value list =
-      flat_map-append (λ (w : List Write). w) before (map value list ∷ [])
-      ∙ ap (λ (l : List Write). all_of before ++ l) (append-nil (map value list)) in
-      let counted : length (all_of (map (map value) (take (i + 1) lists))) ≡ length (all_of before ++ map value list) =
-      ap (λ (ls : List (List Write)). length (all_of ls)) more ∙ ap (λ (l : List Write). length l) joined in
-      omega (arith, counted, length-append (all_of before) (map value list), length-map list value)
+-- more lists hold their documents more
+pub count-more : (lists more : List (List Write)) → length (all_of (lists ++ more)) ≡ length (all_of lists) + length (all_of more)
+count-more lists more =
+    ap (λ (ws : List Write). length ws) (flat_map-append (λ (ws : List Write). ws) lists more) ∙ length-append (all_of lists) (all_of more)
+
+-- one list more holds its documents more
+pub count-next : {S : Type 0} (f : S → List Write) (before : List S) (one : S) (found more : ℕ)
+    → found ≡ length (all_of (map f before)) → more ≡ length (f one) → found + more ≡ length (all_of (map f (before ++ one ∷ [])))
+count-next f before one found more is more_is =
+    let joined : map f (before ++ one ∷ []) ≡ map f before ++ f one ∷ [] = map-append f before (one ∷ []) in
+    let all = ap (λ (ls : List (List Write)). length (all_of ls)) joined in
+    let parts = count-more (map f before) (f one ∷ []) in
+    let last : length (all_of (f one ∷ [])) ≡ length (f one) = ap (λ (ws : List Write). length ws) (append-nil (f one)) in
+    omega (arith, is, more_is, all, parts, last)

@@ -3,8 +3,8 @@ mod MergeLemmas
 mod OrderLemmas
 mod StartLemmas
 mod CountLemmas
-mod FoundLemmas
 mod PageLemmas
+mod PartLemmas
 mod TakenLemmas
 mod ExactlyLemmas
 mod BucketLemmas

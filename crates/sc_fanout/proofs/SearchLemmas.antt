@@ -25,6 +25,7 @@ use Rattle.sc_fanout.specs.Pages.{AreFound, IsPageOf, all_of}
 use Rattle.sc_fanout.specs.Searches.{IsFoundIn, IsFoundAtOne, LooksAtBuckets, SearchesBuckets, search_of}
 use Rattle.sc_fanout.specs.Steps.{rows_in, found_in, AreAsked, LooksAtOne}
 use Rattle.sc_fanout.proofs.ExactlyLemmas.{AreExactly, AreExactly-none, AreExactly-same, AreExactly-append, AreExactly-sorted}
+use Rattle.sc_fanout.proofs.CountLemmas.{count-bounded}
 use Rattle.sc_fanout.proofs.BucketLemmas.{bucket-exactly, found-number, few-asked, are-found}
 
 -- the first buckets were looked at, and these stops kept
@@ -222,12 +223,15 @@ searched layout old new ask count lists (Ok page) all far is = record {
   );
 }
 
--- there are 256 buckets at most, so no more lists than may be merged
-pub few-lists : {C : Type 0} (value : C → Write) (lists : List (List C)) (count buckets : ℕ) → length (map (map value) lists) ≤ 256 * count
-    → count ≤ buckets → IsBucketCount buckets → length lists ≤ 2 ^ 16
-few-lists value lists count buckets few within (k, small, is) =
+-- there are 256 buckets at most, so what is found in them can be counted
+pub found-fits : (lists more : List (List Write)) (count buckets : ℕ) → All AreFound lists → All AreFound more
+    → length lists ≤ 256 * count → length more ≤ 256 → count < buckets → IsBucketCount buckets
+    → length (all_of lists) + length (all_of more) < 2 ^ 64
+found-fits lists more count buckets found found_more few few_more within (k, small, is) =
     let most : buckets ≤ 256 = omega (arith, is, bounded k small) in
-    omega (arith, few, within, most, length-map lists (map value))
+    let first = count-bounded lists found in
+    let next = count-bounded more found_more in
+    omega (arith, first, next, few, few_more, within, most)
   where
     bounded : (n : ℕ) → n ≤ 8 → 2 ^ n ≤ 256
     bounded n low = pow-le-pow_right {n = 2} (omega arith) {i = n} {j = 8} low

@@ -1,5 +1,5 @@
 -- Lists that begin as lists of all that is found begin, while they are merged two by two.
-use Rattle.std.proofs.Common.{◌≡◌, ℕ, ◌≤◌, List, [], ◌∷◌, ◌++◌, take, refl, sym, ap, subst, ◌∙◌, arith, append-nil, append_assoc, All, IsPermutation}
+use Rattle.std.proofs.Common.{◌≡◌, ℕ, ◌≤◌, List, [], ◌∷◌, ◌++◌, map, take, refl, sym, ap, subst, ◌∙◌, arith, append-nil, append_assoc, All, IsPermutation}
 use Rattle.std.specs.Prelude.{⊤}
 use Rattle.std.specs.List.{AllByRecursion}
 use Rattle.std.proofs.lemmas.List.{take-take}
@@ -9,6 +9,7 @@ use Rattle.std.proofs.lemmas.List.Sorted.{IsPermutation-refl, IsPermutation-tran
 use Rattle.sc_record.specs.declared.write.Write.{Write}
 use Rattle.sc_fanout.specs.Pages.{AreFound, IsStartOf, all_of}
 use Rattle.sc_fanout.specs.Merging.{goes_before, merged}
+use Rattle.sc_fanout.specs.Parts.{AreHeads}
 use Rattle.sc_fanout.proofs.MergeLemmas.{Ascends, merged-ascends, merged-moves, take-merged_left, take-merged_right}
 use Rattle.sc_fanout.proofs.OrderLemmas.{by_id-order, ascends-by_id, in_order}
 
@@ -26,16 +27,18 @@ pub record StartAll (all : List Write) (most : ℕ) (kept : List (List Write)) :
   pub starts : Starts most kept wholes
   pub moved : IsPermutation all (all_of wholes)
 
-themselves : (most : ℕ) (lists : List (List Write)) → AllByRecursion AreFound lists → Starts most lists lists
-themselves most [] found = tt
-themselves most (list ∷ lists) found = (refl, ascends-by_id list found.0.ascend, themselves most lists found.1)
+heads-start : (most : ℕ) (wholes : List (List Write)) → AllByRecursion AreFound wholes → Starts most (map (take most) wholes) wholes
+heads-start most [] found = tt
+heads-start most (whole ∷ wholes) found =
+    let le : most ≤ most = omega arith in
+    (take-take most most whole le, ascends-by_id whole found.0.ascend, heads-start most wholes found.1)
 
-pub start_all-first : (most : ℕ) (lists kept : List (List Write)) → All AreFound lists → kept ≡ lists
-    → StartAll (all_of lists) most kept
-start_all-first most lists kept found same = subst (StartAll (all_of lists) most) (sym same) (record {
-  wholes = lists;
-  starts = themselves most lists (recursion_from_All AreFound lists found);
-  moved = IsPermutation-refl (all_of lists);
+pub start_all-first : (most : ℕ) (wholes kept : List (List Write)) → All AreFound wholes → AreHeads most wholes kept
+    → StartAll (all_of wholes) most kept
+start_all-first most wholes kept found heads = subst (StartAll (all_of wholes) most) (sym heads) (record {
+  wholes = wholes;
+  starts = heads-start most wholes (recursion_from_All AreFound wholes found);
+  moved = IsPermutation-refl (all_of wholes);
 })
 
 starts-push : (most : ℕ) (kept wholes : List (List Write)) (start whole : List Write) → Starts most kept wholes

@@ -1,15 +1,14 @@
 -- Searchers are taken of the slices that a search looks at, one after another.
-use Rattle.std.proofs.Common.{◌≡◌, ℕ, ◌+◌, ◌<◌, ◌≤◌, ℤ, ◌≤ℤ◌, Bool, true, false, T, cond, ◌&&◌, List, [], ◌∷◌, ◌++◌, length, map, take, drop, get_or, slice_get, Option, Some, None, Decides, All, refl, sym, ap, subst, ◌∙◌, arith, append_assoc}
+use Rattle.std.proofs.Common.{◌≡◌, ℕ, ◌+◌, ◌<◌, ◌≤◌, ℤ, ◌≤ℤ◌, Bool, true, false, T, cond, ◌&&◌, List, [], ◌∷◌, ◌++◌, length, take, drop, get_or, slice_get, Option, Some, None, Decides, refl, sym, ap, subst, ◌∙◌, arith}
 use Rattle.std.specs.Prelude.{filter, int_le, MatchOption}
 use Rattle.std.proofs.lemmas.Bool.Decides.{Decides-and}
-use Rattle.std.proofs.lemmas.List.{append-nil, map-append, map_more, take_more, take-take, take-append-drop}
-use Rattle.std.proofs.lemmas.List.Elements.{All-nil, All-cons, All-append, All-weaker, filter-append}
+use Rattle.std.proofs.lemmas.List.{append-nil, take_more, take-take, take-append-drop}
+use Rattle.std.proofs.lemmas.List.Elements.{All-weaker, filter-append}
 use Rattle.std.proofs.lemmas.Option.{slice_get_within, get_or_from_slice_get}
 use Rattle.sc_hash.specs.Range.{Meets}
 use Rattle.sc_hash.specs.declared.range.Range.{Range}
 use Rattle.sc_hash.proofs.RangeLemmas.{Meets-overlap}
 use Rattle.std.proofs.lemmas.Int.{ints}
-use Rattle.sc_record.specs.declared.write.Write.{Write}
 use Rattle.sc_record.specs.declared.entry.Entry.{Entry}
 use Rattle.sc_cluster.specs.declared.slice.Slice.{Slice}
 use Rattle.sc_cluster.specs.Slices.{is_active, is_active_state}
@@ -36,26 +35,6 @@ asks_for-Decides route range =
   where
     le_through : (a b c : ℤ) → a ≤ℤ b → b ≤ℤ c → a ≤ℤ c
     le_through a b c low high = omega (arith, ints)
-
--- one list more is found
-pub lists-more : {C : Type 0} (value : C → Write) (f : Searcher → List Write) (before lists after : List (List C)) (list : List C)
-    (searchers : List Searcher) (i : ℕ) (searcher : Searcher)
-    → i < length searchers → searcher ≡ get_or searchers i searcher
-    → map (map value) lists ≡ map (map value) before ++ map f (take i searchers)
-    → after ≡ lists ++ list ∷ [] → map value list ≡ f searcher
-    → map (map value) after ≡ map (map value) before ++ map f (take (i + 1) searchers)
-lists-more value f before lists after list searchers i searcher within at far pushed is =
-    ap (map (map value)) pushed ∙ map-append (map value) lists (list ∷ [])
-    ∙ ap (λ (ls : List (List Write)). ls ++ map value list ∷ []) far
-    ∙ append_assoc (map (map value) before) (map f (take i searchers)) (map value list ∷ [])
-    ∙ ap (λ (ls : List (List Write)). map (map value) before ++ ls)
-    (ap (λ (l : List Write). map f (take i searchers) ++ l ∷ []) (is ∙ ap f at) ∙ sym (map_more f searchers i searcher within))
-
-pub All-more : {X : Type 0} (P : X → Type 0) (xs : List X) (i : ℕ) (x : X) → i < length xs → x ≡ get_or xs i x
-    → All P (take i xs) → P x → All P (take (i + 1) xs)
-All-more P xs i x within at far here =
-    subst (All P) (sym (take_more xs i x within))
-    (All-append P (take i xs) (get_or xs i x ∷ []) far (All-cons P (get_or xs i x) [] (subst P at here) (All-nil P)))
 
 AreOfSlices-push : (journal : List Entry) (slices : List Slice) (searchers : List Searcher) (slice : Slice) (searcher : Searcher)
     → AreOfSlices journal slices searchers → IsOfSlice journal slice searcher

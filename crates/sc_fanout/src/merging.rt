@@ -1,21 +1,22 @@
-ghost use Rattle.std.specs.Prelude.{◌≡◌, ◌∷◌, [], map, take, All, IfOk, MatchOption};
-ghost use Rattle.std.specs.Arc.{arc_value};
+ghost use Rattle.std.specs.Prelude.{◌≡◌, ◌∷◌, [], List, map, take, All, IfOk, MatchOption};
+ghost use Rattle.sc_record.specs.declared.write.Write.{Write};
 ghost use Rattle.sc_fanout.specs.Pages.{AreFound, IsStartOf, all_of};
 ghost use Rattle.sc_fanout.specs.Merging.{goes_before, is_left_next, merged};
+ghost use Rattle.sc_fanout.specs.Parts.{AreHeads, lent, lent_in};
 
-use sc_record::{Cell, List};
+use sc_record::Cell;
 use std::alloc::{AllocError, Global};
 use std::collections::VecDeque;
 
-/// The first documents, at least `most`, of all that the lists hold. The two lists that wait longest are merged until one is
-/// left.
-pub(crate) fn merge_all(
+/// The first documents, at least `most`, of all of which the lists have the first `most`. The two lists that wait longest are
+/// merged until one is left. No document is shared, only what lends it moves.
+pub(crate) fn merge_all<'a>(
     alloc: Global,
-    lists: Vec<List<Cell>>,
+    lists: Vec<Vec<&'a Cell>>,
     most: usize,
-) -> Result<List<Cell>, AllocError>
-    requires { All AreFound (map (map arc_value) lists.items) }
-    ensures { IfOk result (λ kept. IsStartOf (all_of (map (map arc_value) lists.items)) most (map arc_value kept)) }
+) -> Result<Vec<&'a Cell>, AllocError>
+    ensures { IfOk result (λ kept. (wholes : List (List Write)) → All AreFound wholes → AreHeads most wholes (map lent_in lists.entry.items)
+        → IsStartOf (all_of wholes) most (lent_in kept)) }
 {
     let mut lists = VecDeque::from_vec(lists);
     while let Some(left) = lists.pop_front() {
@@ -25,37 +26,36 @@ pub(crate) fn merge_all(
         let both = merge_two(alloc, left, right, most)?;
         lists.push_back(both)?;
     }
-    Ok(List::new(alloc))
+    Ok(Vec::new(alloc))
 }
 
-// The first `most` documents of both lists. Room for them is taken first, and each moves.
-fn merge_two(
+// The first `most` documents of both lists. Room for them is taken first.
+fn merge_two<'a>(
     alloc: Global,
-    left: List<Cell>,
-    right: List<Cell>,
+    left: Vec<&'a Cell>,
+    right: Vec<&'a Cell>,
     most: usize,
-) -> Result<List<Cell>, AllocError>
-    ensures { IfOk result (λ both.
-        map arc_value both ≡ take most (merged goes_before (map arc_value left) (map arc_value right))) }
+) -> Result<Vec<&'a Cell>, AllocError>
+    ensures { IfOk result (λ both. lent_in both ≡ take most (merged goes_before (lent_in left.entry) (lent_in right.entry))) }
 {
     let room = left.len().saturating_add(right.len()).min(most);
     let mut both = Vec::with_capacity(alloc, room)?;
-    let mut left = VecDeque::from_vec(left.into_vec());
-    let mut right = VecDeque::from_vec(right.into_vec());
+    let mut left = VecDeque::from_vec(left);
+    let mut right = VecDeque::from_vec(right);
     while both.len() < most {
         let Some(cell) = pop_next(&mut left, &mut right) else {
-            return Ok(List::from_vec(both));
+            return Ok(both);
         };
         both.push(cell)?;
     }
-    Ok(List::from_vec(both))
+    Ok(both)
 }
 
 // Takes the document that comes next out of its list.
-fn pop_next(left: &mut VecDeque<Cell>, right: &mut VecDeque<Cell>) -> Option<Cell>
-    ensures { let before = merged goes_before (map arc_value left.old.items) (map arc_value right.old.items) in
+fn pop_next<'a>(left: &mut VecDeque<&'a Cell>, right: &mut VecDeque<&'a Cell>) -> Option<&'a Cell>
+    ensures { let before = merged goes_before (map lent left.old.items) (map lent right.old.items) in
         MatchOption result (before ≡ []) (λ cell.
-        before ≡ arc_value cell ∷ merged goes_before (map arc_value left.new.items) (map arc_value right.new.items)) }
+        before ≡ lent cell ∷ merged goes_before (map lent left.new.items) (map lent right.new.items)) }
 {
     if is_left_next(left, right) {
         left.pop_front()
@@ -65,8 +65,8 @@ fn pop_next(left: &mut VecDeque<Cell>, right: &mut VecDeque<Cell>) -> Option<Cel
 }
 
 // Whether the document that comes next is the left list's.
-fn is_left_next(left: &VecDeque<Cell>, right: &VecDeque<Cell>) -> bool
-    ensures { result ≡ is_left_next goes_before (map arc_value left.now.items) (map arc_value right.now.items) }
+fn is_left_next(left: &VecDeque<&Cell>, right: &VecDeque<&Cell>) -> bool
+    ensures { result ≡ is_left_next goes_before (map lent left.now.items) (map lent right.now.items) }
 {
     match (left.front(), right.front()) {
         (Some(one), Some(other)) => one.id <= other.id,

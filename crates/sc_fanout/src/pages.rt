@@ -1,51 +1,120 @@
-ghost use Rattle.std.specs.Prelude.{◌≡◌, ◌≤◌, ◌^◌, length, map, take, drop, All, IfOk};
+ghost use Rattle.std.specs.Prelude.{◌≡◌, ◌+◌, ◌≤◌, List, length, map, take, drop, All, IfOk, slice_get, option_to_list};
 ghost use Rattle.std.specs.Arc.{arc_value};
+ghost use Rattle.std.specs.List.{flat_map};
+ghost use Rattle.sc_record.specs.declared.write.Write.{Write};
+ghost use Rattle.sc_segment.specs.Fresh.{IsFresh};
+ghost use Rattle.sc_eval.specs.Conditions.{condition_of};
 ghost use Rattle.sc_fanout.specs.Pages.{AreFound, IsPageOf, all_of};
+ghost use Rattle.sc_fanout.specs.Steps.{rows_in};
+ghost use Rattle.sc_fanout.specs.Parts.{IsPart, heads_in, lent, lent_in, lists_of};
 
+use crate::ask::Ask;
 use crate::merging::merge_all;
+use crate::part::Part;
 use crate::shown::Page;
 use sc_record::{Cell, List};
+use sc_segment::Steps;
 use std::alloc::{AllocError, Global};
+use std::marker::Brand;
+use std::sync::Arc;
+use std::sync::ledger::{Blank, Ledger};
 
-/// The page of at most `rows` documents from the document at `start`, counted from 0, of all that the lists hold. Of each list
-/// no more is kept than the page can show, no document is copied, and each moves about as often as the count of the lists can be
-/// halved. The only error is that memory was refused.
-pub fn page(
+/// The page that is asked for, of all that the parts' searchers find, of which `found` is the count. Of each part no more rows are
+/// read than the page can show, and none where it shows none; the documents of the page alone are shared. The only error is that
+/// memory was refused.
+pub(crate) fn page(
     alloc: Global,
-    lists: Vec<List<Cell>>,
-    start: u32,
-    rows: u32,
+    ask: &Ask,
+    found: u64,
+    parts: &[Part],
 ) -> Result<Page, AllocError>
-    requires few { length lists.items ≤ 2 ^ 16 }
-    requires found { All AreFound (map (map arc_value) lists.items) }
-    ensures { IfOk result (IsPageOf (all_of (map (map arc_value) lists.items)) start rows) }
+    requires counted { found ≡ length (all_of (lists_of (condition_of ask.now.query) parts.now)) }
+    requires may_be { All AreFound (lists_of (condition_of ask.now.query) parts.now) }
+    requires kept { All (IsPart (condition_of ask.now.query) (ask.now.start + ask.now.rows)) parts.now }
+    ensures { IfOk result (IsPageOf (all_of (lists_of (condition_of ask.now.query) parts.now)) ask.now.start ask.now.rows) }
 {
-    let found = count(lists.as_slice());
-    let most = start as usize + rows as usize;
+    let most = reach(ask, found);
+    let lists = heads_of_all(alloc, parts, most)?;
     let kept = merge_all(alloc, lists, most)?;
-    let docs = part(kept, start as usize, most)?;
+    let docs = shared(alloc, between(kept.as_slice(), ask.start as usize, most))?;
     Ok(Page { found, docs })
 }
 
-// How many documents the lists hold.
-fn count(lists: &[List<Cell>]) -> u64
-    requires few { length lists.now ≤ 2 ^ 16 }
-    requires found { All AreFound (map (map arc_value) lists.now) }
-    ensures { result ≡ length (all_of (map (map arc_value) lists.now)) }
+// How many documents are merged: as many as are needed to show the page, and none where it is empty.
+fn reach(ask: &Ask, found: u64) -> usize
+    ensures few { result ≤ ask.now.start + ask.now.rows }
+    ensures enough { (sorted : List Write) → length sorted ≡ found
+        → drop ask.now.start (take result sorted) ≡ take ask.now.rows (drop ask.now.start sorted) }
 {
-    let mut found: u64 = 0;
-    for list in lists {
-        found += list.len() as u64;
+    let start = ask.start;
+    let rows = ask.rows;
+    if rows == 0 || found <= u64::from(start) {
+        0
+    } else {
+        start as usize + rows as usize
     }
-    found
 }
 
-// The documents from one place to another, in a list that has room for just these.
-fn part(kept: List<Cell>, from: usize, to: usize) -> Result<List<Cell>, AllocError>
-    ensures { IfOk result (λ docs. docs ≡ drop from (take to kept)) }
+// Of each part the first rows, at most `most`.
+fn heads_of_all(
+    alloc: Global,
+    parts: &[Part],
+    most: usize,
+) -> Result<Vec<Vec<&Cell>>, AllocError>
+    ensures { IfOk result (λ lists. map lent_in lists.items ≡ map (heads_in most) parts.now) }
 {
-    let mut docs = kept.into_vec();
-    docs.truncate(to);
-    let passed = from.min(docs.len());
-    Ok(List::from_vec(docs.split_off(passed)?))
+    let mut lists = Vec::new(alloc);
+    for part in parts {
+        lists.push(heads_of(alloc, part, most)?)?;
+    }
+    Ok(lists)
+}
+
+// The first rows of a part, at most `most`.
+fn heads_of(alloc: Global, part: &Part, most: usize) -> Result<Vec<&Cell>, AllocError>
+    ensures { IfOk result (λ cells. lent_in cells ≡ heads_in most part.now) }
+{
+    let end = most.min(part.numbers.len());
+    rows_at::<Brand>(alloc, part, &part.numbers.as_slice()[..end], Blank::new(1))
+}
+
+// The rows at these numbers.
+fn rows_at<'a, L: Ledger>(
+    alloc: Global,
+    part: &'a Part,
+    numbers: &[u32],
+    blank: Blank,
+) -> Result<Vec<&'a Cell>, AllocError>
+    requires { IsFresh blank L.name L.parts }
+    ensures { IfOk result (λ cells.
+        lent_in cells ≡ flat_map (λ number. option_to_list (slice_get (rows_in part.now.searcher) number)) numbers.now) }
+{
+    let mut steps = Steps::<L>::new(blank);
+    let mut cells = Vec::new(alloc);
+    for number in numbers {
+        if let Some(cell) = part.searcher.snapshot.row(*number, &mut steps) {
+            cells.push(cell)?;
+        }
+    }
+    Ok(cells)
+}
+
+// The cells from one place to another, or to the end.
+fn between<'a>(cells: &'a [&'a Cell], from: usize, to: usize) -> &'a [&'a Cell]
+    ensures { map lent result.now ≡ drop from (take to (map lent cells.now)) }
+{
+    let end = to.min(cells.len());
+    let begin = from.min(end);
+    &cells[begin..end]
+}
+
+// The cells, each shared, in a list that has room for just these.
+fn shared(alloc: Global, cells: &[&Cell]) -> Result<List<Cell>, AllocError>
+    ensures { IfOk result (λ docs. map arc_value docs ≡ map lent cells.now) }
+{
+    let mut docs = Vec::with_capacity(alloc, cells.len())?;
+    for cell in cells {
+        docs.push(Arc::try_clone(*cell)?)?;
+    }
+    Ok(List::from_vec(docs))
 }

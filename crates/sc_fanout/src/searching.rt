@@ -1,30 +1,36 @@
-ghost use Rattle.std.specs.Prelude.{◌≡◌, ◌+◌, ◌++◌, ◌<◌, ◌≤◌, length, map, filter, All, IfOk, OnOk};
-ghost use Rattle.std.specs.Arc.{arc_value};
+ghost use Rattle.std.specs.Prelude.{◌≡◌, ◌+◌, ◌++◌, ◌<◌, ◌≤◌, length, map, take, filter, All, IfOk, OnOk};
 ghost use Rattle.sc_record.specs.declared.write.Write.{Write};
 ghost use Rattle.sc_eval.specs.Conditions.{condition_of};
 ghost use Rattle.sc_journal.specs.Legal.{HasTerms};
+ghost use Rattle.sc_segment.specs.Fresh.{IsFresh};
 ghost use Rattle.sc_snapshot.specs.Rows.{AreRows};
 ghost use Rattle.sc_bucket.specs.Sound.{IsSound};
 ghost use Rattle.sc_bucket.specs.declared.standing.Searcher.{Searcher};
 ghost use Rattle.sc_seen.specs.Moments.{view_of};
 ghost use Rattle.sc_collection.specs.Desks.{nothing_out, IsDeskAtRest};
 ghost use Rattle.sc_collection.specs.Kept.{trail_room};
+ghost use Rattle.sc_fanout.specs.Pages.{all_of};
+ghost use Rattle.sc_fanout.specs.Parts.{IsPart, StandAt, searchers_of};
 ghost use Rattle.sc_fanout.specs.Searches.{SearchesBuckets};
 ghost use Rattle.sc_fanout.specs.Steps.{asks_for, is_asked, rows_in, found_in, AreOfSlices, AreAsked, LooksAtOne};
 
 use crate::ask::Ask;
 use crate::pages::page;
+use crate::part::Part;
 use crate::shown::Page;
 use sc_bucket::{Bucket, Searcher};
 use sc_collection::{Desk, Stop, Trail};
-use sc_eval::{Bound, evaluate};
+use sc_eval::{Bound, find};
 use sc_hash::Range;
-use sc_record::{Cell, List};
+use sc_segment::Steps;
 use std::alloc::{AllocError, Global};
+use std::marker::Brand;
+use std::sync::ledger::{Blank, Ledger};
 
-/// Searches all buckets, one after another: of each it takes, in one hold, the searchers that the route asks for, and looks at their
-/// rows once the bucket was given back. What the buckets find is merged by id, and the page is cut from it. A stop is kept for each
-/// bucket. The only error is that memory was refused; the stops up to then are kept.
+/// Searches all buckets, one after another: of each it takes, in one hold, the searchers that the route asks for, and looks up the
+/// query's terms once the bucket was given back. What is found is counted, and of each searcher only as many numbers of rows are kept
+/// as the page can show; these rows are merged by id, and the page is cut from them. A stop is kept for each bucket. The only error
+/// is that memory was refused; the stops up to then are kept.
 pub fn search<D: Desk>(
     alloc: Global,
     desk: &mut D,
@@ -38,12 +44,15 @@ pub fn search<D: Desk>(
     ensures rest { IsDeskAtRest (D.layout desk.new) (D.out desk.new) (D.seen desk.new) }
     ensures requests { trail.new.requests ≡ trail.old.requests }
 {
-    let mut lists = Vec::new(alloc);
+    let most = ask.start as usize + ask.rows as usize;
+    let mut found: u64 = 0;
+    let mut parts = Vec::new(alloc);
     for b in 0..desk.buckets() {
         let searchers = take_searchers(alloc, desk, trail, b, &ask.route)?;
-        find(alloc, &ask.query, searchers.as_slice(), &mut lists)?;
+        let more = find_all(alloc, &ask.query, searchers, most, &mut parts)?;
+        found += more;
     }
-    page(alloc, lists, ask.start, ask.rows)
+    page(alloc, ask, found, parts.as_slice())
 }
 
 // The searchers of a bucket that the route asks for, taken in one hold, whose stop is kept.
@@ -106,32 +115,66 @@ fn asks_for(route: &Option<Range>, range: &Range) -> bool
     }
 }
 
-// Puts the list of what each searcher finds at the end of the lists.
-fn find(
+// Puts the part of each searcher at the end of the parts, and counts what they find.
+fn find_all(
     alloc: Global,
     query: &Bound,
-    searchers: &[Searcher],
-    lists: &mut Vec<List<Cell>>,
-) -> Result<(), AllocError>
-    requires { All (λ (searcher : Searcher). All (λ (row : Write). HasTerms row.id row.doc row.terms) (rows_in searcher)) searchers.now }
-    ensures found { OnOk result (map (map arc_value) lists.new.items
-        ≡ map (map arc_value) lists.old.items ++ map (found_in (condition_of query.now)) searchers.now) }
-    ensures rows { OnOk result (All (λ (searcher : Searcher). AreRows (rows_in searcher)) searchers.now) }
+    searchers: Vec<Searcher>,
+    most: usize,
+    parts: &mut Vec<Part>,
+) -> Result<u64, AllocError>
+    requires terms { All (λ (searcher : Searcher). All (λ (row : Write). HasTerms row.id row.doc row.terms) (rows_in searcher)) searchers.items }
+    requires few { length searchers.items ≤ 256 }
+    requires kept { All (IsPart (condition_of query.now) most) parts.old.items }
+    ensures found { IfOk result (λ found. found ≡ length (all_of (map (found_in (condition_of query.now)) searchers.items))) }
+    ensures searchers { OnOk result (searchers_of parts.new.items ≡ searchers_of parts.old.items ++ searchers.items) }
+    ensures kept { OnOk result (All (IsPart (condition_of query.now) most) parts.new.items) }
+    ensures rows { OnOk result (All (λ (searcher : Searcher). AreRows (rows_in searcher)) searchers.items) }
 {
+    let mut found: u64 = 0;
     for searcher in searchers {
-        lists.push(find_in(alloc, query, searcher)?)?;
+        let numbers = find_in(alloc, query, &searcher)?;
+        found += numbers.len() as u64;
+        parts.push(part_of(searcher, numbers, most))?;
     }
-    Ok(())
+    Ok(found)
 }
 
-// The rows of a searcher that the query finds. Where there are no rows, none is looked at.
-fn find_in(alloc: Global, query: &Bound, searcher: &Searcher) -> Result<List<Cell>, AllocError>
+// The part of a searcher, where these are the numbers of all that is found. The room of those that are not kept is given back.
+fn part_of(searcher: Searcher, mut numbers: Vec<u32>, most: usize) -> Part
+    ensures searcher { result.searcher ≡ searcher }
+    ensures numbers { result.numbers.items ≡ take most numbers.items }
+{
+    numbers.truncate(most);
+    numbers.shrink_to_fit();
+    Part { searcher, numbers }
+}
+
+// The numbers of a searcher's rows that the query finds. Where there are no rows, no term is looked up.
+fn find_in(alloc: Global, query: &Bound, searcher: &Searcher) -> Result<Vec<u32>, AllocError>
     requires { All (λ (row : Write). HasTerms row.id row.doc row.terms) (rows_in searcher.now) }
-    ensures found { IfOk result (λ found. map arc_value found ≡ found_in (condition_of query.now) searcher.now) }
+    ensures found { IfOk result (λ numbers.
+        StandAt (rows_in searcher.now) numbers.items (found_in (condition_of query.now) searcher.now)) }
     ensures rows { AreRows (rows_in searcher.now) }
 {
     if searcher.snapshot.rows() == 0 {
-        return Ok(List::new(alloc));
+        return Ok(Vec::new(alloc));
     }
-    evaluate(alloc, query, &searcher.snapshot, &searcher.range)
+    numbers_in::<Brand>(alloc, query, searcher, Blank::new(1))
+}
+
+// The same, with a count of its own.
+fn numbers_in<L: Ledger>(
+    alloc: Global,
+    query: &Bound,
+    searcher: &Searcher,
+    blank: Blank,
+) -> Result<Vec<u32>, AllocError>
+    requires terms { All (λ (row : Write). HasTerms row.id row.doc row.terms) (rows_in searcher.now) }
+    requires fresh { IsFresh blank L.name L.parts }
+    ensures { IfOk result (λ numbers.
+        StandAt (rows_in searcher.now) numbers.items (found_in (condition_of query.now) searcher.now)) }
+{
+    let mut steps = Steps::<L>::new(blank);
+    find(alloc, query, &searcher.snapshot, &searcher.range, &mut steps)
 }

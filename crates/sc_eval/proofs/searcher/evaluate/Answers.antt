@@ -1,9 +1,10 @@
 -- The rows that are found are at the numbers of those that match, and each of these is read once.
 use Rattle.std.proofs.Common.{◌≤◌, ◌+◌, ℕ, List, length, option_to_list, slice_get, ◌∙◌, ap, arith}
 use Rattle.std.specs.List.{flat_map}
+use Rattle.std.proofs.lemmas.Result.{IfOk-weaker}
 use Rattle.sc_eval.specs.Conditions.{condition_of}
 use Rattle.sc_eval.specs.Numbers.{numbers_of, row_in}
-use Rattle.sc_eval.proofs.NumberLemmas.{IfOk-then, rows-in}
+use Rattle.sc_eval.proofs.NumberLemmas.{rows-in}
 use Rattle.sc_eval.proofs.StepLemmas.{search-steps}
 use Rattle.sc_eval.proofs.searcher.evaluate.Goals as goal
 
@@ -12,7 +13,7 @@ returns-clause-found g c =
     let rows = c.args.snapshot.now.rows in
     let range = c.args.range.now in
     let condition = condition_of c.args.query.now in
-    IfOk-then c.cells_in.result
+    IfOk-weaker c.cells_in.result _ _
     (λ found is. is ∙ ap (flat_map (λ number. option_to_list (row_in range (slice_get rows number)))) c.as_slice.ensures
     ∙ rows-in range condition rows (numbers_of c.in_ok-numbers.numbers) c.in_ok-numbers.ensures.numbers)
     c.cells_in.ensures.found

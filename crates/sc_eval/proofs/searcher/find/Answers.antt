@@ -1,9 +1,10 @@
 -- The numbers of the rows that match are those of the rows that are found, or are cut to them.
 use Rattle.std.proofs.Common.{◌≤◌, ◌+◌, ℕ, List, length, slice_get, is_some, ◌∙◌, ap, arith}
 use Rattle.std.specs.List.{filter}
+use Rattle.std.proofs.lemmas.Result.{IfOk-weaker}
 use Rattle.sc_eval.specs.Conditions.{condition_of}
 use Rattle.sc_eval.specs.Numbers.{numbers_of, row_in}
-use Rattle.sc_eval.proofs.NumberLemmas.{IfOk-then, numbers-in}
+use Rattle.sc_eval.proofs.NumberLemmas.{numbers-in}
 use Rattle.sc_eval.proofs.StepLemmas.{search-steps}
 use Rattle.sc_eval.proofs.searcher.find.Goals as goal
 
@@ -12,7 +13,7 @@ returns-clause-members g c =
     let rows = c.args.snapshot.now.rows in
     let range = c.args.range.now in
     let condition = condition_of c.args.query.now in
-    IfOk-then c.numbers_in.result
+    IfOk-weaker c.numbers_in.result _ _
     (λ found is.
     (numbers-in range condition rows (numbers_of c.in_ok-numbers.numbers) found.items c.in_ok-numbers.ensures.numbers
     (is ∙ ap (filter (λ number. is_some (row_in range (slice_get rows number)))) c.as_slice.ensures)).members)
@@ -23,7 +24,7 @@ returns-clause-ascending g c =
     let rows = c.args.snapshot.now.rows in
     let range = c.args.range.now in
     let condition = condition_of c.args.query.now in
-    IfOk-then c.numbers_in.result
+    IfOk-weaker c.numbers_in.result _ _
     (λ found is.
     (numbers-in range condition rows (numbers_of c.in_ok-numbers.numbers) found.items c.in_ok-numbers.ensures.numbers
     (is ∙ ap (filter (λ number. is_some (row_in range (slice_get rows number)))) c.as_slice.ensures)).ascending)

@@ -1,23 +1,30 @@
 -- The start of all in order has the page's part of it.
-use Rattle.std.proofs.Common.{◌+◌, length, map, take, drop, sym, ap, ◌∙◌}
-use Rattle.std.specs.Arc.{arc_value}
-use Rattle.std.proofs.lemmas.List.{take-map, drop-map, drop-take}
-use Rattle.sc_fanout.specs.Pages.{all_of}
+use Rattle.std.proofs.Common.{◌+◌, map, take, drop, sym, ap, ◌∙◌}
+use Rattle.std.proofs.lemmas.List.Sorted.{length_permutation}
+use Rattle.sc_eval.specs.Conditions.{condition_of}
+use Rattle.sc_fanout.specs.Pages.{IsStartOf, all_of}
+use Rattle.sc_fanout.specs.Parts.{lent, lent_in, lists_of}
+use Rattle.sc_fanout.proofs.PartLemmas.{heads-all}
 use Rattle.sc_fanout.proofs.pages.page.Goals as goal
 
 pub returns : goal.returns
 returns c =
-    let start = c.args.start in
-    let most = c.args.start + c.args.rows in
+    let condition = condition_of c.args.ask.now.query in
+    let start = c.args.ask.now.start in
+    let most = c.reach-most.result in
+    let wholes = lists_of condition c.args.parts.now in
     let kept = c.in_ok-kept.kept in
+    let begins : IsStartOf (all_of wholes) most (lent_in kept) =
+    c.in_ok-kept.ensures wholes c.requires.may_be
+    (c.in_ok-lists.ensures ∙ heads-all condition most (start + c.args.ask.now.rows) c.args.parts.now c.reach-most.ensures.few c.requires.kept) in
     record {
-      found = c.count-found.ensures ∙ ap (λ cells. length (all_of (map (map arc_value) cells))) c.as_slice.ensures.value;
-      sorted = c.in_ok-kept.ensures.sorted;
-      order = c.in_ok-kept.ensures.order;
+      found = c.requires.counted;
+      sorted = begins.sorted;
+      order = begins.order;
       docs =
-          ap (map arc_value) c.in_ok-docs.ensures
-          ∙ sym (drop-map arc_value start (take most kept))
-          ∙ ap (drop start) (sym (take-map arc_value most kept))
-          ∙ ap (drop start) c.in_ok-kept.ensures.start
-          ∙ drop-take start c.args.rows c.in_ok-kept.ensures.sorted;
+          c.in_ok-docs.ensures ∙ c.between.ensures
+          ∙ ap (λ cells. drop start (take most (map lent cells))) c.as_slice.ensures.value
+          ∙ ap (drop start) begins.start
+          ∙ c.reach-most.ensures.enough begins.sorted
+          (length_permutation (all_of wholes) begins.sorted begins.order.same ∙ sym c.requires.counted);
     }

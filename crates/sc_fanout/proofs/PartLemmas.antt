@@ -1,0 +1,98 @@
+-- The numbers that a part keeps lead to the first documents that its searcher finds.
+use Rattle.std.proofs.Common.{◌≡◌, ℕ, ◌+◌, ◌-◌, ◌<◌, ◌≤◌, List, [], ◌∷◌, ◌++◌, length, map, take, drop, slice_get, option_to_list, Option, Some, Result, Ok, Err, IfOk, refl, sym, ap, subst, ◌∙◌, arith, inl, inr, All}
+use Rattle.std.specs.List.{flat_map, AllByRecursion}
+use Rattle.std.proofs.lemmas.Bool.{cases_lt}
+use Rattle.std.proofs.lemmas.List.{take-map, take-take, take_all, drop-map, drop-take, length-map, length-take-le}
+use Rattle.std.proofs.Math.ListN.{drop_of_length-le}
+use Rattle.std.proofs.lemmas.List.Elements.{recursion_from_All}
+use Rattle.sc_record.specs.declared.write.Write.{Write}
+use Rattle.sc_bucket.specs.declared.standing.Searcher.{Searcher}
+use Rattle.sc_eval.specs.Conditions.{Condition}
+use Rattle.sc_fanout.specs.Steps.{rows_in, found_in}
+use Rattle.sc_fanout.specs.Parts.{StandAt, IsPart, heads_in, lists_of}
+use Rattle.sc_fanout.specs.declared.part.Part.{Part}
+
+-- the first rows stand at the first numbers
+pub stand-first : (rows : List Write) (numbers : List ℕ) (these : List Write) (most : ℕ) → StandAt rows numbers these
+    → StandAt rows (take most numbers) (take most these)
+stand-first rows numbers these most stand =
+    sym (take-map (slice_get rows) most numbers) ∙ ap (take most) stand ∙ take-map (λ (write : Write). Some write) most these
+
+-- there are as many rows as numbers
+pub stand-count : (rows : List Write) (numbers : List ℕ) (these : List Write) → StandAt rows numbers these → length numbers ≡ length these
+stand-count rows numbers these stand =
+    sym (length-map numbers (slice_get rows)) ∙ ap (λ (os : List (Option Write)). length os) stand ∙ length-map these (λ (write : Write). Some write)
+
+-- the rows that stand at numbers are those that are read there
+stand-read : (rows : List Write) (numbers : List ℕ) (these : List Write) → StandAt rows numbers these
+    → flat_map (λ number. option_to_list (slice_get rows number)) numbers ≡ these
+stand-read rows [] [] stand = refl
+stand-read rows [] (w ∷ ws) stand = cc
+stand-read rows (n ∷ ns) [] stand = cc
+stand-read rows (n ∷ ns) (w ∷ ws) stand =
+    let here : slice_get rows n ≡ Some w = cc in
+    let later : StandAt rows ns ws = cc in
+    ap (λ (o : Option Write). option_to_list o ++ flat_map (λ number. option_to_list (slice_get rows number)) ns) here
+    ∙ ap (λ (l : List Write). w ∷ l) (stand-read rows ns ws later)
+
+heads-part : (condition : Condition) (most far : ℕ) (part : Part) → most ≤ far → IsPart condition far part
+    → heads_in most part ≡ take most (found_in condition part.searcher)
+heads-part condition most far part le is =
+    stand-read (rows_in part.searcher) (take most part.numbers.items) (take most (take far (found_in condition part.searcher)))
+    (stand-first (rows_in part.searcher) part.numbers.items (take far (found_in condition part.searcher)) most is)
+    ∙ take-take most far (found_in condition part.searcher) le
+
+-- the heads of the parts are the first documents of each list that is found
+pub heads-all : (condition : Condition) (most far : ℕ) (parts : List Part) → most ≤ far → All (IsPart condition far) parts
+    → map (heads_in most) parts ≡ map (take most) (lists_of condition parts)
+heads-all condition most far parts le are = by parts (recursion_from_All (IsPart condition far) parts are)
+  where
+    by : (ps : List Part) → AllByRecursion (IsPart condition far) ps → map (heads_in most) ps ≡ map (take most) (lists_of condition ps)
+    by [] each = refl
+    by (part ∷ ps) each =
+        let here = heads-part condition most far part le each.0 in
+        let later = by ps each.1 in
+        ap (λ (l : List Write). l ∷ map (heads_in most) ps) here
+        ∙ ap (λ (ls : List (List Write)). take most (found_in condition part.searcher) ∷ ls) later
+
+-- the part of a searcher, of the numbers of all that it finds
+pub cut-part : (condition : Condition) (most : ℕ) (searcher : Searcher) (numbers : List ℕ) (part : Part)
+    → StandAt (rows_in searcher) numbers (found_in condition searcher)
+    → part.searcher ≡ searcher → part.numbers.items ≡ take most numbers → IsPart condition most part
+cut-part condition most searcher numbers part stand same is =
+    let here = stand-first (rows_in searcher) numbers (found_in condition searcher) most stand in
+    let of_searcher : StandAt (rows_in part.searcher) (take most numbers) (take most (found_in condition part.searcher)) =
+    subst (λ (s : Searcher). StandAt (rows_in s) (take most numbers) (take most (found_in condition s))) (sym same) here in
+    subst (λ (ns : List ℕ). StandAt (rows_in part.searcher) ns (take most (found_in condition part.searcher))) (sym is) of_searcher
+
+-- a part of a list, between two places that are cut to its end
+pub between-part : {C : Type 0} (value : C → Write) (cells : List C) (from to begin end : ℕ)
+    → end ≤ to → end ≤ length cells → (end < to → end ≡ length cells) → begin ≤ from → begin ≤ end → (begin < from → begin ≡ end)
+    → map value (take (end - begin) (drop begin cells)) ≡ drop from (take to (map value cells))
+between-part value cells from to begin end low few last first within past =
+    let whole : begin + (end - begin) ≡ end = omega (arith, within) in
+    let cut : take (end - begin) (drop begin cells) ≡ drop begin (take end cells) =
+    sym (drop-take begin (end - begin) cells) ∙ ap (λ n. drop begin (take n cells)) whole in
+    let ends : take end cells ≡ take to cells =
+    elim (cases_lt end to) [
+      | inl less ↦
+          let here : end ≡ length cells = last less in
+          take_all end cells (omega (arith, here)) ∙ sym (take_all to cells (omega (arith, here, low)))
+      | inr more ↦ let here : end ≡ to = omega (arith, more, low) in ap (λ n. take n cells) here
+    ] in
+    let begins : drop begin (take end cells) ≡ drop from (take end cells) =
+    elim (cases_lt begin from) [
+      | inl less ↦
+          let here : begin ≡ end = past less in
+          let long = length-take-le end cells few in
+          drop_of_length-le (take end cells) {i = begin} (omega (arith, here, long))
+          ∙ sym (drop_of_length-le (take end cells) {i = from} (omega (arith, here, long, less)))
+      | inr more ↦ let here : begin ≡ from = omega (arith, more, first) in ap (λ n. drop n (take end cells)) here
+    ] in
+    ap (map value) (cut ∙ begins ∙ ap (drop from) ends) ∙ sym (drop-map value from (take to cells))
+    ∙ ap (drop from) (sym (take-map value to cells))
+
+-- what both of two facts say of a result
+pub IfOk-both : {T E : Type 0} {P Q R : T → Type 0} (r : Result T E) → ((x : T) → P x → Q x → R x) → IfOk r P → IfOk r Q → IfOk r R
+IfOk-both (Ok x) f p q = f x p q
+IfOk-both (Err e) f p q = p

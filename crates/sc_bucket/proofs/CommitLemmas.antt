@@ -1,5 +1,5 @@
 -- What a commit asks of a bucket is so, and a bucket is sound once it was committed.
-use Rattle.std.proofs.Common.{◌≡◌, ◌∙◌, ◌≤◌, ◌+◌, ℕ, Bool, [], ◌∷◌, ◌++◌, List, length, map, get_or, refl, sym, ap, subst, All, Contains, None, true, filter, Decides, IsSome, arith}
+use Rattle.std.proofs.Common.{◌≡◌, ◌∙◌, ◌≤◌, ◌+◌, ℕ, Bool, [], ◌∷◌, ◌++◌, List, length, map, get_or, refl, sym, ap, subst, All, Contains, true, filter, Decides, IsSome, arith}
 use Rattle.std.specs.Cmp.Lexicographic.{slice_cmp, texts_ties}
 use Rattle.std.specs.Ordering.{nat_cmp, eq_by_cmp}
 use Rattle.std.specs.List.{IsDistinct}
@@ -21,7 +21,7 @@ use Rattle.sc_cluster.specs.Slices.{is_active, is_active_state}
 use Rattle.sc_cluster.proofs.LeaderLemmas.{same_from_id}
 use Rattle.sc_cluster.proofs.ListLemmas.{Contains-map, Contains-filter, Contains-from_filter}
 use Rattle.sc_replica.specs.Core.{Core, IsCore}
-use Rattle.sc_journal.specs.Journal.{as_write, writes, last_write, write_at, is_settled, unsettled}
+use Rattle.sc_journal.specs.Journal.{writes, last_write, write_at, is_settled, unsettled}
 use Rattle.sc_journal.specs.Splits.{map_after, open_split, owed}
 use Rattle.sc_journal.specs.Legal.{IsLegal}
 use Rattle.sc_journal.specs.Committed.{commits, committed, last_commit}
@@ -44,6 +44,7 @@ use Rattle.sc_bucket.proofs.SoundLemmas.{SaysSame, SaysSame-push, IsSent-left, I
 use Rattle.sc_bucket.proofs.TakenLemmas.{Contains-slice_get}
 use Rattle.sc_bucket.proofs.AcceptLemmas.{bucket_has_map}
 use Rattle.sc_bucket.proofs.SearcherLemmas.{IsAt, AreAt-taken}
+use Rattle.sc_bucket.proofs.UncommittedLemmas.{no_write}
 
 -- the ids of writes, and how they compare
 abbrev id_of : Write → List ℕ
@@ -113,19 +114,6 @@ HasJournal-committed old new journal commits parts =
       limit_from = omega (arith, commits.name.limit, journal.limit_from);
       limit_to = omega (arith, commits.name.limit, journal.limit_to);
     }
-
--- an entry that commits is no write
-no_write : (one : Entry) → commits one ≡ true → as_write one ≡ None
-no_write (entry.Write cell) is = cc
-no_write (entry.Settled place) is = cc
-no_write entry.Committed is = refl
-no_write (entry.Begun parent subs) is = refl
-no_write (entry.Switched parent) is = cc
-no_write (entry.Failed parent) is = cc
-no_write (entry.Dropped slice) is = cc
-no_write (entry.Down core) is = cc
-no_write (entry.Up core) is = cc
-no_write (entry.Led core) is = cc
 
 -- A bucket's searchers were taken as its journal got an entry that commits. Its map is this then, whose active slices are those of
 -- the map before.

@@ -126,18 +126,16 @@ same_write first journal one other legal there other_there id version =
     (Contains-filter (is_of one.id) (writes journal) other other_there (is_of_from_id one.id other (sym id)))
     version
 
--- the core leads the slice, and has its last writes
-record IsItsLeader (b : Bucket) (slice : Slice) (core : Core) : Type 0 where
-  there : Contains b.replicas core
-  leader : IsLeaderOf slice.id core
+-- the core's cells are the last writes of the slice, and no others
+record HasItsCells (b : Bucket) (slice : Slice) (core : Core) : Type 0 where
   has : HasLastWrites b.journal.entries slice core
   ascends : AscendById core.cells
   written : All (Contains (writes b.journal.entries)) core.cells
   within : All (IsInRange slice) core.cells
 
--- a core that leads an active slice of a sound bucket does
+-- so are those of a core that leads an active slice of a sound bucket
 its_leader : (b : Bucket) (slice : Slice) (core : Core) → IsSound b → Contains b.map slice → slice.state ≡ states.Active
-    → Contains b.replicas core → IsLeaderOf slice.id core → IsItsLeader b slice core
+    → Contains b.replicas core → IsLeaderOf slice.id core → HasItsCells b slice core
 its_leader b slice core sound there active core_there leads =
     let entries : List Entry = b.journal.entries in
     let serves = All-contains (λ (one : Core). (s : Slice) → Contains b.map s → s.id ≡ one.core.slice → Serves entries s one)
@@ -146,8 +144,6 @@ its_leader b slice core sound there active core_there leads =
     let within = All-contains (λ (one : Core). (s : Slice) → Contains b.map s → s.id ≡ one.core.slice
     → AreInRange b.flight.messages b.feeds s one) b.replicas core sound.in_range core_there slice there (sym leads.0) in
     record {
-      there = core_there;
-      leader = leads;
       has = serves.1;
       ascends = (All-contains IsCoreWithoutRoom b.replicas core sound.in_order core_there).ascends;
       written = written.0;

@@ -21,7 +21,7 @@ abbrev pub is_write : Entry → Bool
 is_write one = is_some (as_write one)
 
 -- an entry that commits is no write
-no_write : (one : Entry) → commits one ≡ true → as_write one ≡ None
+pub no_write : (one : Entry) → commits one ≡ true → as_write one ≡ None
 no_write (entry.Write cell) is = cc
 no_write (entry.Settled place) is = cc
 no_write entry.Committed is = refl
@@ -72,7 +72,7 @@ has_uncommitted-push_other journal one none fails = has_uncommitted-push journal
   by true = refl
   by false = refl
 
--- as is each that is none of these
+-- so it is of each that is none of the three
 pub is_other_entry : (one : Entry) → ((cell : _) → one ≡ entry.Write cell → ⊥) → (one ≡ entry.Committed → ⊥)
     → ((parent : SliceId) (subs : List SubSlice) → one ≡ entry.Begun parent subs → ⊥) → (commits one ≡ false) × (is_write one ≡ false)
 is_other_entry (entry.Write cell) write commit begun = absurd (write cell refl)

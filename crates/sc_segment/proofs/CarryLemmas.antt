@@ -1,14 +1,14 @@
--- An index carried over entry by entry, and the rows of one key carried over row by row.
-use Rattle.std.proofs.Common.{◌≡◌, ℕ, zero, suc, ◌+◌, ◌<◌, ◌≤◌, List, [], ◌∷◌, ◌++◌, length, take, drop, get_or, Option, Some, None, append-nil, append_assoc, refl, sym, ap, ◌∙◌, arith, ◌⊎◌, inl, inr}
+-- The rows of one key carried over row by row, and a list of new numbers while it is made.
+use Rattle.std.proofs.Common.{◌≡◌, ◌==◌, ◌||◌, Bool, false, ℕ, zero, suc, ◌+◌, ◌<◌, ◌≤◌, List, [], ◌∷◌, ◌++◌, length, take, drop, get_or, Option, Some, None, append-nil, append_assoc, refl, sym, ap, ◌∙◌, arith, ◌⊎◌, inl, inr, All, subst}
 use Rattle.std.proofs.lemmas.List.{take_more, drop_all}
-use Rattle.std.proofs.lemmas.List.Elements.{filter_map-append}
-use Rattle.std.specs.List.{filter_map, cons_option}
+use Rattle.std.proofs.lemmas.List.Elements.{All-head, All-push, All-tail, All-weaker, filter_map-append}
+use Rattle.std.specs.List.{filter_map, cons_option, list_any}
 use Rattle.std.specs.List.Sorted.{IsStrictlyIncreasing}
 use Rattle.sc_segment.proofs.JoinLemmas.{AscendFrom, ascend_from_increasing, increasing_from_ascend, joined}
 use Rattle.sc_segment.specs.Carrying.{new_number, new_numbers, KeepsOrder}
 use Rattle.sc_segment.specs.Flat.{FlatState}
 use Rattle.sc_segment.specs.declared.joining.Kept.TheVariants.{Either}
-use Rattle.sc_segment.specs.Joining.{keeps}
+use Rattle.sc_segment.specs.Joining.{has_row, keeps}
 
 -- ---- rows
 -- one row more, whose new number was put at the end where it has one
@@ -87,3 +87,50 @@ merged-rest moved rows added pending whole i j same (inr past) =
     let end : pending ++ joined (keeps Either) (new_numbers moved (drop i rows)) (drop j added) ≡ pending ++ new_numbers moved (drop i rows) =
     ap (λ (rs : List ℕ). pending ++ joined (keeps Either) (new_numbers moved (drop i rows)) rs) none ∙ ap (λ (rs : List ℕ). pending ++ rs) (joined-left (new_numbers moved (drop i rows))) in
     ap (λ (rs : List ℕ). (pending ++ new_numbers moved (drop i rows)) ++ rs) none ∙ append-nil (pending ++ new_numbers moved (drop i rows)) ∙ sym end ∙ same
+
+-- whether it is this number
+abbrev pub is_number : ℕ → Option ℕ → Bool
+is_number row None = false
+is_number row (Some n) = n == row
+
+-- whether one of these rows has this new number
+pub has_row-new_numbers : (moved : List (Option ℕ)) (rows : List ℕ) (row : ℕ) → has_row (new_numbers moved rows) row ≡ list_any (λ r. is_number row (new_number moved r)) rows
+has_row-new_numbers moved [] row = refl
+has_row-new_numbers moved (r ∷ rs) row =
+    elim (new_number moved r) as (λ (number : Option ℕ). has_row (cons_option number (new_numbers moved rs)) row ≡ (is_number row number || list_any (λ q. is_number row (new_number moved q)) rs)) [
+      | None ↦ has_row-new_numbers moved rs row
+      | Some n ↦ ap (λ b. (n == row) || b) (has_row-new_numbers moved rs row)
+    ]
+
+-- ---- a list of new numbers while it is made
+-- the new numbers of the rows that were passed
+abbrev pub numbers_of : List (Option ℕ) → List ℕ
+numbers_of moved = filter_map (λ number. number) moved
+
+ascend-push : (n low : ℕ) (xs : List ℕ) → low ≤ n → AscendFrom low xs → All (λ x. x < n) xs → AscendFrom low (xs ++ n ∷ [])
+ascend-push n low [] le up below = (le, tt)
+ascend-push n low (x ∷ xs) le up below =
+    let less = All-head (λ y. y < n) x xs below in
+    (up.0, ascend-push n (x + 1) xs (omega (arith, less)) up.1 (All-tail (λ y. y < n) x xs below))
+
+increasing-push : (xs : List ℕ) (n : ℕ) → IsStrictlyIncreasing xs → All (λ x. x < n) xs → IsStrictlyIncreasing (xs ++ n ∷ [])
+increasing-push xs n up below = increasing_from_ascend 0 (xs ++ n ∷ []) (ascend-push n 0 xs (omega arith) (ascend_from_increasing xs up) below)
+
+-- a row that is gone
+pub KeepsOrder-gone : (moved : List (Option ℕ)) → KeepsOrder moved → KeepsOrder (moved ++ None ∷ [])
+KeepsOrder-gone moved up =
+    subst IsStrictlyIncreasing (sym (filter_map-append (λ (number : Option ℕ). number) moved (None ∷ []) ∙ append-nil (numbers_of moved))) up
+
+-- a row whose new number is above all before it
+pub KeepsOrder-kept : (moved : List (Option ℕ)) (n : ℕ) → KeepsOrder moved → All (λ m. m < n) (numbers_of moved) → KeepsOrder (moved ++ Some n ∷ [])
+KeepsOrder-kept moved n up below =
+    subst IsStrictlyIncreasing (sym (filter_map-append (λ (number : Option ℕ). number) moved (Some n ∷ []))) (increasing-push (numbers_of moved) n up below)
+
+pub numbers-gone : (moved : List (Option ℕ)) (n : ℕ) → All (λ m. m < n) (numbers_of moved) → All (λ m. m < n) (numbers_of (moved ++ None ∷ []))
+numbers-gone moved n below =
+    subst (All (λ m. m < n)) (sym (filter_map-append (λ (number : Option ℕ). number) moved (None ∷ []) ∙ append-nil (numbers_of moved))) below
+
+pub numbers-kept : (moved : List (Option ℕ)) (n : ℕ) → All (λ m. m < n) (numbers_of moved) → All (λ m. m < n + 1) (numbers_of (moved ++ Some n ∷ []))
+numbers-kept moved n below =
+    subst (All (λ m. m < n + 1)) (sym (filter_map-append (λ (number : Option ℕ). number) moved (Some n ∷ [])))
+    (All-push (λ m. m < n + 1) (numbers_of moved) n (All-weaker (λ m. m < n) (λ m. m < n + 1) (λ m less. omega arith) (numbers_of moved) below) (omega arith))

@@ -22,6 +22,7 @@ use Rattle.sc_segment.proofs.AddingLemmas.{unwrap_or-non_empty, some-rows_with}
 use Rattle.sc_segment.proofs.MembersLemmas.{Contains-rows_with, Contains-cases}
 use Rattle.sc_segment.proofs.SameRowsLemmas.{same_rows}
 use Rattle.sc_segment.proofs.SearchLemmas.{lookup-equal}
+use Rattle.sc_segment.specs.Carrying.{IsCarried, new_numbers}
 use Rattle.sc_segment.specs.Index.{IsIndexOf, IsInOrder, rows_with, rows_at, distinct_keys, non_empty, WasAddedWith}
 use Rattle.sc_segment.specs.Joining.{has_row}
 use Rattle.sc_segment.specs.Searching.{IsGapFor}
@@ -164,3 +165,15 @@ IsIndexOf-from_members {K} {order} o added index ordered up members =
     (λ key row. same_test (rows_at order index key) (rows_with order added key) row
     (λ h. (Contains-rows_with order key row added).1 ((members key row).0 h))
     (λ h. (members key row).1 ((Contains-rows_with order key row added).0 h)))
+
+-- an index that is carried over is one of the pairs whose rows for each key are those that were carried and those that were added, where they come in order
+pub IsIndexOf-carried : {K : Type 0} {order : K → K → Ordering} → IsTotalOrder order → (moved : List (Option ℕ)) (before more after : List (ℕ × K)) (old added new : List (K × List ℕ))
+    → IsCarried order moved old added new → IsIndexOf order before old → IsIndexOf order more added → IsNonDecreasingBy (λ p. p.0) after
+    → ((key : K) (row : ℕ) → has_row (rows_with order after key) row ≡ (has_row (new_numbers moved (rows_with order before key)) row || has_row (rows_with order more key) row))
+    → IsIndexOf order after new
+IsIndexOf-carried {K} {order} o moved before more after old added new carried of_old of_added up members =
+    IsIndexOf-from_rows o after new carried.in_order (λ key. rows_with-ascend order after key up)
+    (λ key row. carried.members key row
+    ∙ ap (λ (rs : List ℕ). has_row (new_numbers moved rs) row || has_row (rows_at order added key) row) (rows_at-index o before old of_old key)
+    ∙ ap (λ (rs : List ℕ). has_row (new_numbers moved (rows_with order before key)) row || has_row rs row) (rows_at-index o more added of_added key)
+    ∙ sym (members key row))

@@ -22,12 +22,7 @@ use std::sync::ledger::{Blank, Ledger};
 /// The page that is asked for, of all that the parts' searchers find, of which `found` is the count. Of each part no more rows are
 /// read than the page can show, and none where it shows none; the documents of the page alone are shared. The only error is that
 /// memory was refused.
-pub(crate) fn page(
-    alloc: Global,
-    ask: &Ask,
-    found: u64,
-    parts: &[Part],
-) -> Result<Page, AllocError>
+pub(crate) fn page(alloc: Global, ask: &Ask, found: u64, parts: &[Part]) -> Result<Page, AllocError>
     requires counted { found ≡ length (all_of (lists_of (condition_of ask.now.query) parts.now)) }
     requires may_be { All AreFound (lists_of (condition_of ask.now.query) parts.now) }
     requires kept { All (IsPart (condition_of ask.now.query) (ask.now.start + ask.now.rows)) parts.now }
@@ -56,11 +51,7 @@ fn reach(ask: &Ask, found: u64) -> usize
 }
 
 // Of each part the first rows, at most `most`.
-fn heads_of_all(
-    alloc: Global,
-    parts: &[Part],
-    most: usize,
-) -> Result<Vec<Vec<&Cell>>, AllocError>
+fn heads_of_all(alloc: Global, parts: &[Part], most: usize) -> Result<Vec<Vec<&Cell>>, AllocError>
     ensures { IfOk result (λ lists. map lent_in lists.items ≡ map (heads_in most) parts.now) }
 {
     let mut lists = Vec::new(alloc);

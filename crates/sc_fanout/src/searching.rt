@@ -176,5 +176,11 @@ fn numbers_in<L: Ledger>(
         StandAt (rows_in searcher.now) numbers.items (found_in (condition_of query.now) searcher.now)) }
 {
     let mut steps = Steps::<L>::new(blank);
-    find(alloc, query, &searcher.snapshot, &searcher.range, &mut steps)
+    find(
+        alloc,
+        query,
+        &searcher.snapshot,
+        &searcher.range,
+        &mut steps,
+    )
 }

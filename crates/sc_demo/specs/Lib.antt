@@ -3,3 +3,5 @@ pub mod Writing
 pub mod Finding
 pub mod Splitting
 pub mod Lines
+pub mod Making
+pub mod Demos

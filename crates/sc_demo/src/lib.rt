@@ -26,7 +26,18 @@ mod splitting;
 mod counting;
 mod lines;
 
+// One maker in its thread, and all makers.
+mod maker;
+mod makers;
+mod needs;
+mod task;
+
+// The whole of a demonstration, which isn't proved yet.
+mod demo;
+mod telling;
+
 pub use counting::{Found, count_on};
+pub use demo::run_demo;
 pub use lines::{lines_of, split_text};
 pub use made::Written;
 pub use splitting::split_first;

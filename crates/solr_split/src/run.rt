@@ -9,6 +9,7 @@ ghost use Rattle.solr_split.specs.Scripts.{EndsScript};
 
 use crate::script::run_script;
 use sc_arguments::{Asked, Script, Server, asked_of};
+use sc_demo::run_demo;
 use sc_io::{Sink, Source};
 use sc_server::run_server;
 use sc_session::Station;
@@ -111,6 +112,7 @@ pub fn run<S: Source, W: Sink, T: Station, R: Threads + Wait + Sync>(
         None => 2,
         Some(Asked::Script(script)) => run_by_crew(alloc, &script, source, sink, station),
         Some(Asked::Serve(server)) => run_workers(rt, alloc, &server, sink, station),
+        Some(Asked::Demo(demo)) => run_demo(rt, alloc, &demo, sink, station),
     }
 }
 

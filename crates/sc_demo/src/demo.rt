@@ -5,7 +5,8 @@ ghost use Rattle.sc_demo.specs.Demos.{EndsDemo};
 
 use crate::makers::{dismiss, enlist, make_all};
 use crate::needs::{Needs, needs_of};
-use crate::telling::told;
+use crate::task::Outcome;
+use crate::telling::tell;
 use sc_arguments::Demo;
 use sc_io::Sink;
 use sc_session::Station;
@@ -63,16 +64,10 @@ pub fn run_demo<R: Threads + Wait + Sync, W: Sink, T: Station>(
     let Ok(mut makers) = Vec::with_capacity(alloc, kits.len()) else {
         return 6;
     };
-    let status = match enlist(rt, alloc, demo, &collection, kits, station, &mut makers) {
-        Ok(()) => make_all(rt, makers.as_mut_slice(), cores.as_slice()),
-        Err(_) => 6,
+    let outcome = match enlist(rt, alloc, demo, &collection, kits, station, &mut makers) {
+        Ok(()) => make_all(rt, alloc, makers.as_mut_slice(), cores.as_slice()),
+        Err(_) => Outcome::Memory,
     };
-    let outcome = dismiss(&collection, &mut passes, station, makers);
-    if status != 0 {
-        return status;
-    }
-    match told(rt, alloc, demo, &collection, passes, &mut trail, &outcome) {
-        Ok(lines) => { if sink.write(lines.as_bytes()).is_err() { 5 } else { 0 } }
-        Err(_) => 6,
-    }
+    dismiss(&collection, &mut passes, station, makers);
+    tell(rt, alloc, demo, &collection, passes, &mut trail, sink, outcome)
 }

@@ -1,6 +1,10 @@
 //! What a maker is to make, and what it made.
+ghost use Rattle.std.specs.Prelude.{◌≡◌};
+ghost use Rattle.sc_demo.specs.Making.{accepted_by, has_run_out, split_ran_out, task_at};
 
 use crate::made::Written;
+use sc_arguments::Demo;
+use sc_record::Text;
 use sc_split::SplitEnd;
 
 /// What a maker is to make.
@@ -10,6 +14,17 @@ pub enum Task {
     Write { worker: u32 },
     /// The split of `shard1`.
     Split,
+}
+
+/// What the maker of this number is to make.
+pub fn task_of(demo: &Demo, number: u32) -> Task
+    ensures { result ≡ task_at demo.now number }
+{
+    if number < demo.workers {
+        Task::Write { worker: number }
+    } else {
+        Task::Split
+    }
 }
 
 /// What a maker made.
@@ -22,7 +37,9 @@ pub enum Made {
 
 impl Made {
     /// How many orders were accepted.
-    pub fn accepted(&self) -> u32 {
+    pub fn accepted(&self) -> u32
+        ensures { result ≡ accepted_by self.now }
+    {
         match self {
             Made::Orders(written) => written.accepted,
             Made::Split(_) => 0,
@@ -30,10 +47,30 @@ impl Made {
     }
 
     /// Memory ran out.
-    pub fn ran_out(&self) -> bool {
+    pub fn ran_out(&self) -> bool
+        ensures { result ≡ has_run_out self.now }
+    {
         match self {
             Made::Orders(written) => written.memory,
-            Made::Split(end) => matches!(end, SplitEnd::Memory),
+            Made::Split(end) => split_ran_out(end),
         }
     }
+}
+
+/// Memory ran out for a split that came to this.
+fn split_ran_out(end: &SplitEnd) -> bool
+    ensures { result ≡ split_ran_out end.now }
+{
+    matches!(end, SplitEnd::Memory)
+}
+
+/// What came of all makers.
+#[derive(Drop)]
+pub enum Outcome {
+    /// One of the first cores was not started, and no maker has worked.
+    HostFailed,
+    /// Memory ran out for one of them.
+    Memory,
+    /// So many orders were accepted, and this tells what the split came to.
+    Told { accepted: u32, split: Text },
 }

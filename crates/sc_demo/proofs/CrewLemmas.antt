@@ -115,12 +115,12 @@ module _ {R C H P L : Type 0} where
 
   -- ---- one maker after another gives its crew back
   -- the crew of each of these makers, whose numbers begin with the first, is back at its number, and at every other stands what stood there
-  record AreBackFrom (first : ℕ) (done : List (Maker R C H P L)) (old new : ℕ → Option (Crew C H P L)) : Type 0 where
-    each : (place number : ℕ) (maker : Maker R C H P L) → slice_get done place ≡ Some maker → number ≡ first + place → new number ≡ Some maker.crew
-    before : (number : ℕ) → number < first → new number ≡ old number
-    beyond : (number : ℕ) → first + length done ≤ number → new number ≡ old number
+  pub record AreBackFrom (first : ℕ) (done : List (Maker R C H P L)) (old new : ℕ → Option (Crew C H P L)) : Type 0 where
+    pub each : (place number : ℕ) (maker : Maker R C H P L) → slice_get done place ≡ Some maker → number ≡ first + place → new number ≡ Some maker.crew
+    pub before : (number : ℕ) → number < first → new number ≡ old number
+    pub beyond : (number : ℕ) → first + length done ≤ number → new number ≡ old number
 
-  abbrev AreReportedBackFrom : ℕ → List (Maker R C H P L) → (old new : Option (ℕ → Option (Crew C H P L))) → Type 0
+  abbrev pub AreReportedBackFrom : ℕ → List (Maker R C H P L) → (old new : Option (ℕ → Option (Crew C H P L))) → Type 0
   AreReportedBackFrom first done old new =
       IfSome old (λ before. (after : ℕ → Option (Crew C H P L)) × (new ≡ Some after) × AreBackFrom first done before after)
 
@@ -166,10 +166,13 @@ module _ {R C H P L : Type 0} where
   all_back_reported makers None new are = tt
   all_back_reported makers (Some before) new (after, new_is, are) = (after, new_is, all_back makers before after are)
 
-  none_back_reported : (first : ℕ) (old : Option (ℕ → Option (Crew C H P L))) → AreReportedBackFrom first [] old old
-  none_back_reported first None = tt
-  none_back_reported first (Some before) = (before, refl, none_back first before)
+-- none of the crews is back yet
+none_back_reported : (R C H P L : Type 0) (first : ℕ) (old : Option (ℕ → Option (Crew C H P L)))
+    → AreReportedBackFrom {R = R} {C = C} {H = H} {P = P} {L = L} first [] old old
+none_back_reported R C H P L first None = tt
+none_back_reported R C H P L first (Some before) = (before, refl, none_back first before)
 
+module _ {R C H P L : Type 0} where
   -- those after the ones that are left are done: their crews are back, are out no more, and their passes were joined
   pub record IsHalfway (locks : Locks) (passes : Passes) (all left : List (Maker R C H P L)) (back_old back_now : Option (ℕ → Option (Crew C H P L)))
       (out_old out_now : ℕ → Bool) : Type 0 where
@@ -190,7 +193,7 @@ module _ {R C H P L : Type 0} where
     are = are;
     joined = none_joined (seen_of passes);
     own = none;
-    back = none_back_reported (length all) back;
+    back = none_back_reported R C H P L (length all) back;
     out = none_between (length all) false out;
   }
 

@@ -15,13 +15,13 @@ use Rattle.sc_demo.proofs.demo.run_demo.Goals.{in-Ok-enlist, in-Err-enlist}
 use Rattle.sc_demo.proofs.demo.run_demo.Goals as goal
 
 pub returns-in-Err : goal.returns-in-Err
-returns-in-Err g c = none_given _ c.args.demo.now _ _ refl refl (λ number. refl) refl (record { written = refl; write_faults = refl })
+returns-in-Err g c = record { ends = none_given _ c.args.demo.now _ _ refl refl (λ number. refl) refl (record { written = refl; write_faults = refl }) }
 
 pub returns-in_default : goal.returns-in_default
-returns-in_default g c = none_given _ c.args.demo.now _ _ refl refl (λ number. refl) refl (record { written = refl; write_faults = refl })
+returns-in_default g c = record { ends = none_given _ c.args.demo.now _ _ refl refl (λ number. refl) refl (record { written = refl; write_faults = refl }) }
 
 pub enlist-requires-clause-few : goal.enlist-requires-clause-few
-enlist-requires-clause-few g c κs within = omega (arith, c.in-Ok.ensures.count, (numbers c.args.demo.now c.requires).workers.1)
+enlist-requires-clause-few g c κs within = omega (arith, c.in-Ok.ensures.count, (numbers c.args.demo.now c.requires.demo).workers.1)
 
 pub make_all-outcome-requires-clause-ready : goal.make_all-outcome-requires-clause-ready
 make_all-outcome-requires-clause-ready g c κs within =
@@ -29,7 +29,7 @@ make_all-outcome-requires-clause-ready g c κs within =
     let makers = c.enlist.new.makers.items in
     subst (All IsReadyToMake) (sym c.as_mut_slice.ensures.value)
     (All-weaker (IsReady locks) IsReadyToMake (ready_to_make locks) makers
-    (all_ready c.args.demo.now locks (g.T.Station.crews c.args.station.now) makers c.requires c.enlist.ensures.enlisted))
+    (all_ready c.args.demo.now locks (g.T.Station.crews c.args.station.now) makers c.requires.demo c.enlist.ensures.enlisted))
 
 pub make_all-outcome-requires-clause-some : goal.make_all-outcome-requires-clause-some
 make_all-outcome-requires-clause-some g c κs within =
@@ -39,11 +39,11 @@ make_all-outcome-requires-clause-some g c κs within =
 pub make_all-outcome-requires-clause-most : goal.make_all-outcome-requires-clause-most
 make_all-outcome-requires-clause-most g c κs within =
     let all : length c.as_mut_slice.result.now ≡ length c.enlist.new.makers.items = ap length c.as_mut_slice.ensures.value in
-    omega (arith, all, c.in-Ok-enlist.ensures.all, c.in-Ok.ensures.count, (numbers c.args.demo.now c.requires).workers.1)
+    omega (arith, all, c.in-Ok-enlist.ensures.all, c.in-Ok.ensures.count, (numbers c.args.demo.now c.requires.demo).workers.1)
 
 pub dismiss-requires-clause-few : goal.dismiss-requires-clause-few
 dismiss-requires-clause-few g c κs within =
-    let most = (numbers c.args.demo.now c.requires).workers.1 in
+    let most = (numbers c.args.demo.now c.requires.demo).workers.1 in
     elim c.match-enlist.branch [
       | in-Ok-enlist w ↦
           let made = as_served c.enlist.new.makers c.match-enlist.makers w.make_all-outcome.new.makers w.as_mut_slice.result.now w.makers-is
@@ -59,7 +59,7 @@ dismiss-requires-clause-few g c κs within =
 pub dismiss-requires-clause-makers : goal.dismiss-requires-clause-makers
 dismiss-requires-clause-makers g c κs within =
     let locks = c.in-Ok.needs.collection in
-    let each = all_ready c.args.demo.now locks (g.T.Station.crews c.args.station.now) c.enlist.new.makers.items c.requires c.enlist.ensures.enlisted in
+    let each = all_ready c.args.demo.now locks (g.T.Station.crews c.args.station.now) c.enlist.new.makers.items c.requires.demo c.enlist.ensures.enlisted in
     elim c.match-enlist.branch [
       | in-Ok-enlist w ↦
           subst (All (IsHome locks))
@@ -92,7 +92,8 @@ returns g c =
     let locks = c.in-Ok.needs.collection in
     let enlisted = c.enlist.new.makers.items in
     let new = c.match-enlist.makers.items in
-    elim c.match-enlist.branch [
+    record {
+      ends = elim c.match-enlist.branch [
       | in-Ok-enlist w ↦
           let made = as_served c.enlist.new.makers c.match-enlist.makers w.make_all-outcome.new.makers w.as_mut_slice.result.now w.makers-is
           w.make_all-outcome.ensures.count w.as_mut_slice.ensures.value c.enlist.new.makers.ok.0 in
@@ -102,7 +103,7 @@ returns g c =
           c.enlist.ensures.out c.enlist.ensures.crews_back c.enlist.ensures.faults count c.dismiss.ensures.crews_back c.dismiss.ensures.out
           c.dismiss.ensures.crews c.dismiss.ensures.faults)
           (w.in-Ok-enlist.ensures.all ∙ c.in-Ok.ensures.count) w.as_slice.result.now (w.as_slice.ensures ∙ c.in-Ok.ensures.cores) c.in-Ok.ensures.shape
-          (seen_of c.dismiss.new.passes) c.dismiss.ensures.story c.dismiss.ensures.own c.requires w.make_all-outcome.result _
+          (seen_of c.dismiss.new.passes) c.dismiss.ensures.story c.dismiss.ensures.own c.requires.demo w.make_all-outcome.result _
           (made_as _ w.as_slice.result.now w.as_mut_slice.result.now enlisted w.make_all-outcome.new.makers new w.make_all-outcome.result
           w.as_mut_slice.ensures.value made w.make_all-outcome.ensures.makes)
           (subst (λ (outcome : Outcome). TellsOutcome _ _ _ _ _ outcome c.tell.result) w.outcome-is c.tell.ensures)
@@ -113,4 +114,5 @@ returns g c =
           c.dismiss.ensures.crews_back c.dismiss.ensures.out c.dismiss.ensures.crews c.dismiss.ensures.faults)
           (seen_of c.dismiss.new.passes) _ (omega (arith, c.enlist.ensures.at_most, c.in-Ok.ensures.count))
           (subst (λ (outcome : Outcome). TellsOutcome _ _ _ _ _ outcome c.tell.result) w.outcome-is c.tell.ensures)
-    ]
+      ];
+    }

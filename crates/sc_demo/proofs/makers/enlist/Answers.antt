@@ -33,7 +33,7 @@ loop-kit-preserved g c =
     let ends = c.push_reserved.ensures.items in
     let old = g.T.Station.crews c.args.station.now in
     let now = g.T.Station.crews c.loop-kit.station in
-    let number : c.len.result ≡ length makers = c.len.ensures ∙ c.loop-kit.makers.ok.0 in
+    let number : c.len-number.result ≡ length makers = c.len-number.ensures ∙ c.loop-kit.makers.ok.0 in
     let left = append_assoc yielded (kit ∷ []) rest ∙ ap (λ (end : List Kit). yielded ++ end) (sym (c.in-Some.ensures.steps).0) ∙ i.left in
     let is = element_of (IsKit c.args.collection.now) c.args.kits.items yielded kit rest c.requires.kits
     (sym i.left ∙ ap (λ (end : List Kit). yielded ++ end) (c.in-Some.ensures.steps).0) in

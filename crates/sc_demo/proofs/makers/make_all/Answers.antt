@@ -18,7 +18,7 @@ work_all-requires-clause-ready g c κs within =
     all_ready_to_make c.start_cores.new.hosts c.index-makers-0.result c.args.makers.now c.requires.some c.requires.ready
 
 pub outcome_of-requires-clause-few : goal.outcome_of-requires-clause-few
-outcome_of-requires-clause-few g c κs within = few_each _ _ c.work_all.new.makers c.work_all.ensures.made
+outcome_of-requires-clause-few g c = few_each _ _ c.work_all.new.makers c.work_all.ensures.made
 
 pub returns-clause-makes : goal.returns-clause-makes
 returns-clause-makes g c =

@@ -1,6 +1,5 @@
 -- Each maker has made what it was to make, and has its passes back.
 use Rattle.std.proofs.Common.{arith}
-use denote.Param.Send.{sendable}
 use Rattle.sc_server.proofs.WorkerLemmas.{has_read}
 use Rattle.sc_demo.proofs.MakerLemmas.{made_each, home_each}
 use Rattle.sc_demo.specs.Makers.{IsReadyToMake}
@@ -8,7 +7,7 @@ use Rattle.sc_demo.proofs.makers.work_all.Goals as goal
 
 pub for_each_mut-requires-clause-accepts : goal.for_each_mut-requires-clause-accepts
 for_each_mut-requires-clause-accepts g c κs within =
-    λ i p lt is. (has_read IsReadyToMake c.args.makers.now i p.now c.requires.ready lt is, search sendable)
+    λ i p lt is. has_read IsReadyToMake c.args.makers.now i p.now c.requires.ready lt is
 
 pub returns-clause-made : goal.returns-clause-made
 returns-clause-made g c =

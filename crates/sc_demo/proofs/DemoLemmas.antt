@@ -32,13 +32,19 @@ use Rattle.sc_demo.specs.declared.task.Outcome.{Outcome}
 use Rattle.sc_demo.specs.declared.task.Outcome.TheVariants as outcomes
 use Rattle.sc_demo.specs.Finding.{AreFound}
 use Rattle.sc_demo.specs.Lines.{Report, lines, split_word}
-use Rattle.sc_demo.specs.Making.{Reports, Makes, accepted_by, accepted_in, has_run_out, making, ran_out_in, task_at}
+use Rattle.sc_demo.specs.Making.{Reports, Makes, accepted_by, accepted_in, has_run_out, making, ran_out_in, task_at, TellsIn}
 use Rattle.sc_demo.specs.Makers.{IsEnlisted, AreEnlisted, AreReportedBack, HasFirstHosts, HasMade, HaveMade, FirstFails, FirstStarts, IsTold, MakesTold, MakesAll, seen_by, with_hosts}
 use Rattle.sc_demo.specs.Telling.{IsReport, TellsReport, TellsOutcome}
 use Rattle.sc_demo.specs.Together.{own_of_all}
 use Rattle.sc_demo.specs.Demos.{MakerRun, makers_of, IsMakerRun, RunsDemo, SaysOf, Demonstrates, RunsOut, FailsToStart, FailsToWrite, Tells, IsEnd, EndsDemo}
 use Rattle.sc_demo.proofs.MergeLemmas.{total}
 use Rattle.sc_demo.proofs.SayLemmas.{says}
+
+-- where a word tells what was made, that is a split
+split_told : (made : Option Made) (word : List ℕ) → TellsIn made word → (end : SplitEnd) × (made ≡ Some (makes.Split end)) × (split_word end ≡ Some word)
+split_told None word tells = absurd tells
+split_told (Some (makes.Orders written)) word tells = absurd tells
+split_told (Some (makes.Split end)) word tells = (end, refl, tells)
 
 -- ---- lists
 none_passes : {A : Type 0} (p : A → Bool) (xs : List A) (i : ℕ) (x : A) → list_any p xs ≡ false → slice_get xs i ≡ Some x → p x ≡ false
@@ -356,19 +362,20 @@ module _ {C H P L : Type 0} (reports : Reports C H P) (demo : Demo) (before afte
               let last_run = some_at runs demo.workers (omega (arith, long)) in
               let last_place : length new - 1 ≡ demo.workers = omega (arith, long, all_runs.1.count) in
               let matched = all_runs.1.each demo.workers told.split.maker last_run.0 (ap (slice_get new) (sym last_place) ∙ told.split.last) last_run.1 in
-              let did : last_run.0.did ≡ makes.Split told.split.end = same_Some last_run.0.did (makes.Split told.split.end) (sym matched.did_is ∙ told.split.made) in
-              let word_is : split_word told.split.end ≡ Some report.split = told.split.word_is ∙ ap (λ (r : Report). Some r.split) (sym is.is) in
+              let split = split_told (Some last_run.0.did) word (subst (λ made. TellsIn made word) matched.did_is told.split.tells) in
+              let did : last_run.0.did ≡ makes.Split split.0 = same_Some last_run.0.did (makes.Split split.0) split.1 in
+              let word_is : split_word split.0 ≡ Some report.split = split.2 ∙ ap (λ (r : Report). Some r.split) (sym is.is) in
               let all_are = runs_demo all story own in
               record {
                 layout = layout_of locks;
                 runs = runs;
                 all = all;
                 are = all_are;
-                says = says reports demo before after is_demo (layout_of locks) runs all all_are report last_run.0 last_run.1 told.split.end did word_is
+                says = says reports demo before after is_demo (layout_of locks) runs all all_are report last_run.0 last_run.1 split.0 did word_is
                     (ap (λ (r : Report). r.orders) is.is) counted;
                 splitter = last_run.0;
                 last_run = last_run.1;
-                end = told.split.end;
+                end = split.0;
                 did = did;
                 word = word_is;
                 last = is.counts.last;

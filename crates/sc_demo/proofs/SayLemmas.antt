@@ -158,8 +158,8 @@ module _ {C H P L : Type 0} (reports : Reports C H P) (demo : Demo) (before afte
       noted_by_one layout all parts own demo.workers run.after is.adds.before is.adds.noted
       (mapped_at (λ (one : MakerRun C H P L). one.after) runs demo.workers run at) is.adds.row is.adds.begins
       (λ i part different there.
-        let one = mapped (λ (other : MakerRun C H P L). other.after) runs i part there in
-        subst (λ (seen : Seen). seen.own layout.buckets ≡ []) one.2 (writing_run i one.0 one.1 (workers_here i one.0 one.1 different)).adds.board) in
+      let one = mapped (λ (other : MakerRun C H P L). other.after) runs i part there in
+      subst (λ (seen : Seen). seen.own layout.buckets ≡ []) one.2 (writing_run i one.0 one.1 (workers_here i one.0 one.1 different)).adds.board) in
       let test : list_any is_done (own_notes layout all) ≡ is_done_end end = ap (list_any is_done) notes ∙ is.adds.done ∙ ap is_done_end same in
       (λ owns. sym test ∙ owns, λ ends. test ∙ ends) where
         end_of : Made → SplitEnd
@@ -218,9 +218,9 @@ module _ {C H P L : Type 0} (reports : Reports C H P) (demo : Demo) (before afte
         (written_by_one layout all id parts own lies.worker owner.0.after is.answers
         (mapped_at (λ (one : MakerRun C H P L). one.after) runs lies.worker owner.0 owner.1) is.adds.own is.adds.order is.orders.each
         (λ i part different there lock within.
-          let one = mapped (λ (other : MakerRun C H P L). other.after) runs i part there in
-          subst (λ (seen : Seen). filter_map (write_on layout all id lock) (seen.own lock) ≡ []) one.2
-          (nothing_else lies.worker lies.others i one.0 one.1 different lock within))
+        let one = mapped (λ (other : MakerRun C H P L). other.after) runs i part there in
+        subst (λ (seen : Seen). filter_map (write_on layout all id lock) (seen.own lock) ≡ []) one.2
+        (nothing_else lies.worker lies.others i one.0 one.1 different lock within))
         its_bucket)
 
   pub all_written : layout.buckets ≡ 64 → AreWritten demo layout all ⊎ CameNearLimit layout all

@@ -26,8 +26,7 @@ in_order (stop ∷ stops) from order = by stop.made order.1 (in_order stops) whe
       × Ascends (map (λ (one : Stop). one.place) (cond b (stop ∷ filter (λ (one : Stop). one.made) stops) (filter (λ (one : Stop). one.made) stops)))
   by true rest later =
       let more = later (stop.place + 1) rest in
-      let places = map (λ (one : Stop). one.place) (filter (λ (one : Stop). one.made) stops) in
-      (
+      let places = map (λ (one : Stop). one.place) (filter (λ (one : Stop). one.made) stops) in (
         (order.0, all_weaker (λ p. stop.place + 1 ≤ p) (λ p. from ≤ p) (λ p less. omega (arith, less, order.0)) places more.0),
         (all_weaker (λ p. stop.place + 1 ≤ p) (λ p. stop.place < p) (λ p less. omega (arith, less)) places more.0, more.1),
       )

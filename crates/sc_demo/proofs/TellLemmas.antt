@@ -4,13 +4,12 @@ use Rattle.std.specs.Prelude.{IfOk, IfSome, string_bytes}
 use Rattle.std.proofs.lemmas.Option.{slice_get-get_or}
 use Rattle.sc_io.specs.Pieces.{AddsPrefix}
 use Rattle.sc_seen.specs.Seen.{Layout, Seen}
-use Rattle.sc_split.specs.declared.end.SplitEnd.{SplitEnd}
 use Rattle.sc_server.specs.Working.{Told}
 use Rattle.sc_demo.specs.declared.counting.Found.{Found}
 use Rattle.sc_demo.specs.declared.maker.Maker.{Maker}
-use Rattle.sc_demo.specs.declared.task.Made.TheVariants as makes
 use Rattle.sc_demo.specs.Finding.{AreFound}
-use Rattle.sc_demo.specs.Lines.{lines, split_word}
+use Rattle.sc_demo.specs.Lines.{lines}
+use Rattle.sc_demo.specs.Making.{TellsIn}
 use Rattle.sc_demo.specs.Makers.{TellsSplit}
 use Rattle.sc_demo.specs.Telling.{AreLines, CountsOn, IsReport, TellsReport}
 
@@ -24,17 +23,14 @@ counted_at told layout before_told before after (Ok found) same_layout same_befo
 counted_at told layout before_told before after (Err e) same_layout same_before are = are
 
 -- the word is that of the split that the last maker made
-pub tells_split : {R C H P L E : Type 0} (makers : List (Maker R C H P L)) (word : Result (List ℕ) E) (maker : Maker R C H P L) (end : SplitEnd)
-    → 1 ≤ length makers → maker ≡ get_or makers (length makers - 1) maker → maker.made ≡ Some (makes.Split end)
-    → IfOk word (λ text. split_word end ≡ Some text) → IfOk word (TellsSplit makers)
-tells_split {R} {C} {H} {P} {L} makers (Ok word) maker end some is made tells = record {
+pub tells_split : {R C H P L E : Type 0} (makers : List (Maker R C H P L)) (word : Result (List ℕ) E) (maker : Maker R C H P L)
+    → 1 ≤ length makers → maker ≡ get_or makers (length makers - 1) maker → IfOk word (TellsIn maker.made) → IfOk word (TellsSplit makers)
+tells_split {R} {C} {H} {P} {L} makers (Ok word) maker some is tells = record {
   maker = maker;
   last = slice_get-get_or makers (length makers - 1) maker (omega (arith, some)) ∙ ap (λ (one : Maker R C H P L). Some one) (sym is);
-  end = end;
-  made = made;
-  word_is = tells;
+  tells = tells;
 }
-tells_split makers (Err e) maker end some is made tells = tells
+tells_split makers (Err e) maker some is tells = tells
 
 -- the text is that of a report
 pub lines_told : {E Z : Type 0} (layout : Layout) (seen : Seen) (orders accepted : ℕ) (split : List ℕ) (found : Found) (text : Result (String Z) E)

@@ -132,9 +132,10 @@ module _ (layout : Layout) (all : Seen) where
 
   pub commits_quiet : (answers : List CommitAnswer) → All (IsCommitAnswer layout all) answers → AllByRecursion IsQuiet (commit_stops answers)
   commits_quiet [] each = tt
-  commits_quiet (answer ∷ answers) each =
-      (inr (commit_quiet answer (All-head (IsCommitAnswer layout all) answer answers each)),
-      commits_quiet answers (All-tail (IsCommitAnswer layout all) answer answers each))
+  commits_quiet (answer ∷ answers) each = (
+    inr (commit_quiet answer (All-head (IsCommitAnswer layout all) answer answers each)),
+    commits_quiet answers (All-tail (IsCommitAnswer layout all) answer answers each),
+  )
 
   -- ---- the writes on one document
   module _ (id : List ℕ) where

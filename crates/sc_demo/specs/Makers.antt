@@ -11,7 +11,6 @@ use Rattle.sc_shared.specs.declared.passes.Passes.{Passes}
 use Rattle.sc_shared.specs.Passes.{seen_of}
 use Rattle.sc_shared.specs.Collections.{Locks, layout_of}
 use Rattle.sc_shared.specs.Sharing.{ArePasses}
-use Rattle.sc_split.specs.declared.end.SplitEnd.{SplitEnd}
 use Rattle.sc_arguments.specs.declared.asked.Demo.{Demo}
 use Rattle.sc_arguments.specs.Arguments.{IsDemo, demo_shape}
 use Rattle.sc_server.specs.Crews.{seen_with}
@@ -21,11 +20,9 @@ use Rattle.sc_demo.specs.declared.needs.Kit.{Kit}
 use Rattle.sc_demo.specs.declared.needs.Needs.{Needs}
 use Rattle.sc_demo.specs.declared.maker.Maker.{Maker}
 use Rattle.sc_demo.specs.declared.task.Made.{Made}
-use Rattle.sc_demo.specs.declared.task.Made.TheVariants as makes
 use Rattle.sc_demo.specs.declared.task.Outcome.{Outcome}
 use Rattle.sc_demo.specs.declared.task.Outcome.TheVariants as outcomes
-use Rattle.sc_demo.specs.Lines.{split_word}
-use Rattle.sc_demo.specs.Making.{Reports, Makes, IsTaskOf, accepted_by, accepted_in, making, ran_out_in, task_at}
+use Rattle.sc_demo.specs.Making.{Reports, Makes, IsTaskOf, TellsIn, accepted_by, accepted_in, making, ran_out_in, task_at}
 
 -- what one maker needs: new passes, and an empty trail
 pub record IsKit (locks : Locks) (kit : Kit) : Type 0 where
@@ -103,9 +100,7 @@ module _ {R C H P L : Type 0} where
   pub record TellsSplit (makers : List (Maker R C H P L)) (word : List ℕ) : Type 0 where
     pub maker : Maker R C H P L
     pub last : slice_get makers (length makers - 1) ≡ Some maker
-    pub end : SplitEnd
-    pub made : maker.made ≡ Some (makes.Split end)
-    pub word_is : split_word end ≡ Some word
+    pub tells : TellsIn maker.made word
 
   -- memory ran out for none of them, so many orders were accepted, and this word tells what the split came to
   pub record IsTold (makers : List (Maker R C H P L)) (accepted : ℕ) (word : List ℕ) : Type 0 where

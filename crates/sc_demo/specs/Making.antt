@@ -1,5 +1,5 @@
 -- What one maker makes: a worker its orders of the workload, and the last one the split.
-use Rattle.std.specs.Prelude.{◌≡◌, ◌<◌, ◌≤◌, ℕ, Bool, true, false, nat_lt, if◌then◌else◌, Option, Some, None}
+use Rattle.std.specs.Prelude.{◌≡◌, ◌<◌, ◌≤◌, ℕ, Bool, true, false, nat_lt, List, if◌then◌else◌, Option, Some, None}
 use Rattle.sc_cores.specs.Cores.{Outside}
 use Rattle.sc_seen.specs.Seen.{Layout, Seen}
 use Rattle.sc_session.specs.declared.station.Crew.{Crew}
@@ -13,6 +13,7 @@ use Rattle.sc_demo.specs.declared.task.Task.{Task}
 use Rattle.sc_demo.specs.declared.task.Task.TheVariants as tasks
 use Rattle.sc_demo.specs.declared.task.Made.{Made}
 use Rattle.sc_demo.specs.declared.task.Made.TheVariants as makes
+use Rattle.sc_demo.specs.Lines.{split_word}
 use Rattle.sc_demo.specs.Splitting.{SplitsFirst}
 use Rattle.sc_demo.specs.Writing.{MakesOrders, writing}
 use Rattle.sc_demo.specs.Together.{workload_of}
@@ -49,6 +50,15 @@ accepted_in (Some made) = accepted_by made
 abbrev pub ran_out_in : Option Made → Bool
 ran_out_in None = false
 ran_out_in (Some made) = has_run_out made
+
+-- the word tells what the split came to that was made
+abbrev pub TellsMade : Made → (word : List ℕ) → Type 0
+TellsMade (makes.Orders written) word = ⊥
+TellsMade (makes.Split end) word = split_word end ≡ Some word
+
+abbrev pub TellsIn : Option Made → (word : List ℕ) → Type 0
+TellsIn None word = ⊥
+TellsIn (Some made) word = TellsMade made word
 
 -- what a crew reports: its clock the timestamps that it gives, its hosts and its pace what is outside of the collection
 pub record Reports (C H P : Type 0) : Type 1 where

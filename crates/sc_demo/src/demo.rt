@@ -69,5 +69,14 @@ pub fn run_demo<R: Threads + Wait + Sync, W: Sink, T: Station>(
         Err(_) => Outcome::Memory,
     };
     dismiss(&collection, &mut passes, station, makers);
-    tell(rt, alloc, demo, &collection, passes, &mut trail, sink, outcome)
+    tell(
+        rt,
+        alloc,
+        demo,
+        &collection,
+        passes,
+        &mut trail,
+        sink,
+        outcome,
+    )
 }

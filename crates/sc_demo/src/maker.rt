@@ -12,9 +12,10 @@ use crate::writing::write;
 use sc_arguments::Demo;
 use sc_collection::{Desk, Trail};
 use sc_io::{Clock, Hosts, Pace};
+use sc_record::Text;
 use sc_session::Crew;
 use sc_shared::{Collection, Home, Passes, Shared};
-use std::alloc::Global;
+use std::alloc::{AllocError, Global};
 use std::marker::Brand;
 use std::sync::Wait;
 
@@ -120,7 +121,8 @@ fn make<D: Desk, C: Clock, H: Hosts, P: Pace>(
 }
 
 impl<'a, R, C, H, P, L> Maker<'a, R, C, H, P, L> {
-    ghost use Rattle.sc_demo.specs.Making.{accepted_in, ran_out_in};
+    ghost use Rattle.std.specs.Prelude.{IfOk};
+    ghost use Rattle.sc_demo.specs.Making.{TellsIn, accepted_in, ran_out_in};
 
     /// How many orders were accepted.
     pub fn accepted(&self) -> u32
@@ -139,6 +141,16 @@ impl<'a, R, C, H, P, L> Maker<'a, R, C, H, P, L> {
         match &self.made {
             Some(made) => made.ran_out(),
             None => false,
+        }
+    }
+
+    /// What the line on the split says, where it made one. An error means out of memory, or that it made none.
+    pub fn split_told(&self, alloc: Global) -> Result<Text, AllocError>
+        ensures { IfOk result (TellsIn self.now.made) }
+    {
+        match &self.made {
+            Some(made) => made.split_told(alloc),
+            None => Err(AllocError),
         }
     }
 }

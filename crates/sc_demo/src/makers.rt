@@ -11,10 +11,9 @@ ghost use Rattle.sc_demo.specs.Making.{accepted_in, ran_out_in};
 ghost use Rattle.sc_demo.specs.Makers.{IsKit, AreEnlisted, IsHome, IsReady, IsReadyToMake, AreReportedBack, HasMade, HaveMade, MakesAll, IsOutcomeOf, TellsSplit, seen_by};
 ghost use Rattle.sc_demo.specs.Together.{own_of_all};
 
-use crate::lines::split_text;
 use crate::maker::Maker;
 use crate::needs::Kit;
-use crate::task::{Made, Outcome, task_of};
+use crate::task::{Outcome, task_of};
 use sc_arguments::Demo;
 use sc_cores::start_cores;
 use sc_io::{Clock, Host, Hosts, Pace};
@@ -77,12 +76,7 @@ pub fn make_all<
     H: Hosts + Send,
     P: Pace + Send,
     L: Send,
->(
-    rt: &R,
-    alloc: Global,
-    makers: &mut [Maker<'a, R, C, H, P, L>],
-    cores: &[Host],
-) -> Outcome
+>(rt: &R, alloc: Global, makers: &mut [Maker<'a, R, C, H, P, L>], cores: &[Host]) -> Outcome
     requires ready { All IsReadyToMake makers.old }
     requires some { 1 ≤ length makers.old }
     requires most { length makers.old ≤ 65 }
@@ -186,10 +180,7 @@ fn split_of<'a, R, C, H, P, L>(
     requires some { 1 ≤ length makers.now }
     ensures { IfOk result (TellsSplit makers.now) }
 {
-    match &makers[makers.len() - 1].made {
-        Some(Made::Split(end)) => split_text(alloc, end),
-        _ => Err(AllocError),
-    }
+    makers[makers.len() - 1].split_told(alloc)
 }
 
 /// Gives the crew of each maker back to the station, and joins its passes with those off which they were split.

@@ -1,11 +1,13 @@
 //! What a maker is to make, and what it made.
-ghost use Rattle.std.specs.Prelude.{◌≡◌};
-ghost use Rattle.sc_demo.specs.Making.{accepted_by, has_run_out, split_ran_out, task_at};
+ghost use Rattle.std.specs.Prelude.{◌≡◌, IfOk};
+ghost use Rattle.sc_demo.specs.Making.{TellsMade, accepted_by, has_run_out, split_ran_out, task_at};
 
+use crate::lines::split_text;
 use crate::made::Written;
 use sc_arguments::Demo;
 use sc_record::Text;
 use sc_split::SplitEnd;
+use std::alloc::{AllocError, Global};
 
 /// What a maker is to make.
 #[derive(Clone, Copy)]
@@ -53,6 +55,16 @@ impl Made {
         match self {
             Made::Orders(written) => written.memory,
             Made::Split(end) => split_ran_out(end),
+        }
+    }
+
+    /// What the line on the split says, where one was made. An error means out of memory, or that none was.
+    pub fn split_told(&self, alloc: Global) -> Result<Text, AllocError>
+        ensures { IfOk result (TellsMade self.now) }
+    {
+        match self {
+            Made::Orders(_) => Err(AllocError),
+            Made::Split(end) => split_text(alloc, end),
         }
     }
 }

@@ -3,7 +3,8 @@ use Rattle.std.proofs.Common.{◌≡◌, ◌∙◌, ◌+◌, ◌≤◌, length, 
 use Rattle.std.specs.List.{All}
 use Rattle.std.proofs.lemmas.List.Elements.{All-weaker}
 use Rattle.sc_shared.specs.Passes.{seen_of}
-use Rattle.sc_server.proofs.EndLemmas.{same_items, same_length, as_served}
+use Rattle.sc_shared.specs.Collections.{layout_of}
+use Rattle.sc_server.proofs.EndLemmas.{same_items, same_length, as_served, told_of}
 use Rattle.sc_demo.specs.declared.task.Outcome.{Outcome}
 use Rattle.sc_demo.specs.Makers.{IsHome, IsReady, IsReadyToMake, MakesAll}
 use Rattle.sc_demo.specs.Telling.{TellsOutcome}
@@ -92,27 +93,31 @@ returns g c =
     let locks = c.in-Ok.needs.collection in
     let enlisted = c.enlist.new.makers.items in
     let new = c.match-enlist.makers.items in
+    let old_told = told_of (g.W.Sink.written c.args.sink.now) (g.W.Sink.faults c.args.sink.now) in
+    let new_told = told_of (g.W.Sink.written c.tell.new.sink) (g.W.Sink.faults c.tell.new.sink) in
     record {
       ends = elim c.match-enlist.branch [
-      | in-Ok-enlist w ↦
-          let made = as_served c.enlist.new.makers c.match-enlist.makers w.make_all-outcome.new.makers w.as_mut_slice.result.now w.makers-is
-          w.make_all-outcome.ensures.count w.as_mut_slice.ensures.value c.enlist.new.makers.ok.0 in
-          let count = ap length made ∙ w.make_all-outcome.ensures.count ∙ ap length w.as_mut_slice.ensures.value in
-          ends _ c.args.demo.now _ _ locks enlisted new
-          (leaves c.args.demo.now locks _ _ enlisted new _ _ (g.T.Station.out c.enlist.new.station) (g.T.Station.faults c.enlist.new.station) c.enlist.ensures.enlisted c.enlist.ensures.crews
-          c.enlist.ensures.out c.enlist.ensures.crews_back c.enlist.ensures.faults count c.dismiss.ensures.crews_back c.dismiss.ensures.out
-          c.dismiss.ensures.crews c.dismiss.ensures.faults)
-          (w.in-Ok-enlist.ensures.all ∙ c.in-Ok.ensures.count) w.as_slice.result.now (w.as_slice.ensures ∙ c.in-Ok.ensures.cores) c.in-Ok.ensures.shape
-          (seen_of c.dismiss.new.passes) c.dismiss.ensures.story c.dismiss.ensures.own c.requires.demo w.make_all-outcome.result _
-          (made_as _ w.as_slice.result.now w.as_mut_slice.result.now enlisted w.make_all-outcome.new.makers new w.make_all-outcome.result
-          w.as_mut_slice.ensures.value made w.make_all-outcome.ensures.makes)
-          (subst (λ (outcome : Outcome). TellsOutcome _ _ _ _ _ outcome c.tell.result) w.outcome-is c.tell.ensures)
-      | in-Err-enlist w ↦
-          early_ends _ c.args.demo.now _ _ locks enlisted new
-          (leaves c.args.demo.now locks _ _ enlisted new _ _ (g.T.Station.out c.enlist.new.station) (g.T.Station.faults c.enlist.new.station) c.enlist.ensures.enlisted c.enlist.ensures.crews
-          c.enlist.ensures.out c.enlist.ensures.crews_back c.enlist.ensures.faults (same_length c.match-enlist.makers c.enlist.new.makers w.makers-is)
-          c.dismiss.ensures.crews_back c.dismiss.ensures.out c.dismiss.ensures.crews c.dismiss.ensures.faults)
-          (seen_of c.dismiss.new.passes) _ (omega (arith, c.enlist.ensures.at_most, c.in-Ok.ensures.count))
-          (subst (λ (outcome : Outcome). TellsOutcome _ _ _ _ _ outcome c.tell.result) w.outcome-is c.tell.ensures)
+        | in-Ok-enlist w ↦
+            let made = as_served c.enlist.new.makers c.match-enlist.makers w.make_all-outcome.new.makers w.as_mut_slice.result.now w.makers-is
+            w.make_all-outcome.ensures.count w.as_mut_slice.ensures.value c.enlist.new.makers.ok.0 in
+            let count = ap length made ∙ w.make_all-outcome.ensures.count ∙ ap length w.as_mut_slice.ensures.value in
+            ends _ c.args.demo.now _ _ locks enlisted new
+            (leaves c.args.demo.now locks _ _ enlisted new _ _ (g.T.Station.out c.enlist.new.station) (g.T.Station.faults c.enlist.new.station) c.enlist.ensures.enlisted c.enlist.ensures.crews
+            c.enlist.ensures.out c.enlist.ensures.crews_back c.enlist.ensures.faults count c.dismiss.ensures.crews_back c.dismiss.ensures.out
+            c.dismiss.ensures.crews c.dismiss.ensures.faults)
+            (w.in-Ok-enlist.ensures.all ∙ c.in-Ok.ensures.count) w.as_slice.result.now (w.as_slice.ensures ∙ c.in-Ok.ensures.cores) c.in-Ok.ensures.shape
+            (seen_of c.dismiss.new.passes) c.dismiss.ensures.story c.dismiss.ensures.own c.requires.demo w.make_all-outcome.result _
+            (made_as _ w.as_slice.result.now w.as_mut_slice.result.now enlisted w.make_all-outcome.new.makers new w.make_all-outcome.result
+            w.as_mut_slice.ensures.value made w.make_all-outcome.ensures.makes)
+            (subst (λ (outcome : Outcome). TellsOutcome (layout_of locks) (seen_of c.dismiss.new.passes) c.args.demo.now.count old_told new_told outcome c.tell.result) w.outcome-is
+            c.tell.ensures)
+        | in-Err-enlist w ↦
+            early_ends _ c.args.demo.now _ _ locks enlisted new
+            (leaves c.args.demo.now locks _ _ enlisted new _ _ (g.T.Station.out c.enlist.new.station) (g.T.Station.faults c.enlist.new.station) c.enlist.ensures.enlisted c.enlist.ensures.crews
+            c.enlist.ensures.out c.enlist.ensures.crews_back c.enlist.ensures.faults (same_length c.match-enlist.makers c.enlist.new.makers w.makers-is)
+            c.dismiss.ensures.crews_back c.dismiss.ensures.out c.dismiss.ensures.crews c.dismiss.ensures.faults)
+            (seen_of c.dismiss.new.passes) _ (omega (arith, c.enlist.ensures.at_most, c.in-Ok.ensures.count))
+            (subst (λ (outcome : Outcome). TellsOutcome (layout_of locks) (seen_of c.dismiss.new.passes) c.args.demo.now.count old_told new_told outcome c.tell.result) w.outcome-is
+            c.tell.ensures)
       ];
     }

@@ -37,14 +37,14 @@ loop-kit-preserved g c =
     let left = append_assoc yielded (kit ∷ []) rest ∙ ap (λ (end : List Kit). yielded ++ end) (sym (c.in-Some.ensures.steps).0) ∙ i.left in
     let is = element_of (IsKit c.args.collection.now) c.args.kits.items yielded kit rest c.requires.kits
     (sym i.left ∙ ap (λ (end : List Kit). yielded ++ end) (c.in-Some.ensures.steps).0) in
-    let given = subst (λ (n : ℕ). IfSome now (λ all. all n ≡ Some c.in_ok-crew.field-0)) number c.in_ok-crew.ensures.given in
+    let given = subst (λ (n : ℕ). IfSome now (λ all. all n ≡ Some c.in_ok-crew.crew)) number c.in_ok-crew.ensures.given in
     record {
       left = left;
       count = same_count makers new _ yielded kit ends i.count;
       at_most = still_few makers new _ yielded kit rest c.args.kits.items ends i.count left;
       room = c.push_reserved.ensures.capacity ∙ i.room;
       enlisted = one_more_enlisted c.args.demo.now c.args.collection.now old makers new _ ends i.enlisted (record {
-        given_is = as_at_first (length makers) None (Some c.in_ok-crew.field-0) old now i.crews given;
+        given_is = as_at_first (length makers) None (Some c.in_ok-crew.crew) old now i.crews given;
         passes = kit.passes;
         there = refl;
         new = is.passes;

@@ -23,6 +23,10 @@ server port workers max_connections clock = Some (asking.Serve (record {
   max_connections = max_connections;
 }))
 
+-- the workload of these numbers
+abbrev demo : (seed count workers : ℕ) → Option Asked
+demo seed count workers = Some (asking.Demo (record { seed = seed; count = count; workers = workers }))
+
 -- The defaults, the least numbers and the greatest ones.
 
 pub script_alone : asked_of (words_of (codes "script")) ≡ script 1 1 1 64 1048576 None
@@ -30,6 +34,15 @@ script_alone = refl
 
 pub serve_alone : asked_of (words_of (codes "serve")) ≡ server 8983 4 4294967295 None
 serve_alone = refl
+
+pub demo_alone : asked_of (words_of (codes "demo")) ≡ demo 1 1000 4
+demo_alone = refl
+
+pub least_demo : asked_of (words_of (codes "demo --count=1 --seed 0 --workers=1")) ≡ demo 0 1 1
+least_demo = refl
+
+pub greatest_demo : asked_of (words_of (codes "demo --workers 64 --count=100000 --seed 18446744073709551615")) ≡ demo (2 ^ 64 - 1) 100000 64
+greatest_demo = refl
 
 pub first_timestamp : asked_of (words_of (codes "script --clock 0")) ≡ script 1 1 1 64 1048576 (Some 0)
 first_timestamp = refl
@@ -69,7 +82,7 @@ pub server_of_most_shards : asked_of (words_of (codes "serve --workers=2 --nodes
     }))
 server_of_most_shards = refl
 
--- Options of either command that ask for nothing: an option's name, value or number is not of the usage, or it comes twice.
+-- Options of any command that ask for nothing: an option's name, value or number is not of the usage, or it comes twice.
 abbrev refused_options : List (List ℕ)
 refused_options =
     codes " " ∷ codes " --" ∷ codes " --help" ∷ codes " --version" ∷ codes " 1" ∷ codes " -- --nodes 1" ∷ codes " --node 1" ∷ codes " nodes 1"
@@ -85,6 +98,9 @@ refused_options =
 pub refused_by_script : map (λ options. asked_of (words_of (codes "script" ++ options))) refused_options ≡ map (λ options. None) refused_options
 refused_by_script = refl
 
+pub refused_by_demo : map (λ options. asked_of (words_of (codes "demo" ++ options))) refused_options ≡ map (λ options. None) refused_options
+refused_by_demo = refl
+
 pub refused_by_serve : map (λ options. asked_of (words_of (codes "serve" ++ options))) refused_options ≡ map (λ options. None) refused_options
 refused_by_serve = refl
 
@@ -94,7 +110,9 @@ refused_lines =
     codes "" ∷ codes "Script" ∷ codes "Serve" ∷ codes "script=1" ∷ codes "--" ∷ codes "--help" ∷ codes "--version" ∷ codes "-- script" ∷ codes "--clock 1 script"
     ∷ codes "script --port 1" ∷ codes "script --workers=1" ∷ codes "script --max-connections 1"
     ∷ codes "serve --port 0" ∷ codes "serve --port=65536" ∷ codes "serve --port 80 --port=81" ∷ codes "serve --port"
-    ∷ codes "serve --workers 0" ∷ codes "serve --workers=65" ∷ codes "serve --max-connections=0" ∷ codes "serve --max-connections 4294967296" ∷ []
+    ∷ codes "serve --workers 0" ∷ codes "serve --workers=65" ∷ codes "serve --max-connections=0" ∷ codes "serve --max-connections 4294967296"
+    ∷ codes "demo --count 0" ∷ codes "demo --count=100001" ∷ codes "demo --workers=0" ∷ codes "demo --workers 65" ∷ codes "demo --seed=18446744073709551616"
+    ∷ codes "demo --clock 1" ∷ codes "demo --shards=2" ∷ codes "demo --seed 1 --seed=2" ∷ codes "demo --count" ∷ codes "serve --seed=1" ∷ codes "script --count 1" ∷ []
 
 pub lines_that_ask_for_nothing : map (λ line. asked_of (words_of line)) refused_lines ≡ map (λ line. None) refused_lines
 lines_that_ask_for_nothing = refl

@@ -5,7 +5,7 @@ use Rattle.std.specs.List.{list_any, position_or_len, before_first, after_first}
 use Rattle.std.specs.Str.{bytes_eq}
 use Rattle.sc_arguments.specs.declared.asked.Asked.TheVariants as asking
 use Rattle.sc_arguments.specs.Options.{Setting, is_equals_sign, setting_of, settings}
-use Rattle.sc_arguments.specs.Arguments.{script_by, server_by}
+use Rattle.sc_arguments.specs.Arguments.{script_by, server_by, demo_by}
 use Rattle.sc_arguments.specs.Laws.{AskTheSameInBothForms}
 use Rattle.sc_arguments.proofs.SettingLemmas.{in_one_word, in_two_words}
 
@@ -51,4 +51,5 @@ same_settings name value options e =
 pub same_in_both_forms : AskTheSameInBothForms
 same_in_both_forms command name value options e =
     ap (λ (given : List Setting). cond (bytes_eq command (codes "script")) (option_map asking.Script (script_by given))
-    (cond (bytes_eq command (codes "serve")) (option_map asking.Serve (server_by given)) None)) (same_settings name value options e)
+    (cond (bytes_eq command (codes "serve")) (option_map asking.Serve (server_by given))
+    (cond (bytes_eq command (codes "demo")) (option_map asking.Demo (demo_by given)) None))) (same_settings name value options e)

@@ -4,7 +4,8 @@ use Rattle.std.proofs.lemmas.Bool.Decides.{nat_tests}
 use Rattle.sc_collection.specs.declared.shape.Shape.{Shape}
 use Rattle.sc_collection.specs.Shapes.{is_shape, IsShape, is_in_range}
 use Rattle.sc_arguments.specs.declared.asked.Server.{Server}
-use Rattle.sc_arguments.specs.Arguments.{IsServer}
+use Rattle.sc_arguments.specs.declared.asked.Demo.{Demo}
+use Rattle.sc_arguments.specs.Arguments.{IsServer, IsDemo}
 
 pub asked_is_shape : (shape asked : Shape) → Some shape ≡ cond (is_shape asked) (Some asked) None → IsShape shape
 asked_is_shape shape asked found = by (is_shape asked) refl found where
@@ -26,3 +27,11 @@ pub server_in_range : (server : Server) → IsShape server.shape → (1 ≤ serv
 server_in_range server shape port workers connections =
     four_true (is_shape server.shape) (is_in_range 1 65535 server.port) (is_in_range 1 64 server.workers) (is_in_range 1 4294967295 server.max_connections)
     shape (in_range 1 65535 server.port port) (in_range 1 64 server.workers workers) (in_range 1 4294967295 server.max_connections connections)
+
+two_true : (a b : Bool) → a ≡ true → b ≡ true → (a && b) ≡ true
+two_true a b ha hb = rw ha hb
+
+-- it can be made where each of its numbers is in its range
+pub demo_in_range : (demo : Demo) → (1 ≤ demo.count) × (demo.count ≤ 100000) → (1 ≤ demo.workers) × (demo.workers ≤ 64) → IsDemo demo
+demo_in_range demo count workers =
+    two_true (is_in_range 1 100000 demo.count) (is_in_range 1 64 demo.workers) (in_range 1 100000 demo.count count) (in_range 1 64 demo.workers workers)

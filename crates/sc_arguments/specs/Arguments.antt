@@ -7,6 +7,7 @@ use Rattle.sc_arguments.specs.declared.asked.Asked.{Asked}
 use Rattle.sc_arguments.specs.declared.asked.Asked.TheVariants as asking
 use Rattle.sc_arguments.specs.declared.asked.Script.{Script}
 use Rattle.sc_arguments.specs.declared.asked.Server.{Server}
+use Rattle.sc_arguments.specs.declared.asked.Demo.{Demo}
 use Rattle.sc_arguments.specs.declared.command.Command.{Command}
 use Rattle.sc_arguments.specs.declared.command.Command.TheVariants as commands
 use Rattle.sc_arguments.specs.Options.{Setting, settings, number_given, number_or, are_options}
@@ -19,6 +20,7 @@ shared_names = codes "--nodes" ∷ codes "--shards" ∷ codes "--replicas" ∷ c
 abbrev pub option_names : Command → List (List ℕ)
 option_names commands.Script = shared_names
 option_names commands.Serve = shared_names ++ codes "--port" ∷ codes "--workers" ∷ codes "--max-connections" ∷ []
+option_names commands.Demo = codes "--seed" ∷ codes "--count" ∷ codes "--workers" ∷ []
 
 -- the shape that options ask for: by default one node, one shard with one replica, and 64 buckets, whose journals have at most 1048576 entries
 abbrev pub shape_of : List Setting → Shape
@@ -53,6 +55,26 @@ is_server server =
 abbrev pub IsServer : Server → Type 0
 IsServer server = is_server server ≡ true
 
+-- the workload that options ask for: by default four workers make 1000 orders of seed 1
+abbrev pub demo_of : List Setting → Demo
+demo_of given = record {
+  seed = number_or 1 (codes "--seed") given;
+  count = number_or 1000 (codes "--count") given;
+  workers = number_or 4 (codes "--workers") given;
+}
+
+-- each number of the workload is in its range; a seed may be any number of 64 bits
+abbrev pub is_demo : Demo → Bool
+is_demo demo = is_in_range 1 100000 demo.count && is_in_range 1 64 demo.workers
+
+-- it is one that can be made
+abbrev pub IsDemo : Demo → Type 0
+IsDemo demo = is_demo demo ≡ true
+
+-- the shape of the collection on which a workload is made: one shard with one replica, and 64 buckets
+abbrev pub demo_shape : Shape
+demo_shape = record { nodes = 1; shards = 1; replicas = 1; buckets = 64; log_limit = 1048576 }
+
 -- what the options of `script` ask for
 abbrev pub script_by : List Setting → Option Script
 script_by given = if are_options (option_names commands.Script) given && is_shape (shape_of given) then Some (script_of given) else None
@@ -61,19 +83,26 @@ script_by given = if are_options (option_names commands.Script) given && is_shap
 abbrev pub server_by : List Setting → Option Server
 server_by given = if are_options (option_names commands.Serve) given && is_server (server_of given) then Some (server_of given) else None
 
--- `script` or `serve`, and any of its options; no other arguments ask for anything
+-- what the options of `demo` ask for
+abbrev pub demo_by : List Setting → Option Demo
+demo_by given = if are_options (option_names commands.Demo) given && is_demo (demo_of given) then Some (demo_of given) else None
+
+-- `script`, `serve` or `demo`, and any of its options; no other arguments ask for anything
 abbrev pub asked_of : List (List ℕ) → Option Asked
 asked_of [] = None
 asked_of (command ∷ options) =
     if bytes_eq command (codes "script") then option_map (λ script. asking.Script script) (script_by (settings options))
-    else (if bytes_eq command (codes "serve") then option_map (λ server. asking.Serve server) (server_by (settings options)) else None)
+    else (if bytes_eq command (codes "serve") then option_map (λ server. asking.Serve server) (server_by (settings options))
+    else (if bytes_eq command (codes "demo") then option_map (λ demo. asking.Demo demo) (demo_by (settings options)) else None))
 
 -- the shape of the collection that is asked for
 abbrev pub shape_asked : Asked → Shape
 shape_asked (asking.Script script) = script.shape
 shape_asked (asking.Serve server) = server.shape
+shape_asked (asking.Demo demo) = demo_shape
 
 -- each number of what is asked for is in its range
 abbrev pub IsAsked : Asked → Type 0
 IsAsked (asking.Script script) = IsShape script.shape
 IsAsked (asking.Serve server) = IsServer server
+IsAsked (asking.Demo demo) = IsDemo demo

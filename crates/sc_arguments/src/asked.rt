@@ -15,6 +15,8 @@ pub enum Asked {
     Script(Script),
     /// To listen at a port.
     Serve(Server),
+    /// To make a workload.
+    Demo(Demo),
 }
 
 /// How one connection is served.
@@ -41,6 +43,17 @@ pub struct Server {
     pub max_connections: u32,
 }
 
+/// A workload that several workers make beside a split.
+#[derive(Clone, Copy, Debug, PartialEq, Eq)]
+pub struct Demo {
+    /// The seed of the workload.
+    pub seed: u64,
+    /// How many orders it has, from 1 to 100000.
+    pub count: u32,
+    /// How many workers make it, from 1 to 64.
+    pub workers: u32,
+}
+
 /// What the program's arguments ask for; nothing where they are no line of its usage.
 pub fn asked_of(arguments: &[String]) -> Option<Asked>
     ensures asked { result ≡ asked.asked_of (map string_bytes arguments.now) }
@@ -51,6 +64,7 @@ pub fn asked_of(arguments: &[String]) -> Option<Asked>
     match command.as_str() {
         "script" => Some(Asked::Script(script_of(options)?)),
         "serve" => Some(Asked::Serve(server_of(options)?)),
+        "demo" => Some(Asked::Demo(demo_of(options)?)),
         _ => None,
     }
 }
@@ -87,5 +101,20 @@ fn server_of(options: &[String]) -> Option<Server>
             1,
             4_294_967_295,
         )?,
+    })
+}
+
+/// The workload that options ask for.
+fn demo_of(options: &[String]) -> Option<Demo>
+    ensures asked { result ≡ asked.demo_by (settings (map string_bytes options.now)) }
+    ensures range { IfSome result (λ demo. asked.IsDemo demo) }
+{
+    if !are_options(Command::Demo, options) {
+        return None;
+    }
+    Some(Demo {
+        seed: number_or(1, options, "--seed"),
+        count: within(number_or(1000, options, "--count"), 1, 100_000)?,
+        workers: within(number_or(4, options, "--workers"), 1, 64)?,
     })
 }

@@ -10,6 +10,8 @@ pub(crate) enum Command {
     Script,
     /// Listen at a port.
     Serve,
+    /// Make a workload.
+    Demo,
 }
 
 /// Whether the command takes an option of this name.
@@ -33,5 +35,6 @@ pub(crate) fn is_option(command: Command, name: &str) -> bool
                 | "--workers"
                 | "--max-connections"
         ),
+        Command::Demo => matches!(name, "--seed" | "--count" | "--workers"),
     }
 }

@@ -18,5 +18,5 @@ mod numbers;
 mod options;
 mod ranges;
 
-pub use asked::{Asked, Script, Server, asked_of};
+pub use asked::{Asked, Demo, Script, Server, asked_of};
 pub use laws::{options_are_taken_once, options_come_in_any_order, options_have_two_forms};

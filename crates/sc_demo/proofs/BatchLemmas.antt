@@ -271,6 +271,7 @@ module _ {C : Type 0} (gives : C → ℕ → C → Type 0) (layout : Layout) (ba
   makes_batch = record {
     answers = updated.answers;
     extends = subst (λ all. Extends layout old.seen new.seen all) no_more_stops updated.keeps.goes.extends;
+    board = updated.keeps.goes.board_own;
     timestamps = updated.timestamps;
     answered = λ later more. (updated.answered later more).each;
     once = λ later more. subst (λ all. WritesOnce layout later all updated.answers) no_more_stops (updated.once later more);

@@ -29,7 +29,7 @@ gives_both gives old between new [] ys one two = subst (λ c. GivesTimestamps gi
 gives_both gives old between new (x ∷ xs) ys (next, first, rest) two = (next, first, gives_both gives next between new xs ys rest two)
 
 -- what came near its limit has done so in all that is seen later
-near_later : (layout : Layout) (seen later : Seen) → SeesMore seen later → CameNearLimit layout seen → CameNearLimit layout later
+pub near_later : (layout : Layout) (seen later : Seen) → SeesMore seen later → CameNearLimit layout seen → CameNearLimit layout later
 near_later layout seen later more near = record {
   lock = near.lock;
   front = near.front;
@@ -47,6 +47,7 @@ module _ {C : Type 0} (gives : C → ℕ → C → Type 0) (layout : Layout) whe
   makes_none state = record {
     answers = [];
     extends = Extends-none layout state.seen;
+    board = refl;
     timestamps = refl;
     answered = λ later more. tt;
     once = λ later more. refl;
@@ -59,6 +60,7 @@ module _ {C : Type 0} (gives : C → ℕ → C → Type 0) (layout : Layout) whe
   makes_nothing state orders = record {
     answers = [];
     extends = Extends-none layout state.seen;
+    board = refl;
     timestamps = refl;
     answered = λ later more. tt;
     once = λ later more. refl;
@@ -106,6 +108,7 @@ module _ {C : Type 0} (gives : C → ℕ → C → Type 0) (layout : Layout) whe
       answers = first.answers ++ second.answers;
       extends = subst (λ stops. Extends layout old.seen new.seen stops) (sym stops_are)
           (Extends-then layout old.seen between.seen new.seen (order_stops first.answers) (order_stops second.answers) first.extends second.extends);
+      board = second.board ∙ first.board;
       timestamps = subst (λ timestamps. GivesTimestamps gives old.clock timestamps new.clock)
           (sym (map-append (λ (answer : OrderAnswer). answer.timestamp) first.answers second.answers))
           (gives_both gives old.clock between.clock new.clock (order_timestamps first.answers) (order_timestamps second.answers) first.timestamps second.timestamps);
@@ -142,9 +145,9 @@ contents_within (suc place) (batch ∷ batches) =
 
 -- ---- the orders of a workload
 -- the same of what an order asks for
-record IsPlainContent (order : OrderContent) : Type 0 where
-  condition : order.condition ≡ pos 0
-  change : IsWholeOrDelete order.change
+pub record IsPlainContent (order : OrderContent) : Type 0 where
+  pub condition : order.condition ≡ pos 0
+  pub change : IsWholeOrDelete order.change
 
 plain_change : (place : ℕ) → IsWholeOrDelete (change_at place)
 plain_change place = by (nat_eq (place % 5) 4) where
@@ -152,7 +155,7 @@ plain_change place = by (nat_eq (place % 5) 4) where
   by true = tt
   by false = tt
 
-plain_places : (workload : Workload) (these : List ℕ) → AllByRecursion IsPlainContent (map (order_at workload) these)
+pub plain_places : (workload : Workload) (these : List ℕ) → AllByRecursion IsPlainContent (map (order_at workload) these)
 plain_places workload [] = tt
 plain_places workload (place ∷ these) = (record { condition = refl; change = plain_change place }, plain_places workload these)
 

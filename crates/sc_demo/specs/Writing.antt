@@ -73,12 +73,13 @@ pub record CameNearLimit (layout : Layout) (seen : Seen) : Type 0 where
   pub full : IsFullFor 2 layout.limit layout.first front
 
 -- Orders were made one after another, each answered by its bucket's journal at a timestamp that the clock gave for it: so many were
--- accepted, and exactly their writes, and what settled them, are the entries of one's own. All were accepted, unless memory ran out or a
--- bucket's journal came near its limit.
+-- accepted, and exactly their writes, and what settled them, are the entries of one's own, none of which is on the board. All were accepted,
+-- unless memory ran out or a bucket's journal came near its limit.
 pub record MakesOrders {C : Type 0} (gives : C → ℕ → C → Type 0) (layout : Layout) (old new : WritingState C) (orders : List OrderContent)
     (made : Written) : Type 0 where
   pub answers : List OrderAnswer
   pub extends : Extends layout old.seen new.seen (order_stops answers)
+  pub board : new.seen.own layout.buckets ≡ old.seen.own layout.buckets
   pub timestamps : GivesTimestamps gives old.clock (order_timestamps answers) new.clock
   pub answered : FromNowOn new.seen (λ later. AllByRecursion (IsOrderAnswer layout later) answers)
   pub once : FromNowOn new.seen (λ later. WritesOnce layout later (order_stops answers) answers)

@@ -1,18 +1,23 @@
-//! The parts of a demonstration: a worker makes its orders of a workload, a shard is split beside the workers, what came of it is found, and six
-//! lines tell it.
+//! A demonstration: several workers make a workload while its shard is split beside them, and six lines tell what came of it.
 //!
-//! Each part works over any `Desk`, so that workers may do theirs on several threads beside each other. It depends on `sc_workload` for the
-//! orders, and on `sc_update`, `sc_split` and `sc_fanout`, whose clauses it uses. No command of the program makes a demonstration yet.
+//! `run_demo` makes a collection of one shard with one replica and 64 buckets, starts its cores, and runs a maker in each of so many threads: the
+//! workers, each of which makes its orders of the workload (`write`), and after them the one that splits `shard1` in two (`split_first`). Each
+//! has a crew of the station and passes of its own. Then their passes are joined, every bucket is committed, and three searches count what is
+//! there (`count_on`). `write`, `split_first` and `count_on` work over any `Desk`.
 //!
-//! Proved: `write` makes the orders that are a worker's, one after another, each answered as its bucket's journal has it; it counts those that
-//! were accepted, whose writes, and what settled them, are exactly the entries that became its own; and all were accepted, unless memory ran out
-//! or a bucket's journal came near its limit (`MakesOrders`). `split_first` splits `shard1` in two as every split goes (`SplitsFirst`).
-//! `count_on` commits every bucket and counts what three searches find there (`AreFound`). `lines_of` and `split_text` write the lines (`lines`,
-//! `split_word`).
+//! It depends on `sc_workload` for the orders, on `sc_update`, `sc_split` and `sc_fanout`, whose clauses it uses, on `sc_shared` for the desk of
+//! each thread, and on `sc_server` for what a station reports of its crews. What waits stands here and in `sc_shared`'s holds alone.
 //!
-//! Tested alone: nothing yet.
+//! Proved of `run_demo` (`EndsDemo`): which status comes when, with its cause in the sink or the hosts; that each crew that the station gave is
+//! back; and where all makers worked (`Demonstrates`), that each did what it was to do over passes of one collection, what all of them have seen
+//! are beginnings of one journal for each bucket and the board, and no two of them made the same entry. Of what they made together the lines then
+//! tell (`SaysOf`) how many writes that were, `done` exactly where one of their entries of the board says so, and each document's writes are
+//! those of all its orders, in order, unless a bucket's journal came near its limit. The three numbers are those of searches after every bucket
+//! was committed (`AreFound`), and what is told of a split that was refused is its answer (`SplitsFirst`).
 //!
-//! Neither: that workers run beside each other.
+//! Tested alone: that the lines are the same for 1, 4 and 8 workers, and what two faults lead to (`sc_tests`).
+//!
+//! Neither: that makers run beside each other, and that no other write stands in the collection.
 #![tactic(auto)]
 
 // The orders of a worker, and what came of them.
@@ -26,7 +31,18 @@ mod splitting;
 mod counting;
 mod lines;
 
+// One maker in its thread, and all makers.
+mod maker;
+mod makers;
+mod needs;
+mod task;
+
+// The whole of a demonstration.
+mod demo;
+mod telling;
+
 pub use counting::{Found, count_on};
+pub use demo::run_demo;
 pub use lines::{lines_of, split_text};
 pub use made::Written;
 pub use splitting::split_first;

@@ -12,6 +12,8 @@ mod collections;
 #[cfg(test)]
 mod commands;
 #[cfg(test)]
+mod demo;
+#[cfg(test)]
 mod hosts;
 #[cfg(test)]
 mod locks;

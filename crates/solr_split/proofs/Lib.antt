@@ -1,5 +1,6 @@
 -- What the proofs of a run share, and what the usage's examples ask for.
 pub mod CrewLemmas
+pub mod DemoLemmas
 pub mod MapCoreLemmas
 pub mod RestLemmas
 pub mod RunLemmas

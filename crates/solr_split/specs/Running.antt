@@ -18,12 +18,14 @@ use Rattle.sc_arguments.specs.declared.asked.Asked.{Asked}
 use Rattle.sc_arguments.specs.declared.asked.Asked.TheVariants as asking
 use Rattle.sc_arguments.specs.declared.asked.Script.{Script}
 use Rattle.sc_arguments.specs.declared.asked.Server.{Server}
+use Rattle.sc_arguments.specs.declared.asked.Demo.{Demo}
 use Rattle.sc_arguments.specs.Arguments.{asked_of}
 
 -- the script, where one is asked for
 abbrev pub script_in : Option Asked → Option Script
 script_in (Some (asking.Script script)) = Some script
 script_in (Some (asking.Serve server)) = None
+script_in (Some (asking.Demo demo)) = None
 script_in None = None
 
 -- the script that arguments ask for
@@ -34,11 +36,23 @@ script_of arguments = script_in (asked_of arguments)
 abbrev pub server_in : Option Asked → Option Server
 server_in (Some (asking.Serve server)) = Some server
 server_in (Some (asking.Script script)) = None
+server_in (Some (asking.Demo demo)) = None
 server_in None = None
 
 -- the server that arguments ask for
 abbrev pub server_of : List (List ℕ) → Option Server
 server_of arguments = server_in (asked_of arguments)
+
+-- the workload, where one is asked for
+abbrev pub demo_in : Option Asked → Option Demo
+demo_in (Some (asking.Demo demo)) = Some demo
+demo_in (Some (asking.Script script)) = None
+demo_in (Some (asking.Serve server)) = None
+demo_in None = None
+
+-- the workload that arguments ask for
+abbrev pub demo_of : List (List ℕ) → Option Demo
+demo_of arguments = demo_in (asked_of arguments)
 
 -- the exit status by how the connection ended
 abbrev pub exit_status : End → ℕ

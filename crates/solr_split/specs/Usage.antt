@@ -9,11 +9,16 @@ example = codes "script --buckets=1 --clock 1000"
 abbrev pub server_example : List ℕ
 server_example = codes "serve --port 8984 --workers=8"
 
+-- arguments that the usage gives as an example of `demo`
+abbrev pub demo_example : List ℕ
+demo_example = codes "demo --count 100000 --workers 8"
+
 -- the usage: each command, each option with its range and its default, and the examples
 abbrev pub usage : List ℕ
 usage =
-    codes "usage: solr_split script|serve [OPTION VALUE | OPTION=VALUE]...\n"
-    ++ codes "script serves one connection over standard input and output, serve those to a port. Options of both:\n"
+    codes "usage: solr_split script|serve|demo [OPTION VALUE | OPTION=VALUE]...\n"
+    ++ codes "script serves one connection over standard input and output, serve those to a port,\n"
+    ++ codes "and demo makes a workload by several workers while the shard is split, and tells what came of it. Options of script and serve:\n"
     ++ codes "  --nodes            1 to 16 nodes (1)\n"
     ++ codes "  --shards           1 to 64 shards (1)\n"
     ++ codes "  --replicas         1 to 4 replicas of each shard (1)\n"
@@ -25,8 +30,13 @@ usage =
     ++ codes "  --port             1 to 65535, the port (8983)\n"
     ++ codes "  --workers          1 to 64 workers (4)\n"
     ++ codes "  --max-connections  1 to 4294967295 connections that each worker serves (4294967295)\n"
+    ++ codes "Options of demo:\n"
+    ++ codes "  --seed             0 to 18446744073709551615, which documents the orders begin with (1)\n"
+    ++ codes "  --count            1 to 100000 orders (1000)\n"
+    ++ codes "  --workers          1 to 64 workers (4)\n"
     ++ codes "as in: solr_split " ++ example ++ codes " < requests\n"
-    ++ codes "       solr_split " ++ server_example
+    ++ codes "       solr_split " ++ server_example ++ codes "\n"
+    ++ codes "       solr_split " ++ demo_example
 
 -- what a status other than 0 means
 abbrev pub meaning_of : ℕ → List ℕ

@@ -1,9 +1,9 @@
 //! `solr_split`: one SolrCloud collection behind HTTP, in one process.
 //!
 //! `run` is all that the program does, and its contract is what it promises: which bytes it reads and writes, and its status. `script`
-//! serves one connection over standard input and output, `serve` those to a port, by several workers at once. `main` hands it the
-//! machine's streams and its station, and says to a person what a status other than 0 means. It depends on `sc_arguments`, which reads its
-//! arguments; for `serve` on `sc_server`, whose `run_server` it calls; for `script` on `sc_session`, whose `serve` it calls, on
+//! serves one connection over standard input and output, `serve` those to a port, by several workers at once, and `demo` makes a workload
+//! by several workers beside a split, and tells what came of it. `main` hands it the machine's streams and its station, and says to a person what a status other than 0 means. It depends on `sc_arguments`, which reads its
+//! arguments; for `serve` on `sc_server`, whose `run_server` it calls; for `demo` on `sc_demo`, whose `run_demo` it calls; for `script` on `sc_session`, whose `serve` it calls, on
 //! `sc_collection`, whose `Alone` keeps the collection, and on `sc_cores`, which names and starts the cores of its first map; and on
 //! `sc_sockets` for the station.
 //!
@@ -11,7 +11,7 @@
 //! `sc_session`; that the cores of the first map are started before, if the hosts report theirs, and that those which are started in the
 //! end are those of the board's map, if stopping one never failed; that no split runs in the end, so that each bucket is then as the
 //! board says; that crew 0 of the station is all that it takes, and is given back; and that it returns (`run_script`). Of `serve` what
-//! `sc_server` promises. The texts of the usage and of the line for each status (`meaning`). `proofs/UsageExamples` has what the usage's
+//! `sc_server` promises, and of `demo` what `sc_demo` does. The texts of the usage and of the line for each status (`meaning`). `proofs/UsageExamples` has what the usage's
 //! examples ask for.
 //!
 //! Tested alone: that `run` does not say "out of memory" while there is memory, and the shipped program's own bytes and status: by the
@@ -36,8 +36,9 @@ use std::process::ExitCode;
 use std::{env, io};
 
 /// The usage: each command, each option with its range and its default, and an example of each command.
-const USAGE: &str = "usage: solr_split script|serve [OPTION VALUE | OPTION=VALUE]...
-script serves one connection over standard input and output, serve those to a port. Options of both:
+const USAGE: &str = "usage: solr_split script|serve|demo [OPTION VALUE | OPTION=VALUE]...
+script serves one connection over standard input and output, serve those to a port,
+and demo makes a workload by several workers while the shard is split, and tells what came of it. Options of script and serve:
   --nodes            1 to 16 nodes (1)
   --shards           1 to 64 shards (1)
   --replicas         1 to 4 replicas of each shard (1)
@@ -49,8 +50,13 @@ Options of serve:
   --port             1 to 65535, the port (8983)
   --workers          1 to 64 workers (4)
   --max-connections  1 to 4294967295 connections that each worker serves (4294967295)
+Options of demo:
+  --seed             0 to 18446744073709551615, which documents the orders begin with (1)
+  --count            1 to 100000 orders (1000)
+  --workers          1 to 64 workers (4)
 as in: solr_split script --buckets=1 --clock 1000 < requests
-       solr_split serve --port 8984 --workers=8";
+       solr_split serve --port 8984 --workers=8
+       solr_split demo --count 100000 --workers 8";
 
 fn main(rt: HostRuntime) -> ExitCode {
     let mut input = StdSource::new(rt.stdin());

@@ -2,13 +2,15 @@
 ghost use Rattle.std.specs.Prelude.{◌≡◌, ◌≢◌, ◌<◌, ◌↔◌, map, string_bytes, IfSome, None};
 ghost use Rattle.sc_cores.specs.Cores.{outside_of};
 ghost use Rattle.sc_collection.specs.Shapes.{IsShape};
-ghost use Rattle.sc_arguments.specs.Arguments.{asked_of, IsServer};
+ghost use Rattle.sc_arguments.specs.Arguments.{asked_of, IsServer, IsDemo};
 ghost use Rattle.sc_server.specs.Serving.{EndsServer};
-ghost use Rattle.solr_split.specs.Running.{script_of, server_of};
+ghost use Rattle.sc_demo.specs.Demos.{EndsDemo};
+ghost use Rattle.solr_split.specs.Running.{script_of, server_of, demo_of};
 ghost use Rattle.solr_split.specs.Scripts.{EndsScript};
 
 use crate::script::run_script;
-use sc_arguments::{Asked, Script, Server, asked_of};
+use sc_arguments::{Asked, Demo, Script, Server, asked_of};
+use sc_demo::run_demo;
 use sc_io::{Sink, Source};
 use sc_server::run_server;
 use sc_session::Station;
@@ -17,13 +19,14 @@ use std::sync::Wait;
 use std::thread::Threads;
 
 /// All that the program does. `script` serves one connection over the source and the sink, by crew 0 of the station. `serve` opens a port,
-/// writes `listening <port>` to the sink, and serves connections by several workers at once, each by a crew of its own. Both give each crew
-/// back to the station. With `--clock` the clock stands still at that many milliseconds.
+/// writes `listening <port>` to the sink, and serves connections by several workers at once, each by a crew of its own. `demo` makes a
+/// workload by several workers while `shard1` is split beside them, and writes six lines on what came of it. Each gives every crew back to
+/// the station. With `--clock` the clock stands still at that many milliseconds.
 ///
 /// The status is 2 for arguments that ask for nothing, 6 where memory ran out, and 8 where starting a core of the first map failed. Of
 /// `script` it is 0 where the connection came to its end, 3 where it ended in a message that can't be read, 4 where the source failed and
 /// 5 where the sink did; of `serve` 0 where each worker ended without a fault of its listener, 5 where the line wasn't written, and 7
-/// where the port wasn't opened or a listener failed.
+/// where the port wasn't opened or a listener failed; of `demo` 0 where its lines were written, and 5 where that failed.
 ///
 /// It waits for its workers, so it owes no return; what `script` asks for waits for nothing, and returns.
 pub fn run<S: Source, W: Sink, T: Station, R: Threads + Wait + Sync>(
@@ -103,6 +106,32 @@ pub fn run<S: Source, W: Sink, T: Station, R: Threads + Wait + Sync>(
           write_faults = W.faults sink.new;
         })
         result) }
+
+    // A demonstration makes its workload by all its makers, and tells what came of it, unless it fails before.
+    ensures demo { IfSome (demo_of (map string_bytes arguments.now)) (λ demo. EndsDemo
+        (record {
+          gives = T.C.gives;
+          outside = λ hosts pace. outside_of (T.H.started hosts) (T.H.start_faults hosts) (T.H.stop_faults hosts) (T.P.stops pace);
+        })
+        demo
+        (record {
+          crews = T.crews station.old;
+          crews_back = T.crews_back station.old;
+          out = T.out station.old;
+          open_faults = T.faults station.old;
+          written = W.written sink.old;
+          write_faults = W.faults sink.old;
+        })
+        (record {
+          crews = T.crews station.new;
+          crews_back = T.crews_back station.new;
+          out = T.out station.new;
+          open_faults = T.faults station.new;
+          written = W.written sink.new;
+          write_faults = W.faults sink.new;
+        })
+        result) }
+    ensures demo_reads { IfSome (demo_of (map string_bytes arguments.now)) (λ demo. source.new ≡ source.old) }
     ensures server_reads { IfSome (server_of (map string_bytes arguments.now)) (λ server. source.new ≡ source.old) }
     ensures read_fault { (result ≡ 4) ↔ (S.faults source.old < S.faults source.new) }
     ensures write_fault { (result ≡ 5) ↔ (W.faults sink.old < W.faults sink.new) }
@@ -111,6 +140,7 @@ pub fn run<S: Source, W: Sink, T: Station, R: Threads + Wait + Sync>(
         None => 2,
         Some(Asked::Script(script)) => run_by_crew(alloc, &script, source, sink, station),
         Some(Asked::Serve(server)) => run_workers(rt, alloc, &server, sink, station),
+        Some(Asked::Demo(demo)) => run_makers(rt, alloc, &demo, sink, station),
     }
 }
 
@@ -217,4 +247,42 @@ fn run_workers<W: Sink, T: Station, R: Threads + Wait + Sync>(
     ensures write_fault { (result ≡ 5) ↔ (W.faults sink.old < W.faults sink.new) }
 {
     run_server(rt, alloc, server, sink, station)
+}
+
+/// Makes a workload beside a split, and tells what came of it.
+fn run_makers<W: Sink, T: Station, R: Threads + Wait + Sync>(
+    rt: &R,
+    alloc: Global,
+    demo: &Demo,
+    sink: &mut W,
+    station: &mut T,
+) -> u8
+    requires demo { IsDemo demo.now }
+    ensures ends { EndsDemo
+        (record {
+          gives = T.C.gives;
+          outside = λ hosts pace. outside_of (T.H.started hosts) (T.H.start_faults hosts) (T.H.stop_faults hosts) (T.P.stops pace);
+        })
+        demo.now
+        (record {
+          crews = T.crews station.old;
+          crews_back = T.crews_back station.old;
+          out = T.out station.old;
+          open_faults = T.faults station.old;
+          written = W.written sink.old;
+          write_faults = W.faults sink.old;
+        })
+        (record {
+          crews = T.crews station.new;
+          crews_back = T.crews_back station.new;
+          out = T.out station.new;
+          open_faults = T.faults station.new;
+          written = W.written sink.new;
+          write_faults = W.faults sink.new;
+        })
+        result }
+    ensures status { (result ≢ 2) × (result ≢ 4) }
+    ensures write_fault { (result ≡ 5) ↔ (W.faults sink.old < W.faults sink.new) }
+{
+    run_demo(rt, alloc, demo, sink, station)
 }

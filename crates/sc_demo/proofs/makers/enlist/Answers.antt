@@ -1,0 +1,61 @@
+-- One maker more has its crew.
+use Rattle.std.proofs.Common.{◌≡◌, ◌∙◌, ℕ, ◌++◌, ◌∷◌, true, None, Some, IfSome, List, [], length, refl, sym, subst, ap, append_assoc}
+use Rattle.sc_demo.specs.declared.needs.Kit.{Kit}
+use Rattle.sc_session.specs.Stations.{SetsAt, SetsReported}
+use Rattle.sc_demo.specs.Makers.{IsKit}
+use Rattle.sc_demo.specs.Making.{task_at}
+use Rattle.sc_server.proofs.CrewLemmas.{as_at_first}
+use Rattle.sc_server.proofs.MatchLemmas.{element_of}
+use Rattle.sc_demo.proofs.CrewLemmas.{none_enlisted, none_given, none_out, few_yet, same_count, still_few, one_more_given, one_more_out, one_more_enlisted}
+use Rattle.sc_demo.proofs.makers.enlist.Goals as goal
+
+pub loop-kit-init : goal.loop-kit-init
+loop-kit-init g c = record {
+  left = c.into_iter-kit-iterator.ensures.into_iter_gives.0;
+  count = ap length c.requires.none;
+  at_most = few_yet c.args.makers.now.items c.args.kits.items c.requires.none;
+  room = refl;
+  enlisted = none_enlisted c.args.demo.now c.args.collection.now (g.T.Station.crews c.args.station.now) c.args.makers.now.items c.requires.none;
+  crews = none_given None (g.T.Station.crews c.args.station.now) c.args.makers.now.items c.requires.none;
+  out = none_out true (g.T.Station.out c.args.station.now) c.args.makers.now.items c.requires.none;
+  crews_back = refl;
+  faults = refl;
+}
+
+pub loop-kit-preserved : goal.loop-kit-preserved
+loop-kit-preserved g c =
+    let i = c.loop-kit.invariant in
+    let kit = c.in-Some.kit in
+    let yielded = c.loop-kit.yielded in
+    let rest = c.next.new.self.rest.items in
+    let makers = c.loop-kit.makers.items in
+    let new = c.push_reserved.new.self.items in
+    let ends = c.push_reserved.ensures.items in
+    let old = g.T.Station.crews c.args.station.now in
+    let now = g.T.Station.crews c.loop-kit.station in
+    let number : c.len-number.result ≡ length makers = c.len-number.ensures ∙ c.loop-kit.makers.ok.0 in
+    let left = append_assoc yielded (kit ∷ []) rest ∙ ap (λ (end : List Kit). yielded ++ end) (sym (c.in-Some.ensures.steps).0) ∙ i.left in
+    let is = element_of (IsKit c.args.collection.now) c.args.kits.items yielded kit rest c.requires.kits
+    (sym i.left ∙ ap (λ (end : List Kit). yielded ++ end) (c.in-Some.ensures.steps).0) in
+    let given = subst (λ (n : ℕ). IfSome now (λ all. all n ≡ Some c.in_ok-crew.crew)) number c.in_ok-crew.ensures.given in
+    record {
+      left = left;
+      count = same_count makers new _ yielded kit ends i.count;
+      at_most = still_few makers new _ yielded kit rest c.args.kits.items ends i.count left;
+      room = c.push_reserved.ensures.capacity ∙ i.room;
+      enlisted = one_more_enlisted c.args.demo.now c.args.collection.now old makers new _ ends i.enlisted (record {
+        given_is = as_at_first (length makers) None (Some c.in_ok-crew.crew) old now i.crews given;
+        passes = kit.passes;
+        there = refl;
+        new = is.passes;
+        over = refl;
+        demo_is = refl;
+        task = c.task_of.ensures ∙ ap (task_at c.args.demo.now) number;
+      });
+      crews = one_more_given None old now (g.T.Station.crews c.crew.new.self) makers new _ ends i.crews
+          (subst (λ (n : ℕ). SetsReported n None now (g.T.Station.crews c.crew.new.self)) number c.in_ok-crew.ensures.crews);
+      out = one_more_out true (g.T.Station.out c.args.station.now) (g.T.Station.out c.loop-kit.station) (g.T.Station.out c.crew.new.self) makers new _ ends i.out
+          (subst (λ (n : ℕ). SetsAt n true (g.T.Station.out c.loop-kit.station) (g.T.Station.out c.crew.new.self)) number c.in_ok-crew.ensures.out);
+      crews_back = c.crew.ensures.crews_back ∙ i.crews_back;
+      faults = c.crew.ensures.faults ∙ i.faults;
+    }

@@ -1,0 +1,235 @@
+//! All makers: they get their crews, work beside each other, and give their crews back.
+ghost use Rattle.std.specs.Prelude.{◌≡◌, ◌≤◌, ◌<◌, ◌^◌, ℕ, true, false, [], length, map, All, None, IfSome, IfOk, OnOk, vec_len, vec_capacity};
+ghost use Rattle.std.specs.List.{list_any, sum_by};
+ghost use Rattle.sc_cores.specs.Cores.{outside_of};
+ghost use Rattle.sc_shared.specs.Passes.{seen_of};
+ghost use Rattle.sc_shared.specs.Collections.{Locks, layout_of, SeesBoth};
+ghost use Rattle.sc_shared.specs.Sharing.{ArePasses};
+ghost use Rattle.sc_server.specs.Crews.{SetsBelow, SetsReportedBelow, seen_with};
+ghost use Rattle.sc_server.specs.Serving.{IsOneStory};
+ghost use Rattle.sc_demo.specs.Making.{accepted_in, ran_out_in};
+ghost use Rattle.sc_demo.specs.Makers.{IsKit, AreEnlisted, IsHome, IsReady, IsReadyToMake, AreReportedBack, HasMade, HaveMade, MakesAll, IsOutcomeOf, TellsSplit, seen_by};
+ghost use Rattle.sc_demo.specs.Together.{own_of_all};
+
+use crate::maker::Maker;
+use crate::needs::Kit;
+use crate::task::{Outcome, task_of};
+use sc_arguments::Demo;
+use sc_cores::start_cores;
+use sc_io::{Clock, Host, Hosts, Pace};
+use sc_record::Text;
+use sc_session::Station;
+use sc_shared::{Collection, Passes};
+use std::alloc::{AllocError, Global};
+use std::marker::Send;
+use std::sync::Wait;
+use std::thread;
+use std::thread::Threads;
+
+/// Gives each maker a crew of the station, by its number: the workers come first, and then the one that splits. Where memory runs out,
+/// those before it are there.
+pub fn enlist<'a, R, T: Station>(
+    rt: &'a R,
+    alloc: Global,
+    demo: &Demo,
+    collection: &'a Collection,
+    kits: Vec<Kit>,
+    station: &mut T,
+    makers: &mut Vec<Maker<'a, R, T::C, T::H, T::P, T::L>>,
+) -> Result<(), AllocError>
+    requires kits { All (IsKit collection.now) kits.items }
+    requires few { length kits.items < 2 ^ 32 }
+    requires none { makers.old.items ≡ [] }
+    requires room { vec_len kits ≤ vec_capacity makers.old }
+    ensures all { OnOk result (length makers.new.items ≡ length kits.items) }
+    ensures at_most { length makers.new.items ≤ length kits.items }
+    ensures enlisted { AreEnlisted demo.now collection.now (T.crews station.old) makers.new.items }
+    ensures crews { SetsReportedBelow (length makers.new.items) None (T.crews station.old) (T.crews station.new) }
+    ensures out { SetsBelow (length makers.new.items) true (T.out station.old) (T.out station.new) }
+    ensures crews_back { T.crews_back station.new ≡ T.crews_back station.old }
+    ensures faults { T.faults station.new ≡ T.faults station.old }
+{
+    for kit in kits {
+        let number = makers.len() as u32;
+        let crew = station.crew(alloc, number)?;
+        let Kit { passes, trail } = kit;
+        makers.push_reserved(Maker {
+            rt,
+            alloc,
+            collection,
+            passes: Some(passes),
+            trail,
+            crew,
+            demo: *demo,
+            task: task_of(demo, number),
+            made: None,
+        });
+    }
+    Ok(())
+}
+
+/// Starts the first cores, and has all makers work, each in a thread of its own. Tells what came of it.
+pub fn make_all<
+    'a,
+    R: Threads + Wait + Sync,
+    C: Clock + Send,
+    H: Hosts + Send,
+    P: Pace + Send,
+    L: Send,
+>(rt: &R, alloc: Global, makers: &mut [Maker<'a, R, C, H, P, L>], cores: &[Host]) -> Outcome
+    requires ready { All IsReadyToMake makers.old }
+    requires some { 1 ≤ length makers.old }
+    requires most { length makers.old ≤ 65 }
+    ensures makes { MakesAll
+        (record {
+          gives = C.gives;
+          outside = λ hosts pace. outside_of (H.started hosts) (H.start_faults hosts) (H.stop_faults hosts) (P.stops pace);
+        })
+        cores.now makers.old makers.new result }
+    ensures home { (collection : Locks) → All (IsReady collection) makers.old → All (IsHome collection) makers.new }
+    ensures count { length makers.new ≡ length makers.old }
+{
+    if start_cores(&mut makers[0].crew.hosts, cores).is_err() {
+        return Outcome::HostFailed;
+    }
+    work_all(rt, makers);
+    outcome_of(alloc, makers)
+}
+
+/// Has all makers work, each in a thread of its own.
+fn work_all<
+    'a,
+    R: Threads + Wait + Sync,
+    C: Clock + Send,
+    H: Hosts + Send,
+    P: Pace + Send,
+    L: Send,
+>(rt: &R, makers: &mut [Maker<'a, R, C, H, P, L>])
+    requires ready { All IsReadyToMake makers.old }
+    requires some { 1 ≤ length makers.old }
+    ensures made { HaveMade
+        (record {
+          gives = C.gives;
+          outside = λ hosts pace. outside_of (H.started hosts) (H.start_faults hosts) (H.stop_faults hosts) (P.stops pace);
+        })
+        makers.old makers.new }
+    ensures home { (collection : Locks) → All (IsReady collection) makers.old → All (IsHome collection) makers.new }
+    ensures count { length makers.new ≡ length makers.old }
+{
+    let count = makers.len();
+    thread::for_each_mut(
+        rt,
+        makers,
+        count,
+        &|_, maker: &mut Maker<R, C, H, P, L>|
+            requires { IsReadyToMake maker.old }
+            ensures { IsHome maker.old.collection.now maker.new × HasMade
+                (record {
+                  gives = C.gives;
+                  outside = λ hosts pace. outside_of (H.started hosts) (H.start_faults hosts) (H.stop_faults hosts) (P.stops pace);
+                })
+                maker.old maker.new }
+        { maker.run() },
+    );
+}
+
+/// What came of makers that have worked.
+fn outcome_of<'a, R, C, H, P, L>(alloc: Global, makers: &[Maker<'a, R, C, H, P, L>]) -> Outcome
+    requires few { All (λ maker. accepted_in maker.made ≤ 100000) makers.now }
+    requires some { 1 ≤ length makers.now }
+    requires most { length makers.now ≤ 65 }
+    ensures { IsOutcomeOf makers.now result }
+{
+    if any_ran_out(makers) {
+        return Outcome::Memory;
+    }
+    match split_of(alloc, makers) {
+        Ok(split) => Outcome::Told {
+            accepted: accepted_by(makers),
+            split,
+        },
+        Err(_) => Outcome::Memory,
+    }
+}
+
+/// Memory ran out for one of the makers.
+fn any_ran_out<'a, R, C, H, P, L>(makers: &[Maker<'a, R, C, H, P, L>]) -> bool
+    ensures { result ≡ list_any (λ maker. ran_out_in maker.made) makers.now }
+{
+    makers.iter().any(|maker| maker.has_run_out())
+}
+
+/// How many orders were accepted.
+fn accepted_by<'a, R, C, H, P, L>(makers: &[Maker<'a, R, C, H, P, L>]) -> u32
+    requires few { All (λ maker. accepted_in maker.made ≤ 100000) makers.now }
+    requires most { length makers.now ≤ 65 }
+    ensures { result ≡ sum_by (λ maker. accepted_in maker.made) makers.now }
+{
+    let mut accepted = 0;
+    for maker in makers {
+        accepted += maker.accepted();
+    }
+    accepted
+}
+
+/// What the line on the split says, which the last maker made. An error means out of memory.
+fn split_of<'a, R, C, H, P, L>(
+    alloc: Global,
+    makers: &[Maker<'a, R, C, H, P, L>],
+) -> Result<Text, AllocError>
+    requires some { 1 ≤ length makers.now }
+    ensures { IfOk result (TellsSplit makers.now) }
+{
+    makers[makers.len() - 1].split_told(alloc)
+}
+
+/// Gives the crew of each maker back to the station, and joins its passes with those off which they were split.
+pub fn dismiss<'a, R, T: Station>(
+    collection: &Collection,
+    passes: &mut Passes,
+    station: &mut T,
+    mut makers: Vec<Maker<'a, R, T::C, T::H, T::P, T::L>>,
+)
+    requires few { length makers.items < 2 ^ 32 }
+    requires passes { ArePasses collection.now passes.old }
+    requires none { (lock : ℕ) → (seen_of passes.old).own lock ≡ [] }
+    requires makers { All (IsHome collection.now) makers.items }
+    requires out { (number : ℕ) → number < length makers.items → T.out station.old number ≡ true }
+    ensures passes { ArePasses collection.now passes.new }
+    ensures story { IsOneStory (layout_of collection.now) (map seen_by makers.entry.items) (seen_of passes.new) }
+    ensures own { (lock : ℕ) → (seen_of passes.new).own lock ≡ own_of_all (map seen_by makers.entry.items) lock }
+    ensures crews_back { AreReportedBack makers.entry.items (T.crews_back station.old) (T.crews_back station.new) }
+    ensures out { SetsBelow (length makers.entry.items) false (T.out station.old) (T.out station.new) }
+    ensures crews { T.crews station.new ≡ T.crews station.old }
+    ensures faults { T.faults station.new ≡ T.faults station.old }
+{
+    while let Some(maker) = makers.pop() {
+        let Maker {
+            rt: _,
+            alloc: _,
+            collection: _,
+            passes: worked,
+            trail: _,
+            crew,
+            demo: _,
+            task: _,
+            made: _,
+        } = maker;
+        join_worked(collection, passes, worked);
+        station.back(makers.len() as u32, crew);
+    }
+    // A maker can't be let go of, so a list of them can't either, until it is empty.
+    makers.destroy_empty();
+}
+
+/// Joins the passes of a maker, if it has any, with those off which they were split.
+fn join_worked(collection: &Collection, passes: &mut Passes, worked: Option<Passes>)
+    requires into { ArePasses collection.now passes.old }
+    requires from { IfSome worked (ArePasses collection.now) }
+    ensures passes { ArePasses collection.now passes.new }
+    ensures joined { SeesBoth (seen_of passes.old) (seen_with worked) (seen_of passes.new) }
+{
+    if let Some(worked) = worked {
+        collection.join_passes(passes, worked);
+    }
+}

@@ -146,7 +146,7 @@ fn push_searchers(
     searchers: &[Standing],
 ) -> Result<(), AllocError> {
     for searcher in searchers {
-        let (range, rows) = (searcher.range, &searcher.snapshot);
+        let (range, rows) = (searcher.range, searcher.snapshot.share_rows()?);
         let shown = format!(in alloc;
             " | {} {}..{} {}",
             searcher.slice.0,

@@ -9,14 +9,14 @@ ghost use Rattle.sc_journal.specs.Legal.{HasTerms};
 
 use crate::documents::document_of;
 use crate::fault::Fault;
-use sc_eval::{BindFault, bind, evaluate};
+use sc_eval::{BindFault, Bound, bind, evaluate};
 use sc_hash::{Range, parse_range};
 use sc_query::parse;
 use sc_record::{Cell, Doc, Id, List, Write};
 use sc_schema::terms_of;
 use sc_segment::Steps;
 use sc_snapshot::Snapshot;
-use std::alloc::Global;
+use std::alloc::{AllocError, Global};
 use std::marker::Brand;
 use std::sync::Arc;
 use std::sync::ledger::{Blank, Ledger};
@@ -25,7 +25,7 @@ pub fn answer(alloc: Global, text: &str) -> Result<String, Fault> {
     let (range, query) = text.split_once(' ').ok_or(Fault::Unreadable)?;
     let range = parse_range(range).ok_or(Fault::Unreadable)?;
     let snapshot = Snapshot::of(alloc, 3, &cells(alloc)?)?;
-    found::<Brand>(alloc, &snapshot, &range, query, Blank::new(1))
+    found(alloc, &snapshot, &range, query)
 }
 
 /// A write of the id: a document, or a deletion.
@@ -73,24 +73,16 @@ fn cells(alloc: Global) -> Result<List<Cell>, Fault>
 }
 
 /// The ids that a query finds, or the place of its fault.
-fn found<L: Ledger>(
-    alloc: Global,
-    snapshot: &Snapshot,
-    range: &Range,
-    text: &str,
-    blank: Blank,
-) -> Result<String, Fault>
-    requires terms { All (λ (row : Write). HasTerms row.id row.doc row.terms) snapshot.now.rows }
-    requires fresh { IsFresh blank L.name L.parts }
+fn found(alloc: Global, snapshot: &Snapshot, range: &Range, text: &str) -> Result<String, Fault>
+    requires { All (λ (row : Write). HasTerms row.id row.doc row.terms) snapshot.now.rows }
 {
-    let mut steps = Steps::<L>::new(blank);
     let Ok(query) = parse(alloc, text) else {
         return Err(Fault::Unreadable);
     };
     match bind(alloc, &query) {
         Ok(bound) => {
             let mut ids = String::new(alloc);
-            for cell in evaluate(alloc, &bound, snapshot, range, &mut steps)?.as_slice() {
+            for cell in cells_found(alloc, &bound, snapshot, range)?.as_slice() {
                 ids.push_str(cell.id.as_str())?;
             }
             Ok(ids)
@@ -98,4 +90,31 @@ fn found<L: Ledger>(
         Err(BindFault::At { at }) => Ok(format!(in alloc; "fault {at}")?),
         Err(BindFault::Memory) => Err(Fault::Memory),
     }
+}
+
+/// The rows that a query finds.
+fn cells_found(
+    alloc: Global,
+    query: &Bound,
+    snapshot: &Snapshot,
+    range: &Range,
+) -> Result<List<Cell>, AllocError>
+    requires { All (λ (row : Write). HasTerms row.id row.doc row.terms) snapshot.now.rows }
+{
+    counted::<Brand>(alloc, query, snapshot, range, Blank::new(1))
+}
+
+/// The same, with a count of its own.
+fn counted<L: Ledger>(
+    alloc: Global,
+    query: &Bound,
+    snapshot: &Snapshot,
+    range: &Range,
+    blank: Blank,
+) -> Result<List<Cell>, AllocError>
+    requires terms { All (λ (row : Write). HasTerms row.id row.doc row.terms) snapshot.now.rows }
+    requires fresh { IsFresh blank L.name L.parts }
+{
+    let mut steps = Steps::<L>::new(blank);
+    evaluate(alloc, query, snapshot, range, &mut steps)
 }

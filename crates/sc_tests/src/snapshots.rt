@@ -99,7 +99,8 @@ fn finds_live_rows<L: Ledger>(rt: &impl Abort, alloc: Global, blank: Blank) -> R
 fn assert_live(rt: &impl Abort, snapshot: &Snapshot) {
     assert_eq!(rt; snapshot.rows(), 3);
     assert!(rt; snapshot.is_live(0) && !snapshot.is_live(1) && snapshot.is_live(2));
-    assert_eq!(rt; snapshot.live(), &[0, 2]);
+    let numbers: &[u32] = &[0, 2];
+    assert_eq!(rt; snapshot.live(), numbers);
 }
 
 #[test]

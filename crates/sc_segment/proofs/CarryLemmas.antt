@@ -6,31 +6,21 @@ use Rattle.std.specs.List.{filter_map, cons_option, list_any}
 use Rattle.std.specs.List.Sorted.{IsStrictlyIncreasing}
 use Rattle.sc_segment.proofs.JoinLemmas.{AscendFrom, ascend_from_increasing, increasing_from_ascend, joined}
 use Rattle.sc_segment.specs.Carrying.{new_number, new_numbers, KeepsOrder}
-use Rattle.sc_segment.specs.Flat.{FlatState}
 use Rattle.sc_segment.specs.declared.joining.Kept.TheVariants.{Either}
 use Rattle.sc_segment.specs.Joining.{has_row, keeps}
 
 -- ---- rows
 -- one row more, whose new number was put at the end where it has one
-pub carried-more : {K : Type 0} (moved : List (Option ℕ)) (rows : List ℕ) (i : ℕ) (number : Option ℕ) (first now next : FlatState K) → i < length rows → number ≡ new_number moved (get_or rows i 0)
-    → now ≡ record { entries = first.entries; pending = first.pending ++ new_numbers moved (take i rows) }
-    → next ≡ record { entries = now.entries; pending = now.pending ++ cons_option number [] }
-    → next ≡ record { entries = first.entries; pending = first.pending ++ new_numbers moved (take (i + 1) rows) }
-carried-more {K} moved rows i number first now next within is before after =
-    let entries : next.entries ≡ first.entries = ap (λ (s : FlatState K). s.entries) after ∙ ap (λ (s : FlatState K). s.entries) before in
+pub numbers-more : (moved : List (Option ℕ)) (rows : List ℕ) (i : ℕ) (number : Option ℕ) (first now next : List ℕ) → i < length rows → number ≡ new_number moved (get_or rows i 0)
+    → now ≡ first ++ new_numbers moved (take i rows) → next ≡ now ++ cons_option number [] → next ≡ first ++ new_numbers moved (take (i + 1) rows)
+numbers-more moved rows i number first now next within is before after =
     let one : new_numbers moved (take (i + 1) rows) ≡ new_numbers moved (take i rows) ++ cons_option number [] =
     ap (new_numbers moved) (take_more rows i 0 within) ∙ filter_map-append (new_number moved) (take i rows) (get_or rows i 0 ∷ [])
     ∙ ap (λ (n : Option ℕ). new_numbers moved (take i rows) ++ cons_option n []) (sym is) in
-    let pending : next.pending ≡ first.pending ++ new_numbers moved (take (i + 1) rows) =
-    ap (λ (s : FlatState K). s.pending) after
-    ∙ ap (λ (s : FlatState K). s.pending ++ cons_option number []) before
-    ∙ append_assoc first.pending (new_numbers moved (take i rows)) (cons_option number [])
-    ∙ ap (λ (ns : List ℕ). first.pending ++ ns) (sym one) in
-    cc pending
-
--- a row without a new number leaves all as it was
-pub stays : {K : Type 0} (now next : FlatState K) → next ≡ now → next ≡ record { entries = now.entries; pending = now.pending ++ [] }
-stays {K} now next same = same ∙ ap (λ (ns : List ℕ). record { entries = now.entries; pending = ns }) (sym (append-nil now.pending))
+    after
+    ∙ ap (λ (ns : List ℕ). ns ++ cons_option number []) before
+    ∙ append_assoc first (new_numbers moved (take i rows)) (cons_option number [])
+    ∙ ap (λ (ns : List ℕ). first ++ ns) (sym one)
 
 -- a new number is none of those below which none is
 number-from : (low : ℕ) (moved : List (Option ℕ)) (i n : ℕ) → AscendFrom low (filter_map (λ number. number) moved) → new_number moved i ≡ Some n → low ≤ n

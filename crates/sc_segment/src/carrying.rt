@@ -2,13 +2,14 @@ ghost use Rattle.std.specs.Prelude.{◌≡◌, ◌≤◌, ℕ, List, [], ◌∷�
 ghost use Rattle.std.specs.declared.cmp.Ordering.TheVariants.{Less};
 ghost use Rattle.std.specs.List.Sorted.{IsStrictlyIncreasing};
 ghost use Rattle.sc_segment.specs.declared.joining.Kept.TheVariants.{Either};
-ghost use Rattle.sc_segment.specs.Carrying.{new_number, new_numbers, KeepsOrder, IsCarried, IsCarriedSoFar, IsAbove, AreBefore, HasEntryMore};
+ghost use Rattle.sc_segment.specs.Carrying.{new_numbers, KeepsOrder, IsCarried, IsCarriedSoFar, IsAbove, AreBefore, HasEntryMore};
 ghost use Rattle.sc_segment.specs.Fresh.{IsFresh};
 ghost use Rattle.sc_segment.specs.Index.{IsInOrder, HasRows};
 ghost use Rattle.sc_segment.specs.Joining.{IsJoin};
 
 use crate::flat_index::FlatIndex;
 use crate::key::Key;
+use crate::moving::new_number;
 use crate::segment::{Segment, search};
 use crate::steps::Steps;
 use std::alloc::{AllocError, Global};
@@ -127,24 +128,8 @@ fn carry_keys<K: Key + Drop>(
 {
     let keys = old.keys();
     'carrying: for at in from..to {
-        carry_rows(index, old.rows_of(at), moved)?;
+        index.add_moved(old.rows_of(at), moved)?;
         close_shared(index, &keys[at])?;
-    }
-    Ok(())
-}
-
-// Puts the new numbers of rows at the end.
-fn carry_rows<K: Drop>(
-    index: &mut FlatIndex<K>,
-    rows: &[u32],
-    moved: &[Option<u32>],
-) -> Result<(), AllocError>
-    ensures { OnOk result (index.new ≡ record { entries = index.old.entries; pending = index.old.pending ++ new_numbers moved.now rows.now }) }
-{
-    for row in rows {
-        if let Some(number) = new_number(moved, *row) {
-            index.add_row(number)?;
-        }
     }
     Ok(())
 }
@@ -186,7 +171,7 @@ fn merge_rows<K: Drop>(
             },
         }
     }
-    carry_rows(index, &rows[low..], moved)?;
+    index.add_moved(&rows[low..], moved)?;
     index.add_rows(&added[high..])?;
     Ok(())
 }
@@ -201,11 +186,4 @@ fn close_shared<K: Key + Drop>(index: &mut FlatIndex<K>, key: &K) -> Result<(), 
         index.close(shared)?;
     }
     Ok(())
-}
-
-// The new number of a row, None where it has none.
-fn new_number(moved: &[Option<u32>], row: u32) -> Option<u32>
-    ensures { result ≡ new_number moved.now row }
-{
-    moved.get(row as usize).copied().flatten()
 }

@@ -1,7 +1,9 @@
 ghost use Rattle.std.specs.Prelude.{◌≡◌, ◌<◌, ◌≤◌, ◌↔◌, IsTrue, List, [], ◌∷◌, ◌++◌, length, slice_get, slice_index, Some, IfOk, OnOk, ◌-◌};
 ghost use Rattle.std.specs.Map.{keys_of};
+ghost use Rattle.sc_segment.specs.Carrying.{new_numbers};
 ghost use Rattle.sc_segment.specs.Flat.{FlatState};
 
+use crate::moving::push_moved;
 use std::alloc::{AllocError, Global};
 use std::marker::Model;
 
@@ -37,6 +39,19 @@ impl<K: Drop> FlatIndex<K> {
         })
     }
 
+    /// The new numbers of rows, as rows more of the next key. Room is made once for all of them.
+    pub(crate) fn add_moved(
+        &mut self,
+        rows: &[u32],
+        moved: &[Option<u32>],
+    ) -> Result<(), AllocError>
+        ensures { OnOk result (self.new ≡ record { entries = self.old.entries; pending = self.old.pending ++ new_numbers moved.now rows.now }) }
+    {
+        self.rows.reserve(rows.len())?;
+        push_moved(&mut self.rows, rows, moved);
+        Ok(())
+    }
+
     /// One row more of the next key.
     pub(crate) fn add_row(&mut self, row: u32) -> Result<(), AllocError>
         ensures { OnOk result (self.new ≡ record { entries = self.old.entries; pending = self.old.pending ++ row ∷ [] }) }
@@ -58,8 +73,9 @@ impl<K: Drop> FlatIndex<K> {
         ensures { OnOk result (self.new ≡ record { entries = self.old.entries ++ (key, self.old.pending) ∷ []; pending = [] }) }
     {
         self.keys.reserve(1)?;
-        self.ends.push(self.rows.len())?;
-        self.keys.push(key)?;
+        self.ends.reserve(1)?;
+        self.ends.push_reserved(self.rows.len());
+        self.keys.push_reserved(key);
         Ok(())
     }
 }

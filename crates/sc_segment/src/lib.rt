@@ -21,6 +21,7 @@ mod flat_index;
 mod joining;
 mod key;
 mod live_bits;
+mod moving;
 mod posting_list;
 mod segment;
 mod steps;

@@ -16,8 +16,8 @@ carrying-preserved g c =
     let within : at < length c.keys-keys.result.now = rw c.keys-keys.ensures (omega (arith, length-keys_of old, c.carrying-test.true, c.requires.within)) in
     let key_at : slice_get (keys_of old) at ≡ Some key = ap (λ ks. slice_get ks at) (sym c.keys-keys.ensures) ∙ slice_get_read c.keys-keys.result.now _ at key refl within c.index-keys-at.is in
     let entry = c.rows_of.ensures key key_at in
-    let more = more-from g.met.K.Key.total key (new_numbers c.args.moved.now rows) c.carrying.index c.carry_rows.new.index c.close_shared.new.index.entries c.carrying.invariant.none
-    c.in_ok-carry_rows.ensures c.in_ok-close_shared.ensures.entries in
+    let more = more-from g.met.K.Key.total key (new_numbers c.args.moved.now rows) c.carrying.index c.add_moved.new.self c.close_shared.new.index.entries c.carrying.invariant.none
+    c.in_ok-add_moved.ensures c.in_ok-close_shared.ensures.entries in
     record {
       none = c.in_ok-close_shared.ensures.none;
       carried = λ before are so_far.

@@ -18,8 +18,8 @@ returns-clause-rows g c =
     let high = c.merging.high in
     let made : c.add_rows.new.self.pending ≡ (c.merging.index.pending ++ new_numbers moved (drop low rows)) ++ drop high added =
     ap (λ s. s.pending) c.in_ok-add_rows.ensures
-    ∙ ap (λ (rs : List ℕ). c.carry_rows.new.index.pending ++ rs) (take_rest added high)
-    ∙ ap (λ s. s.pending ++ drop high added) c.in_ok-carry_rows.ensures
+    ∙ ap (λ (rs : List ℕ). c.add_moved.new.self.pending ++ rs) (take_rest added high)
+    ∙ ap (λ s. s.pending ++ drop high added) c.in_ok-add_moved.ensures
     ∙ ap (λ (rs : List ℕ). (c.merging.index.pending ++ new_numbers moved rs) ++ drop high added) (take_rest rows low) in
     IsJoin-joined Either (new_numbers moved rows) added c.add_rows.new.self.pending (new_numbers-ascend moved rows c.requires.moved c.requires.rows) c.requires.added
     (made ∙ merged-rest moved rows added c.merging.index.pending (joined (keeps Either) (new_numbers moved rows) added) low high c.merging.invariant.same

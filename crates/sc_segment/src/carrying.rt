@@ -177,6 +177,7 @@ fn merge_rows<K: Drop>(
 }
 
 // Puts a key that compares equal at the end, where rows wait for it.
+#[inline(always)]
 fn close_shared<K: Key + Drop>(index: &mut FlatIndex<K>, key: &K) -> Result<(), AllocError>
     ensures none { OnOk result (index.new.pending ≡ []) }
     ensures entries { OnOk result (HasEntryMore K.order key.now index.old.pending index.old.entries index.new.entries) }

@@ -69,6 +69,7 @@ impl<K: Drop> FlatIndex<K> {
     }
 
     /// Puts a key at the end, whose rows are those that were added since the key before it.
+    #[inline(always)]
     pub(crate) fn close(&mut self, key: K) -> Result<(), AllocError>
         ensures { OnOk result (self.new ≡ record { entries = self.old.entries ++ (key, self.old.pending) ∷ []; pending = [] }) }
     {

@@ -12,13 +12,13 @@ loop-row-preserved c =
     let list = c.loop-row.list.items in
     elim c.match-new_number.branch [
       | in-Some w ↦ rw w.list-is (record {
-          items = numbers-more moved rows c.loop-row.row-index c.new_number.result c.args.list.now.items list w.push_reserved.new.self.items c.loop-row-test.true c.new_number.ensures c.loop-row.invariant.items
-              (w.push_reserved.ensures.items ∙ ap (λ (n : Option ℕ). list ++ cons_option n []) (sym w.in-Some.is));
-          room = omega (arith, w.push_reserved.ensures.len, w.push_reserved.ensures.capacity, c.loop-row.invariant.room);
-        })
+        items = numbers-more moved rows c.loop-row.row-index c.new_number.result c.args.list.now.items list w.push_reserved.new.self.items c.loop-row-test.true c.new_number.ensures c.loop-row.invariant.items
+            (w.push_reserved.ensures.items ∙ ap (λ (n : Option ℕ). list ++ cons_option n []) (sym w.in-Some.is));
+        room = omega (arith, w.push_reserved.ensures.len, w.push_reserved.ensures.capacity, c.loop-row.invariant.room);
+      })
       | in_default w ↦ rw w.list-is (record {
-          items = numbers-more moved rows c.loop-row.row-index c.new_number.result c.args.list.now.items list list c.loop-row-test.true c.new_number.ensures c.loop-row.invariant.items
-              (sym (append-nil list) ∙ ap (λ (n : Option ℕ). list ++ cons_option n []) (sym w.in_default.is));
-          room = omega (arith, c.loop-row.invariant.room);
-        })
+        items = numbers-more moved rows c.loop-row.row-index c.new_number.result c.args.list.now.items list list c.loop-row-test.true c.new_number.ensures c.loop-row.invariant.items
+            (sym (append-nil list) ∙ ap (λ (n : Option ℕ). list ++ cons_option n []) (sym w.in_default.is));
+        room = omega (arith, c.loop-row.invariant.room);
+      })
     ]

@@ -1,19 +1,12 @@
 -- What becomes of the rows of a snapshot: of one row more.
-use Rattle.std.proofs.Common.{◌≡◌, ℕ, zero, suc, ◌+◌, ◌<◌, ◌≤◌, ◌==◌, Bool, true, false, true≢false, cond, ◌||◌, List, [], ◌∷◌, ◌++◌, take, map, length, slice_get, get_or, Option, Some, None, refl, sym, ap, subst, ◌∙◌, arith, append-nil, append_assoc, ◌⊎◌, ⊎_elim, inl, inr, length-append}
+use Rattle.std.proofs.Common.{◌≡◌, ℕ, zero, suc, ◌+◌, ◌<◌, ◌≤◌, ◌==◌, Bool, true, false, true≢false, cond, ◌||◌, List, [], ◌∷◌, ◌++◌, take, length, slice_get, Option, Some, None, refl, sym, ap, subst, ◌∙◌, arith, append-nil, append_assoc, ◌⊎◌, ⊎_elim, inl, inr, length-append}
 use Rattle.std.proofs.lemmas.Bool.Decides.{nat_tests}
 use Rattle.std.proofs.lemmas.List.{take_more, length-take-le}
 use Rattle.std.proofs.lemmas.List.Folds.{list_any-append}
-use Rattle.std.proofs.lemmas.Option.{slice_get_within, slice_get_read, slice_get-map, get_or_from_slice_get}
-use Rattle.std.proofs.lemmas.Map.Text.{is_eq-slice_cmp}
-use Rattle.std.proofs.lemmas.Slice.Eq.{bytes_eq-Decides}
-use Rattle.std.specs.Cmp.Lexicographic.{slice_cmp}
-use Rattle.std.specs.Option.{option_map}
-use Rattle.std.specs.Ordering.{nat_cmp, is_eq}
-use Rattle.std.specs.declared.cmp.Ordering.TheVariants.{Equal}
+use Rattle.std.proofs.lemmas.Option.{slice_get_within, get_or_from_slice_get}
 use Rattle.sc_record.specs.declared.write.Write.{Write}
 use Rattle.sc_segment.specs.Index.{IsIndexOf}
 use Rattle.sc_snapshot.specs.Change.{moves_to, is_kept, keyed_new, IsChange}
-use Rattle.sc_snapshot.specs.Rows.{AreOfOneHistory}
 use Rattle.sc_snapshot.specs.Postings.{key_order, keyed, live_terms}
 use Rattle.sc_snapshot.specs.declared.change.Change.{Change}
 use Rattle.sc_snapshot.specs.declared.term_key.TermKey.{TermKey}
@@ -61,30 +54,18 @@ not_kept moved number none =
       | false ↦ λ _. refl
     ] refl
 
+-- what stands within a list
+pub some_at : {X : Type 0} (xs : List X) (at : ℕ) → at < length xs → (x : X) × (slice_get xs at ≡ Some x)
+some_at [] at within = absurd (omega (arith, within))
+some_at (x ∷ xs) zero within = (x, refl)
+some_at (x ∷ xs) (suc at) within = some_at xs at (omega (arith, within))
+
 -- what stands in a list with one more at the end
 pub at-push : {X : Type 0} (xs : List X) (x y : X) (at : ℕ) → slice_get (xs ++ x ∷ []) at ≡ Some y → (slice_get xs at ≡ Some y) ⊎ ((at ≡ length xs) × (x ≡ y))
 at-push [] x y zero is = inr (refl, cc)
 at-push [] x y (suc at) is = inl is
 at-push (z ∷ zs) x y zero is = inl is
 at-push (z ∷ zs) x y (suc at) is = ⊎_elim (λ before. inl before) (λ last. inr (ap suc last.0, last.1)) (at-push zs x y at is)
-
--- a cell that was read is the row of that number
-pub row_at : {C : Type 0} (value : C → Write) (cells : List C) (number : ℕ) (cell : C) → number < length cells → cell ≡ get_or cells number cell
-    → slice_get (map value cells) number ≡ Some (value cell)
-row_at value cells number cell within is =
-    slice_get-map value cells number ∙ ap (option_map value) (slice_get_read cells (length cells) number cell refl within is)
-
--- rows of one history that have one id and one version are one
-pub one_write : (old new : List Write) → AreOfOneHistory old new → (low high : ℕ) (row other : Write)
-    → slice_get old low ≡ Some row → slice_get new high ≡ Some other → row.id ≡ other.id → row.version ≡ other.version → row ≡ other
-one_write old new history low high row other at_old at_new id version =
-    history row other
-    (low, slice_get_within old low row at_old, get_or_from_slice_get old low row row at_old)
-    (high, slice_get_within new high other at_new, get_or_from_slice_get new high other other at_new) id version
-
--- ids that compare equal are one
-pub one_id : (id other : List ℕ) → Equal ≡ slice_cmp nat_cmp id other → id ≡ other
-one_id id other equal = (bytes_eq-Decides id other).0 (sym (is_eq-slice_cmp id other) ∙ ap is_eq (sym equal))
 
 -- ---- the terms that are filed
 keyed_new-agree : (one other : List (Option ℕ)) (from : ℕ) (rows : List Write)
@@ -106,7 +87,7 @@ keyed_new-push moved from number (first ∷ rows) row place =
     ap (λ (ps : List (ℕ × TermKey)). head ++ ps) (keyed_new-push moved (from + 1) number rows row (omega (arith, place)))
     ∙ sym (append_assoc head (keyed_new moved (from + 1) rows) (cond (is_kept moved number) [] (keyed number (live_terms row))))
 
-take-next : (rows : List Write) (number : ℕ) (row : Write) → slice_get rows number ≡ Some row → take (number + 1) rows ≡ take number rows ++ row ∷ []
+pub take-next : (rows : List Write) (number : ℕ) (row : Write) → slice_get rows number ≡ Some row → take (number + 1) rows ≡ take number rows ++ row ∷ []
 take-next rows number row is =
     take_more rows number row (slice_get_within rows number row is)
     ∙ ap (λ (w : Write). take number rows ++ w ∷ []) (get_or_from_slice_get rows number row row is)

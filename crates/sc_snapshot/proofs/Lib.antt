@@ -5,3 +5,8 @@ mod LoopLemmas
 mod LiveLemmas
 mod ChangeLemmas
 mod NextLemmas
+mod PieceLemmas
+mod EditLemmas
+mod PlaceLemmas
+mod EditedLemmas
+mod SurveyLemmas

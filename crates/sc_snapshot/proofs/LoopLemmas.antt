@@ -1,7 +1,6 @@
 -- What a loop over cells has of one cell more.
-use Rattle.std.proofs.Common.{◌≡◌, ℕ, suc, ◌+◌, ◌-◌, ◌<◌, Bool, true, false, cond, List, [], ◌∷◌, ◌++◌, map, take, length, get_or, set, replicate, All, sym, ap, subst, ◌∙◌, arith, append_assoc}
-use Rattle.std.proofs.Math.Seq.{set-append_seam}
-use Rattle.std.proofs.lemmas.List.{take_more, map-append, length-map, length-append, length-replicate, length-take-le}
+use Rattle.std.proofs.Common.{◌≡◌, ℕ, ◌+◌, ◌<◌, List, [], ◌∷◌, ◌++◌, map, take, length, get_or, All, sym, ap, subst, ◌∙◌, arith, append_assoc}
+use Rattle.std.proofs.lemmas.List.{take_more, map-append, length-map, length-take-le}
 use Rattle.std.proofs.lemmas.List.Elements.{All-push}
 use Rattle.sc_record.specs.declared.term.Term.{Term}
 use Rattle.sc_record.specs.declared.write.Write.{Write}
@@ -11,7 +10,7 @@ use Rattle.sc_snapshot.specs.Postings.{key_order, keyed, keyed_rows, live_terms}
 use Rattle.sc_snapshot.specs.declared.term_key.TermKey.{TermKey}
 
 module _ {C : Type 0} (value : C → Write) (cells : List C) (i : ℕ) (cell : C) (within : i < length cells) (at : cell ≡ get_or cells i cell) where
-  one-more : map value (take (i + 1) cells) ≡ map value (take i cells) ++ value cell ∷ []
+  pub one-more : map value (take (i + 1) cells) ≡ map value (take i cells) ++ value cell ∷ []
   one-more =
       ap (map value) (take_more cells i cell within ∙ ap (λ (c : C). take i cells ++ c ∷ []) (sym at))
       ∙ map-append value (take i cells) (cell ∷ [])
@@ -38,41 +37,6 @@ module _ {C : Type 0} (value : C → Write) (cells : List C) (i : ℕ) (cell : C
       → All Q (map value (take (i + 1) cells))
   all-next P Q weaker all here =
       subst (All Q) (sym one-more) (All-push Q (map value (take i cells)) (value cell) (λ k d lt. weaker _ (all k d lt)) here)
-
-  -- the truths of the first rows, and that of the next, where all others are set
-  pub marked-next : (test : Write → Bool) (live new : List Bool)
-      → live ≡ map test (map value (take i cells)) ++ replicate (length cells - i) true
-      → new ≡ cond (test (value cell)) live (set live i false)
-      → new ≡ map test (map value (take (i + 1) cells)) ++ replicate (length cells - (i + 1)) true
-  marked-next test live new before is =
-      let front = map test (map value (take i cells)) in
-      let rest = replicate (length cells - (i + 1)) true in
-      let more : length cells - i ≡ suc (length cells - (i + 1)) = omega (arith, within) in
-      let whole : live ≡ front ++ true ∷ rest = before ∙ ap (λ n. front ++ replicate n true) more in
-      let place : length front ≡ i = length-map (map value (take i cells)) test ∙ few in
-      let marked : set live i false ≡ front ++ false ∷ rest =
-      ap (λ (l : List Bool). set l i false) whole ∙ ap (λ n. set (front ++ true ∷ rest) n false) (sym place)
-      ∙ set-append_seam front true rest false in
-      let next : map test (map value (take (i + 1) cells)) ≡ front ++ test (value cell) ∷ [] =
-      ap (map test) one-more ∙ map-append test (map value (take i cells)) (value cell ∷ []) in
-      is ∙ by_truth (test (value cell)) whole marked
-      ∙ sym (append_assoc front (test (value cell) ∷ []) rest) ∙ ap (λ (l : List Bool). l ++ rest) (sym next)
-    where
-      by_truth : (b : Bool) → live ≡ map test (map value (take i cells)) ++ true ∷ replicate (length cells - (i + 1)) true
-          → set live i false ≡ map test (map value (take i cells)) ++ false ∷ replicate (length cells - (i + 1)) true
-          → cond b live (set live i false) ≡ map test (map value (take i cells)) ++ b ∷ replicate (length cells - (i + 1)) true
-      by_truth true whole marked = whole
-      by_truth false whole marked = marked
-
-  -- there is a truth for the next
-  pub marked-within : (test : Write → Bool) (live : List Bool) (number : ℕ)
-      → live ≡ map test (map value (take i cells)) ++ replicate (length cells - i) true → number ≡ i → number < length live
-  marked-within test live number before is =
-      let front = length-map (map value (take i cells)) test in
-      let rest : length (replicate (length cells - i) true) ≡ length cells - i = length-replicate (length cells - i) true in
-      let whole : length live ≡ length (map test (map value (take i cells))) + length (replicate (length cells - i) true) =
-      ap (λ (l : List Bool). length l) before ∙ length-append (map test (map value (take i cells))) (replicate (length cells - i) true) in
-      omega (arith, front, few, rest, whole, is, within)
 
 -- a row's keys of the first terms, and that of the next
 keyed-term : (number i : ℕ) (terms : List Term) (term : Term) (key : TermKey) → i < length terms → term ≡ get_or terms i term → key.term ≡ term

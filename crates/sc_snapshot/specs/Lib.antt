@@ -1,5 +1,8 @@
 -- What the contracts of this crate cite, lowest first.
 pub mod Rows
+pub mod Pieces
+pub mod Edits
 pub mod Postings
+pub mod Surveying
 pub mod Change
 pub mod Laws

@@ -1,7 +1,7 @@
 -- The rows of a snapshot.
-use Rattle.std.specs.Prelude.{◌≡◌, ℕ, ◌≤◌, ◌^◌, List, length, Contains}
+use Rattle.std.specs.Prelude.{◌≡◌, ℕ, ◌≤◌, ◌^◌, if◌then◌else◌, is_some, List, length}
 use Rattle.sc_record.specs.declared.write.Write.{Write}
-use Rattle.sc_record.specs.Writes.{AscendById}
+use Rattle.sc_record.specs.Writes.{write_of, AscendById}
 
 -- a snapshot as contracts see it: how many entries the journal had, and the committed write of each id
 pub record SnapshotState : Type 0 where
@@ -13,6 +13,6 @@ pub record AreRows (rows : List Write) : Type 0 where
   pub ascend : AscendById rows
   pub bounded : length rows ≤ 2 ^ 24
 
--- a row of the old and one of the new that have one id and one version are the same write
-abbrev pub AreOfOneHistory : (old new : List Write) → Type 0
-AreOfOneHistory old new = (one other : Write) → Contains old one → Contains new other → one.id ≡ other.id → one.version ≡ other.version → one ≡ other
+-- the rows after these changes: of each id the change, where there is one, else the old row
+abbrev pub AreChanged : (old changes new : List Write) → Type 0
+AreChanged old changes new = (id : List ℕ) → write_of new id ≡ (if is_some (write_of changes id) then write_of changes id else write_of old id)

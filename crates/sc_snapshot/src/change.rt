@@ -1,57 +1,47 @@
-ghost use Rattle.std.specs.Prelude.{◌≡◌, ℕ, ◌+◌, ◌<◌, ◌≤◌, length, map, slice_get, IfOk, OnOk, Some, List};
-ghost use Rattle.std.specs.Arc.{arc_value};
+ghost use Rattle.std.specs.Prelude.{◌≡◌, ℕ, ◌+◌, ◌-◌, ◌^◌, ◌≤◌, ◌<◌, if◌then◌else◌, length, slice_get, IfOk, OnOk, Some, List};
 ghost use Rattle.sc_record.specs.declared.write.Write.{Write};
-ghost use Rattle.sc_snapshot.specs.Rows.{AreRows, AreOfOneHistory};
 ghost use Rattle.sc_snapshot.specs.Change.{IsChange};
+ghost use Rattle.sc_snapshot.specs.Edits.{edited, AreInOrder};
 
+use crate::edits::Edit;
 use crate::filing::{file_terms, live_terms};
+use crate::pieces::Pieces;
 use crate::term_key::TermKey;
-use sc_record::{Cell, Write};
+use sc_record::Write;
 use sc_segment::Builder;
 use std::alloc::{AllocError, Global};
-use std::cmp::Ordering;
 
 /// How the rows of a snapshot become those of the next one.
 #[derive(Drop)]
 pub(crate) struct Change {
-    /// The new number of each old row; None where it is not kept.
+    /// The new number of each old row; None where it is replaced.
     pub(crate) moved: Vec<Option<u32>>,
     /// The terms of the new rows that are none of the old.
     pub(crate) added: Builder<TermKey>,
 }
 
 impl Change {
-    /// What becomes of the old rows, and which rows are new, in one pass over both. The only error is that memory was refused.
-    pub(crate) fn of(alloc: Global, old: &[Cell], new: &[Cell]) -> Result<Change, AllocError>
-        requires rows { AreRows (map arc_value new.now) }
-        requires one_history { AreOfOneHistory (map arc_value old.now) (map arc_value new.now) }
-        ensures { IfOk result (λ change.
-            IsChange (map arc_value old.now) (map arc_value new.now) (length old.now) (length new.now) change) }
+    /// What becomes of the old rows by these edits, and which rows are new. No row but those of the edits is looked at. The only error
+    /// is that memory was refused.
+    pub(crate) fn of(alloc: Global, old: &Pieces, edits: &[Edit]) -> Result<Change, AllocError>
+        requires in_order { AreInOrder (length old.now) 0 edits.now }
+        requires old { length old.now ≤ 2 ^ 24 }
+        requires new { length (edited old.now 0 edits.now) ≤ 2 ^ 24 }
+        ensures { IfOk result (λ change. IsChange old.now (edited old.now 0 edits.now) (length old.now)
+            (length (edited old.now 0 edits.now)) change) }
     {
         let mut change = Change::begin(alloc, old.len())?;
-        let mut low = 0;
-        let mut high = 0;
-        'merging: while low < old.len() && high < new.len() {
-            let row = &old[low];
-            let other = &new[high];
-            match row.id.cmp(&other.id) {
-                Ordering::Less => {
-                    change.leave()?;
-                    low += 1;
-                }
-                Ordering::Equal => {
-                    change.meet(row, other, high as u32)?;
-                    low += 1;
-                    high += 1;
-                }
-                Ordering::Greater => {
-                    change.file(other, high as u32)?;
-                    high += 1;
-                }
-            }
+        let mut from = 0;
+        let mut number = 0;
+        for edit in edits {
+            change.keep_all(from, edit.at, number)?;
+            number += edit.at - from;
+            change.leave(edit.replaces)?;
+            change.file(&edit.cell, number as u32)?;
+            number += 1;
+            from = edit.next();
         }
-        change.leave_all(low, old.len())?;
-        change.file_all(new, high)?;
+        change.keep_all(from, old.len(), number)?;
         Ok(change)
     }
 
@@ -65,22 +55,40 @@ impl Change {
         })
     }
 
-    // The next old row is not kept.
-    fn leave(&mut self) -> Result<(), AllocError>
+    // The next old row is not kept where it is replaced.
+    fn leave(&mut self, is_replaced: bool) -> Result<(), AllocError>
         ensures change { OnOk result ((old new : List Write) (low high : ℕ) → IsChange old new low high self.old
-            → IsChange old new (low + 1) high self.new) }
+            → IsChange old new (low + (if is_replaced then 1 else 0)) high self.new) }
         ensures added { OnOk result (self.new.added ≡ self.old.added) }
     {
-        self.moved.push(None)?;
+        if is_replaced {
+            self.moved.push(None)?;
+        }
         Ok(())
     }
 
     // The next old row is the next new one.
     fn keep(&mut self, number: u32) -> Result<(), AllocError>
-        ensures { OnOk result ((old new : List Write) (low : ℕ) (row : Write) → IsChange old new low number self.old
+        ensures change { OnOk result ((old new : List Write) (low : ℕ) (row : Write) → IsChange old new low number self.old
             → slice_get old low ≡ Some row → slice_get new number ≡ Some row → IsChange old new (low + 1) (number + 1) self.new) }
+        ensures added { OnOk result (self.new.added ≡ self.old.added) }
     {
         self.moved.push(Some(number))?;
+        Ok(())
+    }
+
+    // These old rows are the next new ones.
+    fn keep_all(&mut self, from: usize, to: usize, number: usize) -> Result<(), AllocError>
+        requires from { from ≤ to }
+        requires number { number + (to - from) ≤ 2 ^ 24 }
+        ensures change { OnOk result ((old new : List Write) → IsChange old new from number self.old → to ≤ length old
+            → ((k : ℕ) → k < to - from → slice_get old (from + k) ≡ slice_get new (number + k))
+            → IsChange old new to (number + (to - from)) self.new) }
+        ensures added { OnOk result (self.new.added ≡ self.old.added) }
+    {
+        for row in from..to {
+            self.keep((number + (row - from)) as u32)?;
+        }
         Ok(())
     }
 
@@ -92,49 +100,6 @@ impl Change {
         ensures last_row { OnOk result (self.new.added.last_row ≤ number) }
     {
         file_terms(&mut self.added, number, live_terms(row))?;
-        Ok(())
-    }
-
-    // The next old row and the next new one have one id.
-    fn meet(&mut self, row: &Write, other: &Write, number: u32) -> Result<(), AllocError>
-        requires last_row { self.old.added.last_row ≤ number }
-        requires one_id { row.now.id ≡ other.now.id }
-        ensures { OnOk result ((old new : List Write) (low : ℕ) → IsChange old new low number self.old → AreOfOneHistory old new
-            → slice_get old low ≡ Some row.now → slice_get new number ≡ Some other.now
-            → IsChange old new (low + 1) (number + 1) self.new) }
-    {
-        if row.version == other.version {
-            self.keep(number)
-        } else {
-            self.leave()?;
-            self.file(other, number)
-        }
-    }
-
-    // None of the old rows from this one on is kept.
-    fn leave_all(&mut self, from: usize, end: usize) -> Result<(), AllocError>
-        requires { from ≤ end }
-        ensures change { OnOk result ((old new : List Write) (high : ℕ) → IsChange old new from high self.old
-            → IsChange old new end high self.new) }
-        ensures added { OnOk result (self.new.added ≡ self.old.added) }
-    {
-        for _row in from..end {
-            self.leave()?;
-        }
-        Ok(())
-    }
-
-    // All new rows from this one on are none of the old ones.
-    fn file_all(&mut self, rows: &[Cell], from: usize) -> Result<(), AllocError>
-        requires rows { AreRows (map arc_value rows.now) }
-        requires from { from ≤ length rows.now }
-        requires last_row { self.old.added.last_row ≤ from }
-        ensures { OnOk result ((old : List Write) (low : ℕ) → IsChange old (map arc_value rows.now) low from self.old
-            → IsChange old (map arc_value rows.now) low (length rows.now) self.new) }
-    {
-        for number in from..rows.len() {
-            self.file(&rows[number], number as u32)?;
-        }
         Ok(())
     }
 }

@@ -1,11 +1,14 @@
-ghost use Rattle.std.specs.Prelude.{map, IfOk};
+ghost use Rattle.std.specs.Prelude.{◌≡◌, ◌≤◌, ◌^◌, map, length, IfOk};
 ghost use Rattle.std.specs.Arc.{arc_value};
 ghost use Rattle.sc_segment.specs.Index.{IsIndexOf};
-ghost use Rattle.sc_snapshot.specs.Rows.{AreRows, AreOfOneHistory};
+ghost use Rattle.sc_snapshot.specs.Edits.{edited, AreInOrder};
+ghost use Rattle.sc_snapshot.specs.Rows.{AreRows};
 ghost use Rattle.sc_snapshot.specs.Postings.{key_order, keyed_rows, IsIndexed};
 
 use crate::change::Change;
+use crate::edits::Edit;
 use crate::filing::{file_terms, live_terms};
+use crate::pieces::Pieces;
 use crate::survey::Survey;
 use crate::term_key::TermKey;
 use sc_record::Cell;
@@ -31,21 +34,24 @@ impl Index {
         Ok(Index { segment, survey })
     }
 
-    /// The index of the next rows, made of that of the old ones: the terms of each row that is both are carried over, and only those of
-    /// the others are filed. The only error is that memory was refused.
+    /// The index of the new rows, which these edits make of the old ones, from that of the old ones: only the terms of the edits' rows
+    /// are filed. No other row is looked at. The only error is that memory was refused.
     pub(crate) fn next(
         &self,
         alloc: Global,
-        old: &[Cell],
-        new: &[Cell],
+        old: &Pieces,
+        new: &Pieces,
+        edits: &[Edit],
     ) -> Result<Index, AllocError>
-        requires indexed { IsIndexed (map arc_value old.now) self.now }
-        requires rows { AreRows (map arc_value new.now) }
-        requires one_history { AreOfOneHistory (map arc_value old.now) (map arc_value new.now) }
-        ensures { IfOk result (IsIndexed (map arc_value new.now)) }
+        requires indexed { IsIndexed old.now self.now }
+        requires old { AreRows old.now }
+        requires new { AreRows new.now }
+        requires in_order { AreInOrder (length old.now) 0 edits.now }
+        requires edited { new.now ≡ edited old.now 0 edits.now }
+        ensures { IfOk result (IsIndexed new.now) }
     {
-        let segment = next_segment(alloc, &self.segment, old, new)?;
-        let survey = Survey::of(alloc, new)?;
+        let segment = next_segment(alloc, &self.segment, old, edits)?;
+        let survey = self.survey.next(alloc, old, new, edits)?;
         Ok(Index { segment, survey })
     }
 }
@@ -68,15 +74,16 @@ fn segment_of(alloc: Global, rows: &[Cell]) -> Result<Segment<TermKey>, AllocErr
 fn next_segment(
     alloc: Global,
     segment: &Segment<TermKey>,
-    old: &[Cell],
-    new: &[Cell],
+    old: &Pieces,
+    edits: &[Edit],
 ) -> Result<Segment<TermKey>, AllocError>
-    requires terms { IsIndexOf key_order (keyed_rows 0 (map arc_value old.now)) segment.now }
-    requires rows { AreRows (map arc_value new.now) }
-    requires one_history { AreOfOneHistory (map arc_value old.now) (map arc_value new.now) }
-    ensures { IfOk result (IsIndexOf key_order (keyed_rows 0 (map arc_value new.now))) }
+    requires terms { IsIndexOf key_order (keyed_rows 0 old.now) segment.now }
+    requires in_order { AreInOrder (length old.now) 0 edits.now }
+    requires old { length old.now ≤ 2 ^ 24 }
+    requires new { length (edited old.now 0 edits.now) ≤ 2 ^ 24 }
+    ensures { IfOk result (IsIndexOf key_order (keyed_rows 0 (edited old.now 0 edits.now))) }
 {
-    let Change { moved, added } = Change::of(alloc, old, new)?;
+    let Change { moved, added } = Change::of(alloc, old, edits)?;
     let added = added.finish()?;
     let carried = segment.carried(alloc, moved.as_slice(), &added)?;
     Ok(carried)

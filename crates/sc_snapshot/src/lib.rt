@@ -2,22 +2,28 @@
 //!
 //! It depends on `sc_record` and on `sc_segment` for posting lists, and does no input and no output. The layers above take a
 //! `Snapshot` of the cells of a core, which a searcher searches by `postings`, `live`, `is_live` and `row`, and whose `Rows` a feed
-//! reads by `row`. At the next commit `Snapshot::next` makes the new snapshot of the last one: what both have is carried over in the
-//! index, and only what changed is filed. Contracts see both types as a `SnapshotState`, whose rows ascend and are at most 2^24.
+//! reads by `row`. At the next commit `Snapshot::next` makes the new snapshot of the last one and of the cells that changed: it shares
+//! the pieces of rows that no change falls into, carries the index over under new numbers, and files only what changed. Contracts see
+//! both types as a `SnapshotState`, whose rows ascend and are at most 2^24.
 //!
-//! Proved: `Snapshot::of`, `from_list` and `next`, and `Rows::from_list`, have the rows of the cells that they are given, deletions
-//! too, and `row` gives each by its place; `Snapshot::postings` gives exactly the live rows that have a term, ascending and within a
-//! bound on comparisons; `live` gives exactly the live rows and `is_live` tells them; `at` and `share_rows` have the same rows.
+//! Proved: `Snapshot::of`, `from_list` and `Rows::from_list` have the rows of the cells that they are given, deletions too; `next` has of
+//! each id the change, where there is one, else the old row, ascending; `row` gives each by its place; `Snapshot::postings` gives exactly
+//! the live rows that have a term, ascending and within a bound on comparisons; `live` gives exactly the live rows and `is_live` tells
+//! them; `at` and `share_rows` have the same rows.
 //!
-//! Tested alone: the worked rows.
+//! Tested alone: the worked rows, and that a snapshot made of the one before answers as one made anew.
 //!
-//! Neither: speed, and so how much less `next` takes than `of`; that a snapshot shares the writes holds by construction.
+//! Neither: speed, and so how much less `next` takes than `of` and how many pieces there are; that a snapshot shares the writes holds by
+//! construction.
 #![tactic(auto)]
 
 mod change;
+mod cutting;
+mod edits;
 mod filing;
 mod index;
 mod laws;
+mod pieces;
 mod plain;
 mod snapshot;
 mod survey;

@@ -2,29 +2,29 @@ ghost use Rattle.std.specs.Prelude.{◌≡◌, length, map, slice_get, IfOk, opt
 ghost use Rattle.std.specs.Arc.{arc_value};
 ghost use Rattle.sc_snapshot.specs.Rows.{AreRows};
 
+use crate::pieces::Pieces;
 use sc_record::{Cell, List};
 use std::alloc::{AllocError, Global};
 use std::marker::Model;
 use std::sync::Arc;
 
 /// The cells of a core as they were when the journal had `place` entries, without an index: what a feed reads. Contracts see it as
-/// a `SnapshotState`. It shares each cell with the core and never changes.
+/// a `SnapshotState`. It shares each cell with the core, and most with the rows before it by whole pieces, and never changes.
 #[derive(Debug, Drop)]
 pub struct Rows {
     place: u64,
-    cells: Arc<List<Cell>>,
+    pieces: Arc<Pieces>,
 }
 
 impl Model for Rows {
-    ghost use Rattle.std.specs.Prelude.{map};
     ghost use Rattle.std.specs.Arc.{arc_value};
     ghost use Rattle.sc_snapshot.specs.Rows.{SnapshotState, AreRows};
 
     ghost Value = { SnapshotState };
 
-    ghost view = { λ a. record { place = a.place; rows = map arc_value (arc_value a.cells) } };
+    ghost view = { λ a. record { place = a.place; rows = arc_value a.pieces } };
 
-    ghost invariant = { λ a. AreRows (map arc_value (arc_value a.cells)) };
+    ghost invariant = { λ a. AreRows (arc_value a.pieces) };
 }
 
 impl Rows {
@@ -33,9 +33,23 @@ impl Rows {
         requires { AreRows (map arc_value cells) }
         ensures { IfOk result (λ rows. rows ≡ record { place = place; rows = map arc_value cells }) }
     {
+        let mut pieces = Pieces::new(alloc);
+        pieces.push(Arc::new(alloc, cells)?)?;
+        Rows::from_pieces(alloc, place, pieces)
+    }
+
+    /// The same of pieces.
+    pub(crate) fn from_pieces(
+        alloc: Global,
+        place: u64,
+        pieces: Pieces,
+    ) -> Result<Rows, AllocError>
+        requires { AreRows pieces }
+        ensures { IfOk result (λ rows. rows ≡ record { place = place; rows = pieces }) }
+    {
         Ok(Rows {
             place,
-            cells: Arc::new(alloc, cells)?,
+            pieces: Arc::new(alloc, pieces)?,
         })
     }
 
@@ -51,7 +65,7 @@ impl Rows {
         ensures count { result ≡ length self.now.rows }
         ensures rows { AreRows self.now.rows }
     {
-        self.cells.len() as u32
+        self.pieces.len() as u32
     }
 
     /// The row at this index, counted from 0; None from the number of rows on.
@@ -59,7 +73,7 @@ impl Rows {
         ensures row { option_map arc_value (option_copied result) ≡ slice_get self.now.rows at }
         ensures rows { AreRows self.now.rows }
     {
-        self.cells.as_slice().get(at as usize)
+        self.pieces.row(at as usize)
     }
 
     /// The same rows at another place: no row is copied.
@@ -68,14 +82,14 @@ impl Rows {
     {
         Ok(Rows {
             place,
-            cells: Arc::try_clone(&self.cells)?,
+            pieces: Arc::try_clone(&self.pieces)?,
         })
     }
 
-    pub(crate) fn cells(&self) -> &[Cell]
-        ensures rows { map arc_value result.now ≡ self.now.rows }
+    pub(crate) fn pieces(&self) -> &Pieces
+        ensures rows { result.now ≡ self.now.rows }
         ensures are_rows { AreRows self.now.rows }
     {
-        self.cells.as_slice()
+        &self.pieces
     }
 }

@@ -1,11 +1,14 @@
-ghost use Rattle.std.specs.Prelude.{◌≡◌, ℕ, ◌+◌, ◌-◌, ◌*◌, ◌^◌, ◌<◌, ◌≤◌, ◌≤ℤ◌, All, length, map, is_some, slice_get, IfOk, Some, option_copied, option_map};
+ghost use Rattle.std.specs.Prelude.{◌≡◌, ℕ, ◌+◌, ◌-◌, ◌*◌, ◌^◌, ◌<◌, ◌≤◌, ◌≤ℤ◌, All, length, map, is_some, slice_get, IfOk, Some, List, option_copied, option_map};
 ghost use Rattle.std.specs.Arc.{arc_value};
 ghost use Rattle.std.specs.List.Sorted.{IsStrictlyIncreasing};
 ghost use Rattle.sc_record.specs.declared.write.Write.{Write};
+ghost use Rattle.sc_record.specs.Writes.{AscendById};
 ghost use Rattle.sc_segment.specs.Joining.{has_row};
-ghost use Rattle.sc_snapshot.specs.Rows.{AreRows, AreOfOneHistory};
+ghost use Rattle.sc_snapshot.specs.Rows.{AreRows, AreChanged};
 ghost use Rattle.sc_snapshot.specs.Postings.{has_term, term_count, is_live_at};
 
+use crate::cutting::edited_pieces;
+use crate::edits::edits_of;
 use crate::index::Index;
 use crate::plain::Rows;
 use crate::term_key::TermKey;
@@ -72,16 +75,22 @@ impl Snapshot {
         })
     }
 
-    /// The snapshot of these cells, made of this one: a cell of an id and version that this one has keeps its place in the index, and
-    /// only the terms of the other cells are filed. The only error is that memory was refused.
-    pub fn next(&self, alloc: Global, place: u64, cells: List<Cell>) -> Result<Snapshot, AllocError>
-        requires rows { AreRows (map arc_value cells) }
-        requires one_history { AreOfOneHistory self.now.rows (map arc_value cells) }
-        ensures { IfOk result (λ snapshot. snapshot ≡ record { place = place; rows = map arc_value cells }) }
+    /// The snapshot at this place after these changes, which ascend by the ids' bytes: each is put in the place of the row of its id, or else in order. What it
+    /// takes grows with the changes, and with the postings of the index at the speed of copying; no other row is looked at. The only error is that memory was
+    /// refused.
+    pub fn next(&self, alloc: Global, place: u64, changes: &[Cell]) -> Result<Snapshot, AllocError>
+        requires ascend { AscendById (map arc_value changes.now) }
+        requires bounded { (rows : List Write) → AscendById rows → AreChanged self.now.rows (map arc_value changes.now) rows → length rows ≤ 2 ^ 24 }
+        ensures place { IfOk result (λ snapshot. snapshot.place ≡ place) }
+        ensures rows { IfOk result (λ snapshot. AreRows snapshot.rows) }
+        ensures changed { IfOk result (λ snapshot. AreChanged self.now.rows (map arc_value changes.now) snapshot.rows) }
     {
-        let index = self.index.next(alloc, self.rows.cells(), cells.as_slice())?;
+        let old = self.rows.pieces();
+        let edits = edits_of(alloc, old, changes)?;
+        let new = edited_pieces(alloc, old, edits.as_slice())?;
+        let index = self.index.next(alloc, old, &new, edits.as_slice())?;
         Ok(Snapshot {
-            rows: Rows::from_list(alloc, place, cells)?,
+            rows: Rows::from_pieces(alloc, place, new)?,
             index: Arc::new(alloc, index)?,
         })
     }

@@ -1,48 +1,99 @@
--- One row more of the old ones, of the new ones or of both is told.
-use Rattle.std.proofs.Common.{◌∙◌, ◌≤◌, Some, map, sym, ap, subst, arith, length}
-use Rattle.std.specs.Arc.{arc_value}
+-- One edit more is told.
+use Rattle.std.proofs.Common.{◌≡◌, ◌+◌, ◌-◌, ◌<◌, ◌≤◌, Some, drop, length, sym, ap, subst, ◌∙◌, arith}
 use Rattle.sc_record.specs.declared.write.Write.{Write}
-use Rattle.sc_segment.specs.Filing.{BuilderState}
-use Rattle.sc_snapshot.specs.declared.term_key.TermKey.{TermKey}
-use Rattle.sc_snapshot.proofs.ChangeLemmas.{row_at, one_id}
+use Rattle.sc_snapshot.specs.Change.{IsChange}
+use Rattle.sc_snapshot.specs.Edits.{edited, next_of}
+use Rattle.sc_snapshot.proofs.EditLemmas.{IsRest, rest-at, rest-end, edit-bounded, rest-kept, rest-put, rest-within, rest-next, last-kept, last-size}
 use Rattle.sc_snapshot.proofs.change.Change.of.Goals as goal
 
-pub merging-preserved-in-Less : goal.merging-preserved-in-Less
-merging-preserved-in-Less c = record {
-  low = omega (arith, c.merging-test.true);
-  high = c.merging.invariant.high;
-  change = c.in_ok-leave-in-Less.ensures.change (map arc_value c.args.old.now) (map arc_value c.args.new.now) c.merging.low c.merging.high c.merging.invariant.change;
-}
+pub keep_all-requires-clause-number : goal.keep_all-requires-clause-number
+keep_all-requires-clause-number c =
+    let old = c.args.old.now in
+    let new = edited old 0 c.args.edits.now in
+    let edit = c.edit-item.result in
+    let rest = rest-at old new c.loop-edit.from c.loop-edit.number c.args.edits.now c.loop-edit.edit-index edit c.loop-edit-test.true c.edit-item.is c.loop-edit.invariant.rest in
+    let within = rest-within old new c.loop-edit.from c.loop-edit.number edit (drop (c.loop-edit.edit-index + 1) c.args.edits.now) rest in
+    let bound = c.requires.new in
+    omega (arith, within, bound)
 
-pub meet-requires-clause-one_id : goal.meet-requires-clause-one_id
-meet-requires-clause-one_id c =
-    ap (λ (w : Write). w.id) (c.deref-in-Equal.ensures ∙ sym c.deref.ensures)
-    ∙ one_id c.deref.result.now.id c.deref-in-merging.result.now.id c.in-Equal.ensures
-    ∙ ap (λ (w : Write). w.id) (c.deref-in-merging.ensures ∙ sym c.deref-in-Equal-2.ensures)
+pub overflow_add-number : goal.overflow_add-number
+overflow_add-number c =
+    let old = c.args.old.now in
+    let new = edited old 0 c.args.edits.now in
+    let edit = c.edit-item.result in
+    let rest = rest-at old new c.loop-edit.from c.loop-edit.number c.args.edits.now c.loop-edit.edit-index edit c.loop-edit-test.true c.edit-item.is c.loop-edit.invariant.rest in
+    let within = rest-within old new c.loop-edit.from c.loop-edit.number edit (drop (c.loop-edit.edit-index + 1) c.args.edits.now) rest in
+    let bound = c.requires.new in
+    omega (arith, within, bound)
 
-pub merging-preserved-in-Equal : goal.merging-preserved-in-Equal
-merging-preserved-in-Equal c = record {
-  low = omega (arith, c.merging-test.true);
-  high = omega (arith, c.if-high-new.true);
-  change = c.in_ok-meet-in-Equal.ensures (map arc_value c.args.old.now) (map arc_value c.args.new.now) c.merging.low c.merging.invariant.change c.requires.one_history
-      (row_at arc_value c.args.old.now c.merging.low c.index-old-low.result c.merging-test.true c.index-old-low.is ∙ ap (λ (w : Write). Some w) (sym c.deref-in-Equal.ensures))
-      (row_at arc_value c.args.new.now c.merging.high c.index-new-high.result c.if-high-new.true c.index-new-high.is ∙ ap (λ (w : Write). Some w) (sym c.deref-in-Equal-2.ensures));
-}
+pub overflow_cast-number : goal.overflow_cast-number
+overflow_cast-number c =
+    let old = c.args.old.now in
+    let new = edited old 0 c.args.edits.now in
+    let edit = c.edit-item.result in
+    let rest = rest-at old new c.loop-edit.from c.loop-edit.number c.args.edits.now c.loop-edit.edit-index edit c.loop-edit-test.true c.edit-item.is c.loop-edit.invariant.rest in
+    let within = rest-within old new c.loop-edit.from c.loop-edit.number edit (drop (c.loop-edit.edit-index + 1) c.args.edits.now) rest in
+    let bound = c.requires.new in
+    omega (arith, within, bound)
 
-pub merging-preserved : goal.merging-preserved
-merging-preserved c = record {
-  low = c.merging.invariant.low;
-  high = omega (arith, c.if-high-new.true);
-  change = c.in_ok-file-in-Greater.ensures.change (map arc_value c.args.old.now) (map arc_value c.args.new.now) c.merging.low c.merging.invariant.change
-      (row_at arc_value c.args.new.now c.merging.high c.index-new-high.result c.if-high-new.true c.index-new-high.is ∙ ap (λ (w : Write). Some w) (sym c.deref-in-Greater.ensures));
-}
+pub overflow_add-number-in-loop-edit : goal.overflow_add-number-in-loop-edit
+overflow_add-number-in-loop-edit c =
+    let old = c.args.old.now in
+    let new = edited old 0 c.args.edits.now in
+    let edit = c.edit-item.result in
+    let rest = rest-at old new c.loop-edit.from c.loop-edit.number c.args.edits.now c.loop-edit.edit-index edit c.loop-edit-test.true c.edit-item.is c.loop-edit.invariant.rest in
+    let within = rest-within old new c.loop-edit.from c.loop-edit.number edit (drop (c.loop-edit.edit-index + 1) c.args.edits.now) rest in
+    let bound = c.requires.new in
+    omega (arith, within, bound)
 
-pub file_all-requires-clause-last_row : goal.file_all-requires-clause-last_row
-file_all-requires-clause-last_row c =
-    let last = c.merging.invariant.change.last_row in
-    subst (λ (b : BuilderState TermKey). b.last_row ≤ c.merging.high) (sym c.in_ok-leave_all.ensures.added) last
+pub next-from-requires : goal.next-from-requires
+next-from-requires c =
+    let old = c.args.old.now in
+    let new = edited old 0 c.args.edits.now in
+    let edit = c.edit-item.result in
+    let rest = rest-at old new c.loop-edit.from c.loop-edit.number c.args.edits.now c.loop-edit.edit-index edit c.loop-edit-test.true c.edit-item.is c.loop-edit.invariant.rest in
+    let bounds = edit-bounded old new c.loop-edit.from c.loop-edit.number edit (drop (c.loop-edit.edit-index + 1) c.args.edits.now) rest in
+    let bound = c.requires.old in
+    omega (arith, bounds.1, bound)
+
+pub loop-edit-preserved : goal.loop-edit-preserved
+loop-edit-preserved c =
+    let old = c.args.old.now in
+    let new = edited old 0 c.args.edits.now in
+    let edit = c.edit-item.result in
+    let from = c.loop-edit.from in
+    let number = c.loop-edit.number in
+    let next = number + (edit.at - from) in
+    let edits = drop (c.loop-edit.edit-index + 1) c.args.edits.now in
+    let rest = rest-at old new from number c.args.edits.now c.loop-edit.edit-index edit c.loop-edit-test.true c.edit-item.is c.loop-edit.invariant.rest in
+    let bounds = edit-bounded old new from number edit edits rest in
+    let kept = c.in_ok-keep_all.ensures.change old new c.loop-edit.invariant.change bounds.1 (rest-kept old new from number edit edits rest) in
+    let left = c.in_ok-leave.ensures.change old new edit.at next kept in
+    let put = rest-put old new from number edit edits rest ∙ ap (λ (w : Write). Some w) (sym c.deref.ensures) in
+    let filed = c.in_ok-file.ensures.change old new (next_of edit) left put in
+    record {
+      rest = subst (λ n. IsRest old new n (next + 1) edits) (sym c.next-from.ensures) (rest-next old new from number edit edits rest);
+      change = subst (λ n. IsChange old new n (next + 1) c.file.new.self) (sym c.next-from.ensures) filed;
+    }
+
+pub keep_all-requires-2-clause-number : goal.keep_all-requires-2-clause-number
+keep_all-requires-2-clause-number c =
+    let old = c.args.old.now in
+    let new = edited old 0 c.args.edits.now in
+    let rest = rest-end old new c.loop-edit.from c.loop-edit.number c.args.edits.now c.loop-edit.edit-index c.loop-edit-test.false c.loop-edit.invariant.rest in
+    let all = last-size old new c.loop-edit.from c.loop-edit.number rest in
+    let bound = c.requires.new in
+    omega (arith, all, bound, c.len-2.ensures)
 
 pub returns : goal.returns
 returns c =
-    c.in_ok-file_all.ensures (map arc_value c.args.old.now) (length c.args.old.now)
-    (c.in_ok-leave_all.ensures.change (map arc_value c.args.old.now) (map arc_value c.args.new.now) c.merging.high c.merging.invariant.change)
+    let old = c.args.old.now in
+    let new = edited old 0 c.args.edits.now in
+    let from = c.loop-edit.from in
+    let number = c.loop-edit.number in
+    let rest = rest-end old new from number c.args.edits.now c.loop-edit.edit-index c.loop-edit-test.false c.loop-edit.invariant.rest in
+    let size = c.len-2.ensures in
+    let kept = c.in_ok-keep_all-2.ensures.change old new c.loop-edit.invariant.change (let most : c.len-2.result ≤ length old = omega (arith, size) in most)
+    (λ k below. last-kept old new from number rest k (let few : k < length old - from = omega (arith, below, size) in few)) in
+    subst (λ n. IsChange old new (length old) n c.keep_all-2.new.self) (last-size old new from number rest)
+    (subst (λ n. IsChange old new n (number + (n - from)) c.keep_all-2.new.self) size kept)

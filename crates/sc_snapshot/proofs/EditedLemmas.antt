@@ -1,12 +1,11 @@
 -- The rows after edits ascend, and are the old ones with the changes.
-use Rattle.std.proofs.Common.{◌≡◌, ℕ, zero, suc, ◌+◌, ◌-◌, ◌^◌, ◌<◌, ◌≤◌, List, [], ◌∷◌, ◌++◌, Bool, true, false, cond, is_some, map, take, drop, length, slice_get, get_or, Option, Some, None, refl, sym, ap, subst, ◌∙◌, arith}
+use Rattle.std.proofs.Common.{◌≡◌, ℕ, suc, ◌+◌, ◌-◌, ◌^◌, ◌<◌, ◌≤◌, List, [], ◌∷◌, ◌++◌, true, false, cond, is_some, map, take, drop, length, slice_get, get_or, Option, Some, None, refl, sym, ap, subst, ◌∙◌, arith}
 use Rattle.std.proofs.Math.Seq.{take-add}
 use Rattle.std.proofs.lemmas.List.{drop-drop, drop-take, take-append-drop}
 use Rattle.std.proofs.lemmas.List.Folds.{find-append}
 use Rattle.std.proofs.lemmas.Option.{slice_get_read, slice_get-map}
 use Rattle.std.specs.List.{AllByRecursion}
 use Rattle.std.specs.Option.{option_or, option_map}
-use Rattle.std.specs.Str.{bytes_eq}
 use Rattle.std.specs.declared.cmp.Ordering.{Ordering}
 use Rattle.std.specs.declared.cmp.Ordering.TheVariants.{Less, Equal, Greater}
 use Rattle.std.proofs.lemmas.Slice.Eq.{bytes_eq-Decides}
@@ -16,7 +15,7 @@ use Rattle.sc_snapshot.specs.declared.edits.Edit.{Edit}
 use Rattle.sc_snapshot.specs.Edits.{put_in, next_of, edited, AreInOrder, AreBelow, AreAbove, IsPlace, AreEdits}
 use Rattle.sc_snapshot.specs.Rows.{AreRows, AreChanged}
 use Rattle.sc_snapshot.proofs.EditLemmas.{slice_get-drop}
-use Rattle.sc_snapshot.proofs.PlaceLemmas.{order, order-back, below-below, one_id, lower_id, higher_id, each-at, after-at, each-append, each-take, each-drop, Ascend, ascend-from, ascend-to, ascend-take, ascend-drop, ascend-join, below-higher, above-lower, none_below, none_above, none_there}
+use Rattle.sc_snapshot.proofs.PlaceLemmas.{order, order-back, one_id, lower_id, higher_id, each-at, after-at, each-append, each-take, each-drop, Ascend, ascend-from, ascend-to, ascend-take, ascend-drop, ascend-join, below-higher, above-lower, none_below, none_above, none_there}
 
 -- the write of an id in two lists: that of the first, or else that of the second
 abbrev first_of : Option Write → Option Write → Option Write
@@ -68,10 +67,12 @@ each-edited P old from [] in_order rows changes = rows
 each-edited P old from (edit ∷ edits) in_order rows changes =
     let first = in_order.0 in
     each-append P (take (edit.at - from) (drop from old)) (put_in edit ∷ edited old (next_of edit) edits)
-    (each-take P (edit.at - from) (drop from old) rows)
-    (changes.0, each-edited P old (next_of edit) edits in_order.1
-    (subst (AllByRecursion P) (drop-drop (next_of edit - from) from old ∙ ap (λ n. drop n old) (omega (arith, first)))
-    (each-drop P (next_of edit - from) (drop from old) rows)) changes.1)
+    (each-take P (edit.at - from) (drop from old) rows) (
+      changes.0,
+      each-edited P old (next_of edit) edits in_order.1
+          (subst (AllByRecursion P) (drop-drop (next_of edit - from) from old ∙ ap (λ n. drop n old) (omega (arith, first)))
+          (each-drop P (next_of edit - from) (drop from old) rows)) changes.1,
+    )
 
 module _ (old : List Write) (ascend : Ascend old) where
   -- the old rows from a number on are those up to an edit, those in its place and those after it
@@ -102,9 +103,10 @@ module _ (old : List Write) (ascend : Ascend old) where
   edited-ascend from (edit ∷ edits) in_order places changes =
       ascend-join (take (edit.at - from) (drop from old)) (put_in edit) (edited old (next_of edit) edits)
       (ascend-take (edit.at - from) (drop from old) (ascend-drop from old ascend))
-      (below_front from edit in_order.0 places.0)
-      (each-edited (λ (row : Write). order (put_in edit).id row.id ≡ Less) old (next_of edit) edits in_order.1 places.0.after changes.0,
-      edited-ascend (next_of edit) edits in_order.1 places.1 changes.1)
+      (below_front from edit in_order.0 places.0) (
+        each-edited (λ (row : Write). order (put_in edit).id row.id ≡ Less) old (next_of edit) edits in_order.1 places.0.after changes.0,
+        edited-ascend (next_of edit) edits in_order.1 places.1 changes.1,
+      )
 
   pub edited-changed : (from : ℕ) (edits : List Edit) → AreInOrder (length old) from edits
       → AllByRecursion (λ (edit : Edit). IsPlace old edit.at (next_of edit) (put_in edit).id) edits → Ascend (map put_in edits)

@@ -1,5 +1,5 @@
 -- Rows whose ids ascend: which ids are below a row's, and which above.
-use Rattle.std.proofs.Common.{◌≡◌, ℕ, zero, suc, ◌+◌, ◌-◌, List, [], ◌∷◌, ◌++◌, false, map, take, drop, slice_get, Option, Some, None, refl, sym, ap, subst, ◌∙◌, arith}
+use Rattle.std.proofs.Common.{◌≡◌, ℕ, zero, suc, ◌+◌, ◌-◌, List, [], ◌∷◌, ◌++◌, false, map, take, drop, slice_get, Some, None, refl, sym, ap, subst, ◌∙◌, arith}
 use Rattle.std.proofs.lemmas.Cmp.{nat_list_cmp_total}
 use Rattle.std.proofs.lemmas.List.{drop_more}
 use Rattle.std.proofs.lemmas.Option.{slice_get_within, get_or_from_slice_get}
@@ -106,9 +106,11 @@ pub ascend-join : (front : List Write) (write : Write) (back : List Write) → A
     → Ascend (front ++ write ∷ back)
 ascend-join [] write back ascend below rest = rest
 ascend-join (row ∷ front) write back ascend below rest = (
-  each-append (λ (other : Write). order row.id other.id ≡ Less) front (write ∷ back) ascend.0
-      (below.0, each-weaker (λ (other : Write). order write.id other.id ≡ Less) (λ (other : Write). order row.id other.id ≡ Less) back
-      (λ other h. below-below row.id write.id other.id below.0 h) rest.0),
+  each-append (λ (other : Write). order row.id other.id ≡ Less) front (write ∷ back) ascend.0 (
+    below.0,
+    each-weaker (λ (other : Write). order write.id other.id ≡ Less) (λ (other : Write). order row.id other.id ≡ Less) back
+        (λ other h. below-below row.id write.id other.id below.0 h) rest.0,
+  ),
   ascend-join front write back ascend.1 below.1 rest,
 )
 

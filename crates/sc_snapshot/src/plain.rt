@@ -39,11 +39,7 @@ impl Rows {
     }
 
     /// The same of pieces.
-    pub(crate) fn from_pieces(
-        alloc: Global,
-        place: u64,
-        pieces: Pieces,
-    ) -> Result<Rows, AllocError>
+    pub(crate) fn from_pieces(alloc: Global, place: u64, pieces: Pieces) -> Result<Rows, AllocError>
         requires { AreRows pieces }
         ensures { IfOk result (λ rows. rows ≡ record { place = place; rows = pieces }) }
     {

@@ -1,5 +1,5 @@
 -- An edit is within the rows.
-use Rattle.std.proofs.Common.{◌≡◌, ◌++◌, ◌+◌, ◌∷◌, List, drop, length, arith}
+use Rattle.std.proofs.Common.{◌≡◌, ◌++◌, ◌+◌, List, drop, length, arith}
 use Rattle.sc_snapshot.proofs.EditLemmas.{left-at, some-rows, order-bounded}
 use Rattle.sc_snapshot.specs.Edits.{edited, next_of, AreInOrder}
 use Rattle.sc_snapshot.specs.declared.edits.Edit.{Edit}

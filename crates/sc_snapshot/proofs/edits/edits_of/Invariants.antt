@@ -1,5 +1,5 @@
 -- So far the first changes have their edits.
-use Rattle.std.proofs.Common.{◌≡◌, ℕ, ◌≤◌, List, map, take, length, slice_get, Some}
+use Rattle.std.proofs.Common.{◌≡◌, ℕ, ◌≤◌, map, take, length, slice_get, Some}
 use Rattle.std.specs.Arc.{arc_value}
 use Rattle.std.specs.List.{AllByRecursion}
 use Rattle.sc_record.specs.declared.write.Write.{Write}

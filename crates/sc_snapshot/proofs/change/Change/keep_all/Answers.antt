@@ -1,5 +1,5 @@
 -- One old row more is told.
-use Rattle.std.proofs.Common.{◌≡◌, ℕ, ◌+◌, ◌-◌, ◌<◌, sym, ap, subst, ◌∙◌, arith, slice_get}
+use Rattle.std.proofs.Common.{◌≡◌, ◌+◌, ◌-◌, sym, ap, subst, ◌∙◌, arith, slice_get}
 use Rattle.sc_snapshot.specs.Change.{IsChange}
 use Rattle.sc_snapshot.proofs.ChangeLemmas.{some_at}
 use Rattle.sc_snapshot.proofs.change.Change.keep_all.Goals as goal

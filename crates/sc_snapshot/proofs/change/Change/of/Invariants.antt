@@ -1,5 +1,5 @@
 -- So far the first edits are told.
-use Rattle.std.proofs.Common.{◌≡◌, drop}
+use Rattle.std.proofs.Common.{drop}
 use Rattle.sc_snapshot.specs.Change.{IsChange}
 use Rattle.sc_snapshot.specs.Edits.{edited}
 use Rattle.sc_snapshot.proofs.EditLemmas.{IsRest}

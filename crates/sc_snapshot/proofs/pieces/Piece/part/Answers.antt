@@ -1,5 +1,5 @@
 -- The rows of some cells are some of the rows.
-use Rattle.std.proofs.Common.{◌≡◌, ◌-◌, List, Global, map, take, drop, sym, ap, ◌∙◌}
+use Rattle.std.proofs.Common.{◌-◌, List, Global, map, take, drop, sym, ap, ◌∙◌}
 use Rattle.std.proofs.lemmas.List.{take-map, drop-map}
 use Rattle.std.specs.Arc.{arc_value}
 use Rattle.std.specs.declared.sync.Arc.{Arc}

@@ -1,7 +1,6 @@
 -- The rows after the edits are those after the changes.
 use Rattle.std.proofs.Common.{◌≡◌, ◌≤◌, List, map, length, sym, ap, subst, ◌∙◌}
 use Rattle.std.specs.Arc.{arc_value}
-use Rattle.sc_record.specs.declared.write.Write.{Write}
 use Rattle.sc_snapshot.specs.Edits.{edited}
 use Rattle.sc_snapshot.specs.Rows.{SnapshotState, AreRows, AreChanged}
 use Rattle.sc_snapshot.specs.declared.edits.Edit.{Edit}

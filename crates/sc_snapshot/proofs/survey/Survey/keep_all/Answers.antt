@@ -1,5 +1,5 @@
 -- One row more is marked as it was.
-use Rattle.std.proofs.Common.{◌≡◌, ℕ, ◌+◌, ◌-◌, ◌<◌, ◌≤◌, List, is_some, map, length, slice_get, sym, ap, subst, ◌∙◌, arith}
+use Rattle.std.proofs.Common.{◌≡◌, ◌+◌, ◌-◌, slice_get, sym, ap, subst, ◌∙◌, arith}
 use Rattle.sc_snapshot.proofs.SurveyLemmas.{kept-live}
 use Rattle.sc_snapshot.specs.Surveying.{AreSurveyed}
 use Rattle.sc_snapshot.proofs.survey.Survey.keep_all.Goals as goal

@@ -1,12 +1,12 @@
 -- The new rows up to one edit more are surveyed.
-use Rattle.std.proofs.Common.{◌≡◌, ◌≤ℤ◌, ◌+◌, ◌-◌, ◌<◌, ◌≤◌, ◌++◌, ◌∷◌, [], Bool, ℤ, List, true, is_some, map, take, drop, length, replicate, slice_get, to_z, of_z, w32, sym, ap, subst, ◌∙◌, arith}
+use Rattle.std.proofs.Common.{◌≡◌, ◌≤ℤ◌, ◌+◌, ◌-◌, ◌<◌, ◌≤◌, ◌∷◌, [], Bool, ℤ, List, true, is_some, map, take, drop, length, replicate, slice_get, to_z, of_z, w32, sym, ap, subst, ◌∙◌, arith}
 use Rattle.std.proofs.lemmas.Int.{ints}
 use Rattle.std.proofs.lemmas.List.{length-map, length-replicate, take_all}
 use Rattle.std.proofs.lemmas.List.Elements.{All-from_recursion}
 use Rattle.std.specs.List.{AllByRecursion}
 use Rattle.sc_record.specs.declared.write.Write.{Write}
 use Rattle.sc_snapshot.specs.declared.edits.Edit.{Edit}
-use Rattle.sc_snapshot.specs.Edits.{put_in, next_of}
+use Rattle.sc_snapshot.specs.Edits.{put_in}
 use Rattle.sc_snapshot.specs.Postings.{is_live_at}
 use Rattle.sc_snapshot.proofs.EditLemmas.{IsRest, rest-init, rest-at, rest-end, edit-bounded, rest-kept, rest-put, rest-within, rest-next, last-kept, last-size}
 use Rattle.sc_snapshot.proofs.EditedLemmas.{each-edited}

@@ -20,7 +20,7 @@ use Rattle.sc_cluster.specs.Map.{IsMap}
 use Rattle.sc_cluster.specs.Slices.{is_active, is_active_state}
 use Rattle.sc_cluster.proofs.LeaderLemmas.{same_from_id}
 use Rattle.sc_cluster.proofs.ListLemmas.{Contains-map, Contains-filter, Contains-from_filter}
-use Rattle.sc_replica.specs.Core.{Core, IsCore}
+use Rattle.sc_replica.specs.Core.{Core}
 use Rattle.sc_journal.specs.Journal.{writes, last_write, write_at, is_settled, unsettled}
 use Rattle.sc_journal.specs.Splits.{map_after, open_split, owed}
 use Rattle.sc_journal.specs.Legal.{IsLegal}
@@ -74,11 +74,12 @@ length-among some all ascend among =
     omega (arith, fewer, length-map some id_of, length-map all id_of)
 
 -- the cells of the cores of a sound bucket may be rows
-pub AreRows-sound : (b : Bucket) → IsSound b → All (λ (core : Core). IsCore core → AreRows core.cells) b.replicas
-AreRows-sound b sound k d below is_core =
-    let fewer = length-among (get_or b.replicas k d).cells (writes b.journal.entries) is_core.ascends (sound.written k d below).0 in
+pub AreRows-sound : (b : Bucket) → IsSound b → All (λ (core : Core). AreRows core.cells) b.replicas
+AreRows-sound b sound k d below =
+    let ascends = (sound.in_order k d below).ascends in
+    let fewer = length-among (get_or b.replicas k d).cells (writes b.journal.entries) ascends (sound.written k d below).0 in
     record {
-      ascend = is_core.ascends;
+      ascend = ascends;
       bounded = omega (arith, fewer, length-writes b.journal.entries, sound.journal.within, sound.journal.limit_to);
     }
 

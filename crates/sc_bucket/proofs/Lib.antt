@@ -1,7 +1,6 @@
 -- Facts on buckets.
 pub mod EntriesLemmas
 pub mod UncommittedLemmas
-pub mod UnchangedLemmas
 pub mod CoreLemmas
 pub mod InOrderLemmas
 pub mod SearcherLemmas
@@ -25,6 +24,8 @@ pub mod ChangedLemmas
 pub mod DeliverLemmas
 pub mod TakenLemmas
 pub mod CommitLemmas
+pub mod ChangesLemmas
+pub mod NextLemmas
 pub mod DeliverAllLemmas
 pub mod ArrivedLemmas
 pub mod FeedLemmas

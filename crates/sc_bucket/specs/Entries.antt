@@ -1,14 +1,14 @@
 -- How a journal's entries are kept: a mark for each, and apart from them, in order, what the entries of a kind have besides; and
--- whether one of them is a write that is not committed.
-use Rattle.std.specs.Prelude.{◌≡◌, ℕ, Bool, true, false, List, [], ◌∷◌, length, filter, drop, is_some}
-use Rattle.std.specs.List.{list_any}
+-- which of its writes are not committed.
+use Rattle.std.specs.Prelude.{◌≡◌, ℕ, Bool, true, false, List, [], ◌∷◌, length, map, filter, drop}
+use Rattle.std.specs.Arc.{arc_value}
 use Rattle.std.specs.declared.sync.Arc.{Arc}
 use Rattle.std.specs.declared.alloc.Global.{Global}
 use Rattle.sc_record.specs.declared.write.Write.{Write}
 use Rattle.sc_record.specs.declared.entry.Entry.{Entry}
 use Rattle.sc_record.specs.declared.entry.Entry.TheVariants as entry
-use Rattle.sc_journal.specs.Journal.{as_write}
-use Rattle.sc_journal.specs.Committed.{last_commit}
+use Rattle.sc_journal.specs.Journal.{writes}
+use Rattle.sc_journal.specs.Committed.{committed, last_commit}
 use Rattle.sc_bucket.specs.declared.entries.Mark.{Mark}
 use Rattle.sc_bucket.specs.declared.entries.Mark.TheVariants as mark
 use Rattle.sc_bucket.specs.declared.entries.EntryRef.{EntryRef}
@@ -50,6 +50,10 @@ entry_of (lent.Settled place) = entry.Settled place
 entry_of lent.Committed = entry.Committed
 entry_of (lent.Other other) = other.now
 
--- a write came after the last entry that commits, or at all where none does
-abbrev pub has_uncommitted : List Entry → Bool
-has_uncommitted journal = list_any (λ (one : Entry). is_some (as_write one)) (drop (last_commit journal) journal)
+-- the writes after the last entry that commits, or all where none does
+abbrev pub uncommitted : List Entry → List Write
+uncommitted journal = writes (drop (last_commit journal) journal)
+
+-- these are the cells of the journal's writes, and so many of them came before its last entry that commits
+abbrev pub AreCounted : (journal : List Entry) (cells : List (Arc Write Global)) (count : ℕ) → Type 0
+AreCounted journal cells count = (map arc_value cells ≡ writes journal) × (count ≡ length (writes (committed journal)))

@@ -1,10 +1,23 @@
 -- What the parts of `searchers_at` do.
-use Rattle.std.specs.Prelude.{◌≡◌, length, Contains}
+use Rattle.std.specs.Prelude.{◌≡◌, ℕ, List, length, filter, map, Option, option_map, Contains}
+use Rattle.std.proofs.Common.{Bor}
+use Rattle.std.specs.Arc.{arc_value}
+use Rattle.std.specs.BTreeMap.{BTreeMap, get_by, values}
+use Rattle.std.specs.Cmp.Lexicographic.{slice_cmp}
+use Rattle.std.specs.Ordering.{nat_cmp}
+use Rattle.std.specs.declared.alloc.Global.{Global}
+use Rattle.std.specs.declared.sync.Arc.{Arc}
+use Rattle.sc_record.specs.Writes.{is_of, write_of, AscendById}
+use Rattle.sc_record.specs.declared.entry.Entry.{Entry}
+use Rattle.sc_record.specs.declared.write.Write.{Write}
 use Rattle.sc_snapshot.specs.Rows.{SnapshotState}
 use Rattle.sc_cluster.specs.declared.slice.State.TheVariants as states
 use Rattle.sc_cluster.specs.declared.slice.Slice.{Slice}
 use Rattle.sc_replica.specs.Core.{Core}
+use Rattle.sc_journal.specs.Journal.{last_of}
 use Rattle.sc_bucket.specs.Cores.{IsLeaderOf}
+use Rattle.sc_bucket.specs.Entries.{uncommitted}
+use Rattle.sc_bucket.specs.Pending.{is_within}
 use Rattle.sc_bucket.specs.declared.bucket.Bucket.{Bucket}
 use Rattle.sc_bucket.specs.declared.standing.Standing.{Standing}
 
@@ -21,3 +34,29 @@ pub record IsOfLeader (b : Bucket) (slice : Slice) (snapshot : SnapshotState) : 
   pub there : Contains b.replicas core
   pub leader : IsLeaderOf slice.id core
   pub snapshot_is : snapshot ≡ record { place = length b.journal.entries; rows = core.cells }
+
+-- of each id the last of these writes, where there is one
+abbrev pub AreLastOf : (these last : List Write) → Type 0
+AreLastOf these last = (id : List ℕ) → write_of last id ≡ last_of (filter (is_of id) these)
+
+-- what a commit changes in the rows of a slice: of the writes that are not committed those of its range, of each id the last; their
+-- ids ascend
+pub record AreChangesOf (journal : List Entry) (slice : Slice) (changes : List Write) : Type 0 where
+  pub ascend : AscendById changes
+  pub last : AreLastOf (filter (is_within slice.range) (uncommitted journal)) changes
+
+-- cells that are lent, by the texts of ids
+abbrev pub LentCells : Type 0
+LentCells = BTreeMap (Bor (List ℕ)) (Bor (Arc Write Global))
+
+-- the write of a cell that is lent
+abbrev pub lent : Bor (Arc Write Global) → Write
+lent cell = arc_value cell.now
+
+-- the write that is lent under this id, where there is one
+abbrev pub lent_of : LentCells → List ℕ → Option Write
+lent_of cells id = option_map lent (get_by (λ (text : Bor (List ℕ)). slice_cmp nat_cmp id text.now) cells)
+
+-- the writes that are lent, by the texts of their ids
+abbrev pub all_lent : LentCells → List Write
+all_lent cells = map lent (values cells)

@@ -1,24 +1,25 @@
-ghost use Rattle.std.specs.Prelude.{◌≡◌, ◌<◌, ◌+◌, ◌↔◌, Err, List, length, false, IsTrue, All, Contains, IfOk, OnOk, OnErr};
+ghost use Rattle.std.specs.Prelude.{◌≡◌, ◌<◌, ◌+◌, ◌↔◌, Err, List, length, map, IsTrue, All, Contains, IfOk, OnOk, OnErr};
+ghost use Rattle.std.specs.Arc.{arc_value};
 ghost use Rattle.sc_hash.specs.Range.{IsWithin};
 ghost use Rattle.sc_record.specs.declared.write.Write.{Write};
 ghost use Rattle.sc_cluster.specs.declared.slice.State.TheVariants as states;
 ghost use Rattle.sc_replica.specs.Core.{Core};
-ghost use Rattle.sc_bucket.specs.Entries.{has_uncommitted};
 ghost use Rattle.sc_bucket.specs.Cores.{IsNewCore};
 ghost use Rattle.sc_bucket.specs.Room.{BucketHasRoom, BucketIsFull};
 ghost use Rattle.sc_bucket.specs.Sound.{AreActive, IsInRange, IsSound};
 ghost use Rattle.sc_bucket.specs.declared.standing.Standing.{Standing};
 ghost use Rattle.sc_bucket.specs.Searchers.{rows_of, AreLed, AreTaken, IsTaken, HasParentSearcher, ArePrepared};
-ghost use Rattle.sc_bucket.specs.Taking.{IsLastOf, IsOfLeader};
+ghost use Rattle.sc_bucket.specs.Taking.{AreChangesOf, IsLastOf, IsOfLeader};
 ghost use Rattle.sc_bucket.specs.Events.{IsSameButRoom, Commits};
 
 use crate::bucket::Bucket;
+use crate::changes::changes_in;
 use crate::phase::Phase;
 use crate::spares::hand_on;
 use crate::standing::{Standing, searcher_for};
 use sc_cluster::{ClusterMap, Slice, State};
 use sc_hash::Range;
-use sc_record::{CoreId, Entry, List};
+use sc_record::{Cell, CoreId, Entry, List};
 use sc_snapshot::Snapshot;
 use std::alloc::{AllocError, Global};
 use std::sync::Arc;
@@ -84,8 +85,8 @@ impl Bucket {
 }
 
 /// A searcher for each active slice, of its leader's cells as they are. The bucket is only read. A slice's snapshot is made of its last
-/// one; where no write came since the last commit it has the same rows, and none of them is looked at. The only error is that memory
-/// was refused.
+/// one and of what was written in its range since the last commit; where that is nothing it has the same rows, and none of them is
+/// looked at. The only error is that memory was refused.
 pub fn searchers_at(alloc: Global, bucket: &Bucket) -> Result<List<Standing>, AllocError>
     requires sound { IsSound bucket.now }
     ensures { IfOk result (AreTaken bucket.now.map bucket.now.replicas (length bucket.now.journal.entries)) }
@@ -136,7 +137,8 @@ fn searcher_of(alloc: Global, bucket: &Bucket, slice: &Slice) -> Result<Standing
     })
 }
 
-// The snapshot of the cells of the slice's leader as they are, which is made of its last searcher's.
+// The snapshot of the cells of the slice's leader as they are: that of its last searcher with the changes, where all of its rows are in
+// the slice's range, as they are but right after a switch.
 fn snapshot_of(
     alloc: Global,
     bucket: &Bucket,
@@ -147,10 +149,10 @@ fn snapshot_of(
     requires last { IsLastOf bucket.now slice.now last.now }
     ensures { IfOk result (IsOfLeader bucket.now slice.now) }
 {
-    if bucket.journal.has_uncommitted() || !are_within(&last.snapshot, &slice.range) {
+    if are_within(&last.snapshot, &slice.range) {
         changed_snapshot(alloc, bucket, slice, last)
     } else {
-        unchanged_snapshot(bucket, slice, last)
+        whole_snapshot(alloc, bucket, slice)
     }
 }
 
@@ -161,23 +163,7 @@ fn are_within(snapshot: &Snapshot, range: &Range) -> bool
     range.min <= snapshot.least_hash() && snapshot.greatest_hash() <= range.max
 }
 
-// The rows of the slice's last searcher, which are its leader's cells still.
-fn unchanged_snapshot(
-    bucket: &Bucket,
-    slice: &Slice,
-    last: &Standing,
-) -> Result<Snapshot, AllocError>
-    requires sound { IsSound bucket.now }
-    requires last { IsLastOf bucket.now slice.now last.now }
-    requires committed { has_uncommitted bucket.now.journal.entries ≡ false }
-    requires within { All (IsInRange slice.now) (rows_of last.now) }
-    ensures { IfOk result (IsOfLeader bucket.now slice.now) }
-{
-    let _ = last.snapshot.rows(); // by it the proof knows that they are rows
-    last.snapshot.at(bucket.entries())
-}
-
-// The next snapshot after that of the slice's last searcher, of its leader's cells.
+// The snapshot of the slice's last searcher with what was written in the slice's range since the last commit.
 fn changed_snapshot(
     alloc: Global,
     bucket: &Bucket,
@@ -186,6 +172,40 @@ fn changed_snapshot(
 ) -> Result<Snapshot, AllocError>
     requires sound { IsSound bucket.now }
     requires last { IsLastOf bucket.now slice.now last.now }
+    requires within { All (IsInRange slice.now) (rows_of last.now) }
+    ensures { IfOk result (IsOfLeader bucket.now slice.now) }
+{
+    let writes = bucket.journal.uncommitted_writes();
+    let changes = changes_in(alloc, writes, &slice.range)?;
+    next_snapshot(alloc, bucket, slice, last, changes.as_slice())
+}
+
+// The same, with these changes; the same rows where there are none.
+fn next_snapshot(
+    alloc: Global,
+    bucket: &Bucket,
+    slice: &Slice,
+    last: &Standing,
+    changes: &[Cell],
+) -> Result<Snapshot, AllocError>
+    requires sound { IsSound bucket.now }
+    requires last { IsLastOf bucket.now slice.now last.now }
+    requires within { All (IsInRange slice.now) (rows_of last.now) }
+    requires changes { AreChangesOf bucket.now.journal.entries slice.now (map arc_value changes.now) }
+    ensures { IfOk result (IsOfLeader bucket.now slice.now) }
+{
+    let _ = last.snapshot.rows(); // by it the proof knows that they are rows
+    if changes.is_empty() {
+        last.snapshot.at(bucket.entries())
+    } else {
+        last.snapshot.next(alloc, bucket.entries(), changes)
+    }
+}
+
+// The snapshot of a share of each cell of the slice's leader.
+fn whole_snapshot(alloc: Global, bucket: &Bucket, slice: &Slice) -> Result<Snapshot, AllocError>
+    requires sound { IsSound bucket.now }
+    requires there { Contains bucket.now.map slice.now }
     ensures { IfOk result (IsOfLeader bucket.now slice.now) }
 {
     let leader = bucket
@@ -196,7 +216,7 @@ fn changed_snapshot(
         })
         .unwrap();
     let cells = bucket.replicas.get(leader).cells().share(alloc)?;
-    last.snapshot.next(alloc, bucket.entries(), cells)
+    Snapshot::from_list(alloc, bucket.entries(), cells)
 }
 
 /// The searchers of cores without cells, one for each slice of a map, all of which are active.

@@ -107,8 +107,8 @@ impl Feed {
     }
 }
 
-// The row's hash is in the range.
-fn is_within(range: &Range, row: &Cell) -> bool
+/// The row's hash is in the range.
+pub(crate) fn is_within(range: &Range, row: &Cell) -> bool
     ensures { result ≡ is_within range.now (arc_value row.now) }
 {
     range.contains(row.hash)

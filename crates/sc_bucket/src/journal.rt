@@ -1,5 +1,6 @@
-ghost use Rattle.std.specs.Prelude.{◌≡◌, ◌<◌, ◌≤◌, ◌-◌, [], ◌∷◌, ◌++◌, length, max, IfOk, OnOk, OnErr};
-ghost use Rattle.sc_bucket.specs.Entries.{has_uncommitted};
+ghost use Rattle.std.specs.Prelude.{◌≡◌, ◌<◌, ◌≤◌, ◌-◌, [], ◌∷◌, ◌++◌, length, map, max, IfOk, OnOk, OnErr};
+ghost use Rattle.std.specs.Arc.{arc_value};
+ghost use Rattle.sc_bucket.specs.Entries.{uncommitted};
 
 use crate::entries::{Entries, Mark};
 use sc_record::{Cell, Entry};
@@ -20,14 +21,14 @@ pub struct Journal {
     others: Vec<Entry>,
     // how many more entries fit, as far as callers have asked for room
     room: usize,
-    // a write came after the last entry that commits
-    uncommitted: bool,
+    // how many of the writes came before the last entry that commits
+    committed: usize,
 }
 
 impl Model for Journal {
     ghost use Rattle.std.specs.Prelude.{◌≡◌, ◌+◌, ◌≤◌, vec_len, vec_capacity};
     ghost use Rattle.sc_bucket.specs.Kept.{JournalState};
-    ghost use Rattle.sc_bucket.specs.Entries.{entries_of, AreParts, has_uncommitted};
+    ghost use Rattle.sc_bucket.specs.Entries.{entries_of, AreParts, AreCounted};
 
     ghost Value = { JournalState };
 
@@ -36,7 +37,7 @@ impl Model for Journal {
     ghost invariant = { λ a. AreParts a.marks.items a.writes.items a.settled.items a.others.items
         × (vec_len a.marks + a.room ≤ vec_capacity a.marks) × (vec_len a.writes + a.room ≤ vec_capacity a.writes)
         × (vec_len a.settled + a.room ≤ vec_capacity a.settled) × (vec_len a.others + a.room ≤ vec_capacity a.others)
-        × (a.uncommitted ≡ has_uncommitted (entries_of a.marks.items a.writes.items a.settled.items a.others.items)) };
+        × AreCounted (entries_of a.marks.items a.writes.items a.settled.items a.others.items) a.writes.items a.committed };
 }
 
 impl Journal {
@@ -50,7 +51,7 @@ impl Journal {
             settled: Vec::new(alloc),
             others: Vec::new(alloc),
             room: 0,
-            uncommitted: false,
+            committed: 0,
         }
     }
 
@@ -82,11 +83,11 @@ impl Journal {
         }
     }
 
-    /// Whether a write came after the last entry that commits, or at all where none does.
-    pub fn has_uncommitted(&self) -> bool
-        ensures { result ≡ has_uncommitted self.now.entries }
+    /// The writes after the last entry that commits, or all where none does, the oldest first.
+    pub fn uncommitted_writes(&self) -> &[Cell]
+        ensures { map arc_value result.now ≡ uncommitted self.now.entries }
     {
-        self.uncommitted
+        &self.writes.as_slice()[self.committed..]
     }
 
     /// Makes room for at least `n` more entries. An error means out of memory.
@@ -114,7 +115,6 @@ impl Journal {
             Entry::Write(cell) => {
                 self.marks.push_reserved(Mark::Write);
                 self.writes.push_reserved(cell);
-                self.uncommitted = true;
             }
             Entry::Settled { place } => {
                 self.marks.push_reserved(Mark::Settled);
@@ -122,12 +122,12 @@ impl Journal {
             }
             Entry::Committed => {
                 self.marks.push_reserved(Mark::Committed);
-                self.uncommitted = false;
+                self.committed = self.writes.len();
             }
             Entry::Begun { parent, subs } => {
                 self.marks.push_reserved(Mark::Other);
                 self.others.push_reserved(Entry::Begun { parent, subs });
-                self.uncommitted = false;
+                self.committed = self.writes.len();
             }
             other => {
                 self.marks.push_reserved(Mark::Other);

@@ -10,7 +10,7 @@
 //! leaves the messages to it out; `can_detach` says exactly of which cores it may be called, and `is_down` exactly which cores
 //! the journal says are down; `seat_of` gives the seat of a core by its number; `read` gives the last write of the id,
 //! `is_settled` whether an entry settles a write, `Journal::iter` lends the entries, the oldest first, and
-//! `Journal::has_uncommitted` says whether a write came after the last entry that commits. By `IsSound`, in and between splits,
+//! `Journal::uncommitted_writes` the writes after the last entry that commits. By `IsSound`, in and between splits,
 //! each core of a slice that is not inactive, unless it is down, has the last write of each id of its range, or it is pending for
 //! it (in flight, in its update log, or among the rows that it is still to be fed); only the cores of a slice that a split is
 //! making and, while no split is open, the followers of active slices may be catching up, by a feed or a replay, and each other
@@ -23,8 +23,8 @@
 //! Tested alone: the worked orders; a full log; two and three replicas; two commits of two shards.
 //!
 //! Neither: speed: a look-up is one binary search, an accepted order moves the shorter side of one list at most, and a delivery
-//! the same, by construction; so does a commit share the rows of each searcher as they are where no write came since the last
-//! commit, but of those that a switch handed on.
+//! the same, by construction; so does a commit look at no row but those of what was written since the last commit, and at none of a
+//! slice in whose range nothing was, but of those that a switch handed on, whose leaders' cells are all looked at.
 #![tactic(auto)]
 
 // What a bucket keeps.
@@ -43,6 +43,7 @@ mod unsettled;
 // The bucket, and its events.
 mod accept;
 mod bucket;
+mod changes;
 mod commit;
 mod deliver;
 mod detach;

@@ -1,76 +1,21 @@
--- The leader is found, and its cells are writes of the journal, as are the rows of the last searcher.
-use Rattle.std.proofs.Common.{◌≡◌, ◌∙◌, ℕ, List, length, map, Contains, refl, sym, ap, subst, arith}
+-- The changes are those of the writes that are not committed.
+use Rattle.std.proofs.Common.{List, map, filter, sym, ap, subst}
 use Rattle.std.specs.Arc.{arc_value}
-use Rattle.std.proofs.lemmas.List.Elements.{All-contains}
-use Rattle.std.proofs.lemmas.Option.{slice_get_within}
-use Rattle.std.proofs.lemmas.Result.{IfOk-weaker}
-use Rattle.sc_record.specs.declared.slice.SliceId.{SliceId}
-use Rattle.sc_record.specs.declared.slice.CoreId.{CoreId}
 use Rattle.sc_record.specs.declared.write.Write.{Write}
-use Rattle.sc_cluster.specs.declared.slice.Slice.{Slice}
-use Rattle.sc_snapshot.specs.Rows.{SnapshotState, AreRows, AreOfOneHistory}
-use Rattle.sc_replica.specs.Cells.{CellsState}
-use Rattle.sc_replica.specs.Core.{Core, IsCore}
-use Rattle.sc_bucket.specs.Cores.{core_key}
-use Rattle.sc_bucket.specs.Taking.{IsOfLeader}
-use Rattle.sc_bucket.proofs.CommitLemmas.{AreRows-sound}
-use Rattle.sc_bucket.proofs.CoreLemmas.{leader_is_found}
-use Rattle.sc_bucket.proofs.DeliverLemmas.{place_of_core}
-use Rattle.sc_bucket.proofs.TakenLemmas.{Contains-slice_get, found_leads}
-use Rattle.sc_bucket.proofs.UnchangedLemmas.{AreOfOneHistory-last}
+use Rattle.sc_record.specs.Writes.{AscendById}
+use Rattle.sc_bucket.specs.Entries.{uncommitted}
+use Rattle.sc_bucket.specs.Pending.{is_within}
+use Rattle.sc_bucket.specs.Taking.{AreLastOf}
 use Rattle.sc_bucket.proofs.commit.changed_snapshot.Goals as goal
 
--- the name of a slice's leader
-abbrev leader_of : SliceId → CoreId
-leader_of slice = record { slice = slice; replica = 1; counted = omega arith }
-
-pub unwrap-leader-requires : goal.unwrap-leader-requires
-unwrap-leader-requires c =
-    let b = c.args.bucket.now in
-    let slice = c.args.slice.now in
-    leader_is_found b.replicas slice.id (leader_of slice.id) c.position.result
-    (All-contains (λ (one : Slice). Contains (map core_key b.replicas) (one.id.0, 1)) b.map slice c.requires.sound.cores.leaders c.requires.last.there)
-    refl refl c.position.ensures
-
-pub get-requires : goal.get-requires
-get-requires c =
-    let b = c.args.bucket.now in
-    let (core, there, named) =
-    place_of_core b.replicas (leader_of c.args.slice.now.id) c.position.result c.unwrap-leader.result c.position.ensures c.unwrap-leader.ensures in
-    slice_get_within b.replicas c.unwrap-leader.result core there
-
-pub next-requires-clause-rows : goal.next-requires-clause-rows
-next-requires-clause-rows c =
-    let b = c.args.bucket.now in
-    let core = c.get.result.now in
-    let there = Contains-slice_get b.replicas c.unwrap-leader.result core c.get.ensures in
-    let rows =
-    All-contains (λ (one : Core). IsCore one → AreRows one.cells) b.replicas core (AreRows-sound b c.requires.sound) there c.cells.ensures.core in
-    subst AreRows (sym (c.in_ok-cells.ensures.cells ∙ ap (λ (cells : CellsState). cells.writes) c.cells.ensures.value)) rows
-
-pub next-requires-clause-one_history : goal.next-requires-clause-one_history
-next-requires-clause-one_history c =
-    let b = c.args.bucket.now in
-    let core = c.get.result.now in
-    let there = Contains-slice_get b.replicas c.unwrap-leader.result core c.get.ensures in
-    let cells : map arc_value c.in_ok-cells.cells ≡ core.cells =
-    c.in_ok-cells.ensures.cells ∙ ap (λ (cells : CellsState). cells.writes) c.cells.ensures.value in
-    subst (λ (s : SnapshotState). AreOfOneHistory s.rows (map arc_value c.in_ok-cells.cells)) (sym c.deref.ensures)
-    (subst (AreOfOneHistory (arc_value c.args.last.now.snapshot).rows) (sym cells)
-    (AreOfOneHistory-last b c.args.slice.now c.args.last.now core c.requires.sound c.requires.last there))
-
-pub returns : goal.returns
-returns c =
-    let b = c.args.bucket.now in
-    let slice = c.args.slice.now in
-    let core = c.get.result.now in
-    let leads = found_leads b.replicas (leader_of slice.id) c.position.result c.unwrap-leader.result core c.position.ensures c.unwrap-leader.ensures c.get.ensures refl in
-    let cells : map arc_value c.in_ok-cells.cells ≡ core.cells =
-    c.in_ok-cells.ensures.cells ∙ ap (λ (cells : CellsState). cells.writes) c.cells.ensures.value in
-    IfOk-weaker c.next.result _ (IsOfLeader b slice) (λ snapshot is. record {
-      core = core;
-      there = leads.0;
-      leader = leads.1;
-      snapshot_is = is ∙ ap (λ (n : ℕ). record { place = n; rows = map arc_value c.in_ok-cells.cells }) c.entries.ensures.count
-          ∙ ap (λ (rows : List Write). record { place = length b.journal.entries; rows = rows }) cells;
-    }) c.next.ensures
+pub next_snapshot-requires-clause-changes : goal.next_snapshot-requires-clause-changes
+next_snapshot-requires-clause-changes c =
+    let range = c.args.slice.now.range in
+    let journal = c.args.bucket.now.journal.entries in
+    let changes : List Write = map arc_value c.in_ok-changes.changes.items in
+    let lent = ap (map arc_value) c.as_slice.ensures.value in
+    record {
+      ascend = subst AscendById (sym lent) c.in_ok-changes.ensures.ascend;
+      last = subst (AreLastOf (filter (is_within range) (uncommitted journal))) (sym lent)
+          (subst (λ (writes : List Write). AreLastOf (filter (is_within range) writes) changes) c.uncommitted_writes-writes.ensures c.in_ok-changes.ensures.last);
+    }

@@ -5,7 +5,7 @@ use Rattle.std.proofs.lemmas.Option.{slice_get_within}
 use Rattle.sc_cluster.specs.declared.slice.Slice.{Slice}
 use Rattle.sc_snapshot.specs.Rows.{AreRows}
 use Rattle.sc_replica.specs.Cells.{CellsState}
-use Rattle.sc_replica.specs.Core.{Core, IsCore}
+use Rattle.sc_replica.specs.Core.{Core}
 use Rattle.sc_bucket.proofs.CommitLemmas.{AreRows-sound}
 use Rattle.sc_bucket.proofs.DeliverLemmas.{place_of_core}
 use Rattle.sc_handover.proofs.FollowerLemmas.{leader_of_slice_is_found, leader_of_slice_is, found_slice, taken_now, IsMade-fed}
@@ -28,7 +28,7 @@ from_list-requires c =
     let core = c.get.result.now in
     let there = (leader_of_slice_is b c.args.core c.args.leader c.requires.can.0 c.position.result c.unwrap-at.result core c.requires.can.1
     c.requires.leads c.position.ensures c.unwrap-at.ensures c.get.ensures).0 in
-    let rows = All-contains (λ (one : Core). IsCore one → AreRows one.cells) b.replicas core (AreRows-sound b c.requires.sound) there c.cells.ensures.core in
+    let rows = All-contains (λ (one : Core). AreRows one.cells) b.replicas core (AreRows-sound b c.requires.sound) there in
     subst AreRows (sym (c.in_ok-cells.ensures.cells ∙ ap (λ (cells : CellsState). cells.writes) c.cells.ensures.value)) rows
 
 pub returns : goal.returns

@@ -1,6 +1,6 @@
--- One more entry comes after those that were there: its mark after the marks, and its part after those of its kind. A write is
--- uncommitted then, after an entry that commits none is, and any other changes nothing of that.
-use Rattle.std.proofs.Common.{◌≡◌, ◌∙◌, ℕ, ◌-◌, false, List, [], ◌∷◌, ◌++◌, arith, rules, refl, sym, ap}
+-- One more entry comes after those that were there: its mark after the marks, and its part after those of its kind. After an entry
+-- that commits all writes are committed, and any other changes nothing of that.
+use Rattle.std.proofs.Common.{◌≡◌, ◌∙◌, ℕ, ◌-◌, List, [], ◌∷◌, ◌++◌, arith, rules, refl, sym, ap, subst}
 use Rattle.std.proofs.lemmas.Grind.{common_steps}
 use Rattle.std.proofs.lemmas.List.{append-nil}
 use Rattle.std.specs.declared.sync.Arc.{Arc}
@@ -8,13 +8,14 @@ use Rattle.std.specs.declared.alloc.Global.{Global}
 use Rattle.sc_record.specs.declared.write.Write.{Write}
 use Rattle.sc_record.specs.declared.entry.Entry.{Entry}
 use Rattle.sc_record.specs.declared.entry.Entry.TheVariants as entries
+use Rattle.sc_journal.specs.Journal.{as_write}
 use Rattle.sc_journal.specs.Committed.{commits}
 use Rattle.sc_bucket.specs.declared.entries.Mark.{Mark}
 use Rattle.sc_bucket.specs.declared.entries.Mark.TheVariants as mark
 use Rattle.sc_bucket.specs.Kept.{JournalState}
-use Rattle.sc_bucket.specs.Entries.{entries_of, AreParts, has_uncommitted}
+use Rattle.sc_bucket.specs.Entries.{entries_of, AreParts, AreCounted}
 use Rattle.sc_bucket.proofs.EntriesLemmas.{entries_of-append}
-use Rattle.sc_bucket.proofs.UncommittedLemmas.{is_write, has_uncommitted-push_commit, has_uncommitted-push_write, has_uncommitted-push_other, is_other_entry}
+use Rattle.sc_bucket.proofs.UncommittedLemmas.{AreCounted-same, AreCounted-push_commit, AreCounted-push_write, AreCounted-push_other, is_other_entry}
 use Rattle.sc_bucket.proofs.journal.Journal.append.Goals as goal
 
 -- these entries, and this room
@@ -40,10 +41,6 @@ seen_with old new room seen entry seen_as is =
     ap (λ (them : List Entry). journal_of them (room - 1)) is
     ∙ ap (λ (s : JournalState). journal_of (s.entries ++ entry ∷ []) (s.room - 1)) seen_as
 
--- an entry that is no write, and doesn't commit, changes nothing of what is uncommitted
-still : (before : List Entry) (one : Entry) → (commits one ≡ false) × (is_write one ≡ false) → has_uncommitted (before ++ one ∷ []) ≡ has_uncommitted before
-still before one (none, fails) = has_uncommitted-push_other before one none fails
-
 pub invariant_of-self : goal.invariant_of-self
 invariant_of-self c =
     let old = c.self.inside in
@@ -52,7 +49,14 @@ invariant_of-self c =
     c.args.entry mark.Write (c.in-Write.cell ∷ []) [] [] _ _ old.settled.items old.others.items
     c.push_reserved.ensures.items c.push_reserved-in-Write.ensures.items (sym (append-nil old.settled.items)) (sym (append-nil old.others.items))
     (ap (λ (e : Entry). e ∷ []) (sym c.in-Write.is)) in
-    (grind (arith, common_steps), search rules, search rules, search rules, search rules, sym (ap has_uncommitted more ∙ has_uncommitted-push_write before c.args.entry c.in-Write.cell c.in-Write.is))
+    let is = AreCounted-push_write before old.writes.items old.committed c.args.entry c.in-Write.cell c.in-Write.is c.self.invariant.5 in (
+      grind (arith, common_steps),
+      search rules,
+      search rules,
+      search rules,
+      search rules,
+      AreCounted-same _ _ _ _ old.committed more c.push_reserved-in-Write.ensures.items is,
+    )
 
 pub returns-in-Write : goal.returns-in-Write
 returns-in-Write c =
@@ -76,8 +80,8 @@ invariant_of-self-in-Settled c =
       search rules,
       search rules,
       search rules,
-      c.self.invariant.5 ∙ sym (ap has_uncommitted more
-          ∙ has_uncommitted-push_other before c.args.entry (ap commits c.in-Settled.is) (ap is_write c.in-Settled.is)),
+      AreCounted-same _ _ _ _ old.committed more refl
+          (AreCounted-push_other before old.writes.items old.committed c.args.entry (ap commits c.in-Settled.is, ap as_write c.in-Settled.is) c.self.invariant.5),
     )
 
 pub returns-in-Settled : goal.returns-in-Settled
@@ -97,7 +101,14 @@ invariant_of-self-in-Committed c =
     c.args.entry mark.Committed [] [] [] _ old.writes.items old.settled.items old.others.items
     c.push_reserved-in-Committed.ensures.items (sym (append-nil old.writes.items)) (sym (append-nil old.settled.items)) (sym (append-nil old.others.items))
     (ap (λ (e : Entry). e ∷ []) (sym c.in-Committed.is)) in
-    (grind (arith, common_steps), search rules, search rules, search rules, search rules, sym (ap has_uncommitted more ∙ has_uncommitted-push_commit before c.args.entry (ap commits c.in-Committed.is)))
+    let is = AreCounted-push_commit before old.writes.items old.committed c.args.entry (ap commits c.in-Committed.is) c.self.invariant.5 in (
+      grind (arith, common_steps),
+      search rules,
+      search rules,
+      search rules,
+      search rules,
+      AreCounted-same _ _ _ _ _ more refl (subst (AreCounted (before ++ c.args.entry ∷ []) old.writes.items) (sym (c.len-self-inside.ensures ∙ old.writes.ok.0)) is),
+    )
 
 pub returns-in-Committed : goal.returns-in-Committed
 returns-in-Committed c =
@@ -116,7 +127,14 @@ invariant_of-self-in-Begun c =
     c.args.entry mark.Other [] [] (entries.Begun c.in-Begun.parent c.in-Begun.subs ∷ []) _ old.writes.items old.settled.items _
     c.push_reserved-in-Begun.ensures.items (sym (append-nil old.writes.items)) (sym (append-nil old.settled.items)) c.push_reserved-in-Begun-2.ensures.items
     (ap (λ (e : Entry). e ∷ []) (sym c.in-Begun.is)) in
-    (grind (arith, common_steps), search rules, search rules, search rules, search rules, sym (ap has_uncommitted more ∙ has_uncommitted-push_commit before c.args.entry (ap commits c.in-Begun.is)))
+    let is = AreCounted-push_commit before old.writes.items old.committed c.args.entry (ap commits c.in-Begun.is) c.self.invariant.5 in (
+      grind (arith, common_steps),
+      search rules,
+      search rules,
+      search rules,
+      search rules,
+      AreCounted-same _ _ _ _ _ more refl (subst (AreCounted (before ++ c.args.entry ∷ []) old.writes.items) (sym (c.len-self-inside-in-Begun.ensures ∙ old.writes.ok.0)) is),
+    )
 
 pub returns-in-Begun : goal.returns-in-Begun
 returns-in-Begun c =
@@ -140,8 +158,9 @@ invariant_of-self-in_default c =
       search rules,
       search rules,
       search rules,
-      c.self.invariant.5 ∙ sym (ap has_uncommitted more ∙ still before c.args.entry (is_other_entry c.args.entry
-          (λ cell. c.in_default.not-Write cell) c.in_default.not-Committed (λ parent subs. c.in_default.not-Begun parent subs))),
+      AreCounted-same _ _ _ _ old.committed more refl (AreCounted-push_other before old.writes.items old.committed c.args.entry
+          (is_other_entry c.args.entry (λ cell. c.in_default.not-Write cell) c.in_default.not-Committed (λ parent subs. c.in_default.not-Begun parent subs))
+          c.self.invariant.5),
     )
 
 pub returns-in_default : goal.returns-in_default

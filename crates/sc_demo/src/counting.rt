@@ -11,6 +11,7 @@ use sc_eval::{Bound, bind};
 use sc_fanout::{Ask, search};
 use sc_query::parse;
 use std::alloc::{AllocError, Global};
+use std::thread::Threads;
 
 /// How many documents are found by `*:*`, by `g_s:a` and by `g_s:b`.
 #[derive(Clone, Copy, Debug, PartialEq, Eq)]
@@ -21,7 +22,8 @@ pub struct Found {
 }
 
 /// Commits every bucket of a desk, and then makes three searches, each with an empty trail. An error means out of memory.
-pub fn count_on<D: Desk>(
+pub fn count_on<R: Threads + Sync, D: Desk>(
+    rt: &R,
     alloc: Global,
     desk: &mut D,
     trail: &mut Trail,
@@ -33,9 +35,9 @@ pub fn count_on<D: Desk>(
     ensures rest { IsDeskAtRest (D.layout desk.new) (D.out desk.new) (D.seen desk.new) }
 {
     commit(alloc, desk, trail)?;
-    let all = found_by(alloc, desk, trail, "*:*")?;
-    let a = found_by(alloc, desk, trail, "g_s:a")?;
-    let b = found_by(alloc, desk, trail, "g_s:b")?;
+    let all = found_by(rt, alloc, desk, trail, "*:*")?;
+    let a = found_by(rt, alloc, desk, trail, "g_s:a")?;
+    let b = found_by(rt, alloc, desk, trail, "g_s:b")?;
     Ok(Found { all, a, b })
 }
 
@@ -56,7 +58,8 @@ fn commit<D: Desk>(alloc: Global, desk: &mut D, trail: &mut Trail) -> Result<(),
 }
 
 /// How many documents a query finds, by a search with an empty trail. An error means out of memory, or that the text is no query.
-fn found_by<D: Desk>(
+fn found_by<R: Threads + Sync, D: Desk>(
+    rt: &R,
     alloc: Global,
     desk: &mut D,
     trail: &mut Trail,
@@ -75,7 +78,7 @@ fn found_by<D: Desk>(
         rows: 0,
     };
     trail.clear();
-    let page = search(alloc, desk, trail, &ask)?;
+    let page = search(rt, alloc, desk, trail, &ask)?;
     Ok(page.found)
 }
 

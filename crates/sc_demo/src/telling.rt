@@ -15,9 +15,10 @@ use sc_shared::{Collection, Home, Passes, Shared};
 use std::alloc::{AllocError, Global};
 use std::marker::Brand;
 use std::sync::Wait;
+use std::thread::Threads;
 
 /// Writes the lines on what came of all makers, and tells the status of the demonstration.
-pub fn tell<R: Wait, W: Sink>(
+pub fn tell<R: Threads + Wait + Sync, W: Sink>(
     rt: &R,
     alloc: Global,
     demo: &Demo,
@@ -57,7 +58,7 @@ pub fn tell<R: Wait, W: Sink>(
 }
 
 /// The lines on what the makers made. An error means out of memory.
-fn lines_on<R: Wait>(
+fn lines_on<R: Threads + Wait + Sync>(
     rt: &R,
     alloc: Global,
     orders: u32,
@@ -75,7 +76,7 @@ fn lines_on<R: Wait>(
 }
 
 // What is found on a collection, over the one of its desk's home.
-fn count_at<N: Home, R: Wait>(
+fn count_at<N: Home, R: Threads + Wait + Sync>(
     rt: &R,
     alloc: Global,
     collection: &Collection,
@@ -88,7 +89,7 @@ fn count_at<N: Home, R: Wait>(
 {
     let mut desk = Shared::<R, N>::new(rt, collection, passes);
     let _ = desk.buckets(); // by it the proof knows how many there may be, and that what was seen is legal
-    let found = count_on(alloc, &mut desk, trail);
+    let found = count_on(rt, alloc, &mut desk, trail);
     let _ = desk.into_passes();
     found
 }

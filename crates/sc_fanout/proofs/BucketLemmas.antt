@@ -42,7 +42,7 @@ use Rattle.sc_bucket.proofs.WriteLemmas.{Contains-find}
 use Rattle.sc_collection.specs.Desks.{IsBucketOf}
 use Rattle.sc_fanout.specs.Pages.{AreFound, all_of}
 use Rattle.sc_fanout.specs.Searches.{IsInRoute, IsFoundIn}
-use Rattle.sc_fanout.specs.Steps.{asks_for, is_asked, rows_in, found_in, IsOfSlice, AreOfSlices, IsJournalOf, AreAsked}
+use Rattle.sc_fanout.specs.Steps.{asks_for, is_asked, rows_in, found_in, IsOfSlice, AreOfSlices, IsJournalOf, AreAsked, HaveTerms}
 use Rattle.sc_fanout.proofs.TakenLemmas.{asks_for-Decides}
 use Rattle.sc_fanout.proofs.ExactlyLemmas.{AreExactly, AreExactly-none, AreExactly-same, AreExactly-append, ascend-once, AscendById-filter}
 
@@ -273,19 +273,18 @@ found-number layout number journal condition route write is_of found =
 -- each row has the terms of its document
 have-terms : (first : List Slice) (journal : List Entry) (slices : List Slice) (searchers : List Searcher)
     → IsLegal first journal → AreOfSlices journal slices searchers
-    → All (λ (searcher : Searcher). All (λ (row : Write). HasTerms row.id row.doc row.terms) (rows_in searcher)) searchers
-have-terms first journal [] [] legal each = All-nil (λ (searcher : Searcher). All (λ (row : Write). HasTerms row.id row.doc row.terms) (rows_in searcher))
+    → All HaveTerms searchers
+have-terms first journal [] [] legal each = All-nil HaveTerms
 have-terms first journal [] (searcher ∷ searchers) legal each = absurd each
 have-terms first journal (slice ∷ slices) [] legal each = absurd each
 have-terms first journal (slice ∷ slices) (searcher ∷ searchers) legal each =
-    All-cons (λ (s : Searcher). All (λ (row : Write). HasTerms row.id row.doc row.terms) (rows_in s)) searcher searchers
+    All-cons HaveTerms searcher searchers
     (All-weaker (Contains (writes journal)) (λ (row : Write). HasTerms row.id row.doc row.terms)
     (λ row there. legal_terms first journal row legal there) (rows_in searcher) each.0.shows.written)
     (have-terms first journal slices searchers legal each.1)
 
 pub asked-terms : (layout : Layout) (number : ℕ) (journal : List Entry) (route : Option Range) (searchers : List Searcher)
-    → AreAsked layout number journal route searchers
-    → All (λ (searcher : Searcher). All (λ (row : Write). HasTerms row.id row.doc row.terms) (rows_in searcher)) searchers
+    → AreAsked layout number journal route searchers → All HaveTerms searchers
 asked-terms layout number journal route searchers asked =
     have-terms layout.first journal (filter (is_asked route) (map_after layout.first journal)) searchers asked.is_of.legal asked.each
 

@@ -4,7 +4,8 @@ mod OrderLemmas
 mod StartLemmas
 mod CountLemmas
 mod PageLemmas
-mod PartLemmas
+mod HitLemmas
+mod FoundLemmas
 mod TakenLemmas
 mod ExactlyLemmas
 mod BucketLemmas

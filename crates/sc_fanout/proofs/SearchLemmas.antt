@@ -25,7 +25,6 @@ use Rattle.sc_fanout.specs.Pages.{AreFound, IsPageOf, all_of}
 use Rattle.sc_fanout.specs.Searches.{IsFoundIn, IsFoundAtOne, LooksAtBuckets, SearchesBuckets, search_of}
 use Rattle.sc_fanout.specs.Steps.{rows_in, found_in, AreAsked, LooksAtOne}
 use Rattle.sc_fanout.proofs.ExactlyLemmas.{AreExactly, AreExactly-none, AreExactly-same, AreExactly-append, AreExactly-sorted}
-use Rattle.sc_fanout.proofs.CountLemmas.{count-bounded}
 use Rattle.sc_fanout.proofs.BucketLemmas.{bucket-exactly, found-number, few-asked, are-found}
 
 -- the first buckets were looked at, and these stops kept
@@ -223,15 +222,12 @@ searched layout old new ask count lists (Ok page) all far is = record {
   );
 }
 
--- there are 256 buckets at most, so what is found in them can be counted
-pub found-fits : (lists more : List (List Write)) (count buckets : ℕ) → All AreFound lists → All AreFound more
-    → length lists ≤ 256 * count → length more ≤ 256 → count < buckets → IsBucketCount buckets
-    → length (all_of lists) + length (all_of more) < 2 ^ 64
-found-fits lists more count buckets found found_more few few_more within (k, small, is) =
+-- there are 256 buckets at most, and as many searchers of each
+pub few-taken : {Y : Type 0} (f : Searcher → Y) (searchers : List Searcher) (count buckets : ℕ) → length (map f searchers) ≤ 256 * count
+    → count ≤ buckets → IsBucketCount buckets → length searchers ≤ 65536
+few-taken f searchers count buckets few within (k, small, is) =
     let most : buckets ≤ 256 = omega (arith, is, bounded k small) in
-    let first = count-bounded lists found in
-    let next = count-bounded more found_more in
-    omega (arith, first, next, few, few_more, within, most)
+    omega (arith, few, length-map searchers f, within, most)
   where
     bounded : (n : ℕ) → n ≤ 8 → 2 ^ n ≤ 256
     bounded n low = pow-le-pow_right {n = 2} (omega arith) {i = n} {j = 8} low

@@ -9,7 +9,7 @@ use Rattle.std.proofs.lemmas.List.Sorted.{IsPermutation-refl, IsPermutation-tran
 use Rattle.sc_record.specs.declared.write.Write.{Write}
 use Rattle.sc_fanout.specs.Pages.{AreFound, IsStartOf, all_of}
 use Rattle.sc_fanout.specs.Merging.{goes_before, merged}
-use Rattle.sc_fanout.specs.Parts.{AreHeads}
+use Rattle.sc_fanout.specs.Hits.{AreHeads}
 use Rattle.sc_fanout.proofs.MergeLemmas.{Ascends, merged-ascends, merged-moves, take-merged_left, take-merged_right}
 use Rattle.sc_fanout.proofs.OrderLemmas.{by_id-order, ascends-by_id, in_order}
 

@@ -5,4 +5,4 @@ pub mod Laws
 pub mod Searches
 pub mod SearchLaws
 pub mod Steps
-pub mod Parts
+pub mod Hits

@@ -1,5 +1,5 @@
 -- What the steps of a search come to.
-use Rattle.std.specs.Prelude.{◌≡◌, ℕ, ◌&&◌, Bool, true, false, int_le, List, [], ◌∷◌, length, filter, Option, Some, None, ⊤}
+use Rattle.std.specs.Prelude.{◌≡◌, ℕ, ◌&&◌, Bool, true, false, int_le, List, [], ◌∷◌, length, filter, All, Option, Some, None, ⊤}
 use Rattle.std.specs.Arc.{arc_value}
 use Rattle.std.specs.List.{AllByRecursion}
 use mathlib.Core.List.{IsPrefix}
@@ -14,7 +14,7 @@ use Rattle.sc_eval.specs.Conditions.{Condition}
 use Rattle.sc_eval.specs.Matching.{finds}
 use Rattle.sc_journal.specs.Journal.{writes}
 use Rattle.sc_journal.specs.Splits.{map_after}
-use Rattle.sc_journal.specs.Legal.{IsLegal}
+use Rattle.sc_journal.specs.Legal.{IsLegal, HasTerms}
 use Rattle.sc_seen.specs.Seen.{Layout}
 use Rattle.sc_seen.specs.Moments.{View, Keeps}
 use Rattle.sc_bucket.specs.Searchers.{ShowsCommitted}
@@ -32,6 +32,10 @@ is_asked route slice = is_active slice && asks_for route slice.range
 -- the rows that a searcher looks at
 abbrev pub rows_in : Searcher → List Write
 rows_in searcher = (arc_value searcher.snapshot).rows
+
+-- the rows that a searcher looks at have their terms
+abbrev pub HaveTerms : Searcher → Type 0
+HaveTerms searcher = All (λ (row : Write). HasTerms row.id row.doc row.terms) (rows_in searcher)
 
 -- what the condition finds in the searcher's rows
 abbrev pub found_in : Condition → Searcher → List Write

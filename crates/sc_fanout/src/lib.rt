@@ -25,11 +25,13 @@ mod ask;
 mod shown;
 
 // How it comes from what the searchers find.
+mod hits;
 mod merging;
 mod pages;
-mod part;
 
-// The search.
+// The search: what the searchers of one part find, all parts at once, and all of it from the holds to the page.
+mod finding;
+mod parts;
 mod searching;
 
 // What follows from the definitions.

@@ -2,7 +2,7 @@ ghost use Rattle.std.specs.Prelude.{◌≡◌, ◌∷◌, [], List, map, take, A
 ghost use Rattle.sc_record.specs.declared.write.Write.{Write};
 ghost use Rattle.sc_fanout.specs.Pages.{AreFound, IsStartOf, all_of};
 ghost use Rattle.sc_fanout.specs.Merging.{goes_before, is_left_next, merged};
-ghost use Rattle.sc_fanout.specs.Parts.{AreHeads, lent, lent_in};
+ghost use Rattle.sc_fanout.specs.Hits.{AreHeads, lent, lent_in};
 
 use sc_record::Cell;
 use std::alloc::{AllocError, Global};

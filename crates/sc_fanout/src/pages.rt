@@ -6,12 +6,13 @@ ghost use Rattle.sc_segment.specs.Fresh.{IsFresh};
 ghost use Rattle.sc_eval.specs.Conditions.{condition_of};
 ghost use Rattle.sc_fanout.specs.Pages.{AreFound, IsPageOf, all_of};
 ghost use Rattle.sc_fanout.specs.Steps.{rows_in};
-ghost use Rattle.sc_fanout.specs.Parts.{IsPart, heads_in, lent, lent_in, lists_of};
+ghost use Rattle.sc_fanout.specs.Hits.{AreHits, heads_in, lent, lent_in, lists_of};
 
 use crate::ask::Ask;
+use crate::hits::Hits;
 use crate::merging::merge_all;
-use crate::part::Part;
 use crate::shown::Page;
+use sc_bucket::Searcher;
 use sc_record::{Cell, List};
 use sc_segment::Steps;
 use std::alloc::{AllocError, Global};
@@ -19,17 +20,17 @@ use std::marker::Brand;
 use std::sync::Arc;
 use std::sync::ledger::{Blank, Ledger};
 
-/// The page that is asked for, of all that the parts' searchers find, of which `found` is the count. Of each part no more rows are
-/// read than the page can show, and none where it shows none; the documents of the page alone are shared. The only error is that
-/// memory was refused.
-pub(crate) fn page(alloc: Global, ask: &Ask, found: u64, parts: &[Part]) -> Result<Page, AllocError>
-    requires counted { found ≡ length (all_of (lists_of (condition_of ask.now.query) parts.now)) }
-    requires may_be { All AreFound (lists_of (condition_of ask.now.query) parts.now) }
-    requires kept { All (IsPart (condition_of ask.now.query) (ask.now.start + ask.now.rows)) parts.now }
-    ensures { IfOk result (IsPageOf (all_of (lists_of (condition_of ask.now.query) parts.now)) ask.now.start ask.now.rows) }
+/// The page that is asked for, of all that the searchers of these hits find, of which `found` is the count. Of each searcher no more
+/// rows are read than the page can show, and none where it shows none; the documents of the page alone are shared. The only error is
+/// that memory was refused.
+pub(crate) fn page(alloc: Global, ask: &Ask, found: u64, all: &[Hits]) -> Result<Page, AllocError>
+    requires counted { found ≡ length (all_of (lists_of (condition_of ask.now.query) all.now)) }
+    requires may_be { All AreFound (lists_of (condition_of ask.now.query) all.now) }
+    requires kept { All (AreHits (condition_of ask.now.query) (ask.now.start + ask.now.rows)) all.now }
+    ensures { IfOk result (IsPageOf (all_of (lists_of (condition_of ask.now.query) all.now)) ask.now.start ask.now.rows) }
 {
     let most = reach(ask, found);
-    let lists = heads_of_all(alloc, parts, most)?;
+    let lists = heads_of_all(alloc, all, most)?;
     let kept = merge_all(alloc, lists, most)?;
     let docs = shared(alloc, between(kept.as_slice(), ask.start as usize, most))?;
     Ok(Page { found, docs })
@@ -50,40 +51,49 @@ fn reach(ask: &Ask, found: u64) -> usize
     }
 }
 
-// Of each part the first rows, at most `most`.
-fn heads_of_all(alloc: Global, parts: &[Part], most: usize) -> Result<Vec<Vec<&Cell>>, AllocError>
-    ensures { IfOk result (λ lists. map lent_in lists.items ≡ map (heads_in most) parts.now) }
+// Of each searcher the rows of its first hits, at most `most`.
+fn heads_of_all<'a>(
+    alloc: Global,
+    all: &[Hits<'a>],
+    most: usize,
+) -> Result<Vec<Vec<&'a Cell>>, AllocError>
+    ensures { IfOk result (λ lists. map lent_in lists.items ≡ map (heads_in most) all.now) }
 {
-    let mut lists = Vec::new(alloc);
-    for part in parts {
-        lists.push(heads_of(alloc, part, most)?)?;
+    let mut lists = Vec::with_capacity(alloc, all.len())?;
+    for hits in all {
+        lists.push(heads_of(alloc, hits, most)?)?;
     }
     Ok(lists)
 }
 
-// The first rows of a part, at most `most`.
-fn heads_of(alloc: Global, part: &Part, most: usize) -> Result<Vec<&Cell>, AllocError>
-    ensures { IfOk result (λ cells. lent_in cells ≡ heads_in most part.now) }
+// The rows of the first hits, at most `most`.
+fn heads_of<'a>(alloc: Global, hits: &Hits<'a>, most: usize) -> Result<Vec<&'a Cell>, AllocError>
+    ensures { IfOk result (λ cells. lent_in cells ≡ heads_in most hits.now) }
 {
-    let end = most.min(part.numbers.len());
-    rows_at::<Brand>(alloc, part, &part.numbers.as_slice()[..end], Blank::new(1))
+    let end = most.min(hits.numbers.len());
+    rows_at::<Brand>(
+        alloc,
+        hits.searcher,
+        &hits.numbers.as_slice()[..end],
+        Blank::new(1),
+    )
 }
 
-// The rows at these numbers.
+// The searcher's rows at these numbers, in a list that has room for just these.
 fn rows_at<'a, L: Ledger>(
     alloc: Global,
-    part: &'a Part,
+    searcher: &'a Searcher,
     numbers: &[u32],
     blank: Blank,
 ) -> Result<Vec<&'a Cell>, AllocError>
     requires { IsFresh blank L.name L.parts }
     ensures { IfOk result (λ cells.
-        lent_in cells ≡ flat_map (λ number. option_to_list (slice_get (rows_in part.now.searcher) number)) numbers.now) }
+        lent_in cells ≡ flat_map (λ number. option_to_list (slice_get (rows_in searcher.now) number)) numbers.now) }
 {
     let mut steps = Steps::<L>::new(blank);
-    let mut cells = Vec::new(alloc);
+    let mut cells = Vec::with_capacity(alloc, numbers.len())?;
     for number in numbers {
-        if let Some(cell) = part.searcher.snapshot.row(*number, &mut steps) {
+        if let Some(cell) = searcher.snapshot.row(*number, &mut steps) {
             cells.push(cell)?;
         }
     }

@@ -1,37 +1,30 @@
-ghost use Rattle.std.specs.Prelude.{◌≡◌, ◌+◌, ◌++◌, ◌<◌, ◌≤◌, length, map, take, filter, All, IfOk, OnOk};
-ghost use Rattle.sc_record.specs.declared.write.Write.{Write};
-ghost use Rattle.sc_eval.specs.Conditions.{condition_of};
-ghost use Rattle.sc_journal.specs.Legal.{HasTerms};
-ghost use Rattle.sc_segment.specs.Fresh.{IsFresh};
+ghost use Rattle.std.specs.Prelude.{◌≡◌, ◌+◌, ◌<◌, ◌≤◌, length, filter, All, IfOk};
 ghost use Rattle.sc_snapshot.specs.Rows.{AreRows};
 ghost use Rattle.sc_bucket.specs.Sound.{IsSound};
 ghost use Rattle.sc_bucket.specs.declared.standing.Searcher.{Searcher};
 ghost use Rattle.sc_seen.specs.Moments.{view_of};
 ghost use Rattle.sc_collection.specs.Desks.{nothing_out, IsDeskAtRest};
 ghost use Rattle.sc_collection.specs.Kept.{trail_room};
-ghost use Rattle.sc_fanout.specs.Pages.{all_of};
-ghost use Rattle.sc_fanout.specs.Parts.{IsPart, StandAt, searchers_of};
 ghost use Rattle.sc_fanout.specs.Searches.{SearchesBuckets};
-ghost use Rattle.sc_fanout.specs.Steps.{asks_for, is_asked, rows_in, found_in, AreOfSlices, AreAsked, LooksAtOne};
+ghost use Rattle.sc_fanout.specs.Steps.{asks_for, is_asked, rows_in, AreOfSlices, AreAsked, LooksAtOne};
 
 use crate::ask::Ask;
 use crate::pages::page;
-use crate::part::Part;
+use crate::parts::{find_in_parts, parts_for};
 use crate::shown::Page;
 use sc_bucket::{Bucket, Searcher};
 use sc_collection::{Desk, Stop, Trail};
-use sc_eval::{Bound, find};
 use sc_hash::Range;
-use sc_segment::Steps;
 use std::alloc::{AllocError, Global};
-use std::marker::Brand;
-use std::sync::ledger::{Blank, Ledger};
+use std::thread::Threads;
 
-/// Searches all buckets, one after another: of each it takes, in one hold, the searchers that the route asks for, and looks up the
-/// query's terms once the bucket was given back. What is found is counted, and of each searcher only as many numbers of rows are kept
-/// as the page can show; these rows are merged by id, and the page is cut from them. A stop is kept for each bucket. The only error
+/// Searches all buckets: first of each bucket, one after another, the searchers that the route asks for are taken, in one hold, whose
+/// stop is kept. The query's terms are looked up in them once all buckets were given back, in parts at once where that is worth threads.
+/// What is found is counted, and of each searcher only as many numbers of rows are kept as the page can show; these rows are merged by
+/// id, and the page is cut from them. It waits for the threads of its parts alone, and for none where there is one part. The only error
 /// is that memory was refused; the stops up to then are kept.
-pub fn search<D: Desk>(
+pub fn search<R: Threads + Sync, D: Desk>(
+    rt: &R,
     alloc: Global,
     desk: &mut D,
     trail: &mut Trail,
@@ -45,14 +38,16 @@ pub fn search<D: Desk>(
     ensures requests { trail.new.requests ≡ trail.old.requests }
 {
     let most = ask.start as usize + ask.rows as usize;
-    let mut found: u64 = 0;
-    let mut parts = Vec::new(alloc);
+    let mut rows: u64 = 0;
+    let mut searchers = Vec::new(alloc);
     for b in 0..desk.buckets() {
-        let searchers = take_searchers(alloc, desk, trail, b, &ask.route)?;
-        let more = find_all(alloc, &ask.query, searchers, most, &mut parts)?;
-        found += more;
+        let mut more = take_searchers(alloc, desk, trail, b, &ask.route)?;
+        rows = rows.saturating_add(rows_of(more.as_slice()));
+        searchers.append(&mut more)?;
     }
-    page(alloc, ask, found, parts.as_slice())
+    let parts = parts_for(rows);
+    let found = find_in_parts(rt, alloc, &ask.query, searchers.as_slice(), most, parts)?;
+    page(alloc, ask, found.count, found.hits.as_slice())
 }
 
 // The searchers of a bucket that the route asks for, taken in one hold, whose stop is kept.
@@ -115,72 +110,13 @@ fn asks_for(route: &Option<Range>, range: &Range) -> bool
     }
 }
 
-// Puts the part of each searcher at the end of the parts, and counts what they find.
-fn find_all(
-    alloc: Global,
-    query: &Bound,
-    searchers: Vec<Searcher>,
-    most: usize,
-    parts: &mut Vec<Part>,
-) -> Result<u64, AllocError>
-    requires terms { All (λ (searcher : Searcher). All (λ (row : Write). HasTerms row.id row.doc row.terms) (rows_in searcher)) searchers.items }
-    requires few { length searchers.items ≤ 256 }
-    requires kept { All (IsPart (condition_of query.now) most) parts.old.items }
-    ensures found { IfOk result (λ found. found ≡ length (all_of (map (found_in (condition_of query.now)) searchers.items))) }
-    ensures searchers { OnOk result (searchers_of parts.new.items ≡ searchers_of parts.old.items ++ searchers.items) }
-    ensures kept { OnOk result (All (IsPart (condition_of query.now) most) parts.new.items) }
-    ensures rows { OnOk result (All (λ (searcher : Searcher). AreRows (rows_in searcher)) searchers.items) }
+// How many rows the searchers have in all, or 2^64 - 1 where there are more.
+fn rows_of(searchers: &[Searcher]) -> u64
+    ensures { All (λ (searcher : Searcher). AreRows (rows_in searcher)) searchers.now }
 {
-    let mut found: u64 = 0;
+    let mut rows: u64 = 0;
     for searcher in searchers {
-        let numbers = find_in(alloc, query, &searcher)?;
-        found += numbers.len() as u64;
-        parts.push(part_of(searcher, numbers, most))?;
+        rows = rows.saturating_add(u64::from(searcher.snapshot.rows()));
     }
-    Ok(found)
-}
-
-// The part of a searcher, where these are the numbers of all that is found. The room of those that are not kept is given back.
-fn part_of(searcher: Searcher, mut numbers: Vec<u32>, most: usize) -> Part
-    ensures searcher { result.searcher ≡ searcher }
-    ensures numbers { result.numbers.items ≡ take most numbers.items }
-{
-    numbers.truncate(most);
-    numbers.shrink_to_fit();
-    Part { searcher, numbers }
-}
-
-// The numbers of a searcher's rows that the query finds. Where there are no rows, no term is looked up.
-fn find_in(alloc: Global, query: &Bound, searcher: &Searcher) -> Result<Vec<u32>, AllocError>
-    requires { All (λ (row : Write). HasTerms row.id row.doc row.terms) (rows_in searcher.now) }
-    ensures found { IfOk result (λ numbers.
-        StandAt (rows_in searcher.now) numbers.items (found_in (condition_of query.now) searcher.now)) }
-    ensures rows { AreRows (rows_in searcher.now) }
-{
-    if searcher.snapshot.rows() == 0 {
-        return Ok(Vec::new(alloc));
-    }
-    numbers_in::<Brand>(alloc, query, searcher, Blank::new(1))
-}
-
-// The same, with a count of its own.
-fn numbers_in<L: Ledger>(
-    alloc: Global,
-    query: &Bound,
-    searcher: &Searcher,
-    blank: Blank,
-) -> Result<Vec<u32>, AllocError>
-    requires terms { All (λ (row : Write). HasTerms row.id row.doc row.terms) (rows_in searcher.now) }
-    requires fresh { IsFresh blank L.name L.parts }
-    ensures { IfOk result (λ numbers.
-        StandAt (rows_in searcher.now) numbers.items (found_in (condition_of query.now) searcher.now)) }
-{
-    let mut steps = Steps::<L>::new(blank);
-    find(
-        alloc,
-        query,
-        &searcher.snapshot,
-        &searcher.range,
-        &mut steps,
-    )
+    rows
 }

@@ -95,6 +95,7 @@ pub fn show_cores(alloc: Global, hosts: &MemHosts) -> Result<String, AllocError>
 /// and its stops, each as its lock and its place, with a sign where it made an entry. A bucket's lock is its number, and the board's is
 /// the number of buckets.
 pub fn exchange(
+    rt: &HostRuntime,
     alloc: Global,
     collection: &mut Collection,
     now: u64,
@@ -110,6 +111,7 @@ pub fn exchange(
     let mut sink = collection.wire.sink(alloc)?;
     let mut trail = Trail::new(alloc)?;
     let end = serve(
+        rt,
         alloc,
         &mut collection.desk,
         &mut Fixed { moment: now },

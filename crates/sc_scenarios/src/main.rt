@@ -35,7 +35,7 @@ fn main(rt: HostRuntime) -> io::Result<()> {
     go_between_threads::<Page>();
     let mut stage = Stage::new(alloc)?;
     for line in BufReader::new(alloc, rt.reader())?.lines(alloc) {
-        let answer = answer(alloc, &mut stage, line?.as_str())?;
+        let answer = answer(&rt, alloc, &mut stage, line?.as_str())?;
         println!(rt; "{}", answer.as_str())?;
     }
     Ok(())

@@ -34,7 +34,12 @@ impl Stage {
 }
 
 /// What is written for a line.
-pub fn answer(alloc: Global, stage: &mut Stage, line: &str) -> Result<String, AllocError>
+pub fn answer(
+    rt: &HostRuntime,
+    alloc: Global,
+    stage: &mut Stage,
+    line: &str,
+) -> Result<String, AllocError>
     requires sound { IsSound stage.old.bucket }
     requires out { stage.old.collection.desk.out ≡ None }
     requires board_out { stage.old.collection.desk.board_out ≡ None }
@@ -72,7 +77,7 @@ pub fn answer(alloc: Global, stage: &mut Stage, line: &str) -> Result<String, Al
             stage.now = number(&words, 1);
             String::from_str(alloc, "done")
         }
-        "GET" | "POST" | "DELETE" => exchange(alloc, &mut stage.collection, stage.now, line),
+        "GET" | "POST" | "DELETE" => exchange(rt, alloc, &mut stage.collection, stage.now, line),
         _ => about_bucket(alloc, &mut stage.bucket, &words),
     }
 }

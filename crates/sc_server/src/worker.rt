@@ -11,6 +11,7 @@ use sc_shared::{Collection, Home, Passes, Shared};
 use std::alloc::Global;
 use std::marker::Brand;
 use std::sync::Wait;
+use std::thread::Threads;
 
 /// A worker: its passes, its trail and its crew; how many connections it serves at most; and how it ended, once it has.
 pub struct Worker<'a, R, C, H, P, L> {
@@ -26,7 +27,14 @@ pub struct Worker<'a, R, C, H, P, L> {
     pub end: Option<WorkEnd>,
 }
 
-impl<'a, R: Wait, C: Clock, H: Hosts, P: Pace, L: Listener> Worker<'a, R, C, H, P, L> {
+impl<'a, R: Threads + Wait + Sync, C: Clock, H: Hosts, P: Pace, L: Listener> Worker<
+    'a,
+    R,
+    C,
+    H,
+    P,
+    L,
+> {
     /// Serves connections up to the end of the worker.
     pub fn run(&mut self)
         requires ready { IsReady self.old.collection.now self.old }
@@ -51,7 +59,7 @@ impl<'a, R: Wait, C: Clock, H: Hosts, P: Pace, L: Listener> Worker<'a, R, C, H, 
 }
 
 // Serves connections up to the end of the worker, whose collection is the one of its desk's home.
-fn run_at<N: Home, R: Wait, C: Clock, H: Hosts, P: Pace, L: Listener>(
+fn run_at<N: Home, R: Threads + Wait + Sync, C: Clock, H: Hosts, P: Pace, L: Listener>(
     worker: &mut Worker<R, C, H, P, L>,
 )
     requires home { N.locks ≡ Some worker.old.collection.now }
@@ -75,6 +83,7 @@ fn run_at<N: Home, R: Wait, C: Clock, H: Hosts, P: Pace, L: Listener>(
     let passes = worker.passes.take().unwrap();
     let mut desk = Shared::<R, N>::new(worker.rt, worker.collection, passes);
     let end = work(
+        worker.rt,
         worker.alloc,
         &mut desk,
         &mut worker.crew.clock,

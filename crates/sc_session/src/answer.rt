@@ -35,9 +35,12 @@ use sc_router::key_range;
 use sc_split::split;
 use sc_update::{BatchEnd, BatchFault, update};
 use std::alloc::{AllocError, Global};
+use std::thread::Threads;
 
-/// The reply to a request, with what it leaves of the desk, of the clock and of the hosts. Its stops are kept.
-pub(crate) fn answer<D: Desk, C: Clock, H: Hosts, P: Pace>(
+/// The reply to a request, with what it leaves of the desk, of the clock and of the hosts. Its stops are kept. A search waits for the
+/// threads of its parts.
+pub(crate) fn answer<R: Threads + Sync, D: Desk, C: Clock, H: Hosts, P: Pace>(
+    rt: &R,
     alloc: Global,
     desk: &mut D,
     clock: &mut C,
@@ -67,7 +70,7 @@ pub(crate) fn answer<D: Desk, C: Clock, H: Hosts, P: Pace>(
         Asked::Refused(refused) => Reply::refusal(alloc, &refused.cause()),
         Asked::Get(id) => get(alloc, desk, trail, &id),
         Asked::GetIds(ids) => get_ids(alloc, desk, trail, &ids),
-        Asked::Select(asked) => select(alloc, desk, trail, &asked),
+        Asked::Select(asked) => select(rt, alloc, desk, trail, &asked),
         Asked::Update(batch) => {
             let end = update(alloc, desk, clock, trail, &batch);
             update_reply(alloc, &batch, &end)
@@ -126,7 +129,8 @@ fn get_ids<D: Desk>(
 }
 
 /// A page of what a search finds.
-fn select<D: Desk>(
+fn select<R: Threads + Sync, D: Desk>(
+    rt: &R,
     alloc: Global,
     desk: &mut D,
     trail: &mut Trail,
@@ -153,7 +157,7 @@ fn select<D: Desk>(
         start: asked.start,
         rows: asked.rows,
     };
-    let page = search(alloc, desk, trail, &ask)?;
+    let page = search(rt, alloc, desk, trail, &ask)?;
     Ok(Reply::made(
         200,
         select_body(alloc, page.found, asked.start, &page.docs)?,

@@ -21,11 +21,13 @@ use sc_http::{Incoming, MessageEnd, Reader, write_reply};
 use sc_io::{Clock, Hosts, Pace, Sink, Source};
 use sc_reply::memory_body;
 use std::alloc::{AllocError, Global};
+use std::thread::Threads;
 
 /// Serves one connection: reads its requests, answers each over the desk and writes the answers, up to its end. The trail keeps
 /// the stops at which it read and wrote. Splits and deletions of shards start and stop cores by the hosts, and a split asks the pace
 /// between its steps.
-pub fn serve<D: Desk, C: Clock, H: Hosts, P: Pace, S: Source, W: Sink>(
+pub fn serve<R: Threads + Sync, D: Desk, C: Clock, H: Hosts, P: Pace, S: Source, W: Sink>(
+    rt: &R,
     alloc: Global,
     desk: &mut D,
     clock: &mut C,
@@ -67,7 +69,9 @@ pub fn serve<D: Desk, C: Clock, H: Hosts, P: Pace, S: Source, W: Sink>(
     loop {
         match reader.next_message(alloc, source) {
             Ok(request) => {
-                if let Some(end) = exchange(alloc, desk, clock, hosts, pace, sink, trail, request) {
+                if let Some(end) = exchange(
+                    rt, alloc, desk, clock, hosts, pace, sink, trail, request,
+                ) {
                     return end;
                 }
             }
@@ -77,7 +81,8 @@ pub fn serve<D: Desk, C: Clock, H: Hosts, P: Pace, S: Source, W: Sink>(
 }
 
 /// Answers one request. Reports the connection's end where it ends after the reply.
-fn exchange<D: Desk, C: Clock, H: Hosts, P: Pace, W: Sink>(
+fn exchange<R: Threads + Sync, D: Desk, C: Clock, H: Hosts, P: Pace, W: Sink>(
+    rt: &R,
     alloc: Global,
     desk: &mut D,
     clock: &mut C,
@@ -113,7 +118,7 @@ fn exchange<D: Desk, C: Clock, H: Hosts, P: Pace, W: Sink>(
     ensures layout { D.layout desk.new ≡ D.layout desk.old }
 {
     let close = request.close;
-    let answer = answer(alloc, desk, clock, hosts, pace, trail, request);
+    let answer = answer(rt, alloc, desk, clock, hosts, pace, trail, request);
     trail.count_request();
     let end = end_after(&answer, close, trail.is_full());
     match &answer {

@@ -9,6 +9,7 @@ use crate::listener::Listener;
 use sc_collection::{Desk, Trail};
 use sc_io::{Clock, Failed, Hosts, Pace};
 use std::alloc::Global;
+use std::thread::Threads;
 
 /// How a worker ended.
 #[derive(Clone, Copy, Debug, PartialEq, Eq)]
@@ -23,7 +24,8 @@ pub enum WorkEnd {
 
 /// One worker: it accepts a link, serves it as one connection, closes it with its trail, and begins again, until it was given `most`
 /// links. How a connection ends doesn't end the worker.
-pub fn work<D: Desk, C: Clock, H: Hosts, P: Pace, L: Listener>(
+pub fn work<R: Threads + Sync, D: Desk, C: Clock, H: Hosts, P: Pace, L: Listener>(
+    rt: &R,
     alloc: Global,
     desk: &mut D,
     clock: &mut C,
@@ -73,7 +75,7 @@ pub fn work<D: Desk, C: Clock, H: Hosts, P: Pace, L: Listener>(
 {
     trail.clear();
     for _ in 0..most {
-        match serve_next(alloc, desk, clock, hosts, pace, listener, trail) {
+        match serve_next(rt, alloc, desk, clock, hosts, pace, listener, trail) {
             WorkEnd::Enough => {}
             end => return end,
         }
@@ -82,7 +84,8 @@ pub fn work<D: Desk, C: Clock, H: Hosts, P: Pace, L: Listener>(
 }
 
 /// Serves the next link, if one comes: a worker that is to serve one.
-fn serve_next<D: Desk, C: Clock, H: Hosts, P: Pace, L: Listener>(
+fn serve_next<R: Threads + Sync, D: Desk, C: Clock, H: Hosts, P: Pace, L: Listener>(
+    rt: &R,
     alloc: Global,
     desk: &mut D,
     clock: &mut C,
@@ -132,6 +135,7 @@ fn serve_next<D: Desk, C: Clock, H: Hosts, P: Pace, L: Listener>(
     match listener.accept() {
         Ok(Some(mut link)) => {
             let _ = serve(
+                rt,
                 alloc,
                 desk,
                 clock,

@@ -15,6 +15,7 @@ use std::collections::VecDeque;
 use std::marker::Brand;
 use std::sync::Wait;
 use std::test::Fail;
+use std::thread::Threads;
 
 /// A request that comes once a split stands at this step.
 #[derive(Drop)]
@@ -25,7 +26,8 @@ struct Visit {
 
 /// A pace that sends requests by a desk of its own: one at a time, each once the split stands at its step. Where memory runs out it says
 /// stop.
-struct Visitor<D: Desk> {
+struct Visitor<'a, R, D: Desk> {
+    rt: &'a R,
     alloc: Global,
     desk: D,
     /// Those that are still to come.
@@ -36,7 +38,7 @@ struct Visitor<D: Desk> {
     ghost rest: { D.out desk ≡ nothing_out },
 }
 
-impl<D: Desk> Visitor<D> {
+impl<'a, R: Threads + Sync, D: Desk> Visitor<'a, R, D> {
     /// Sends the next request, where it is its turn.
     fn visit(&mut self, step: SplitStep) -> Result<(), AllocError>
         ensures { self.new.stops ≡ self.old.stops }
@@ -48,13 +50,19 @@ impl<D: Desk> Visitor<D> {
         let Some(visit) = self.visits.pop_front() else {
             return Ok(());
         };
-        let body = exchange(self.alloc, &mut self.desk, &mut NoPace, visit.request)?;
+        let body = exchange(
+            self.rt,
+            self.alloc,
+            &mut self.desk,
+            &mut NoPace,
+            visit.request,
+        )?;
         self.told.push_str(body.as_str())?;
         self.told.push_str("\n")
     }
 }
 
-impl<D: Desk> Pace for Visitor<D> {
+impl<'a, R: Threads + Sync, D: Desk> Pace for Visitor<'a, R, D> {
     ghost stops = { λ s. s.stops };
 
     fn between(&mut self, step: SplitStep) -> bool {
@@ -67,7 +75,8 @@ impl<D: Desk> Pace for Visitor<D> {
 }
 
 /// The body of the answer to a connection that sends one request, where `|` stands for each end of a line.
-fn exchange<D: Desk, P: Pace>(
+fn exchange<R: Threads + Sync, D: Desk, P: Pace>(
+    rt: &R,
     alloc: Global,
     desk: &mut D,
     pace: &mut P,
@@ -81,6 +90,7 @@ fn exchange<D: Desk, P: Pace>(
     let mut sink = MemSink::new(alloc, List::new(alloc));
     let mut trail = Trail::new(alloc)?;
     let _ = serve(
+        rt,
         alloc,
         desk,
         &mut Fixed { moment: 1000 },
@@ -98,7 +108,8 @@ fn exchange<D: Desk, P: Pace>(
 }
 
 /// The bodies of the answers to these requests in turn, each in a line.
-fn converse<D: Desk, P: Pace>(
+fn converse<R: Threads + Sync, D: Desk, P: Pace>(
+    rt: &R,
     alloc: Global,
     desk: &mut D,
     pace: &mut P,
@@ -109,7 +120,7 @@ fn converse<D: Desk, P: Pace>(
 {
     let mut told = String::new(alloc);
     for request in requests {
-        let body = exchange(alloc, desk, pace, request)?;
+        let body = exchange(rt, alloc, desk, pace, request)?;
         told.push_str(body.as_str())?;
         told.push_str("\n")?;
     }
@@ -117,7 +128,7 @@ fn converse<D: Desk, P: Pace>(
 }
 
 /// What is answered to these requests over one desk, and then what to those that come amid the split, over another.
-fn told_by_two<R: Wait, N: Home>(
+fn told_by_two<R: Threads + Wait + Sync, N: Home>(
     rt: &R,
     alloc: Global,
     collection: &Collection,
@@ -132,15 +143,17 @@ fn told_by_two<R: Wait, N: Home>(
 {
     let mut desk = Shared::<R, N>::new(rt, collection, passes);
     let mut visitor = Visitor {
+        rt,
         alloc,
         desk: Shared::<R, N>::new(rt, collection, others),
         visits,
         told: String::new(alloc),
         stops: Faults::none(),
     };
-    let told = converse(alloc, &mut desk, &mut visitor, requests);
+    let told = converse(rt, alloc, &mut desk, &mut visitor, requests);
     let _ = passes_of(collection, desk);
     let Visitor {
+        rt: _,
         alloc: _,
         desk: other,
         visits: _,
@@ -154,7 +167,7 @@ fn told_by_two<R: Wait, N: Home>(
 }
 
 /// The same over a new collection of one bucket.
-fn told<R: Wait>(
+fn told<R: Threads + Wait + Sync>(
     rt: &R,
     alloc: Global,
     visits: Vec<Visit>,

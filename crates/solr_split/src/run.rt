@@ -28,7 +28,8 @@ use std::thread::Threads;
 /// 5 where the sink did; of `serve` 0 where each worker ended without a fault of its listener, 5 where the line wasn't written, and 7
 /// where the port wasn't opened or a listener failed; of `demo` 0 where its lines were written, and 5 where that failed.
 ///
-/// It waits for its workers, so it owes no return; what `script` asks for waits for nothing, and returns.
+/// It waits for its workers, and where it searches for the threads that look at parts of it, so it owes no return; a script waits for
+/// nothing else.
 pub fn run<S: Source, W: Sink, T: Station, R: Threads + Wait + Sync>(
     rt: &R,
     alloc: Global,
@@ -138,14 +139,15 @@ pub fn run<S: Source, W: Sink, T: Station, R: Threads + Wait + Sync>(
 {
     match asked_of(arguments) {
         None => 2,
-        Some(Asked::Script(script)) => run_by_crew(alloc, &script, source, sink, station),
+        Some(Asked::Script(script)) => run_by_crew(rt, alloc, &script, source, sink, station),
         Some(Asked::Serve(server)) => run_workers(rt, alloc, &server, sink, station),
         Some(Asked::Demo(demo)) => run_makers(rt, alloc, &demo, sink, station),
     }
 }
 
 /// Runs a script by crew 0 of the station, and gives the crew back.
-fn run_by_crew<S: Source, W: Sink, T: Station>(
+fn run_by_crew<S: Source, W: Sink, T: Station, R: Threads + Sync>(
+    rt: &R,
     alloc: Global,
     script: &Script,
     source: &mut S,
@@ -191,6 +193,7 @@ fn run_by_crew<S: Source, W: Sink, T: Station>(
         return 6;
     };
     let status = run_script(
+        rt,
         alloc,
         script,
         source,

@@ -15,6 +15,7 @@ use sc_record::List;
 use sc_session::{End, serve};
 use std::alloc::{AllocError, Global};
 use std::mem::forget;
+use std::thread::Threads;
 
 // What a connection needs.
 #[derive(Drop)]
@@ -33,7 +34,8 @@ struct Needs {
 ///
 /// The status is 0 where the connection came to its end, 3 where it ended in a message that can't be read, 4 where the source failed, 5
 /// where the sink did, 6 where memory ran out, and 8 where starting a core of the first map failed; those before it stay started.
-pub(crate) fn run_script<S: Source, W: Sink, C: Clock, H: Hosts, P: Pace>(
+pub(crate) fn run_script<R: Threads + Sync, S: Source, W: Sink, C: Clock, H: Hosts, P: Pace>(
+    rt: &R,
     alloc: Global,
     script: &Script,
     source: &mut S,
@@ -78,6 +80,7 @@ pub(crate) fn run_script<S: Source, W: Sink, C: Clock, H: Hosts, P: Pace>(
         return 8;
     }
     let end = serve_script(
+        rt,
         alloc,
         script.clock,
         &mut desk,
@@ -95,7 +98,8 @@ pub(crate) fn run_script<S: Source, W: Sink, C: Clock, H: Hosts, P: Pace>(
 }
 
 /// Serves one connection over a desk, with the clock that is handed in or with one that stands still at a timestamp.
-fn serve_script<D: Desk, S: Source, W: Sink, C: Clock, H: Hosts, P: Pace>(
+fn serve_script<R: Threads + Sync, D: Desk, S: Source, W: Sink, C: Clock, H: Hosts, P: Pace>(
+    rt: &R,
     alloc: Global,
     timestamp: Option<u64>,
     desk: &mut D,
@@ -129,8 +133,9 @@ fn serve_script<D: Desk, S: Source, W: Sink, C: Clock, H: Hosts, P: Pace>(
     ensures nothing_out { D.out desk.new ≡ nothing_out }
 {
     match timestamp {
-        None => serve(alloc, desk, clock, hosts, pace, source, sink, trail),
+        None => serve(rt, alloc, desk, clock, hosts, pace, source, sink, trail),
         Some(moment) => serve(
+            rt,
             alloc,
             desk,
             &mut Fixed { moment },

@@ -2,7 +2,7 @@
 use Rattle.std.proofs.Common.{◌≡◌, ◌<◌, Option, Some, None, is_some, true, true≢false, List, [], ◌∷◌, map, length, refl, sym, ap, subst, ◌∙◌, arith}
 use Rattle.std.proofs.lemmas.List.{map-append}
 use Rattle.sc_fanout.specs.Pages.{IsStartOf, all_of}
-use Rattle.sc_fanout.specs.Parts.{lent, lent_in}
+use Rattle.sc_fanout.specs.Hits.{lent, lent_in}
 use Rattle.sc_fanout.proofs.StartLemmas.{start_all-first, start_all-step, start_all-last, start_all-none}
 use Rattle.sc_fanout.proofs.merging.merge_all.Goals as goal
 

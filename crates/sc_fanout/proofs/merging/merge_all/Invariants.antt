@@ -2,7 +2,7 @@
 use Rattle.std.proofs.Common.{List, All, map, deque_len}
 use Rattle.sc_record.specs.declared.write.Write.{Write}
 use Rattle.sc_fanout.specs.Pages.{AreFound, all_of}
-use Rattle.sc_fanout.specs.Parts.{AreHeads, lent_in}
+use Rattle.sc_fanout.specs.Hits.{AreHeads, lent_in}
 use Rattle.sc_fanout.proofs.StartLemmas.{StartAll}
 use Rattle.sc_fanout.proofs.merging.merge_all.Given as goal
 

@@ -1,7 +1,7 @@
 -- What was merged, and then what is left of both lists merged, is the whole.
 use Rattle.std.proofs.Common.{◌≡◌, ◌≤◌, ◌-◌, ◌++◌, map, vec_len}
 use Rattle.sc_fanout.specs.Merging.{goes_before, merged}
-use Rattle.sc_fanout.specs.Parts.{lent, lent_in}
+use Rattle.sc_fanout.specs.Hits.{lent, lent_in}
 use Rattle.sc_fanout.proofs.merging.merge_two.Given as goal
 
 abbrev pub invariant-loop-left : goal.invariant-loop-left

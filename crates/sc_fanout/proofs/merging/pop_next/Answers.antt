@@ -1,7 +1,7 @@
 -- What is popped from the list that is next comes next.
 use Rattle.std.proofs.Common.{◌<◌, length, map, sym, ◌∙◌, arith}
 use Rattle.sc_fanout.specs.Merging.{goes_before}
-use Rattle.sc_fanout.specs.Parts.{lent}
+use Rattle.sc_fanout.specs.Hits.{lent}
 use Rattle.sc_fanout.proofs.MergeLemmas.{popped-left, popped-right}
 use Rattle.sc_fanout.proofs.merging.pop_next.Goals as goal
 

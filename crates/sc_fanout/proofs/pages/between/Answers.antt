@@ -1,7 +1,7 @@
 -- The places are cut to the end of the cells.
 use Rattle.std.proofs.Common.{arith}
-use Rattle.sc_fanout.specs.Parts.{lent}
-use Rattle.sc_fanout.proofs.PartLemmas.{between-part}
+use Rattle.sc_fanout.specs.Hits.{lent}
+use Rattle.sc_fanout.proofs.HitLemmas.{between-part}
 use Rattle.sc_fanout.proofs.pages.between.Goals as goal
 
 pub returns : goal.returns

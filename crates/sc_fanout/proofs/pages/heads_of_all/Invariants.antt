@@ -1,7 +1,7 @@
--- So far the first rows of the first parts.
+-- So far the rows of the first hits of the first searchers.
 use Rattle.std.proofs.Common.{◌≡◌, map, take}
-use Rattle.sc_fanout.specs.Parts.{heads_in, lent_in}
+use Rattle.sc_fanout.specs.Hits.{heads_in, lent_in}
 use Rattle.sc_fanout.proofs.pages.heads_of_all.Given as goal
 
-abbrev pub invariant-loop-part : goal.invariant-loop-part
-invariant-loop-part l = map lent_in l.lists.items ≡ map (heads_in l.most) (take l.part-index l.parts)
+abbrev pub invariant-loop-hits : goal.invariant-loop-hits
+invariant-loop-hits l = map lent_in l.lists.items ≡ map (heads_in l.most) (take l.hits-index l.all)

@@ -1,19 +1,17 @@
--- The first buckets were looked at, and the lists hold what they find.
-use Rattle.std.proofs.Common.{◌≡◌, ◌+◌, length, All}
+-- The first buckets were looked at, and the searchers are those that were taken there.
+use Rattle.std.proofs.Common.{◌≡◌, ◌+◌, map, length, All}
 use Rattle.sc_eval.specs.Conditions.{condition_of}
 use Rattle.sc_seen.specs.Moments.{view_of}
 use Rattle.sc_collection.specs.Desks.{IsDeskAtRest}
-use Rattle.sc_fanout.specs.Pages.{all_of}
-use Rattle.sc_fanout.specs.Parts.{IsPart, lists_of}
+use Rattle.sc_fanout.specs.Steps.{found_in, HaveTerms}
 use Rattle.sc_fanout.proofs.SearchLemmas.{FoundSoFar}
 use Rattle.sc_fanout.proofs.searching.search.Given as goal
 
 abbrev pub invariant-loop-b : goal.invariant-loop-b
 invariant-loop-b g l = record {
   far : FoundSoFar (g.D.Desk.layout l.fn.desk) (view_of (g.D.Desk.seen l.fn.desk) l.fn.trail.stops) (view_of (g.D.Desk.seen l.desk) l.trail.stops)
-      l.ask l.b (lists_of (condition_of l.ask.query) l.parts.items);
-  counted : l.found ≡ length (all_of (lists_of (condition_of l.ask.query) l.parts.items));
-  kept : All (IsPart (condition_of l.ask.query) (l.ask.start + l.ask.rows)) l.parts.items;
+      l.ask l.b (map (found_in (condition_of l.ask.query)) l.searchers.items);
+  terms : All HaveTerms l.searchers.items;
   layout : g.D.Desk.layout l.desk ≡ g.D.Desk.layout l.fn.desk;
   rest : IsDeskAtRest (g.D.Desk.layout l.desk) (g.D.Desk.out l.desk) (g.D.Desk.seen l.desk);
   stops : length l.trail.stops ≡ length l.fn.trail.stops + l.b;

@@ -1,4 +1,4 @@
--- The numbers that a part keeps lead to the first documents that its searcher finds.
+-- The hits of a searcher lead to the first documents that it finds.
 use Rattle.std.proofs.Common.{◌≡◌, ℕ, ◌+◌, ◌-◌, ◌<◌, ◌≤◌, List, [], ◌∷◌, ◌++◌, length, map, take, drop, slice_get, option_to_list, Option, Some, Result, Ok, Err, IfOk, refl, sym, ap, subst, ◌∙◌, arith, inl, inr, All}
 use Rattle.std.specs.List.{flat_map, AllByRecursion}
 use Rattle.std.proofs.lemmas.Bool.{cases_lt}
@@ -9,8 +9,8 @@ use Rattle.sc_record.specs.declared.write.Write.{Write}
 use Rattle.sc_bucket.specs.declared.standing.Searcher.{Searcher}
 use Rattle.sc_eval.specs.Conditions.{Condition}
 use Rattle.sc_fanout.specs.Steps.{rows_in, found_in}
-use Rattle.sc_fanout.specs.Parts.{StandAt, IsPart, heads_in, lists_of}
-use Rattle.sc_fanout.specs.declared.part.Part.{Part}
+use Rattle.sc_fanout.specs.Hits.{StandAt, AreHits, heads_in, lists_of}
+use Rattle.sc_fanout.specs.declared.hits.Hits.{Hits}
 
 -- the first rows stand at the first numbers
 pub stand-first : (rows : List Write) (numbers : List ℕ) (these : List Write) (most : ℕ) → StandAt rows numbers these
@@ -35,35 +35,35 @@ stand-read rows (n ∷ ns) (w ∷ ws) stand =
     ap (λ (o : Option Write). option_to_list o ++ flat_map (λ number. option_to_list (slice_get rows number)) ns) here
     ∙ ap (λ (l : List Write). w ∷ l) (stand-read rows ns ws later)
 
-heads-part : (condition : Condition) (most far : ℕ) (part : Part) → most ≤ far → IsPart condition far part
-    → heads_in most part ≡ take most (found_in condition part.searcher)
-heads-part condition most far part le is =
-    stand-read (rows_in part.searcher) (take most part.numbers.items) (take most (take far (found_in condition part.searcher)))
-    (stand-first (rows_in part.searcher) part.numbers.items (take far (found_in condition part.searcher)) most is)
-    ∙ take-take most far (found_in condition part.searcher) le
+heads-hits : (condition : Condition) (most far : ℕ) (hits : Hits) → most ≤ far → AreHits condition far hits
+    → heads_in most hits ≡ take most (found_in condition hits.searcher.now)
+heads-hits condition most far hits le are =
+    stand-read (rows_in hits.searcher.now) (take most hits.numbers.items) (take most (take far (found_in condition hits.searcher.now)))
+    (stand-first (rows_in hits.searcher.now) hits.numbers.items (take far (found_in condition hits.searcher.now)) most are)
+    ∙ take-take most far (found_in condition hits.searcher.now) le
 
--- the heads of the parts are the first documents of each list that is found
-pub heads-all : (condition : Condition) (most far : ℕ) (parts : List Part) → most ≤ far → All (IsPart condition far) parts
-    → map (heads_in most) parts ≡ map (take most) (lists_of condition parts)
-heads-all condition most far parts le are = by parts (recursion_from_All (IsPart condition far) parts are)
+-- the heads of the hits are the first documents of each list that is found
+pub heads-all : (condition : Condition) (most far : ℕ) (all : List Hits) → most ≤ far → All (AreHits condition far) all
+    → map (heads_in most) all ≡ map (take most) (lists_of condition all)
+heads-all condition most far all le are = by all (recursion_from_All (AreHits condition far) all are)
   where
-    by : (ps : List Part) → AllByRecursion (IsPart condition far) ps → map (heads_in most) ps ≡ map (take most) (lists_of condition ps)
+    by : (hs : List Hits) → AllByRecursion (AreHits condition far) hs → map (heads_in most) hs ≡ map (take most) (lists_of condition hs)
     by [] each = refl
-    by (part ∷ ps) each =
-        let here = heads-part condition most far part le each.0 in
-        let later = by ps each.1 in
-        ap (λ (l : List Write). l ∷ map (heads_in most) ps) here
-        ∙ ap (λ (ls : List (List Write)). take most (found_in condition part.searcher) ∷ ls) later
+    by (hits ∷ hs) each =
+        let here = heads-hits condition most far hits le each.0 in
+        let later = by hs each.1 in
+        ap (λ (l : List Write). l ∷ map (heads_in most) hs) here
+        ∙ ap (λ (ls : List (List Write)). take most (found_in condition hits.searcher.now) ∷ ls) later
 
--- the part of a searcher, of the numbers of all that it finds
-pub cut-part : (condition : Condition) (most : ℕ) (searcher : Searcher) (numbers : List ℕ) (part : Part)
+-- the hits of a searcher, of the numbers of all that it finds
+pub first-hits : (condition : Condition) (most : ℕ) (searcher : Searcher) (numbers : List ℕ) (hits : Hits)
     → StandAt (rows_in searcher) numbers (found_in condition searcher)
-    → part.searcher ≡ searcher → part.numbers.items ≡ take most numbers → IsPart condition most part
-cut-part condition most searcher numbers part stand same is =
+    → hits.searcher.now ≡ searcher → hits.numbers.items ≡ take most numbers → AreHits condition most hits
+first-hits condition most searcher numbers hits stand same is =
     let here = stand-first (rows_in searcher) numbers (found_in condition searcher) most stand in
-    let of_searcher : StandAt (rows_in part.searcher) (take most numbers) (take most (found_in condition part.searcher)) =
+    let of_searcher : StandAt (rows_in hits.searcher.now) (take most numbers) (take most (found_in condition hits.searcher.now)) =
     subst (λ (s : Searcher). StandAt (rows_in s) (take most numbers) (take most (found_in condition s))) (sym same) here in
-    subst (λ (ns : List ℕ). StandAt (rows_in part.searcher) ns (take most (found_in condition part.searcher))) (sym is) of_searcher
+    subst (λ (ns : List ℕ). StandAt (rows_in hits.searcher.now) ns (take most (found_in condition hits.searcher.now))) (sym is) of_searcher
 
 -- a part of a list, between two places that are cut to its end
 pub between-part : {C : Type 0} (value : C → Write) (cells : List C) (from to begin end : ℕ)

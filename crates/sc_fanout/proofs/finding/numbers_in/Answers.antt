@@ -6,9 +6,9 @@ use Rattle.sc_eval.specs.Conditions.{condition_of}
 use Rattle.sc_eval.specs.Matching.{finds}
 use Rattle.sc_eval.proofs.NumberLemmas.{led}
 use Rattle.sc_fanout.specs.Steps.{rows_in}
-use Rattle.sc_fanout.specs.Parts.{StandAt}
-use Rattle.sc_fanout.proofs.PartLemmas.{IfOk-both}
-use Rattle.sc_fanout.proofs.searching.numbers_in.Goals as goal
+use Rattle.sc_fanout.specs.Hits.{StandAt}
+use Rattle.sc_fanout.proofs.HitLemmas.{IfOk-both}
+use Rattle.sc_fanout.proofs.finding.numbers_in.Goals as goal
 
 pub returns : goal.returns
 returns g c =

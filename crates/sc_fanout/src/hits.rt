@@ -1,0 +1,15 @@
+use sc_bucket::Searcher;
+
+/// The first hits of a searcher: the numbers of the first rows that the query finds there, as many as the page can show.
+#[derive(Drop)]
+pub(crate) struct Hits<'a> {
+    pub(crate) searcher: &'a Searcher,
+    pub(crate) numbers: Vec<u32>,
+}
+
+/// What the query finds with some searchers: how many documents, and of each searcher the first hits.
+#[derive(Drop)]
+pub(crate) struct Found<'a> {
+    pub(crate) count: u64,
+    pub(crate) hits: Vec<Hits<'a>>,
+}

@@ -20,8 +20,8 @@ const MOST_PARTS: u64 = 8;
 /// A part that looks at fewer rows than these costs more to start and to join than it saves.
 const ROWS_OF_A_PART: u64 = 1 << 20;
 
-/// Into how many parts a search over so many rows is cut: one for each 2^20 of them, at least one and at most eight. A search takes
-/// about half a millisecond for 2^20 rows of which it finds every other, and a thread less than a tenth of that to start and to join.
+/// Into how many parts a search over so many rows is cut: one for each 2^20 of them, at least one and at most eight. To look up a term
+/// among a million rows takes about half a millisecond, and to start and join two parts some 30 microseconds, or eight some 240.
 pub(crate) fn parts_for(rows: u64) -> usize
     ensures some { 1 ≤ result }
     ensures few { result ≤ 8 }

@@ -10,7 +10,7 @@
 //! Proved: `run`, for all arguments and faults. Of `script` the status, and the bytes if source and sink report theirs, by the promise of
 //! `sc_session`; that the cores of the first map are started before, if the hosts report theirs, and that those which are started in the
 //! end are those of the board's map, if stopping one never failed; that no split runs in the end, so that each bucket is then as the
-//! board says; that crew 0 of the station is all that it takes, and is given back; and that it returns (`run_script`). Of `serve` what
+//! board says; that crew 0 of the station is all that it takes, and is given back; and that it returns, if the threads of its searches run (`run_script`). Of `serve` what
 //! `sc_server` promises, and of `demo` what `sc_demo` does. The texts of the usage and of the line for each status (`meaning`). `proofs/UsageExamples` has what the usage's
 //! examples ask for.
 //!

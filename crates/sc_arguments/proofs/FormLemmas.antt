@@ -1,25 +1,13 @@
 -- An option and its value are read alike in one word and in two.
-use Rattle.std.proofs.Common.{◌≡◌, ◌∙◌, ◌+◌, ℕ, suc, Bool, true, false, ◌||◌, List, [], ◌∷◌, ◌++◌, None, cond, refl, sym, ap, ap₂, arith, true≢false}
+use Rattle.std.proofs.Common.{◌≡◌, ◌∙◌, ℕ, Bool, true, false, ◌||◌, List, [], ◌∷◌, ◌++◌, None, cond, refl, sym, ap, ap₂, true≢false}
 use Rattle.std.specs.Prelude.{codes, option_map}
-use Rattle.std.specs.List.{list_any, position_or_len, before_first, after_first}
+use Rattle.std.specs.List.{list_any}
 use Rattle.std.specs.Str.{bytes_eq}
 use Rattle.sc_arguments.specs.declared.asked.Asked.TheVariants as asking
 use Rattle.sc_arguments.specs.Options.{Setting, is_equals_sign, setting_of, settings}
 use Rattle.sc_arguments.specs.Arguments.{script_by, server_by, demo_by}
 use Rattle.sc_arguments.specs.Laws.{AskTheSameInBothForms}
-use Rattle.sc_arguments.proofs.SettingLemmas.{in_one_word, in_two_words}
-
-one_more : (k : ℕ) → 1 + k ≡ suc k
-one_more k = omega arith
-
-before_step : (byte : ℕ) (word : List ℕ) → is_equals_sign byte ≡ false → before_first is_equals_sign (byte ∷ word) ≡ byte ∷ before_first is_equals_sign word
-before_step byte word e = rw e (rw (one_more (position_or_len is_equals_sign word)) refl)
-
-after_step : (byte : ℕ) (word : List ℕ) → is_equals_sign byte ≡ false → after_first is_equals_sign (byte ∷ word) ≡ after_first is_equals_sign word
-after_step byte word e =
-    let k = position_or_len is_equals_sign word in
-    let more : 1 + k + 1 ≡ suc (k + 1) = omega arith in
-    rw e (rw more refl)
+use Rattle.sc_arguments.proofs.WordLemmas.{before_step, after_step, in_one_word, in_two_words}
 
 -- a word with `=` after a name that has none
 abbrev joined : (name value : List ℕ) → List ℕ

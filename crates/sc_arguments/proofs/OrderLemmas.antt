@@ -16,16 +16,16 @@ abbrev total : List ℕ → List Setting → ℕ
 total name given = sum_by (λ (setting : Setting). cond (bytes_eq setting.0 name) (number_written setting.1) 0) given
 
 -- one for a test that holds
-abbrev as_number : Bool → ℕ
+abbrev pub as_number : Bool → ℕ
 as_number t = cond t 1 0
 
-times_step : (name : List ℕ) (setting : Setting) (given : List Setting) → times name (setting ∷ given) ≡ cond (bytes_eq setting.0 name) 1 0 + times name given
+pub times_step : (name : List ℕ) (setting : Setting) (given : List Setting) → times name (setting ∷ given) ≡ cond (bytes_eq setting.0 name) 1 0 + times name given
 times_step name setting given = sum_by-cons _ setting given
 
 total_step : (name : List ℕ) (setting : Setting) (given : List Setting) → total name (setting ∷ given) ≡ cond (bytes_eq setting.0 name) (number_written setting.1) 0 + total name given
 total_step name setting given = sum_by-cons _ setting given
 
-value_absent : (name : List ℕ) (given : List Setting) → times name given ≡ 0 → option_value name given ≡ None
+pub value_absent : (name : List ℕ) (given : List Setting) → times name given ≡ 0 → option_value name given ≡ None
 value_absent name [] h = refl
 value_absent name (setting ∷ given) h = by (bytes_eq setting.0 name) (sym (times_step name setting given) ∙ h) (value_absent name given) where
   by : (t : Bool) → cond t 1 0 + times name given ≡ 0 → (times name given ≡ 0 → option_value name given ≡ None)

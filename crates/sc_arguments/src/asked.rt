@@ -1,12 +1,15 @@
-ghost use Rattle.std.specs.Prelude.{◌≡◌, map, string_bytes, IfSome};
-ghost use Rattle.sc_collection.specs.Shapes.{IsShape};
+ghost use Rattle.std.specs.Prelude.{◌≡◌, map, string_bytes, if◌then◌else◌, Some, None, IfOk, IfSome};
+ghost use Rattle.sc_collection.specs.Shapes.{IsShape, is_shape};
 ghost use Rattle.sc_arguments.specs.Options.{settings};
+ghost use Rattle.sc_arguments.specs.Found.{settings_found, HaveValues};
 ghost use Rattle.sc_arguments.specs.Arguments as asked;
 
 use crate::command::Command;
-use crate::options::{are_options, number_given, number_or};
+use crate::options::{number_given, number_or, options_of};
 use crate::ranges::{shape_of, within};
+use clap::ArgMatches;
 use sc_collection::Shape;
+use std::alloc::{AllocError, Global};
 
 /// What the arguments ask for.
 #[derive(Clone, Copy, Debug, PartialEq, Eq)]
@@ -55,66 +58,104 @@ pub struct Demo {
 }
 
 /// What the program's arguments ask for; nothing where they are no line of its usage.
-pub fn asked_of(arguments: &[String]) -> Option<Asked>
-    ensures asked { result ≡ asked.asked_of (map string_bytes arguments.now) }
-    ensures shape { IfSome result (λ found. IsShape (asked.shape_asked found)) }
-    ensures range { IfSome result (λ found. asked.IsAsked found) }
+pub fn asked_of(alloc: Global, arguments: &[String]) -> Result<Option<Asked>, AllocError>
+    ensures asked { IfOk result (λ found. found ≡ asked.asked_of (map string_bytes arguments.now)) }
+    ensures shape { IfOk result (λ found. IfSome found (λ one. IsShape (asked.shape_asked one))) }
+    ensures range { IfOk result (λ found. IfSome found (λ one. asked.IsAsked one)) }
 {
-    let (command, options) = arguments.split_first()?;
+    let Some((command, options)) = arguments.split_first() else {
+        return Ok(None);
+    };
     match command.as_str() {
-        "script" => Some(Asked::Script(script_of(options)?)),
-        "serve" => Some(Asked::Serve(server_of(options)?)),
-        "demo" => Some(Asked::Demo(demo_of(options)?)),
-        _ => None,
+        "script" => match script_of(alloc, options)? {
+            Some(script) => Ok(Some(Asked::Script(script))),
+            None => Ok(None),
+        },
+        "serve" => match server_of(alloc, options)? {
+            Some(server) => Ok(Some(Asked::Serve(server))),
+            None => Ok(None),
+        },
+        "demo" => match demo_of(alloc, options)? {
+            Some(demo) => Ok(Some(Asked::Demo(demo))),
+            None => Ok(None),
+        },
+        _ => Ok(None),
     }
 }
 
-/// The script that options ask for.
-fn script_of(options: &[String]) -> Option<Script>
-    ensures asked { result ≡ asked.script_by (settings (map string_bytes options.now)) }
+/// The script that words ask for.
+fn script_of(alloc: Global, words: &[String]) -> Result<Option<Script>, AllocError>
+    ensures asked { IfOk result (λ script. script ≡ asked.script_by (settings (map string_bytes words.now))) }
+    ensures shape { IfOk result (λ script. IfSome script (λ one. IsShape one.shape)) }
+{
+    match options_of(alloc, Command::Script, words)? {
+        Some(found) => Ok(script_in(&found)),
+        None => Ok(None),
+    }
+}
+
+/// The script of these options, where its numbers are in their ranges.
+fn script_in(found: &ArgMatches<'_>) -> Option<Script>
+    requires values { HaveValues found.now }
+    ensures asked { result ≡ (if is_shape (asked.shape_of (settings_found found.now)) then Some (asked.script_of (settings_found found.now)) else None) }
     ensures shape { IfSome result (λ script. IsShape script.shape) }
 {
-    if !are_options(Command::Script, options) {
-        return None;
-    }
     Some(Script {
-        shape: shape_of(options)?,
-        clock: number_given(options, "--clock"),
+        shape: shape_of(found)?,
+        clock: number_given(found, "clock"),
     })
 }
 
-/// The server that options ask for.
-fn server_of(options: &[String]) -> Option<Server>
-    ensures asked { result ≡ asked.server_by (settings (map string_bytes options.now)) }
+/// The server that words ask for.
+fn server_of(alloc: Global, words: &[String]) -> Result<Option<Server>, AllocError>
+    ensures asked { IfOk result (λ server. server ≡ asked.server_by (settings (map string_bytes words.now))) }
+    ensures range { IfOk result (λ server. IfSome server (λ one. asked.IsServer one)) }
+{
+    match options_of(alloc, Command::Serve, words)? {
+        Some(found) => Ok(server_in(&found)),
+        None => Ok(None),
+    }
+}
+
+/// The server of these options, where its numbers are in their ranges.
+fn server_in(found: &ArgMatches<'_>) -> Option<Server>
+    requires values { HaveValues found.now }
+    ensures asked { result ≡ (if asked.is_server (asked.server_of (settings_found found.now)) then Some (asked.server_of (settings_found found.now)) else None) }
     ensures range { IfSome result (λ server. asked.IsServer server) }
 {
-    if !are_options(Command::Serve, options) {
-        return None;
-    }
     Some(Server {
-        shape: shape_of(options)?,
-        clock: number_given(options, "--clock"),
-        port: within(number_or(8983, options, "--port"), 1, 65_535)? as u16,
-        workers: within(number_or(4, options, "--workers"), 1, 64)?,
+        shape: shape_of(found)?,
+        clock: number_given(found, "clock"),
+        port: within(number_or(8983, found, "port"), 1, 65_535)? as u16,
+        workers: within(number_or(4, found, "workers"), 1, 64)?,
         max_connections: within(
-            number_or(4_294_967_295, options, "--max-connections"),
+            number_or(4_294_967_295, found, "max-connections"),
             1,
             4_294_967_295,
         )?,
     })
 }
 
-/// The workload that options ask for.
-fn demo_of(options: &[String]) -> Option<Demo>
-    ensures asked { result ≡ asked.demo_by (settings (map string_bytes options.now)) }
+/// The workload that words ask for.
+fn demo_of(alloc: Global, words: &[String]) -> Result<Option<Demo>, AllocError>
+    ensures asked { IfOk result (λ demo. demo ≡ asked.demo_by (settings (map string_bytes words.now))) }
+    ensures range { IfOk result (λ demo. IfSome demo (λ one. asked.IsDemo one)) }
+{
+    match options_of(alloc, Command::Demo, words)? {
+        Some(found) => Ok(demo_in(&found)),
+        None => Ok(None),
+    }
+}
+
+/// The workload of these options, where its numbers are in their ranges.
+fn demo_in(found: &ArgMatches<'_>) -> Option<Demo>
+    requires values { HaveValues found.now }
+    ensures asked { result ≡ (if asked.is_demo (asked.demo_of (settings_found found.now)) then Some (asked.demo_of (settings_found found.now)) else None) }
     ensures range { IfSome result (λ demo. asked.IsDemo demo) }
 {
-    if !are_options(Command::Demo, options) {
-        return None;
-    }
     Some(Demo {
-        seed: number_or(1, options, "--seed"),
-        count: within(number_or(1000, options, "--count"), 1, 100_000)?,
-        workers: within(number_or(4, options, "--workers"), 1, 64)?,
+        seed: number_or(1, found, "seed"),
+        count: within(number_or(1000, found, "count"), 1, 100_000)?,
+        workers: within(number_or(4, found, "workers"), 1, 64)?,
     })
 }

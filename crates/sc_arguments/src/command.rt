@@ -1,7 +1,8 @@
-ghost use Rattle.std.specs.Prelude.{◌≡◌};
+ghost use Rattle.std.specs.Prelude.{◌≡◌, map, codes, false};
 ghost use Rattle.std.specs.List.{list_any};
 ghost use Rattle.std.specs.Str.{bytes_eq};
 ghost use Rattle.sc_arguments.specs.Arguments.{option_names};
+ghost use Rattle.sc_arguments.specs.Found.{option_name};
 
 /// What the program can be told to do.
 #[derive(Clone, Copy, Debug, PartialEq, Eq)]
@@ -14,27 +15,40 @@ pub(crate) enum Command {
     Demo,
 }
 
-/// Whether the command takes an option of this name.
-pub(crate) fn is_option(command: Command, name: &str) -> bool
-    ensures { result ≡ list_any (bytes_eq name.now) (option_names command) }
+/// The names of the options of `script`.
+static SCRIPT: [&str; 6] = [
+    "nodes",
+    "shards",
+    "replicas",
+    "buckets",
+    "log-limit",
+    "clock",
+];
+
+/// The names of the options of `serve`.
+static SERVE: [&str; 9] = [
+    "nodes",
+    "shards",
+    "replicas",
+    "buckets",
+    "log-limit",
+    "clock",
+    "port",
+    "workers",
+    "max-connections",
+];
+
+/// The names of the options of `demo`.
+static DEMO: [&str; 3] = ["seed", "count", "workers"];
+
+/// The names of the command's options, without the hyphens before them.
+pub(crate) fn names_of(command: Command) -> &'static [&'static str]
+    ensures names { map option_name (map (λ name. name.now) result.now) ≡ option_names command }
+    ensures none_ends { list_any (bytes_eq (codes "--")) (option_names command) ≡ false }
 {
     match command {
-        Command::Script => matches!(
-            name,
-            "--nodes" | "--shards" | "--replicas" | "--buckets" | "--log-limit" | "--clock"
-        ),
-        Command::Serve => matches!(
-            name,
-            "--nodes"
-                | "--shards"
-                | "--replicas"
-                | "--buckets"
-                | "--log-limit"
-                | "--clock"
-                | "--port"
-                | "--workers"
-                | "--max-connections"
-        ),
-        Command::Demo => matches!(name, "--seed" | "--count" | "--workers"),
+        Command::Script => SCRIPT.as_slice(),
+        Command::Serve => SERVE.as_slice(),
+        Command::Demo => DEMO.as_slice(),
     }
 }

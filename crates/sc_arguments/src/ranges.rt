@@ -1,26 +1,24 @@
-ghost use Rattle.std.specs.Prelude.{◌≡◌, ◌≤◌, map, string_bytes, if◌then◌else◌, Some, None, IfSome};
+ghost use Rattle.std.specs.Prelude.{◌≡◌, ◌≤◌, if◌then◌else◌, Some, None, IfSome};
 ghost use Rattle.sc_collection.specs.Shapes.{is_shape, is_in_range, is_bucket_count};
 ghost use Rattle.sc_arguments.specs.Arguments as asked;
-ghost use Rattle.sc_arguments.specs.Options.{settings};
+ghost use Rattle.sc_arguments.specs.Found.{settings_found, HaveValues};
 
 use crate::options::number_or;
+use clap::ArgMatches;
 use sc_collection::Shape;
 
-/// The shape that options ask for, where each of its numbers is in its range.
-pub(crate) fn shape_of(options: &[String]) -> Option<Shape>
-    ensures { result ≡ (let shape = asked.shape_of (settings (map string_bytes options.now)) in
+/// The shape of these options, where each of its numbers is in its range.
+pub(crate) fn shape_of(found: &ArgMatches<'_>) -> Option<Shape>
+    requires values { HaveValues found.now }
+    ensures { result ≡ (let shape = asked.shape_of (settings_found found.now) in
         if is_shape shape then Some shape else None) }
 {
-    let nodes = within(number_or(1, options, "--nodes"), 1, 16)?;
-    let shards = within(number_or(1, options, "--shards"), 1, 64)?;
-    let replicas = within(number_or(1, options, "--replicas"), 1, 4)?;
-    let buckets = bucket_count(number_or(64, options, "--buckets"))?;
+    let nodes = within(number_or(1, found, "nodes"), 1, 16)?;
+    let shards = within(number_or(1, found, "shards"), 1, 64)?;
+    let replicas = within(number_or(1, found, "replicas"), 1, 4)?;
+    let buckets = bucket_count(number_or(64, found, "buckets"))?;
     let least = 16 + shards * (replicas - 1);
-    let limit = within(
-        number_or(1_048_576, options, "--log-limit"),
-        least,
-        16_777_216,
-    )?;
+    let limit = within(number_or(1_048_576, found, "log-limit"), least, 16_777_216)?;
     Some(Shape {
         nodes,
         shards,

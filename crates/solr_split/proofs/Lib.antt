@@ -2,6 +2,7 @@
 pub mod CrewLemmas
 pub mod DemoLemmas
 pub mod MapCoreLemmas
+pub mod MemoryLemmas
 pub mod RestLemmas
 pub mod RunLemmas
 pub mod ScriptLemmas

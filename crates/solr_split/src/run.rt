@@ -1,5 +1,5 @@
 //! All that the program does, by what its arguments ask for.
-ghost use Rattle.std.specs.Prelude.{◌≡◌, ◌≢◌, ◌<◌, ◌↔◌, map, string_bytes, IfSome, None};
+ghost use Rattle.std.specs.Prelude.{◌≡◌, ◌≢◌, ◌<◌, ◌↔◌, ◌⊎◌, map, string_bytes, IfSome, None};
 ghost use Rattle.sc_cores.specs.Cores.{outside_of};
 ghost use Rattle.sc_collection.specs.Shapes.{IsShape};
 ghost use Rattle.sc_arguments.specs.Arguments.{asked_of, IsServer, IsDemo};
@@ -38,7 +38,9 @@ pub fn run<S: Source, W: Sink, T: Station, R: Threads + Wait + Sync>(
     sink: &mut W,
     station: &mut T,
 ) -> u8
-    ensures bad_arguments { (result ≡ 2) ↔ (asked_of (map string_bytes arguments.now) ≡ None) }
+    // The status is 2 only where nothing is asked for, and there it is 2, or 6 where reading the arguments found no memory.
+    ensures bad_arguments { result ≡ 2 → asked_of (map string_bytes arguments.now) ≡ None }
+    ensures nothing_asked { asked_of (map string_bytes arguments.now) ≡ None → (result ≡ 2) ⊎ (result ≡ 6) }
 
     // Where nothing is asked for, nothing is read, written or opened.
     ensures nothing_done { asked_of (map string_bytes arguments.now) ≡ None → (source.new ≡ source.old) × (sink.new ≡ sink.old) × (station.new ≡ station.old) }
@@ -137,7 +139,10 @@ pub fn run<S: Source, W: Sink, T: Station, R: Threads + Wait + Sync>(
     ensures read_fault { (result ≡ 4) ↔ (S.faults source.old < S.faults source.new) }
     ensures write_fault { (result ≡ 5) ↔ (W.faults sink.old < W.faults sink.new) }
 {
-    match asked_of(arguments) {
+    let Ok(asked) = asked_of(alloc, arguments) else {
+        return 6;
+    };
+    match asked {
         None => 2,
         Some(Asked::Script(script)) => run_by_crew(rt, alloc, &script, source, sink, station),
         Some(Asked::Serve(server)) => run_workers(rt, alloc, &server, sink, station),

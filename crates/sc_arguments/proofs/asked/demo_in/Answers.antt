@@ -1,6 +1,6 @@
 -- The workload that the arguments ask for can be made.
 use Rattle.sc_arguments.proofs.RangeLemmas.{demo_in_range}
-use Rattle.sc_arguments.proofs.asked.demo_of.Goals as goal
+use Rattle.sc_arguments.proofs.asked.demo_in.Goals as goal
 
 pub returns-clause-range : goal.returns-clause-range
 returns-clause-range c =

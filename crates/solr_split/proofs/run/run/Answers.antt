@@ -1,0 +1,7 @@
+-- Where there is no memory to read the arguments, all is left as it was.
+use Rattle.std.proofs.Common.{refl}
+use Rattle.solr_split.proofs.MemoryLemmas.{so_of_one, script_without_memory, server_without_memory, demo_without_memory}
+use Rattle.solr_split.proofs.run.run.Goals as goal
+
+pub returns-in_default-clause-script : goal.returns-in_default-clause-script
+returns-in_default-clause-script g c = ?

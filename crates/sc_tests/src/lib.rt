@@ -10,6 +10,8 @@ mod arguments;
 #[cfg(test)]
 mod boards;
 #[cfg(test)]
+mod carrying;
+#[cfg(test)]
 mod collections;
 #[cfg(test)]
 mod commands;

@@ -10,3 +10,4 @@ mod EditLemmas
 mod PlaceLemmas
 mod EditedLemmas
 mod SurveyLemmas
+pub mod CountLemmas

@@ -9,6 +9,7 @@ use sc_io::{Fixed, MemHosts, MemPace};
 use sc_record::List;
 use sc_session::{End, serve};
 use std::alloc::{AllocError, Global};
+use std::thread::Threads;
 
 /// A collection, with the hosts that have its cores, the pace that its splits ask, and the wire of its connections.
 #[derive(Drop)]
@@ -94,8 +95,8 @@ pub fn show_cores(alloc: Global, hosts: &MemHosts) -> Result<String, AllocError>
 /// What a connection comes to that sends a line and nothing else, where `|` stands for each end of a line: how it ended, what it wrote,
 /// and its stops, each as its lock and its place, with a sign where it made an entry. A bucket's lock is its number, and the board's is
 /// the number of buckets.
-pub fn exchange(
-    rt: &HostRuntime,
+pub fn exchange<R: Threads + Sync>(
+    rt: &R,
     alloc: Global,
     collection: &mut Collection,
     now: u64,

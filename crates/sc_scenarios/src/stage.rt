@@ -9,6 +9,7 @@ use crate::words::{number, word};
 use sc_bucket::Bucket;
 use sc_hash::murmur3;
 use std::alloc::{AllocError, Global};
+use std::thread::Threads;
 
 /// What the lines are about.
 #[derive(Drop)]
@@ -34,8 +35,8 @@ impl Stage {
 }
 
 /// What is written for a line.
-pub fn answer(
-    rt: &HostRuntime,
+pub fn answer<R: Threads + Sync>(
+    rt: &R,
     alloc: Global,
     stage: &mut Stage,
     line: &str,

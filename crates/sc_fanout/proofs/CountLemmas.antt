@@ -1,22 +1,9 @@
 -- How many documents lists hold.
-use Rattle.std.proofs.Common.{◌≡◌, ℕ, ◌+◌, ◌*◌, ◌≤◌, ◌^◌, List, [], ◌∷◌, ◌++◌, length, map, ap, ◌∙◌, arith, All}
-use Rattle.std.specs.List.{AllByRecursion}
+use Rattle.std.proofs.Common.{◌≡◌, ℕ, ◌+◌, List, [], ◌∷◌, ◌++◌, length, map, ap, ◌∙◌, arith}
 use Rattle.std.proofs.lemmas.List.{append-nil, length-append, map-append}
 use Rattle.std.proofs.lemmas.List.Concat.{flat_map-append}
-use Rattle.std.proofs.lemmas.List.Elements.{recursion_from_All}
 use Rattle.sc_record.specs.declared.write.Write.{Write}
-use Rattle.sc_fanout.specs.Pages.{AreFound, all_of}
-
--- each has at most 2^24
-pub count-bounded : (lists : List (List Write)) → All AreFound lists → length (all_of lists) ≤ 2 ^ 24 * length lists
-count-bounded lists found = by lists (recursion_from_All AreFound lists found)
-  where
-    by : (ls : List (List Write)) → AllByRecursion AreFound ls → length (all_of ls) ≤ 2 ^ 24 * length ls
-    by [] each = omega arith
-    by (list ∷ rest) each =
-        let here = each.0.bounded in
-        let later = by rest each.1 in
-        omega (arith, here, later, length-append list (all_of rest))
+use Rattle.sc_fanout.specs.Pages.{all_of}
 
 -- more lists hold their documents more
 pub count-more : (lists more : List (List Write)) → length (all_of (lists ++ more)) ≡ length (all_of lists) + length (all_of more)

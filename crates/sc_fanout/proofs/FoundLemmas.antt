@@ -1,11 +1,11 @@
 -- What the parts of a search find, put together in order, is what all of it finds.
-use Rattle.std.proofs.Common.{◌≡◌, ℕ, ◌+◌, ◌*◌, ◌<◌, ◌≤◌, List, [], ◌∷◌, ◌++◌, length, map, take, drop, sym, ap, subst, ◌∙◌, arith, All}
+use Rattle.std.proofs.Common.{◌≡◌, ℕ, ◌+◌, ◌*◌, ◌<◌, ◌≤◌, List, ◌∷◌, ◌++◌, length, map, take, drop, sym, ap, subst, ◌∙◌, arith, All}
 use Rattle.std.specs.Prelude.{Result, Ok, IfOk, slice_index_or}
 use Rattle.std.specs.Fork.{slice_chunk}
 use Rattle.std.specs.Int.{div_ceil}
 use Rattle.std.specs.declared.alloc.AllocError.{AllocError}
 use Rattle.std.proofs.lemmas.List.{map-append, length-append, take-append-drop, take-take, take_all, drop-take}
-use Rattle.std.proofs.lemmas.List.Elements.{All-nil, All-append}
+use Rattle.std.proofs.lemmas.List.Elements.{All-append}
 use Rattle.std.proofs.lemmas.Grind.{div_ceil_times}
 use Rattle.std.proofs.Math.Nat.{mul_comm}
 use Rattle.std.proofs.Math.Seq.{get_or-append_seam}
@@ -17,16 +17,6 @@ use Rattle.sc_fanout.specs.Hits.{AreHits, HasFound, lists_of, searchers_of}
 use Rattle.sc_fanout.specs.declared.hits.Hits.{Hits}
 use Rattle.sc_fanout.specs.declared.hits.Found.{Found}
 use Rattle.sc_fanout.proofs.CountLemmas.{count-more}
-
--- nothing is found with no searcher
-pub HasFound-none : (condition : Condition) (most : ℕ) (searchers : List Searcher) (found : Found) → searchers ≡ [] → found.count ≡ 0
-    → found.hits.items ≡ [] → HasFound condition most searchers found
-HasFound-none condition most searchers found empty none no_hits = subst (λ (ss : List Searcher). HasFound condition most ss found) (sym empty) (record {
-  count = none;
-  few = omega (arith, none);
-  searchers_are = ap searchers_of no_hits;
-  kept = subst (All (AreHits condition most)) (sym no_hits) (All-nil (AreHits condition most));
-})
 
 -- what is found with these searchers and then with those
 pub HasFound-more : (condition : Condition) (most : ℕ) (these those : List Searcher) (first next both : Found)

@@ -1,5 +1,5 @@
 -- A search goes on from bucket to bucket, and a page shows what all of them find.
-use Rattle.std.proofs.Common.{◌≡◌, ◌≢◌, ℕ, zero, suc, ◌+◌, ◌*◌, ◌^◌, ◌<◌, ◌≤◌, false, List, [], ◌∷◌, ◌++◌, length, map, All, Contains, refl, sym, ap, subst, ◌∙◌, ◌⊎◌, inl, inr, ⊎_elim, arith, length-append}
+use Rattle.std.proofs.Common.{◌≡◌, ◌≢◌, ℕ, zero, suc, ◌+◌, ◌*◌, ◌<◌, ◌≤◌, false, List, [], ◌∷◌, ◌++◌, length, map, All, Contains, refl, sym, ap, subst, ◌∙◌, ◌⊎◌, inl, inr, ⊎_elim, arith, length-append}
 use Rattle.std.specs.Prelude.{Result, Ok, Err, IfOk}
 use Rattle.std.specs.List.{range_with_len}
 use Rattle.std.specs.declared.alloc.AllocError.{AllocError}
@@ -7,8 +7,7 @@ use Rattle.std.proofs.lemmas.List.{map-append, length-map}
 use Rattle.std.proofs.lemmas.List.Concat.{flat_map-append}
 use Rattle.std.proofs.lemmas.List.Elements.{All-nil, All-cons, All-append, Contains-append_left, Contains-append_right, Contains-append_cases}
 use Rattle.std.proofs.lemmas.List.Sorted.{length_permutation}
-use Rattle.std.proofs.Math.Nat.{pow-le-pow_right}
-use Rattle.sc_router.specs.Route.{bucket_of, IsBucketCount}
+use Rattle.sc_router.specs.Route.{bucket_of}
 use Rattle.sc_record.specs.declared.write.Write.{Write}
 use Rattle.sc_record.specs.declared.entry.Entry.{Entry}
 use Rattle.sc_snapshot.specs.Rows.{AreRows}
@@ -221,13 +220,3 @@ searched layout old new ask count lists (Ok page) all far is = record {
         },
   );
 }
-
--- there are 256 buckets at most, and as many searchers of each
-pub few-taken : {Y : Type 0} (f : Searcher → Y) (searchers : List Searcher) (count buckets : ℕ) → length (map f searchers) ≤ 256 * count
-    → count ≤ buckets → IsBucketCount buckets → length searchers ≤ 65536
-few-taken f searchers count buckets few within (k, small, is) =
-    let most : buckets ≤ 256 = omega (arith, is, bounded k small) in
-    omega (arith, few, length-map searchers f, within, most)
-  where
-    bounded : (n : ℕ) → n ≤ 8 → 2 ^ n ≤ 256
-    bounded n low = pow-le-pow_right {n = 2} (omega arith) {i = n} {j = 8} low

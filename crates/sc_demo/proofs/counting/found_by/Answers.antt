@@ -8,7 +8,7 @@ use Rattle.std.specs.Prelude.{None}
 use Rattle.sc_demo.proofs.counting.found_by.Goals as goal
 
 pub search-requires-clause-room : goal.search-requires-clause-room
-search-requires-clause-room g c =
+search-requires-clause-room g c κs within =
     let none : length c.clear.new.self.stops ≡ 0 = ap (λ (kept : Kept). length kept.stops) c.clear.ensures in
     omega (arith, none, c.requires.buckets)
 

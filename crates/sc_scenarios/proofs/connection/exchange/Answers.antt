@@ -2,4 +2,4 @@
 use Rattle.sc_scenarios.proofs.connection.exchange.Goals as goal
 
 pub serve-end-requires-clause-nothing_out : goal.serve-end-requires-clause-nothing_out
-serve-end-requires-clause-nothing_out g c = λ i. record { bucket = c.requires.out i; board = c.requires.board_out i }
+serve-end-requires-clause-nothing_out g c κs within = λ i. record { bucket = c.requires.out i; board = c.requires.board_out i }

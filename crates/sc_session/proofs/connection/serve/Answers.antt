@@ -44,17 +44,17 @@ loop-request-init g c =
     }
 
 pub exchange-requires-clause-buckets : goal.exchange-requires-clause-buckets
-exchange-requires-clause-buckets g c =
+exchange-requires-clause-buckets g c κs within =
     subst IsBucketCount (c.buckets.ensures.count ∙ sym (ap (λ (n : Layout). n.buckets) c.loop-request.invariant.layout)) c.buckets.ensures.power
 
 pub exchange-requires-clause-rest : goal.exchange-requires-clause-rest
-exchange-requires-clause-rest g c = record {
+exchange-requires-clause-rest g c κs within = record {
   nothing_out = c.loop-request.invariant.nothing_out;
   legal = subst (λ (n : Layout). AreLegal n (g.D.Desk.seen c.loop-request.desk)) (sym c.loop-request.invariant.layout) c.loop-request.invariant.legal;
 }
 
 pub exchange-requires-clause-open : goal.exchange-requires-clause-open
-exchange-requires-clause-open g c = c.loop-request.invariant.is_open.more
+exchange-requires-clause-open g c κs within = c.loop-request.invariant.is_open.more
 
 pub returns-in-Some-clause-connection : goal.returns-in-Some-clause-connection
 returns-in-Some-clause-connection g c =

@@ -41,9 +41,18 @@ fn lines_ask_for_what_they_say(rt: HostRuntime) -> Result<(), Fail> {
         workers: 2,
     };
     let lines = [
-        ("script --shards=2 --clock 1000", Some(Asked::Script(script))),
-        ("serve --port 8984 --workers=8 --shards 2", Some(Asked::Serve(server))),
-        ("demo --seed 7 --count=20 --workers 2", Some(Asked::Demo(demo))),
+        (
+            "script --shards=2 --clock 1000",
+            Some(Asked::Script(script)),
+        ),
+        (
+            "serve --port 8984 --workers=8 --shards 2",
+            Some(Asked::Serve(server)),
+        ),
+        (
+            "demo --seed 7 --count=20 --workers 2",
+            Some(Asked::Demo(demo)),
+        ),
         ("script --shards=2 --", None),
         ("script --shards=2 --shards=2", None),
         ("script --clock +1", None),

@@ -4,6 +4,6 @@ use Rattle.sc_bucket.specs.Sound.{IsSound}
 use Rattle.sc_scenarios.proofs.main.Given as goal
 
 abbrev pub invariant-loop-line : goal.invariant-loop-line
-invariant-loop-line l =
-    goal.iterator-loop-line.can_next l.line-iterator × goal.iterator-loop-line.is_finite l.line-iterator
+invariant-loop-line g l =
+    (goal.iterator-loop-line g).can_next l.line-iterator × (goal.iterator-loop-line g).is_finite l.line-iterator
     × IsSound l.stage.bucket × (l.stage.collection.desk.out ≡ None) × (l.stage.collection.desk.board_out ≡ None)

@@ -11,7 +11,7 @@
 //! the live rows that have a term, ascending and within a bound on comparisons; `live` gives exactly the live rows and `is_live` tells
 //! them; `at` and `share_rows` have the same rows.
 //!
-//! Tested alone: the worked rows, and that a snapshot made of the one before answers as one made anew.
+//! Tested alone: the worked rows; `next` runs in each commit of the scenarios and of the stored run.
 //!
 //! Neither: speed, and so how much less `next` takes than `of` and how many pieces there are; that a snapshot shares the writes holds by
 //! construction.

@@ -1,10 +1,12 @@
 //! `sc_session` over `sc_shared`: requests that come between the steps of a split, by a desk of their own.
 
 ghost use Rattle.std.specs.Prelude.{◌≡◌, Some};
+ghost use Rattle.std.specs.Thread.{IsSync};
 ghost use Rattle.sc_collection.specs.Desks.{nothing_out};
 ghost use Rattle.sc_shared.specs.Sharing.{ArePasses};
 
 use crate::collections::{new_collection, passes_of};
+use crossbeam_channel::{Receiver, Sender};
 use sc_collection::{Desk, Shape, Trail};
 use sc_io::{Faults, Fixed, MemSink, MemSource, Never, NoPace, Pace, SplitStep};
 use sc_record::List;
@@ -15,58 +17,30 @@ use std::collections::VecDeque;
 use std::marker::Brand;
 use std::sync::Wait;
 use std::test::Fail;
+use std::thread;
 use std::thread::Threads;
 
 /// A request that comes once a split stands at this step.
 #[derive(Drop)]
-struct Visit {
+struct Visit<'a> {
     step: SplitStep,
-    request: &'static str,
+    request: &'a str,
 }
 
-/// A pace that sends requests by a desk of its own: one at a time, each once the split stands at its step. Where memory runs out it says
-/// stop.
-struct Visitor<'a, R, D: Desk> {
+/// A pace that tells another thread each step, and waits until that has done what it does there. Where that is gone it says stop.
+#[derive(Drop)]
+struct Announcer<'a, R> {
     rt: &'a R,
-    alloc: Global,
-    desk: D,
-    /// Those that are still to come.
-    visits: VecDeque<Visit>,
-    /// The bodies of the answers, each in a line.
-    told: String,
+    steps: Sender<SplitStep>,
+    done: Receiver<()>,
     stops: Faults,
-    ghost rest: { D.out desk ≡ nothing_out },
 }
 
-impl<'a, R: Threads + Sync, D: Desk> Visitor<'a, R, D> {
-    /// Sends the next request, where it is its turn.
-    fn visit(&mut self, step: SplitStep) -> Result<(), AllocError>
-        ensures { self.new.stops ≡ self.old.stops }
-    {
-        match self.visits.front() {
-            Some(visit) if visit.step == step => {}
-            _ => return Ok(()),
-        }
-        let Some(visit) = self.visits.pop_front() else {
-            return Ok(());
-        };
-        let body = exchange(
-            self.rt,
-            self.alloc,
-            &mut self.desk,
-            &mut NoPace,
-            visit.request,
-        )?;
-        self.told.push_str(body.as_str())?;
-        self.told.push_str("\n")
-    }
-}
-
-impl<'a, R: Threads + Sync, D: Desk> Pace for Visitor<'a, R, D> {
+impl<'a, R: Wait> Pace for Announcer<'a, R> {
     ghost stops = { λ s. s.stops };
 
     fn between(&mut self, step: SplitStep) -> bool {
-        if self.visit(step).is_err() {
+        if self.steps.send(self.rt, step).is_err() || self.done.recv(self.rt).is_err() {
             self.stops.rise();
             return false;
         }
@@ -127,42 +101,138 @@ fn converse<R: Threads + Sync, D: Desk, P: Pace>(
     Ok(told)
 }
 
-/// What is answered to these requests over one desk, and then what to those that come amid the split, over another.
-fn told_by_two<R: Threads + Wait + Sync, N: Home>(
+/// The bodies of the answers to these visits, each in a line: one at a time, each once the split stands at its step.
+fn send_each<R: Threads + Wait + Sync, D: Desk>(
+    rt: &R,
+    alloc: Global,
+    desk: &mut D,
+    visits: VecDeque<Visit<'_>>,
+    steps: Receiver<SplitStep>,
+    done: Sender<()>,
+) -> Result<String, AllocError>
+    requires { D.out desk.old ≡ nothing_out }
+    ensures { D.out desk.new ≡ nothing_out }
+{
+    let mut visits = visits;
+    let mut told = String::new(alloc);
+    for step in steps.iter(rt) {
+        if visits.front().is_some_and(|visit| visit.step == step) {
+            let Some(visit) = visits.pop_front() else {
+                break;
+            };
+            let body = exchange(rt, alloc, desk, &mut NoPace, visit.request)?;
+            told.push_str(body.as_str())?;
+            told.push_str("\n")?;
+        }
+        if done.send(rt, ()).is_err() {
+            break;
+        }
+    }
+    Ok(told)
+}
+
+/// What is answered to these visits, by a desk for these passes.
+fn visited<R: Threads + Wait + Sync>(
+    rt: &R,
+    alloc: Global,
+    collection: &Collection,
+    passes: Passes,
+    visits: VecDeque<Visit<'_>>,
+    steps: Receiver<SplitStep>,
+    done: Sender<()>,
+) -> Result<String, AllocError>
+    requires passes { ArePasses collection.now passes }
+{
+    visited_at::<R, Brand>(rt, alloc, collection, passes, visits, steps, done)
+}
+
+/// The same, of the collection that is the desk's home.
+fn visited_at<R: Threads + Wait + Sync, N: Home>(
+    rt: &R,
+    alloc: Global,
+    collection: &Collection,
+    passes: Passes,
+    visits: VecDeque<Visit<'_>>,
+    steps: Receiver<SplitStep>,
+    done: Sender<()>,
+) -> Result<String, AllocError>
+    requires home { N.locks ≡ Some collection.now }
+    requires passes { ArePasses collection.now passes }
+{
+    let mut desk = Shared::<R, N>::new(rt, collection, passes);
+    let told = send_each(rt, alloc, &mut desk, visits, steps, done);
+    let _ = passes_of(collection, desk);
+    told
+}
+
+/// What is answered to these requests, by a desk for these passes. The steps of a split are told, and each waits until it is done.
+fn conversed<R: Threads + Wait + Sync>(
+    rt: &R,
+    alloc: Global,
+    collection: &Collection,
+    passes: Passes,
+    steps: Sender<SplitStep>,
+    done: Receiver<()>,
+    requests: &[&str],
+) -> Result<String, AllocError>
+    requires passes { ArePasses collection.now passes }
+{
+    conversed_at::<R, Brand>(rt, alloc, collection, passes, steps, done, requests)
+}
+
+/// The same, of the collection that is the desk's home.
+fn conversed_at<R: Threads + Wait + Sync, N: Home>(
+    rt: &R,
+    alloc: Global,
+    collection: &Collection,
+    passes: Passes,
+    steps: Sender<SplitStep>,
+    done: Receiver<()>,
+    requests: &[&str],
+) -> Result<String, AllocError>
+    requires home { N.locks ≡ Some collection.now }
+    requires passes { ArePasses collection.now passes }
+{
+    let mut desk = Shared::<R, N>::new(rt, collection, passes);
+    let mut pace = Announcer {
+        rt,
+        steps,
+        done,
+        stops: Faults::none(),
+    };
+    let told = converse(rt, alloc, &mut desk, &mut pace, requests);
+    let _ = passes_of(collection, desk);
+    told
+}
+
+/// What is answered to these requests over one desk, and then what to those that come amid the split, over another in another thread.
+fn told_by_two<R: Threads + Wait + Sync>(
     rt: &R,
     alloc: Global,
     collection: &Collection,
     passes: Passes,
     others: Passes,
-    visits: VecDeque<Visit>,
+    visits: VecDeque<Visit<'_>>,
     requests: &[&str],
 ) -> Result<String, AllocError>
-    requires home { N.locks ≡ Some collection.now }
     requires passes { ArePasses collection.now passes }
     requires others { ArePasses collection.now others }
 {
-    let mut desk = Shared::<R, N>::new(rt, collection, passes);
-    let mut visitor = Visitor {
+    let (steps, told_steps) = crossbeam_channel::unbounded(alloc)?;
+    let (done, told_done) = crossbeam_channel::unbounded(alloc)?;
+    let (told, amid) = thread::join(
         rt,
-        alloc,
-        desk: Shared::<R, N>::new(rt, collection, others),
-        visits,
-        told: String::new(alloc),
-        stops: Faults::none(),
-    };
-    let told = converse(rt, alloc, &mut desk, &mut visitor, requests);
-    let _ = passes_of(collection, desk);
-    let Visitor {
-        rt: _,
-        alloc: _,
-        desk: other,
-        visits: _,
-        told: amid,
-        stops: _,
-    } = visitor;
-    let _ = passes_of(collection, other);
+        move || -> Result<String, AllocError>
+            requires passes { ArePasses collection.now passes }
+            requires shared { IsSync R.row }
+        { conversed(rt, alloc, collection, passes, steps, told_done, requests) },
+        move || -> Result<String, AllocError>
+            requires others { ArePasses collection.now others }
+            requires shared { IsSync R.row }
+        { visited(rt, alloc, collection, others, visits, told_steps, done) },
+    );
     let mut told = told?;
-    told.push_str(amid.as_str())?;
+    told.push_str(amid?.as_str())?;
     Ok(told)
 }
 
@@ -170,7 +240,7 @@ fn told_by_two<R: Threads + Wait + Sync, N: Home>(
 fn told<R: Threads + Wait + Sync>(
     rt: &R,
     alloc: Global,
-    visits: Vec<Visit>,
+    visits: Vec<Visit<'_>>,
     requests: &[&str],
 ) -> Result<String, AllocError> {
     let shape = Shape {
@@ -182,7 +252,7 @@ fn told<R: Threads + Wait + Sync>(
     };
     let (collection, passes, others, _) = new_collection(alloc, &shape)?;
     let visits = VecDeque::from_vec(visits);
-    told_by_two::<R, Brand>(rt, alloc, &collection, passes, others, visits, requests)
+    told_by_two(rt, alloc, &collection, passes, others, visits, requests)
 }
 
 const SPLIT: &str =
@@ -252,7 +322,7 @@ const IS_RUNNING: &str =
     r#"{"error":{"code":409,"msg":"split of shard1 is running"},"responseHeader":{"QTime":0,"status":409}}"#;
 
 /// A request for each step of a split of one bucket in two: another split, searches, and an update after the first piece was fed.
-fn visits_of_each_step(alloc: Global) -> Result<Vec<Visit>, AllocError> {
+fn visits_of_each_step(alloc: Global) -> Result<Vec<Visit<'static>>, AllocError> {
     let mut visits = Vec::new(alloc);
     for (step, request) in [
         (SplitStep::Begun, SPLIT),

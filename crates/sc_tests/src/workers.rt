@@ -17,7 +17,7 @@ use std::test::Fail;
 use std::thread::Threads;
 
 /// How often a source looks for its mark before it fails.
-const LOOKS: u32 = 1_000_000_000;
+const LOOKS: u32 = 200_000_000;
 
 /// What each request begins with.
 const HEAD: &str = "POST /solr/docs/update?versions=true HTTP/1.1\r\nHost: localhost\r\n";

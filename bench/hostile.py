@@ -27,7 +27,7 @@ GET = request('GET', '/solr/docs/get?id=honest')
 def arguments():
     reader = argparse.ArgumentParser(description=__doc__.split('\n')[0])
     reader.add_argument('--program', default=PROGRAM, help='the built program ($PROGRAM)')
-    reader.add_argument('--workers', type=int, default=16, help='threads of the server (16); at most 12 connections hold one at a time')
+    reader.add_argument('--workers', type=int, default=4, help='threads of the server (4), one more than the connections of an attack that hold one')
     reader.add_argument('--memory', type=float, default=1024, help='mebibytes that the server may hold (1024)')
     reader.add_argument('--patient', action='store_true', help='also wait for the server to give silent clients up')
     reader.add_argument('--page', default='', help='a page into which the table is written, between its lines `<!-- hostile -->` and `<!-- end -->`')
@@ -213,8 +213,8 @@ class Attacks:
         return found in ([200], [400]) and self.server.memory()[1] - before <= 1024
 
     def no_body(self):
-        """twelve updates that announce 16 MB of body and send none, for four seconds | nothing comes for them, others go on"""
-        streams = [self.open() for _ in range(12)]
+        """three updates that announce 16 MB of body and send none, for four seconds | nothing comes for them, others go on"""
+        streams = [self.open() for _ in range(3)]
         for stream in streams:
             stream.sendall(b'POST /solr/docs/update HTTP/1.1\r\nHost: x\r\nContent-Length: 16000000\r\n\r\n')
         time.sleep(4)
@@ -230,8 +230,8 @@ class Attacks:
         return silent
 
     def half_bodies(self):
-        """twelve updates that send 15 of 16 MB and no more, for four seconds | nothing comes for them, others go on"""
-        streams = [self.open() for _ in range(12)]
+        """three updates that send 15 of 16 MB and no more, for four seconds | nothing comes for them, others go on"""
+        streams = [self.open() for _ in range(3)]
 
         def half(stream):
             stream.sendall(b'POST /solr/docs/update HTTP/1.1\r\nHost: x\r\nContent-Length: 16000000\r\n\r\n')
@@ -247,7 +247,7 @@ class Attacks:
         time.sleep(4)
         for stream in streams:
             stream.close()
-        return len(sent) == 12
+        return len(sent) == 3
 
     def deep(self):
         """an update of 16 MB of open brackets, and a query of 4,000 parentheses | 400 each"""
@@ -276,9 +276,9 @@ class Attacks:
         return self.sent(request('GET', '/solr/docs/get?ids=' + ','.join(['far'] * 4096)), 1) in ([200], [400])
 
     def never_reads(self):
-        """eight clients that ask 900 times for a document of 100,000 bytes and read nothing, for four seconds | others go on"""
+        """three clients that ask 900 times for a document of 100,000 bytes and read nothing, for four seconds | others go on"""
         Client(self.port).ask('POST', '/solr/docs/update', [{'id': 'long', 't_s': 'x' * 100_000}])
-        streams = [self.open() for _ in range(8)]
+        streams = [self.open() for _ in range(3)]
         for stream in streams:
             stream.setblocking(False)
             try:

@@ -5,7 +5,7 @@ It makes documents of some 110 bytes of JSON and ten terms (an id, a language, a
 loads them, commits, searches for one word, for two joined by AND and by OR, and commits after one changed document, after a thousand and after
 none. Costs are processor time of the server's threads alone, from /proc/PID/task; each count that a search gives is compared with the script's own. Where
 Lucene 8 stands in /usr/share/java (Debian: liblucene8-java) and `javac` is on the path, `LuceneSearch.java` then indexes the same documents and
-answers the same queries on one thread. Prints tables in Markdown; a million documents take some two minutes and 2 GB.
+answers the same queries on one thread. Prints tables in Markdown; a million documents take some three minutes and 3 GB.
 
     PROGRAM=crates/solr_split/out/solr_split bench/search.py --documents 1000000
 """

@@ -2,10 +2,9 @@
 """Splits a shard while clients write, read and search, and shows what each of them waited.
 
 It starts `solr_split serve`, loads documents on several connections, and then sends gets and conditional updates at a steady rate, and searches
-on connections of their own, since each of these tests every document.
-In the middle it sends SPLITSHARD, and reads from CLUSTERSTATUS how far the split is. At the end it prints, for each kind of request, how many
-were answered a second and how long they took before, during and after the split, checks what the collection has against what it was told, and
-writes a picture (SVG) of the times with the steps of the split. It ends with status 1 where any answer was wrong.
+on connections of their own. In the middle it sends SPLITSHARD, and reads from CLUSTERSTATUS how far the split is. At the end it prints, for each
+kind of request, how many were answered a second and how long they took before, during and after the split, checks what the collection has
+against what it was told, and writes a picture (SVG) of the times with the steps of the split. It ends with status 1 where any answer was wrong.
 
 A request's time counts from the moment at which it was due, so that a server that stands still makes every request late that falls into
 that time. Before a connection's thousandth request, with which a server ends it, it is opened anew between two requests. For example:
@@ -42,7 +41,7 @@ def arguments():
     reader.add_argument('--connections', type=int, default=8, help='connections that send gets and updates (8)')
     reader.add_argument('--rate', type=float, default=400, help='gets and updates a second, over these connections, two gets for each update (400)')
     reader.add_argument('--searchers', type=int, default=2, help='connections that send searches (2)')
-    reader.add_argument('--searches', type=float, default=2, help='searches a second; each tests every document (2)')
+    reader.add_argument('--searches', type=float, default=20, help='searches a second, over these connections (20)')
     reader.add_argument('--seconds', type=float, default=24, help='how long the steady requests go on (24)')
     reader.add_argument('--split-at', type=float, default=10, help='the second in which the shard is split (10)')
     reader.add_argument('--svg', default='', help='the file for the picture')
@@ -164,14 +163,13 @@ class Run:
 
 def table(run):
     began, ended, _ = run.split
-    times = (('before', 0, began), ('during', began, ended), ('after', ended, run.options.seconds))
+    spans = (('before', 0, began), ('during', began, ended), ('after', ended, run.options.seconds))
     print('\n| Requests | When | seconds | a second | p50 ms | p99 ms | p99.9 ms | most ms |\n|' + '---|' * 8)
     for kind in KINDS:
-        for name, first, last in times:
+        for name, first, last in spans:
             of = sorted(taken * 1000 for one, due, taken in run.samples if one == kind and first <= due < last)
-            if of:
-                print(f'| {kind} | {name} | {last - first:.2f} | {len(of) / (last - first):.1f} | {percentile(of, .5):.2f} | {percentile(of, .99):.2f} '
-                      f'| {percentile(of, .999):.2f} | {of[-1]:.2f} |')
+            each = f'{len(of) / (last - first):.1f} | ' + ' | '.join(f'{percentile(of, part):.2f}' for part in (.5, .99, .999, 1)) if of else 'none | | | |'
+            print(f'| {kind} | {name} | {max(0, last - first):.2f} | {each} |')
 
 
 def picture(run, path):

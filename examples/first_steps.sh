@@ -54,7 +54,7 @@ say 'Change it only if nobody else did: a version that is not the last one is a 
 run "$solr/docs/update" -H 'Content-Type: application/json' -d '[{"id": "book1", "_version_": 1234567890, "copies_i": {"set": 0}}]'
 run "$solr/docs/update" -H 'Content-Type: application/json' -d '[{"id": "book1", "_version_": -1, "title_t": "only if there is no book1"}]'
 
-say 'A search shows what was committed: nothing yet, and then all three books.'
+say 'A search shows what was committed: nothing yet, and then what was asked for, book1 and book3.'
 run "$solr/docs/select?q=*:*"
 run "$solr/docs/update?commit=true" -H 'Content-Type: application/json' -d '[{"id": "book3", "title_t": "The Final Empire", "author_s": "Brandon Sanderson"}]'
 run "$solr/docs/select?q=title_t:the%20AND%20NOT%20title_t:blade&fq=author_s:%22Brandon%20Sanderson%22&rows=5"

@@ -55,6 +55,8 @@ def batches(options):
 def main():
     stop_at_signals()
     options = arguments()
+    if not shutil.which('valgrind'):
+        sys.exit('valgrind is not on the path')
     load, bodies = batches(options)
     commit = request('GET', '/solr/docs/update?commit=true')
     search = request('GET', '/solr/docs/select?rows=10&q=title_t:' + words_of(100))

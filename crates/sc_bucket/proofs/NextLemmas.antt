@@ -1,9 +1,11 @@
 -- The rows that a slice's searcher shows, after what was written in the slice's range since the last commit, are its leader's cells.
-use Rattle.std.proofs.Common.{◌≡◌, ◌∙◌, ◌≤◌, ◌^◌, ◌⊎◌, inl, inr, ℕ, ℤ, Bool, true, false, cond, List, [], ◌∷◌, ◌++◌, length, find, Option, Some, None, refl, sym, ap, subst, All, Contains}
+use Rattle.std.proofs.Common.{◌≡◌, ◌∙◌, ◌≤◌, ◌^◌, ◌⊎◌, inl, inr, ℕ, ℤ, Bool, true, false, cond, List, [], ◌∷◌, ◌++◌, length, find, map, Option, Some, None, refl, sym, ap, subst, All, Contains, arith}
 use Rattle.std.specs.Prelude.{is_some, if◌then◌else◌, Result, Ok, Err, IfOk}
 use Rattle.std.specs.Arc.{arc_value}
 use Rattle.std.specs.List.{filter}
 use Rattle.std.specs.declared.alloc.AllocError.{AllocError}
+use Rattle.std.specs.declared.alloc.Global.{Global}
+use Rattle.std.specs.declared.sync.Arc.{Arc}
 use Rattle.std.proofs.lemmas.List.{append-nil, append_assoc}
 use Rattle.std.proofs.lemmas.List.Elements.{All-head, All-tail, All-contains, All-contains_itself, All-weaker, Contains-append_right, filter-append}
 use Rattle.std.proofs.lemmas.Option.{none-some}
@@ -30,12 +32,12 @@ use Rattle.sc_bucket.specs.Entries.{uncommitted}
 use Rattle.sc_bucket.specs.Cores.{IsCoreWithoutRoom, IsLeaderOf}
 use Rattle.sc_bucket.specs.Pending.{is_within}
 use Rattle.sc_bucket.specs.Searchers.{rows_of, ShowsCommitted}
-use Rattle.sc_bucket.specs.Taking.{AreChangesOf, IsLastOf, IsOfLeader}
+use Rattle.sc_bucket.specs.Taking.{AreChangesOf, AreLastOf, IsLastOf, IsOfLeader}
 use Rattle.sc_bucket.specs.Sound.{IsInRange, HasLastWrites, Serves, AreWritten, AreInRange, IsSound}
 use Rattle.sc_bucket.specs.declared.bucket.Bucket.{Bucket}
 use Rattle.sc_bucket.specs.declared.standing.Standing.{Standing}
 use Rattle.sc_bucket.proofs.CommitLemmas.{AreRows-sound}
-use Rattle.sc_bucket.proofs.SearcherLemmas.{AreLed-from_keys}
+use Rattle.sc_bucket.proofs.SearcherLemmas.{AreLed-from_keys, no_rows}
 use Rattle.sc_bucket.proofs.TakenLemmas.{Contains-slice_get}
 use Rattle.sc_bucket.proofs.UncommittedLemmas.{writes-committed}
 use Rattle.sc_bucket.proofs.WriteLemmas.{Contains-find}
@@ -238,16 +240,27 @@ bounded-changed b slice last changes sound is within are rows ascend changed =
     let cells = All-contains (λ (one : Core). AreRows one.cells) b.replicas core (AreRows-sound b sound) there in
     subst (λ (these : List Write). length these ≤ 2 ^ 24) (sym same) cells.bounded
 
+-- a list of no length is empty
+pub no_cells : (cells : List (Arc Write Global)) → length cells ≡ 0 → map arc_value cells ≡ []
+no_cells [] none = refl
+no_cells (cell ∷ cells) none = absurd (omega (arith, none))
+
+-- where all writes are committed nothing changes in any slice
+pub AreChangesOf-none : (journal : List Entry) (slice : Slice) → uncommitted journal ≡ [] → AreChangesOf journal slice []
+AreChangesOf-none journal slice none = record {
+  ascend = no_rows.ascend;
+  last = subst (λ (these : List Write). AreLastOf (filter (is_within slice.range) these) []) (sym none) (λ id. refl);
+}
+
 -- where there are no changes it is that of the last searcher, at another place
-pub IsOfLeader-same : (b : Bucket) (slice : Slice) (last : Standing) (changes : List Write) (place : ℕ) (snapshot : SnapshotState) → IsSound b
-    → IsLastOf b slice last → All (IsInRange slice) (rows_of last) → AreChangesOf b.journal.entries slice changes → changes ≡ []
+pub IsOfLeader-same : (b : Bucket) (slice : Slice) (last : Standing) (place : ℕ) (snapshot : SnapshotState) → IsSound b
+    → IsLastOf b slice last → All (IsInRange slice) (rows_of last) → AreChangesOf b.journal.entries slice []
     → AreRows (rows_of last) → place ≡ length b.journal.entries → snapshot ≡ record (arc_value last.snapshot) { place = place }
     → IsOfLeader b slice snapshot
-IsOfLeader-same b slice last changes place snapshot sound is within are none rows here same =
+IsOfLeader-same b slice last place snapshot sound is within unchanged rows here same =
     let these : snapshot.rows ≡ rows_of last = ap (λ (s : SnapshotState). s.rows) same in
-    IsOfLeader-changed b slice last changes snapshot sound is within are (subst AscendById (sym these) rows.ascend)
-    (subst (λ (changed : List Write). AreChanged (rows_of last) changed snapshot.rows) (sym none)
-    (λ id. ap (λ (all : List Write). write_of all id) these))
+    IsOfLeader-changed b slice last [] snapshot sound is within unchanged (subst AscendById (sym these) rows.ascend)
+    (λ id. ap (λ (all : List Write). write_of all id) these)
     (ap (λ (s : SnapshotState). s.place) same ∙ here)
 
 -- else it is the next one after them

@@ -1,4 +1,4 @@
-ghost use Rattle.std.specs.Prelude.{◌≡◌, ◌<◌, ◌+◌, ◌↔◌, Err, List, length, map, IsTrue, All, Contains, IfOk, OnOk, OnErr};
+ghost use Rattle.std.specs.Prelude.{◌≡◌, ◌<◌, ◌+◌, ◌↔◌, Err, List, [], length, map, IsTrue, All, Contains, IfOk, OnOk, OnErr};
 ghost use Rattle.std.specs.Arc.{arc_value};
 ghost use Rattle.sc_hash.specs.Range.{IsWithin};
 ghost use Rattle.sc_record.specs.declared.write.Write.{Write};
@@ -163,7 +163,8 @@ fn are_within(snapshot: &Snapshot, range: &Range) -> bool
     range.min <= snapshot.least_hash() && snapshot.greatest_hash() <= range.max
 }
 
-// The snapshot of the slice's last searcher with what was written in the slice's range since the last commit.
+// The snapshot of the slice's last searcher with what was written in the slice's range since the last commit. Where nothing was written
+// at all it makes no list.
 fn changed_snapshot(
     alloc: Global,
     bucket: &Bucket,
@@ -176,11 +177,15 @@ fn changed_snapshot(
     ensures { IfOk result (IsOfLeader bucket.now slice.now) }
 {
     let writes = bucket.journal.uncommitted_writes();
-    let changes = changes_in(alloc, writes, &slice.range)?;
-    next_snapshot(alloc, bucket, slice, last, changes.as_slice())
+    if writes.is_empty() {
+        same_snapshot(bucket, slice, last)
+    } else {
+        let changes = changes_in(alloc, writes, &slice.range)?;
+        next_snapshot(alloc, bucket, slice, last, changes.as_slice())
+    }
 }
 
-// The same, with these changes; the same rows where there are none.
+// The same, with these changes.
 fn next_snapshot(
     alloc: Global,
     bucket: &Bucket,
@@ -194,12 +199,23 @@ fn next_snapshot(
     requires changes { AreChangesOf bucket.now.journal.entries slice.now (map arc_value changes.now) }
     ensures { IfOk result (IsOfLeader bucket.now slice.now) }
 {
-    let _ = last.snapshot.rows(); // by it the proof knows that they are rows
     if changes.is_empty() {
-        last.snapshot.at(bucket.entries())
+        same_snapshot(bucket, slice, last)
     } else {
         last.snapshot.next(alloc, bucket.entries(), changes)
     }
+}
+
+// The same rows, where nothing in the slice's range changed.
+fn same_snapshot(bucket: &Bucket, slice: &Slice, last: &Standing) -> Result<Snapshot, AllocError>
+    requires sound { IsSound bucket.now }
+    requires last { IsLastOf bucket.now slice.now last.now }
+    requires within { All (IsInRange slice.now) (rows_of last.now) }
+    requires unchanged { AreChangesOf bucket.now.journal.entries slice.now [] }
+    ensures { IfOk result (IsOfLeader bucket.now slice.now) }
+{
+    let _ = last.snapshot.rows(); // by it the proof knows that they are rows
+    last.snapshot.at(bucket.entries())
 }
 
 // The snapshot of a share of each cell of the slice's leader.

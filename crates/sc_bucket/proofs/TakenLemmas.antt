@@ -1,8 +1,8 @@
 -- The searcher that is taken of an active slice, those of all of them, and which searcher is a slice's.
-use Rattle.std.proofs.Common.{◌≡◌, ◌≢◌, ◌∙◌, ℕ, ◌+◌, ◌<◌, ◌≤◌, Bool, true, false, cond, List, [], ◌∷◌, ◌++◌, length, get_or, map, filter, take, drop, slice_get, Some, None, Option, Bor, MatchOption, Contains, IsSome, refl, sym, ap, subst, arith}
+use Rattle.std.proofs.Common.{◌≡◌, ◌≢◌, ◌∙◌, ℕ, ◌+◌, ◌<◌, ◌≤◌, Bool, true, false, cond, List, [], ◌∷◌, ◌++◌, length, get_or, map, filter, take, drop, slice_get, Some, None, Option, Bor, MatchOption, Contains, IsSome, refl, sym, ap, subst, arith, length-append}
 use Rattle.std.specs.List.{AllWithin, HoldsAt}
-use Rattle.std.proofs.lemmas.List.{append-nil, map-append, length-take, drop-append-le, take_all, take_more}
-use Rattle.std.proofs.lemmas.List.Elements.{All-push, filter_more}
+use Rattle.std.proofs.lemmas.List.{append-nil, length-map, map-append, length-take, drop-append-le, take_all, take_more, take-append-drop}
+use Rattle.std.proofs.lemmas.List.Elements.{All-push, filter_more, filter-append}
 use Rattle.std.proofs.lemmas.Option.{slice_get_within, get_or_from_slice_get, same_Some}
 use denote.Enum.Bare.{sameb}
 use Rattle.sc_record.specs.declared.slice.SliceId.{SliceId}
@@ -85,6 +85,32 @@ pub AreOfEachSlice-inactive : (slices : List Slice) (at : ℕ) (slice : Slice) (
 AreOfEachSlice-inactive slices at slice searchers there inactive so_far =
     let before : List Slice = filter is_active (take at slices) in
     so_far ∙ ap (map name_of) (sym (active_more slices at slice false there inactive ∙ append-nil before))
+
+-- there are as many searchers as active slices
+count_of_each : (slices : List Slice) (searchers : List Standing) → AreOfEachSlice slices searchers
+    → length searchers ≡ length (filter is_active slices)
+count_of_each slices searchers each =
+    sym (length-map searchers (λ (s : Standing). s.slice)) ∙ ap (λ (ids : List SliceId). length ids) each
+    ∙ length-map (filter is_active slices) name_of
+
+-- so the slices before an active one have fewer than all
+pub fewer-before_active : (slices : List Slice) (at : ℕ) (slice : Slice) (before all : List Standing)
+    → slice_get slices at ≡ Some slice → slice.state ≡ states.Active → AreOfEachSlice (take at slices) before → AreOfEachSlice slices all
+    → length before < length all
+fewer-before_active slices at slice before all there active so_far each =
+    let first : List Slice = filter is_active (take at slices) in
+    let more : List Slice = filter is_active (take (at + 1) slices) in
+    let rest : List Slice = filter is_active (drop (at + 1) slices) in
+    omega (
+      arith,
+      count_of_each (take at slices) before so_far,
+      count_of_each slices all each,
+      ap (λ (these : List Slice). length (filter is_active these)) (sym (take-append-drop (at + 1) slices)),
+      ap (λ (these : List Slice). length these) (filter-append is_active (take (at + 1) slices) (drop (at + 1) slices)),
+      length-append more rest,
+      ap (λ (these : List Slice). length these) (active_more slices at slice true there (ap is_active_state active)),
+      length-append first (slice ∷ []),
+    )
 
 -- the name of a searcher's slice
 abbrev pub slice_of : Standing → SliceId

@@ -86,19 +86,18 @@ impl Bucket {
 
 /// A searcher for each active slice, of its leader's cells as they are. The bucket is only read. A slice's snapshot is made of its last
 /// one and of what was written in its range since the last commit; where that is nothing it has the same rows, and none of them is
-/// looked at. The only error is that memory was refused.
+/// looked at. The list takes room for as many as there are. The only error is that memory was refused.
 pub fn searchers_at(alloc: Global, bucket: &Bucket) -> Result<List<Standing>, AllocError>
     requires sound { IsSound bucket.now }
     ensures { IfOk result (AreTaken bucket.now.map bucket.now.replicas (length bucket.now.journal.entries)) }
 {
-    let mut searchers = Vec::new(alloc);
+    let mut searchers = Vec::with_capacity(alloc, bucket.searchers.len())?;
     for at in 0..bucket.map.len() {
         let slice = bucket.map.get(at).unwrap();
         if slice.state == State::Active {
-            searchers.push(searcher_of(alloc, bucket, slice)?)?;
+            searchers.push_reserved(searcher_of(alloc, bucket, slice)?);
         }
     }
-    searchers.shrink_to_fit();
     Ok(List::from_vec(searchers))
 }
 

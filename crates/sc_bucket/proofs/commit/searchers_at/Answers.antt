@@ -1,12 +1,12 @@
 -- Each active slice gets its searcher.
-use Rattle.std.proofs.Common.{◌∙◌, ◌+◌, Global, Vec, length, sym, ap, subst, take, All}
+use Rattle.std.proofs.Common.{◌∙◌, ◌+◌, Global, Vec, length, sym, ap, subst, take, All, arith}
 use Rattle.std.specs.Option.{option_copied}
 use Rattle.std.proofs.lemmas.List.Elements.{All-push}
 use Rattle.sc_bucket.specs.Searchers.{AreOfEachSlice, IsTaken}
 use Rattle.sc_bucket.specs.declared.standing.Standing.{Standing}
-use Rattle.sc_bucket.proofs.TakenLemmas.{Contains-slice_get, active_from_test, inactive_from_test, AreOfEachSlice-active, AreOfEachSlice-inactive}
+use Rattle.sc_bucket.proofs.TakenLemmas.{Contains-slice_get, active_from_test, inactive_from_test, AreOfEachSlice-active, AreOfEachSlice-inactive, fewer-before_active}
 use Rattle.sc_bucket.proofs.commit.searchers_at.Goals as goal
-use Rattle.sc_bucket.proofs.commit.searchers_at.Goals.{then-eq+in_ok-searcher_of+in_ok-push, else-eq}
+use Rattle.sc_bucket.proofs.commit.searchers_at.Goals.{then-eq+in_ok-searcher_of, else-eq}
 
 pub searcher_of-requires-clause-there : goal.searcher_of-requires-clause-there
 searcher_of-requires-clause-there c =
@@ -14,6 +14,15 @@ searcher_of-requires-clause-there c =
 
 pub searcher_of-requires-clause-active : goal.searcher_of-requires-clause-active
 searcher_of-requires-clause-active c = active_from_test c.unwrap-slice.result.now.state (sym c.eq.ensures ∙ c.if-eq.true)
+
+pub push_reserved-requires : goal.push_reserved-requires
+push_reserved-requires c =
+    let b = c.args.bucket.now in
+    let slice = c.unwrap-slice.result.now in
+    let there = sym c.get.ensures.slice ∙ ap option_copied c.unwrap-slice.ensures in
+    let fewer = fewer-before_active b.map c.loop-at.at slice c.loop-at.searchers.items b.searchers there
+    (active_from_test slice.state (sym c.eq.ensures ∙ c.if-eq.true)) c.loop-at.invariant.each_slice c.requires.sound.searchers.each_slice in
+    omega (arith, fewer, c.loop-at.invariant.room, c.loop-at.searchers.ok)
 
 pub loop-at-preserved : goal.loop-at-preserved
 loop-at-preserved c =
@@ -23,11 +32,12 @@ loop-at-preserved c =
     let slices = b.map in
     let IsOne = IsTaken slices b.replicas (length b.journal.entries) in
     elim c.if-eq.branch [
-      | then-eq+in_ok-searcher_of+in_ok-push w ↦
+      | then-eq+in_ok-searcher_of w ↦
           let searcher = w.in_ok-searcher_of.field-0 in
           let active = active_from_test slice.state (sym c.eq.ensures ∙ w.if-eq.true) in
-          let items = ap (λ (v : Vec Standing Global). v.items) w.searchers-is ∙ w.in_ok-push.ensures.items in
+          let items = ap (λ (v : Vec Standing Global). v.items) w.searchers-is ∙ w.push_reserved.ensures.items in
           record {
+            room = ap (λ (v : Vec Standing Global). v.cap) w.searchers-is ∙ w.push_reserved.ensures.capacity ∙ c.loop-at.invariant.room;
             each_slice = subst (AreOfEachSlice (take (c.loop-at.at + 1) slices)) (sym items)
                 (AreOfEachSlice-active slices c.loop-at.at slice c.loop-at.searchers.items searcher there active
                 w.in_ok-searcher_of.ensures.of_slice c.loop-at.invariant.each_slice);
@@ -38,6 +48,7 @@ loop-at-preserved c =
           let inactive = inactive_from_test slice.state (sym c.eq.ensures ∙ w.if-eq.false) in
           let items = ap (λ (v : Vec Standing Global). v.items) w.searchers-is in
           record {
+            room = ap (λ (v : Vec Standing Global). v.cap) w.searchers-is ∙ c.loop-at.invariant.room;
             each_slice = subst (AreOfEachSlice (take (c.loop-at.at + 1) slices)) (sym items)
                 (AreOfEachSlice-inactive slices c.loop-at.at slice c.loop-at.searchers.items there inactive c.loop-at.invariant.each_slice);
             taken = subst (All IsOne) (sym items) c.loop-at.invariant.taken;

@@ -1,9 +1,12 @@
 -- An index laid out flat: what it has at each place, and after rows or a key were put at its end.
-use Rattle.std.proofs.Common.{◌≡◌, ℕ, zero, suc, ◌-◌, ◌<◌, ◌≤◌, List, [], ◌∷◌, ◌++◌, length, take, drop, get_or, slice_get, Some, refl, sym, ap, ◌∙◌, arith}
-use Rattle.std.proofs.lemmas.List.{length-drop, drop-append-le, take-append-le, take_rest, drop_all}
+use Rattle.std.proofs.Common.{◌≡◌, ℕ, zero, suc, ◌+◌, ◌-◌, ◌<◌, ◌≤◌, List, [], ◌∷◌, ◌++◌, length, take, drop, get_or, slice_get, Some, append-nil, refl, sym, ap, subst, ◌∙◌, arith}
+use Rattle.std.proofs.lemmas.List.{length-append, length-drop, length-take-le, length_push, drop-append-le, take-append-le, take_rest, drop_all}
+use Rattle.std.proofs.lemmas.Option.{slice_get_read}
 use Rattle.std.specs.Map.{keys_of}
 use Rattle.std.specs.List.{slice_range}
-use Rattle.sc_segment.specs.Flat.{FlatState, entries_from, last_end, AreEnds}
+use Rattle.std.specs.declared.cmp.Ordering.{Ordering}
+use Rattle.sc_segment.specs.Carrying.{HasEntryMore}
+use Rattle.sc_segment.specs.Flat.{FlatState, IsLaidOut, AreAllClosed, PutsKey, entries_from, last_end, AreEnds, rows_among}
 
 -- where the rows of the key at a place begin
 abbrev pub begin : ℕ → List ℕ → ℕ → ℕ
@@ -62,6 +65,20 @@ range-more rows more a b le within =
     let here : a ≤ length rows = omega arith in
     let enough : b - a ≤ length (drop a rows) = rw (length-drop a rows) (omega arith) in
     ap (take (b - a)) (drop-append-le a rows more here) ∙ take-append-le (b - a) (drop a rows) more enough
+
+-- where no rows wait, the last key's end where all do
+pub closed-from : (ends rows : List ℕ) → AreEnds 0 ends (length rows) → drop (last_end 0 ends) rows ≡ [] → AreAllClosed ends rows
+closed-from ends rows are is =
+    let le = last_within 0 ends (length rows) are in
+    let none : length (drop (last_end 0 ends) rows) ≡ 0 = ap (λ (rs : List ℕ). length rs) is in
+    omega (arith, le, none, length-drop (last_end 0 ends) rows)
+
+-- how many rows lie between two places
+pub length-range : (rows : List ℕ) (a b : ℕ) → a ≤ b → b ≤ length rows → length (slice_range rows a b) + a ≡ b
+length-range rows a b le within =
+    let enough : b - a ≤ length (drop a rows) = rw (length-drop a rows) (omega arith) in
+    let long : length (slice_range rows a b) ≡ b - a = length-take-le (b - a) (drop a rows) enough in
+    omega (arith, long, le)
 
 module _ {K : Type 0} where
   pub length-entries : (from : ℕ) (keys : List K) (ends rows : List ℕ) → length keys ≡ length ends → length (entries_from from keys ends rows) ≡ length ends
@@ -149,3 +166,122 @@ module _ {K : Type 0} where
       ap (λ (s : FlatState K). length s.pending) (sym was)
       ∙ length-drop (last_end 0 ends) rows
       ∙ ap (λ (n : ℕ). length rows - n) (last_end-begin 0 ends ∙ sym starts)
+
+  -- the rows of the first keys are those before where the next key's begin
+  pub rows_among-begin : (from : ℕ) (keys : List K) (ends rows : List ℕ) (i : ℕ) → length keys ≡ length ends → AreEnds from ends (length rows) → i ≤ length ends
+      → rows_among (take i (entries_from from keys ends rows)) + from ≡ begin from ends i
+  rows_among-begin from keys ends rows zero same are within = omega arith
+  rows_among-begin from [] [] rows (suc i) same are within = absurd (omega arith)
+  rows_among-begin from [] (e ∷ es) rows (suc i) same are within = cc
+  rows_among-begin from (k ∷ ks) [] rows (suc i) same are within = absurd (omega arith)
+  rows_among-begin from (k ∷ ks) (e ∷ es) rows (suc i) same are within =
+      let here = length-range rows from e are.0 (from_within e es (length rows) are.1) in
+      let later = rows_among-begin e ks es rows i (omega (arith, same)) are.1 (omega arith) in
+      let sum : rows_among (take (suc i) (entries_from from (k ∷ ks) (e ∷ es) rows)) ≡ length (slice_range rows from e) + rows_among (take i (entries_from e ks es rows)) = refl in
+      (omega (arith, here, later, sum)) ∙ begin-rest from e es i
+
+  -- more keys have no fewer rows
+  pub rows_among-rises : (es : List (K × List ℕ)) (i j : ℕ) → i ≤ j → rows_among (take i es) ≤ rows_among (take j es)
+  rows_among-rises es zero j le = omega arith
+  rows_among-rises es (suc i) zero le = absurd (omega arith)
+  rows_among-rises [] (suc i) (suc j) le = omega arith
+  rows_among-rises (e ∷ es) (suc i) (suc j) le =
+      let later = rows_among-rises es i j (omega arith) in omega (arith, later)
+
+  -- ---- the key at a place, read from the three lists
+  pub record IsPlaced (keys : List K) (ends rows : List ℕ) (entries : List (K × List ℕ)) (at start : ℕ) : Type 0 where
+    pub in_keys : at < length keys
+    pub in_ends : at < length ends
+    pub rises : start ≤ get_or ends at 0
+    pub in_rows : get_or ends at 0 ≤ length rows
+    pub next : get_or ends at 0 ≡ rows_among (take (at + 1) entries)
+    pub entry : (key : K) → key ≡ get_or keys at key → slice_get entries at ≡ Some (key, slice_range rows start (get_or ends at 0))
+
+  placed-here : (keys : List K) (ends rows : List ℕ) (state : FlatState K) (at start : ℕ) → length keys ≡ length ends → AreEnds 0 ends (length rows) → flat keys ends rows ≡ state
+      → at < length state.entries → start ≡ rows_among (take at state.entries) → IsPlaced keys ends rows state.entries at start
+  placed-here keys ends rows state at start same are seen within begins =
+      let inside : at < length ends = place_within keys ends rows state at same seen within in
+      let entries : entries_from 0 keys ends rows ≡ state.entries = ap (λ (s : FlatState K). s.entries) seen in
+      let counted = rows_among-begin 0 keys ends rows at same are (omega (arith, inside)) in
+      let counted_next : rows_among (take (suc at) (entries_from 0 keys ends rows)) + 0 ≡ get_or ends at 0 = rows_among-begin 0 keys ends rows (suc at) same are (omega (arith, inside)) in
+      let begins_at : start ≡ begin 0 ends at =
+      begins ∙ ap (λ (es : List (K × List ℕ)). rows_among (take at es)) (sym entries) ∙ (omega (arith, counted)) in
+      let one : suc at ≡ at + 1 = omega arith in
+      let ends_next : rows_among (take (suc at) (entries_from 0 keys ends rows)) ≡ rows_among (take (at + 1) state.entries) =
+      ap (λ (n : ℕ). rows_among (take n (entries_from 0 keys ends rows))) one ∙ ap (λ (es : List (K × List ℕ)). rows_among (take (at + 1) es)) entries in
+      let key_of : (key : K) → key ≡ get_or keys at key → slice_get (keys_of state.entries) at ≡ Some key = λ (key : K) (is : key ≡ get_or keys at key).
+      ap (λ (es : List (K × List ℕ)). slice_get (keys_of es) at) (sym entries)
+      ∙ ap (λ (ks : List K). slice_get ks at) (keys_of-entries 0 keys ends rows same)
+      ∙ slice_get_read keys (length keys) at key refl (omega (arith, inside, same)) is in
+      let before = begin_before_end 0 ends (length rows) at are inside in
+      record {
+        in_keys = omega (arith, inside, same);
+        in_ends = inside;
+        rises = omega (arith, begins_at, before);
+        in_rows = end_within 0 ends (length rows) at are inside;
+        next = omega (arith, counted_next, ends_next);
+        entry = λ key is. flat-rows_of keys ends rows state at start (get_or ends at 0) key same seen inside begins_at refl (key_of key is);
+      }
+
+  pub placed : (keys : List K) (ends rows : List ℕ) (state : FlatState K) (at start : ℕ) (keys' : List K) (ends' rows' : List ℕ) → length keys ≡ length ends → AreEnds 0 ends (length rows)
+      → flat keys ends rows ≡ state → at < length state.entries → start ≡ rows_among (take at state.entries) → keys' ≡ keys → ends' ≡ ends → rows' ≡ rows
+      → IsPlaced keys' ends' rows' state.entries at start
+  placed keys ends rows state at start keys' ends' rows' same are seen within begins as_keys as_ends as_rows =
+      subst (λ (ks : List K). IsPlaced ks ends' rows' state.entries at start) (sym as_keys)
+      (subst (λ (es : List ℕ). IsPlaced keys es rows' state.entries at start) (sym as_ends)
+      (subst (λ (rs : List ℕ). IsPlaced keys ends rs state.entries at start) (sym as_rows) (placed-here keys ends rows state at start same are seen within begins)))
+
+  -- ---- a key put at the end with its rows
+  module _ (order : K → K → Ordering) (key : K) (keys keys' : List K) (ends ends' rows rows' more : List ℕ) (laid_out : IsLaidOut keys ends rows) (longer : rows' ≡ rows ++ more) where
+    -- rows alone were put there
+    pub laid_out-rows : keys' ≡ keys → ends' ≡ ends → IsLaidOut keys' ends' rows'
+    laid_out-rows same_keys same_ends = record {
+      as_long = ap length same_keys ∙ laid_out.as_long ∙ sym (ap length same_ends);
+      are_ends = subst (λ (es : List ℕ). AreEnds 0 es (length rows')) (sym same_ends)
+          (AreEnds-more 0 ends (length rows) (length rows') (omega (arith, ap length longer, length-append rows more)) laid_out.are_ends);
+    }
+
+    pub laid_out-put : PutsKey order key more (length rows') keys ends keys' ends' → IsLaidOut keys' ends' rows'
+    laid_out-put = by_rows more refl
+      where
+        by_rows : (added : List ℕ) → more ≡ added → PutsKey order key added (length rows') keys ends keys' ends' → IsLaidOut keys' ends' rows'
+        by_rows [] is puts = laid_out-rows puts.0 puts.1
+        by_rows (r ∷ rs) is puts = record {
+          as_long = ap length puts.2 ∙ length_push keys puts.0 ∙ ap (λ (n : ℕ). n + 1) laid_out.as_long ∙ sym (length_push ends (length rows')) ∙ sym (ap length puts.3);
+          are_ends = subst (λ (es : List ℕ). AreEnds 0 es (length rows')) (sym puts.3)
+              (AreEnds-push 0 ends (length rows') (AreEnds-more 0 ends (length rows) (length rows') (omega (arith, ap length longer, length-append rows more)) laid_out.are_ends));
+        }
+
+    pub closed-put : AreAllClosed ends rows → PutsKey order key more (length rows') keys ends keys' ends' → AreAllClosed ends' rows'
+    closed-put closed = by_rows more refl
+      where
+        by_rows : (added : List ℕ) → more ≡ added → PutsKey order key added (length rows') keys ends keys' ends' → AreAllClosed ends' rows'
+        by_rows [] is puts = ap (last_end 0) puts.1 ∙ closed ∙ sym (ap length longer ∙ ap (λ (rs : List ℕ). length (rows ++ rs)) is ∙ ap length (append-nil rows))
+        by_rows (r ∷ rs) is puts = ap (last_end 0) puts.3 ∙ last_end-push 0 ends (length rows')
+
+    pub entry-put : AreAllClosed ends rows → PutsKey order key more (length rows') keys ends keys' ends' → HasEntryMore order key more (entries_from 0 keys ends rows) (entries_from 0 keys' ends' rows')
+    entry-put closed = by_rows more refl
+      where
+        now : entries_from 0 keys ends rows' ≡ entries_from 0 keys ends rows
+        now = ap (λ (rs : List ℕ). entries_from 0 keys ends rs) longer ∙ entries-more 0 keys ends rows more laid_out.are_ends
+
+        of_key : slice_range rows' (last_end 0 ends) (length rows') ≡ more
+        of_key =
+            ap (λ (n : ℕ). slice_range rows' n (length rows')) closed
+            ∙ take_rest rows' (length rows)
+            ∙ ap (drop (length rows)) longer
+            ∙ drop-append-le (length rows) rows more (omega arith)
+            ∙ ap (λ (rs : List ℕ). rs ++ more) (drop_all (length rows) rows (omega arith))
+
+        by_rows : (added : List ℕ) → more ≡ added → PutsKey order key added (length rows') keys ends keys' ends' → HasEntryMore order key added (entries_from 0 keys ends rows) (entries_from 0 keys' ends' rows')
+        by_rows [] is puts =
+            ([], ap (λ (ks : List K). entries_from 0 ks ends' rows') puts.0 ∙ ap (λ (es : List ℕ). entries_from 0 keys es rows') puts.1 ∙ now ∙ sym (append-nil (entries_from 0 keys ends rows)), refl)
+        by_rows (r ∷ rs) is puts = (
+          (puts.0, r ∷ rs) ∷ [],
+          ap (λ (ks : List K). entries_from 0 ks ends' rows') puts.2
+              ∙ ap (λ (es : List ℕ). entries_from 0 (keys ++ puts.0 ∷ []) es rows') puts.3
+              ∙ entries-push 0 keys ends rows' puts.0 (length rows') laid_out.as_long
+              ∙ ap (λ (os : List ℕ). entries_from 0 keys ends rows' ++ (puts.0, os) ∷ []) (of_key ∙ is)
+              ∙ ap (λ (xs : List (K × List ℕ)). xs ++ (puts.0, r ∷ rs) ∷ []) now,
+          (puts.1, refl, omega arith),
+        )

@@ -1,5 +1,7 @@
 -- An index laid out flat: its keys, where the rows of each key end, and the rows of all keys one after another.
-use Rattle.std.specs.Prelude.{ℕ, ◌≤◌, List, [], ◌∷◌, slice_range}
+use Rattle.std.specs.Prelude.{◌≡◌, ℕ, ◌+◌, ◌<◌, ◌≤◌, ◌⊎◌, List, [], ◌∷◌, ◌++◌, length, slice_range}
+use Rattle.std.specs.declared.cmp.Ordering.{Ordering}
+use Rattle.std.specs.declared.cmp.Ordering.TheVariants.{Equal}
 
 -- each key with its rows, where those of the first key begin here
 abbrev pub entries_from : {K : Type 0} → ℕ → List K → List ℕ → List ℕ → List (K × List ℕ)
@@ -21,3 +23,22 @@ AreEnds from (end ∷ ends) count = (from ≤ end) × AreEnds end ends count
 pub record FlatState (K : Type 0) : Type 0 where
   pub entries : List (K × List ℕ)
   pub pending : List ℕ
+
+-- how many rows these entries have
+abbrev pub rows_among : {K : Type 0} → List (K × List ℕ) → ℕ
+rows_among [] = 0
+rows_among (e ∷ entries) = length e.1 + rows_among entries
+
+-- the three lists of an index
+pub record IsLaidOut {K : Type 0} (keys : List K) (ends rows : List ℕ) : Type 0 where
+  pub as_long : length keys ≡ length ends
+  pub are_ends : AreEnds 0 ends (length rows)
+
+-- each row is one of a key before
+abbrev pub AreAllClosed : List ℕ → List ℕ → Type 0
+AreAllClosed ends rows = last_end 0 ends ≡ length rows
+
+-- a key that compares equal was put at the end, and where its rows end; nothing, where it has no rows
+abbrev pub PutsKey : {K : Type 0} → (K → K → Ordering) → K → List ℕ → ℕ → List K → List ℕ → List K → List ℕ → Type 0
+PutsKey order key [] end keys ends keys' ends' = (keys' ≡ keys) × (ends' ≡ ends)
+PutsKey order key (row ∷ rows) end keys ends keys' ends' = (shared : _) × (order key shared ≡ Equal) × (keys' ≡ keys ++ shared ∷ []) × (ends' ≡ ends ++ end ∷ [])

@@ -63,7 +63,7 @@ fn carry_all<K: Key + Drop, L: Ledger>(
         let rows = added.rows_of(at);
         from = carry_to_key(index, old, from, moved, &keys[at], rows, &mut steps)?;
     }
-    carry_keys(index, old, from, old.keys().len(), moved)?;
+    index.carry(old, from, old.keys().len(), moved)?;
     Ok(())
 }
 
@@ -94,44 +94,18 @@ fn carry_to_key<K: Key + Drop, L: Ledger>(
 {
     match search(old.keys(), from, key, steps) {
         Ok(at) => {
-            carry_keys(index, old, from, at, moved)?;
+            index.carry(old, from, at, moved)?;
             merge_rows(index, old.rows_of(at), moved, added)?;
             close_shared(index, key)?;
             Ok(at + 1)
         }
         Err(at) => {
-            carry_keys(index, old, from, at, moved)?;
+            index.carry(old, from, at, moved)?;
             index.add_rows(added)?;
             close_shared(index, key)?;
             Ok(at)
         }
     }
-}
-
-// Carries the keys from one place up to another, each where rows of it are left.
-fn carry_keys<K: Key + Drop>(
-    index: &mut FlatIndex<K>,
-    old: &FlatIndex<K>,
-    from: usize,
-    to: usize,
-    moved: &[Option<u32>],
-) -> Result<(), AllocError>
-    requires moved { KeepsOrder moved.now }
-    requires old { IsInOrder K.order old.now.entries }
-    requires rises { from ≤ to }
-    requires within { to ≤ length old.now.entries }
-    requires none { index.old.pending ≡ [] }
-    ensures none { OnOk result (index.new.pending ≡ []) }
-    ensures carried { OnOk result ((before : List (K × List ℕ)) → AreBefore K.order before old.now.entries from
-        → IsCarriedSoFar K.order moved.now (take from old.now.entries) before index.old.entries
-        → IsCarriedSoFar K.order moved.now (take to old.now.entries) before index.new.entries) }
-{
-    let keys = old.keys();
-    'carrying: for at in from..to {
-        index.add_moved(old.rows_of(at), moved)?;
-        close_shared(index, &keys[at])?;
-    }
-    Ok(())
 }
 
 // Puts the new numbers of rows at the end, with the rows that are added among them.

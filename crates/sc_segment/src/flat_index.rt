@@ -1,8 +1,10 @@
-ghost use Rattle.std.specs.Prelude.{◌≡◌, ◌<◌, ◌≤◌, ◌↔◌, IsTrue, List, [], ◌∷◌, ◌++◌, length, slice_get, slice_index, Some, IfOk, OnOk, ◌-◌};
+ghost use Rattle.std.specs.Prelude.{◌≡◌, ℕ, ◌+◌, ◌<◌, ◌≤◌, ◌↔◌, IsTrue, List, [], ◌∷◌, ◌++◌, length, take, slice_get, slice_index, Some, IfOk, OnOk, OnErr, ◌-◌, vec_len, vec_capacity};
 ghost use Rattle.std.specs.Map.{keys_of};
-ghost use Rattle.sc_segment.specs.Carrying.{new_numbers};
-ghost use Rattle.sc_segment.specs.Flat.{FlatState};
+ghost use Rattle.sc_segment.specs.Carrying.{new_numbers, KeepsOrder, IsCarriedSoFar, AreBefore};
+ghost use Rattle.sc_segment.specs.Flat.{FlatState, IsLaidOut, AreAllClosed, PutsKey, entries_from, rows_among};
+ghost use Rattle.sc_segment.specs.Index.{IsInOrder};
 
+use crate::key::Key;
 use crate::moving::push_moved;
 use std::alloc::{AllocError, Global};
 use std::marker::Model;
@@ -81,7 +83,52 @@ impl<K: Drop> FlatIndex<K> {
     }
 }
 
+impl<K: Key + Drop> FlatIndex<K> {
+    /// Carries the keys of another index from one place up to another, each where rows of it are left. The keys are shared. Room
+    /// is made once for all of them.
+    pub(crate) fn carry(
+        &mut self,
+        old: &FlatIndex<K>,
+        from: usize,
+        to: usize,
+        moved: &[Option<u32>],
+    ) -> Result<(), AllocError>
+        requires moved { KeepsOrder moved.now }
+        requires old { IsInOrder K.order old.now.entries }
+        requires rises { from ≤ to }
+        requires within { to ≤ length old.now.entries }
+        requires none { self.old.pending ≡ [] }
+        ensures none { OnOk result (self.new.pending ≡ []) }
+        ensures carried { OnOk result ((before : List (K × List ℕ)) → AreBefore K.order before old.now.entries from
+            → IsCarriedSoFar K.order moved.now (take from old.now.entries) before self.old.entries
+            → IsCarriedSoFar K.order moved.now (take to old.now.entries) before self.new.entries) }
+    {
+        let count = to - from;
+        self.keys.reserve(count)?;
+        self.ends.reserve(count)?;
+        self.rows
+            .reserve(old.rows_before(to) - old.rows_before(from))?;
+        carry_range(
+            &mut self.keys,
+            &mut self.ends,
+            &mut self.rows,
+            old,
+            from,
+            to,
+            moved,
+        )
+    }
+}
+
 impl<K> FlatIndex<K> {
+    // How many rows the keys before this place have.
+    fn rows_before(&self, at: usize) -> usize
+        requires { at ≤ length self.now.entries }
+        ensures { result ≡ rows_among (take at self.now.entries) }
+    {
+        start_of(&self.ends, at)
+    }
+
     /// Gives back the room that is not used.
     pub(crate) fn shrink(&mut self)
         ensures { self.new ≡ self.old }
@@ -128,4 +175,78 @@ fn start_of(ends: &[usize], at: usize) -> usize
     ensures later { 0 < at → result ≡ slice_index ends.now (at - 1) }
 {
     if at == 0 { 0 } else { ends[at - 1] }
+}
+
+// Carries the keys of an index from one place up to another to the three lists of another index, which have room for all of them.
+fn carry_range<K: Key + Drop>(
+    keys: &mut Vec<K>,
+    ends: &mut Vec<usize>,
+    rows: &mut Vec<u32>,
+    old: &FlatIndex<K>,
+    from: usize,
+    to: usize,
+    moved: &[Option<u32>],
+) -> Result<(), AllocError>
+    requires moved { KeepsOrder moved.now }
+    requires old { IsInOrder K.order old.now.entries }
+    requires rises { from ≤ to }
+    requires within { to ≤ length old.now.entries }
+    requires laid_out { IsLaidOut keys.old.items ends.old.items rows.old.items }
+    requires none { AreAllClosed ends.old.items rows.old.items }
+    requires room_for_keys { vec_len keys.old + to ≤ vec_capacity keys.old + from }
+    requires room_for_ends { vec_len ends.old + to ≤ vec_capacity ends.old + from }
+    requires room_for_rows { vec_len rows.old + rows_among (take to old.now.entries) ≤ vec_capacity rows.old + rows_among (take from old.now.entries) }
+    ensures laid_out { IsLaidOut keys.new.items ends.new.items rows.new.items }
+    ensures none { OnOk result (AreAllClosed ends.new.items rows.new.items) }
+    ensures carried { OnOk result ((before : List (K × List ℕ)) → AreBefore K.order before old.now.entries from
+        → IsCarriedSoFar K.order moved.now (take from old.now.entries) before (entries_from 0 keys.old.items ends.old.items rows.old.items)
+        → IsCarriedSoFar K.order moved.now (take to old.now.entries) before (entries_from 0 keys.new.items ends.new.items rows.new.items)) }
+{
+    let old_keys = old.keys.as_slice();
+    let old_ends = old.ends.as_slice();
+    let old_rows = old.rows.as_slice();
+    let mut start = start_of(old_ends, from);
+    'carrying: for at in from..to {
+        let end = old_ends[at];
+        carry_key(
+            keys,
+            ends,
+            rows,
+            &old_keys[at],
+            &old_rows[start..end],
+            moved,
+        )?;
+        start = end;
+    }
+    Ok(())
+}
+
+// Puts the new numbers of a key's rows at the end, and where there are any the key and where they end.
+#[inline(always)]
+fn carry_key<K: Key + Drop>(
+    keys: &mut Vec<K>,
+    ends: &mut Vec<usize>,
+    rows: &mut Vec<u32>,
+    key: &K,
+    of_key: &[u32],
+    moved: &[Option<u32>],
+) -> Result<(), AllocError>
+    requires room_for_key { vec_len keys.old < vec_capacity keys.old }
+    requires room_for_end { vec_len ends.old < vec_capacity ends.old }
+    requires room_for_rows { vec_len rows.old + length of_key.now ≤ vec_capacity rows.old }
+    ensures rows { rows.new.items ≡ rows.old.items ++ new_numbers moved.now of_key.now }
+    ensures ok { OnOk result (PutsKey K.order key.now (new_numbers moved.now of_key.now) (length rows.new.items) keys.old.items ends.old.items keys.new.items ends.new.items) }
+    ensures err { OnErr result ((keys.new.items ≡ keys.old.items) × (ends.new.items ≡ ends.old.items)) }
+    ensures key_room { (vec_capacity keys.new ≡ vec_capacity keys.old) × (vec_len keys.new ≤ vec_len keys.old + 1) }
+    ensures end_room { (vec_capacity ends.new ≡ vec_capacity ends.old) × (vec_len ends.new ≤ vec_len ends.old + 1) }
+    ensures row_room { (vec_capacity rows.new ≡ vec_capacity rows.old) × (vec_len rows.new ≤ vec_len rows.old + length of_key.now) }
+{
+    let start = rows.len();
+    push_moved(rows, of_key, moved);
+    if start < rows.len() {
+        let shared = key.share()?;
+        ends.push_reserved(rows.len());
+        keys.push_reserved(shared);
+    }
+    Ok(())
 }

@@ -11,7 +11,9 @@ pub(crate) fn new_number(moved: &[Option<u32>], row: u32) -> Option<u32>
 /// Puts the new numbers of rows at the end of a list, which has room for all rows.
 pub(crate) fn push_moved(list: &mut Vec<u32>, rows: &[u32], moved: &[Option<u32>])
     requires { vec_len list.old + length rows.now ≤ vec_capacity list.old }
-    ensures { list.new.items ≡ list.old.items ++ new_numbers moved.now rows.now }
+    ensures items { list.new.items ≡ list.old.items ++ new_numbers moved.now rows.now }
+    ensures capacity { vec_capacity list.new ≡ vec_capacity list.old }
+    ensures len { vec_len list.new ≤ vec_len list.old + length rows.now }
 {
     for row in rows {
         if let Some(number) = new_number(moved, *row) {

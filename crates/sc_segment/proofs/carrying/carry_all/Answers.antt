@@ -62,8 +62,8 @@ returns g c =
     let added = c.args.added.now.entries in
     let keys = ap length c.keys-keys.ensures ∙ length-keys_of added in
     let all = ap length c.keys.ensures ∙ length-keys_of old in
-    let last = c.in_ok-carry_keys.ensures.carried (take c.adding.at added) c.adding.invariant.before c.adding.invariant.carried in
+    let last = c.in_ok-carry.ensures.carried (take c.adding.at added) c.adding.invariant.before c.adding.invariant.carried in
     let of_old : take (length c.keys.result.now) old ≡ old = take_all (length c.keys.result.now) old (omega (arith, all)) in
     let of_added : take c.adding.at added ≡ added = take_all c.adding.at added (omega (arith, keys, c.adding-test.false)) in
-    (subst (λ os. IsCarriedSoFar g.K.Key.order c.args.moved.now os added c.carry_keys.new.index.entries) of_old
-    (subst (λ es. IsCarriedSoFar g.K.Key.order c.args.moved.now (take (length c.keys.result.now) old) es c.carry_keys.new.index.entries) of_added last)).carried
+    (subst (λ os. IsCarriedSoFar g.K.Key.order c.args.moved.now os added c.carry.new.self.entries) of_old
+    (subst (λ es. IsCarriedSoFar g.K.Key.order c.args.moved.now (take (length c.keys.result.now) old) es c.carry.new.self.entries) of_added last)).carried

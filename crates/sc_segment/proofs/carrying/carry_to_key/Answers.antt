@@ -23,8 +23,8 @@ rows_of-requires g c =
     let place = rw c.keys.ensures at c.in-Ok.ensures.place in
     within_entries c.args.old.now.entries c.in-Ok.at place.0 place.1
 
-pub carry_keys-requires-clause-within : goal.carry_keys-requires-clause-within
-carry_keys-requires-clause-within g c =
+pub carry-requires-clause-within : goal.carry-requires-clause-within
+carry-requires-clause-within g c =
     let place = rw c.keys.ensures at c.in-Ok.ensures.place in
     let within = within_entries c.args.old.now.entries c.in-Ok.at place.0 place.1 in
     omega (arith, within)
@@ -65,8 +65,8 @@ returns-in_ok-close_shared-in-Ok-clause-carried g c = λ before are above so_far
     let more = subst (λ (es : List (_ × List ℕ)). HasEntryMore g.K.Key.order c.args.key.now c.merge_rows.new.index.pending es c.close_shared.new.index.entries)
     c.in_ok-merge_rows-in-Ok.ensures.entries c.in_ok-close_shared-in-Ok.ensures.entries in
     so_far-both g.met.K.Key.total c.args.moved.now c.requires.moved c.args.old.now.entries c.requires.old c.in-Ok.at (place.0, c.rows_of.result.now) (c.rows_of.ensures place.0 place.1)
-    c.args.key.now c.args.added.now c.merge_rows.new.index.pending before c.carry_keys.new.index.entries c.close_shared.new.index.entries place.2 above
-    (c.in_ok-carry_keys-in-Ok.ensures.carried before are so_far) c.in_ok-merge_rows-in-Ok.ensures.rows more
+    c.args.key.now c.args.added.now c.merge_rows.new.index.pending before c.carry.new.self.entries c.close_shared.new.index.entries place.2 above
+    (c.in_ok-carry-in-Ok.ensures.carried before are so_far) c.in_ok-merge_rows-in-Ok.ensures.rows more
 
 pub returns-in_ok-close_shared-in-Err-clause-passed : goal.returns-in_ok-close_shared-in-Err-clause-passed
 returns-in_ok-close_shared-in-Err-clause-passed g c =
@@ -79,8 +79,8 @@ returns-in_ok-close_shared-in-Err-clause-before g c = λ before are.
 pub returns-in_ok-close_shared-in-Err-clause-carried : goal.returns-in_ok-close_shared-in-Err-clause-carried
 returns-in_ok-close_shared-in-Err-clause-carried g c = λ before are above so_far.
     let gap = rw c.keys.ensures at c.in-Err.ensures.place in
-    let more = more-from g.met.K.Key.total c.args.key.now c.args.added.now c.carry_keys-in-Err.new.index c.add_rows.new.self c.close_shared-in-Err.new.index.entries
-    c.in_ok-carry_keys-in-Err.ensures.none c.in_ok-add_rows-in-Err.ensures c.in_ok-close_shared-in-Err.ensures.entries in
-    so_far-added g.met.K.Key.total c.args.moved.now (take c.in-Err.at c.args.old.now.entries) c.args.key.now c.args.added.now before c.carry_keys-in-Err.new.index.entries
+    let more = more-from g.met.K.Key.total c.args.key.now c.args.added.now c.carry-in-Err.new.self c.add_rows.new.self c.close_shared-in-Err.new.index.entries
+    c.in_ok-carry-in-Err.ensures.none c.in_ok-add_rows-in-Err.ensures c.in_ok-close_shared-in-Err.ensures.entries in
+    so_far-added g.met.K.Key.total c.args.moved.now (take c.in-Err.at c.args.old.now.entries) c.args.key.now c.args.added.now before c.carry-in-Err.new.self.entries
     c.close_shared-in-Err.new.index.entries (above-first g.met.K.Key.total c.args.key.now c.args.old.now.entries c.in-Err.at gap.before) above c.requires.rows.1
-    (c.in_ok-carry_keys-in-Err.ensures.carried before are so_far) more
+    (c.in_ok-carry-in-Err.ensures.carried before are so_far) more

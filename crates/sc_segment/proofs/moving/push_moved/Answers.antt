@@ -15,10 +15,14 @@ loop-row-preserved c =
         items = numbers-more moved rows c.loop-row.row-index c.new_number.result c.args.list.now.items list w.push_reserved.new.self.items c.loop-row-test.true c.new_number.ensures c.loop-row.invariant.items
             (w.push_reserved.ensures.items ∙ ap (λ (n : Option ℕ). list ++ cons_option n []) (sym w.in-Some.is));
         room = omega (arith, w.push_reserved.ensures.len, w.push_reserved.ensures.capacity, c.loop-row.invariant.room);
+        capacity = w.push_reserved.ensures.capacity ∙ c.loop-row.invariant.capacity;
+        len = omega (arith, w.push_reserved.ensures.len, c.loop-row.invariant.len);
       })
       | in_default w ↦ rw w.list-is (record {
         items = numbers-more moved rows c.loop-row.row-index c.new_number.result c.args.list.now.items list list c.loop-row-test.true c.new_number.ensures c.loop-row.invariant.items
             (sym (append-nil list) ∙ ap (λ (n : Option ℕ). list ++ cons_option n []) (sym w.in_default.is));
         room = omega (arith, c.loop-row.invariant.room);
+        capacity = c.loop-row.invariant.capacity;
+        len = omega (arith, c.loop-row.invariant.len);
       })
     ]

@@ -7,4 +7,6 @@ abbrev pub invariant-loop-row : goal.invariant-loop-row
 invariant-loop-row l = record {
   items : l.list.items ≡ l.fn.list.items ++ new_numbers l.moved (take l.row-index l.rows);
   room : vec_len l.list + length l.rows ≤ vec_capacity l.list + l.row-index;
+  capacity : vec_capacity l.list ≡ vec_capacity l.fn.list;
+  len : vec_len l.list ≤ vec_len l.fn.list + l.row-index;
 }

@@ -13,12 +13,12 @@ pub invariant_of-self-2 : goal.invariant_of-self-2
 invariant_of-self-2 g c =
     let rows = c.self.inside.rows.items in
     let more = new_numbers c.args.moved.now c.args.rows.now in
-    let longer = put rows c.reserve.new.self.items c.push_moved.new.list.items more c.reserve.ensures.items c.push_moved.ensures in
+    let longer = put rows c.reserve.new.self.items c.push_moved.new.list.items more c.reserve.ensures.items c.push_moved.ensures.items in
     (c.self.invariant.0, AreEnds-more 0 c.self.inside.ends.items (length rows) (length c.push_moved.new.list.items) (simp (longer, length-append) (omega arith)) c.self.invariant.1)
 
 pub returns : goal.returns
 returns g c =
     let rows = c.self.inside.rows.items in
     let more = new_numbers c.args.moved.now c.args.rows.now in
-    let longer = put rows c.reserve.new.self.items c.push_moved.new.list.items more c.reserve.ensures.items c.push_moved.ensures in
+    let longer = put rows c.reserve.new.self.items c.push_moved.new.list.items more c.reserve.ensures.items c.push_moved.ensures.items in
     rw longer (flat-rows c.self.inside.keys.items c.self.inside.ends.items rows more c.args.self.now c.self.invariant.1 c.self.view_is)

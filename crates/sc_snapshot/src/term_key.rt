@@ -17,6 +17,7 @@ pub struct TermKey {
 
 impl TermKey {
     /// The key of a term, which shares its texts. The only error is that memory was refused.
+    #[inline(always)]
     pub fn of(term: &Term) -> Result<TermKey, AllocError>
         ensures { IfOk result (λ key. key.term ≡ term.now) }
     {
@@ -37,6 +38,7 @@ impl Key for TermKey {
         self.term.cmp(&other.term)
     }
 
+    #[inline(always)]
     fn share(&self) -> Result<Self, AllocError> {
         let key = TermKey::of(&self.term)?;
         Ok(key)

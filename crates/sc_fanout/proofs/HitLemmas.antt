@@ -9,7 +9,7 @@ use Rattle.sc_record.specs.declared.write.Write.{Write}
 use Rattle.sc_bucket.specs.declared.standing.Searcher.{Searcher}
 use Rattle.sc_eval.specs.Conditions.{Condition}
 use Rattle.sc_fanout.specs.Steps.{rows_in, found_in}
-use Rattle.sc_fanout.specs.Hits.{StandAt, AreHits, heads_in, lists_of}
+use Rattle.sc_fanout.specs.Hits.{StandAt, AreHits, BeginAlike, hit_rows, lists_of}
 use Rattle.sc_fanout.specs.declared.hits.Hits.{Hits}
 
 -- the first rows stand at the first numbers
@@ -35,24 +35,24 @@ stand-read rows (n ∷ ns) (w ∷ ws) stand =
     ap (λ (o : Option Write). option_to_list o ++ flat_map (λ number. option_to_list (slice_get rows number)) ns) here
     ∙ ap (λ (l : List Write). w ∷ l) (stand-read rows ns ws later)
 
-heads-hits : (condition : Condition) (most far : ℕ) (hits : Hits) → most ≤ far → AreHits condition far hits
-    → heads_in most hits ≡ take most (found_in condition hits.searcher.now)
-heads-hits condition most far hits le are =
-    stand-read (rows_in hits.searcher.now) (take most hits.numbers.items) (take most (take far (found_in condition hits.searcher.now)))
-    (stand-first (rows_in hits.searcher.now) hits.numbers.items (take far (found_in condition hits.searcher.now)) most are)
+-- the rows at the numbers of hits are the first that are found
+hits-alike : (condition : Condition) (most far : ℕ) (hits : Hits) → most ≤ far → AreHits condition far hits
+    → take most (hit_rows hits) ≡ take most (found_in condition hits.searcher.now)
+hits-alike condition most far hits le are =
+    ap (take most) (stand-read (rows_in hits.searcher.now) hits.numbers.items (take far (found_in condition hits.searcher.now)) are)
     ∙ take-take most far (found_in condition hits.searcher.now) le
 
--- the heads of the hits are the first documents of each list that is found
-pub heads-all : (condition : Condition) (most far : ℕ) (all : List Hits) → most ≤ far → All (AreHits condition far) all
-    → map (heads_in most) all ≡ map (take most) (lists_of condition all)
-heads-all condition most far all le are = by all (recursion_from_All (AreHits condition far) all are)
+-- the rows of all hits begin as the lists of all that is found do
+pub hits-begin : (condition : Condition) (most far : ℕ) (all : List Hits) → most ≤ far → All (AreHits condition far) all
+    → BeginAlike most (lists_of condition all) (map hit_rows all)
+hits-begin condition most far all le are = by all (recursion_from_All (AreHits condition far) all are)
   where
-    by : (hs : List Hits) → AllByRecursion (AreHits condition far) hs → map (heads_in most) hs ≡ map (take most) (lists_of condition hs)
+    by : (hs : List Hits) → AllByRecursion (AreHits condition far) hs → map (take most) (map hit_rows hs) ≡ map (take most) (lists_of condition hs)
     by [] each = refl
     by (hits ∷ hs) each =
-        let here = heads-hits condition most far hits le each.0 in
+        let here = hits-alike condition most far hits le each.0 in
         let later = by hs each.1 in
-        ap (λ (l : List Write). l ∷ map (heads_in most) hs) here
+        ap (λ (l : List Write). l ∷ map (take most) (map hit_rows hs)) here
         ∙ ap (λ (ls : List (List Write)). take most (found_in condition hits.searcher.now) ∷ ls) later
 
 -- the hits of a searcher, of the numbers of all that it finds

@@ -2,6 +2,7 @@
 mod MergeLemmas
 mod OrderLemmas
 mod StartLemmas
+mod RowLemmas
 mod CountLemmas
 mod PageLemmas
 mod HitLemmas

@@ -1,71 +1,81 @@
 -- Two lists, merged: their elements, their order, and that their first elements are made of the first elements of both.
-use Rattle.std.proofs.Common.{◌≡◌, ℕ, zero, suc, ◌<◌, ◌≤◌, Bool, true, false, cond, true≢false, Option, Some, None, is_some, List, [], ◌∷◌, ◌++◌, map, take, length, get_or, option_to_list, MatchOption, refl, sym, ap, subst, ◌∙◌, ⊎_elim, arith, append-nil, add-one, IsPermutation, IsSortedBy}
+use Rattle.std.proofs.Common.{◌≡◌, ℕ, zero, suc, ◌+◌, ◌-◌, ◌<◌, ◌≤◌, Bool, true, false, cond, List, [], ◌∷◌, ◌++◌, take, drop, length, get_or, refl, sym, ap, subst, ◌∙◌, ⊎_elim, arith, append-nil, add-one, IsPermutation, IsSortedBy}
 use Rattle.std.specs.Prelude.{⊤}
 use Rattle.std.specs.List.{AllByRecursion}
+use Rattle.std.proofs.Math.Seq.{take-append-add}
 use Rattle.std.proofs.lemmas.Bool.{cases_Bool}
 use Rattle.std.proofs.lemmas.List.{take-take}
 use Rattle.std.proofs.lemmas.List.Elements.{recursion_from_All}
 use Rattle.std.proofs.lemmas.List.Sorted.{IsPermutation-refl, IsPermutation-cons, IsPermutation-middle, IsPermutation-trans}
-use Rattle.sc_fanout.specs.Merging.{merged, is_left_next}
+use Rattle.sc_fanout.specs.Merging.{merged}
 
 take-cond : {X : Type 0} (n : ℕ) (b : Bool) (u v s t : List X) → take n u ≡ take n s → take n v ≡ take n t
     → take n (cond b u v) ≡ take n (cond b s t)
 take-cond n true u v s t p q = p
 take-cond n false u v s t p q = q
 
+-- what is cut from more is cut from less
+pub take-cut : {X : Type 0} (n : ℕ) (u v : List X) → take n (take n u ++ v) ≡ take n (u ++ v)
+take-cut zero u v = refl
+take-cut (suc n) [] v = refl
+take-cut {X = X} (suc n) (x ∷ u) v = ap (λ (l : List X). x ∷ l) (take-cut n u v)
+
+-- lists that begin alike do so after what comes before both
+pub take-after : {X : Type 0} (n most : ℕ) (u s t : List X) → length u + n ≡ most → take n s ≡ take n t
+    → take most (u ++ s) ≡ take most (u ++ t)
+take-after {X = X} n most u s t long same =
+    ap (λ k. take k (u ++ s)) (sym long) ∙ take-append-add u s n ∙ ap (λ (l : List X). u ++ l) same
+    ∙ sym (take-append-add u t n) ∙ ap (λ k. take k (u ++ t)) long
+
 all-weaker : {X : Type 0} (P Q : X → Type 0) → ((z : X) → P z → Q z) → (xs : List X) → AllByRecursion P xs → AllByRecursion Q xs
 all-weaker P Q h [] all = tt
 all-weaker P Q h (x ∷ xs) all = (h x all.0, all-weaker P Q h xs all.1)
 
+all-take : {X : Type 0} (P : X → Type 0) (n : ℕ) (xs : List X) → AllByRecursion P xs → AllByRecursion P (take n xs)
+all-take P zero xs all = tt
+all-take P (suc n) [] all = tt
+all-take P (suc n) (x ∷ xs) all = (all.0, all-take P n xs all.1)
+
 module _ {X : Type 0} (before : X → X → Bool) where
-  merged-nil : (xs : List X) → merged before xs [] ≡ xs
+  pub merged-nil : (xs : List X) → merged before xs [] ≡ xs
   merged-nil [] = refl
   merged-nil (x ∷ xs) = refl
 
   -- one step
 
-  step-left : (x : X) (xs ys : List X) → is_left_next before (x ∷ xs) ys ≡ true
-      → merged before (x ∷ xs) ys ≡ x ∷ merged before xs ys
-  step-left x xs [] h = ap (λ (l : List X). x ∷ l) (sym (merged-nil xs))
-  step-left x xs (y ∷ ys) h =
+  step-left : (x : X) (xs : List X) (y : X) (ys : List X) → before x y ≡ true
+      → merged before (x ∷ xs) (y ∷ ys) ≡ x ∷ merged before xs (y ∷ ys)
+  step-left x xs y ys h =
       ap (λ (b : Bool). cond b (x ∷ merged before xs (y ∷ ys)) (y ∷ merged before (x ∷ xs) ys)) h
 
-  end-left : (ys : List X) → is_left_next before [] ys ≡ true → merged before [] ys ≡ []
-  end-left [] h = refl
-  end-left (y ∷ ys) h = absurd (true≢false (sym h))
-
-  step-right : (xs : List X) (y : X) (ys : List X) → is_left_next before xs (y ∷ ys) ≡ false
-      → merged before xs (y ∷ ys) ≡ y ∷ merged before xs ys
-  step-right [] y ys h = refl
-  step-right (x ∷ xs) y ys h =
+  step-right : (x : X) (xs : List X) (y : X) (ys : List X) → before x y ≡ false
+      → merged before (x ∷ xs) (y ∷ ys) ≡ y ∷ merged before (x ∷ xs) ys
+  step-right x xs y ys h =
       ap (λ (b : Bool). cond b (x ∷ merged before xs (y ∷ ys)) (y ∷ merged before (x ∷ xs) ys)) h
 
-  end-right : (xs : List X) → is_left_next before xs [] ≡ false → ⊥
-  end-right [] h = true≢false h
-  end-right (x ∷ xs) h = true≢false h
+  -- an element comes after those before it, which are the first p, or all that stand among the first n
+  pub merged-run : (n p : ℕ) (xs : List X) (y : X) (ys : List X) → p ≤ length xs
+      → AllByRecursion (λ x. before x y ≡ true) (take p xs)
+      → ((d : X) → p < length xs → p < n → before (get_or xs p d) y ≡ false)
+      → take n (take p xs ++ y ∷ merged before (drop p xs) ys) ≡ take n (merged before xs (y ∷ ys))
+  merged-run zero p xs y ys within all ends = refl
+  merged-run (suc n) zero [] y ys within all ends = refl
+  merged-run (suc n) zero (x ∷ xs) y ys within all ends =
+      ap (take (suc n)) (sym (step-right x xs y ys (ends x (omega arith) (omega arith))))
+  merged-run (suc n) (suc p) [] y ys within all ends = absurd (omega (arith, within))
+  merged-run (suc n) (suc p) (x ∷ xs) y ys within all ends =
+      ap (λ (l : List X). x ∷ l)
+      (merged-run n p xs y ys (omega (arith, within)) all.1 (λ d less more. ends d (omega (arith, less)) (omega (arith, more))))
+      ∙ ap (take (suc n)) (sym (step-left x xs y ys all.0))
 
-  -- what is popped from the list that is next is the head of both, merged
-  pub popped-left : {C : Type 0} (value : C → X) (r : Option C) (old new : List C) (ys : List X) → old ≡ option_to_list r ++ new
-      → (0 < length old → is_some r ≡ true) → is_left_next before (map value old) ys ≡ true
-      → MatchOption r (merged before (map value old) ys ≡ [])
-      (λ cell. merged before (map value old) ys ≡ value cell ∷ merged before (map value new) ys)
-  popped-left value None [] new ys is some h = end-left ys h
-  popped-left value None (cell ∷ cells) new ys is some h = absurd (true≢false (sym (some (omega arith))))
-  popped-left value (Some cell) old new ys is some h =
-      let e : map value old ≡ value cell ∷ map value new = ap (map value) is in
-      ap (λ (xs : List X). merged before xs ys) e
-      ∙ step-left (value cell) (map value new) ys (subst (λ (xs : List X). is_left_next before xs ys ≡ true) e h)
-
-  pub popped-right : {C : Type 0} (value : C → X) (r : Option C) (xs : List X) (old new : List C) → old ≡ option_to_list r ++ new
-      → (0 < length old → is_some r ≡ true) → is_left_next before xs (map value old) ≡ false
-      → MatchOption r (merged before xs (map value old) ≡ [])
-      (λ cell. merged before xs (map value old) ≡ value cell ∷ merged before xs (map value new))
-  popped-right value None xs [] new is some h = absurd (end-right xs h)
-  popped-right value None xs (cell ∷ cells) new is some h = absurd (true≢false (sym (some (omega arith))))
-  popped-right value (Some cell) xs old new is some h =
-      let e : map value old ≡ value cell ∷ map value new = ap (map value) is in
-      ap (λ (ys : List X). merged before xs ys) e
-      ∙ step-right xs (value cell) (map value new) (subst (λ (ys : List X). is_left_next before xs ys ≡ false) e h)
+  -- where enough elements go before those of a list, none of these comes in
+  pub merged-stays : (n : ℕ) (xs : List X) (y : X) (ys : List X) → AllByRecursion (λ x. before x y ≡ true) xs → n ≤ length xs
+      → take n (merged before xs (y ∷ ys)) ≡ take n xs
+  merged-stays zero xs y ys all enough = refl
+  merged-stays (suc n) [] y ys all enough = absurd (omega (arith, enough))
+  merged-stays (suc n) (x ∷ xs) y ys all enough =
+      ap (take (suc n)) (step-left x xs y ys all.0)
+      ∙ ap (λ (l : List X). x ∷ l) (merged-stays n xs y ys all.1 (omega (arith, enough)))
 
   -- the first elements
 
@@ -158,6 +168,22 @@ module _ {X : Type 0} (before : X → X → Bool) where
   pub merged-ascends : IsOrder → (xs ys : List X) → Ascends xs → Ascends ys → Ascends (merged before xs ys)
   merged-ascends order [] ys ours others = others
   merged-ascends order (x ∷ xs) ys ours others = onto-ascends order x xs (λ zs. merged-ascends order xs zs ours.1) ours ys others
+
+  pub ascends-take : (n : ℕ) (xs : List X) → Ascends xs → Ascends (take n xs)
+  ascends-take zero xs up = tt
+  ascends-take (suc n) [] up = tt
+  ascends-take (suc n) (x ∷ xs) up = (all-take (λ y. before x y ≡ true) n xs up.0, ascends-take n xs up.1)
+
+  -- what the last goes before, all go before
+  pub ascends-before : IsOrder → (k : ℕ) (xs : List X) (d y : X) → Ascends xs → length xs ≡ suc k → before (get_or xs k d) y ≡ true
+      → AllByRecursion (λ x. before x y ≡ true) xs
+  ascends-before order k [] d y up long last = tt
+  ascends-before order zero (x ∷ []) d y up long last = (last, tt)
+  ascends-before order zero (x ∷ z ∷ xs) d y up long last = absurd (omega (arith, long))
+  ascends-before order (suc k) (x ∷ []) d y up long last = absurd (omega (arith, long))
+  ascends-before order (suc k) (x ∷ z ∷ xs) d y up long last =
+      let rest = ascends-before order k (z ∷ xs) d y up.1 (omega (arith, long)) last in
+      (order.chain x z y up.0.0 rest.0, rest)
 
   next-sorted : (lt : X → X → Bool) → ((x y : X) → before x y ≡ true → lt y x ≡ false) → (xs : List X) → Ascends xs
       → (k : ℕ) (d : X) → suc k < length xs → lt (get_or xs (suc k) d) (get_or xs k d) ≡ false

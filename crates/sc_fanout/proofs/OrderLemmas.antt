@@ -22,7 +22,8 @@ not_gt-le Less h = refl
 not_gt-le Equal h = refl
 not_gt-le Greater h = absurd (true≢false (sym h))
 
-le-not_gt : (o : Ordering) → is_gt o ≡ false → is_le o ≡ true
+-- an order that is not above
+pub le-not_gt : (o : Ordering) → is_gt o ≡ false → is_le o ≡ true
 le-not_gt Less h = refl
 le-not_gt Equal h = refl
 le-not_gt Greater h = absurd (true≢false h)

@@ -44,10 +44,10 @@ lent cell = arc_value cell.now
 abbrev pub lent_in : Vec (Bor (Arc Write Global)) Global → List Write
 lent_in cells = map lent cells.items
 
--- these lists are the first writes of each of those, at most so many
-abbrev pub AreHeads : (most : ℕ) → List (List Write) → List (List Write) → Type 0
-AreHeads most wholes heads = heads ≡ map (take most) wholes
+-- the rows at the numbers of the hits
+abbrev pub hit_rows : Hits → List Write
+hit_rows hits = flat_map (λ number. option_to_list (slice_get (rows_in hits.searcher.now) number)) hits.numbers.items
 
--- the rows at the first numbers of the hits, at most so many
-abbrev pub heads_in : (most : ℕ) → Hits → List Write
-heads_in most hits = flat_map (λ number. option_to_list (slice_get (rows_in hits.searcher.now) number)) (take most hits.numbers.items)
+-- these lists begin as those do, as far as the first `most` of each
+abbrev pub BeginAlike : (most : ℕ) → List (List Write) → List (List Write) → Type 0
+BeginAlike most wholes lists = map (take most) lists ≡ map (take most) wholes

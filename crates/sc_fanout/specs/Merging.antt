@@ -1,5 +1,5 @@
 -- How two lists are merged.
-use Rattle.std.specs.Prelude.{Bool, true, false, cond, List, [], ◌∷◌}
+use Rattle.std.specs.Prelude.{Bool, cond, List, [], ◌∷◌}
 use Rattle.std.specs.Cmp.Lexicographic.{slice_cmp}
 use Rattle.std.specs.Ordering.{nat_cmp, is_le}
 use Rattle.sc_record.specs.declared.write.Write.{Write}
@@ -18,9 +18,3 @@ module _ {X : Type 0} (before : X → X → Bool) where
   abbrev pub merged : List X → List X → List X
   merged [] ys = ys
   merged (x ∷ xs) ys = merged_onto x xs (merged xs) ys
-
-  -- the first list's head comes first, or both lists are empty
-  abbrev pub is_left_next : List X → List X → Bool
-  is_left_next xs [] = true
-  is_left_next [] (y ∷ ys) = false
-  is_left_next (x ∷ xs) (y ∷ ys) = before x y

@@ -15,6 +15,9 @@ use std::alloc::{AllocError, Global};
 use std::marker::Brand;
 use std::sync::ledger::{Blank, Ledger};
 
+// Room for so many numbers is worth giving back.
+const MUCH_ROOM: usize = 1024;
+
 /// What the query finds with these searchers, one after another. The only error is that memory was refused.
 pub(crate) fn find_all<'a>(
     alloc: Global,
@@ -36,13 +39,14 @@ pub(crate) fn find_all<'a>(
     Ok(Found { count, hits })
 }
 
-// The first hits of a searcher, where these are the numbers of all that is found. The room of those that are not kept is given back.
+// The first hits of a searcher, where these are the numbers of all that is found. The room of those that are not kept is given back where it is much.
 fn hits_of(searcher: &Searcher, mut numbers: Vec<u32>, most: usize) -> Hits<'_>
     ensures searcher { result.searcher.now ≡ searcher.now }
     ensures numbers { result.numbers.items ≡ take most numbers.items }
 {
-    if numbers.len() > most {
-        numbers.truncate(most);
+    let more = numbers.len().saturating_sub(most);
+    numbers.truncate(most);
+    if more >= MUCH_ROOM {
         numbers.shrink_to_fit();
     }
     Hits { searcher, numbers }

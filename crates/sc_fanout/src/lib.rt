@@ -1,11 +1,12 @@
 //! A search over all buckets (Solr Reference Guide, "Common Query Parameters"): each bucket is held once, what the searchers find is
 //! looked up after the holds, over many rows by several threads at once, and of all that is found one page is shown.
 //!
-//! It depends on the clauses of any `Desk`, on `sc_eval` for what a query finds in one searcher's rows, on `sc_snapshot` for reading
-//! them and on `sc_segment` for the count of steps that both take. The layers above use the clause `searched` of `search`: exactly
-//! the documents that match in the journals' committed parts are found, each once. What each searcher finds is counted, and only as
-//! many numbers of rows are kept as the page can show. The rows at these numbers, ascending by id, are lent and merged two by two,
-//! and only the documents of the page are shared. `search` waits for the threads of its parts and for nothing else; these wait for nothing.
+//! It depends on the clauses of any `Desk`, on `sc_eval` for what a query finds in one searcher's rows, on `sc_snapshot` for reading them
+//! and on `sc_segment` for the count of steps that both take. The layers above use the clause `searched` of `search`: exactly the documents
+//! that match in the journals' committed parts are found, each once. What each searcher finds is counted, and only as many numbers of rows
+//! are kept as the page can show. The rows at these numbers, ascending by id, are lent, and those of one searcher after another are merged
+//! into the first documents so far; only the documents of the page are shared. `search` waits for the threads of its parts and for nothing
+//! else; these wait for nothing.
 //!
 //! Proved: `search` over any desk: its page and its count are of exactly the documents that match in the committed parts of
 //! the journals at its stops, one for each bucket, each once and in order of id (`SearchesBuckets`, `ShowsFound`), in however many parts
@@ -18,7 +19,8 @@
 //! Tested alone: the worked searches, each in one part.
 //!
 //! Neither: speed; that parts run beside each other; that each bucket is held once, that rows are read after the holds, that no row is
-//! read to be shown where the page is empty, and that no more is kept than the page can show, holds by construction.
+//! read to be shown where the page is empty, that of a searcher of which none comes in only the first is read, and that no more is kept
+//! than the page can show, holds by construction.
 #![tactic(auto)]
 
 // What a search asks for and answers.

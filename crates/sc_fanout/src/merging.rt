@@ -1,76 +1,135 @@
-ghost use Rattle.std.specs.Prelude.{◌≡◌, ◌∷◌, [], List, map, take, All, IfOk, MatchOption};
+ghost use Rattle.std.specs.Prelude.{◌≡◌, ◌<◌, ◌≤◌, ◌∷◌, ◌++◌, List, length, map, take, drop, false, true, All, IfOk, OnOk, slice_index_or};
+ghost use Rattle.std.specs.Arc.{arc_value};
+ghost use Rattle.std.specs.Cmp.Lexicographic.{slice_cmp};
+ghost use Rattle.std.specs.List.Sorted.{IsSortedByKey};
+ghost use Rattle.std.specs.Ordering.{nat_cmp};
 ghost use Rattle.sc_record.specs.declared.write.Write.{Write};
+ghost use Rattle.sc_segment.specs.Fresh.{IsFresh};
 ghost use Rattle.sc_fanout.specs.Pages.{AreFound, IsStartOf, all_of};
-ghost use Rattle.sc_fanout.specs.Merging.{goes_before, is_left_next, merged};
-ghost use Rattle.sc_fanout.specs.Hits.{AreHeads, lent, lent_in};
+ghost use Rattle.sc_fanout.specs.Merging.{goes_before, merged};
+ghost use Rattle.sc_fanout.specs.Hits.{BeginAlike, hit_rows, lent, lent_in};
 
+use crate::hits::Hits;
 use sc_record::Cell;
+use sc_segment::Steps;
 use std::alloc::{AllocError, Global};
-use std::collections::VecDeque;
+use std::mem;
+use std::sync::ledger::{Blank, Ledger};
 
-/// The first documents, at least `most`, of all of which the lists have the first `most`. The two lists that wait longest are
-/// merged until one is left. No document is shared, only what lends it moves.
-pub(crate) fn merge_all<'a>(
+/// The first documents, at least `most`, of all of which the hits have the first `most`. The searchers are gone through in turn, and
+/// the first documents so far are kept; of a searcher of which none comes in only the first row is read. No document is shared, only
+/// what lends it is copied.
+pub(crate) fn first_of_all<'a, L: Ledger>(
     alloc: Global,
-    lists: Vec<Vec<&'a Cell>>,
+    all: &[Hits<'a>],
     most: usize,
+    blank: Blank,
 ) -> Result<Vec<&'a Cell>, AllocError>
-    ensures { IfOk result (λ kept. (wholes : List (List Write)) → All AreFound wholes → AreHeads most wholes (map lent_in lists.entry.items)
+    requires { IsFresh blank L.name L.parts }
+    ensures { IfOk result (λ kept. (wholes : List (List Write)) → All AreFound wholes → BeginAlike most wholes (map hit_rows all.now)
         → IsStartOf (all_of wholes) most (lent_in kept)) }
 {
-    let mut lists = VecDeque::from_vec(lists);
-    while let Some(left) = lists.pop_front() {
-        let Some(right) = lists.pop_front() else {
-            return Ok(left);
-        };
-        let both = merge_two(alloc, left, right, most)?;
-        lists.push_back(both)?;
+    let mut steps = Steps::<L>::new(blank);
+    let mut kept = Vec::new(alloc);
+    let mut both = Vec::new(alloc);
+    for hits in all {
+        if may_come_in(kept.as_slice(), hits, most, &mut steps) {
+            merge(kept.as_slice(), hits, most, &mut both, &mut steps)?;
+            mem::swap(&mut kept, &mut both);
+        }
     }
-    Ok(Vec::new(alloc))
+    Ok(kept)
 }
 
-// The first `most` documents of both lists. Room for them is taken first.
-fn merge_two<'a>(
-    alloc: Global,
-    left: Vec<&'a Cell>,
-    right: Vec<&'a Cell>,
+// Whether a row of the hits may be among the first `most`: not where so many are kept and the last of them goes before the first row.
+fn may_come_in<L: Ledger>(kept: &[&Cell], hits: &Hits, most: usize, steps: &mut Steps<L>) -> bool
+    ensures { result ≡ false → IsSortedByKey (λ (write : Write). write.id) (slice_cmp nat_cmp) (map lent kept.now)
+        → take most (merged goes_before (map lent kept.now) (hit_rows hits.now)) ≡ take most (map lent kept.now) }
+{
+    let Some(number) = hits.numbers.as_slice().first() else {
+        return false;
+    };
+    if kept.len() < most {
+        return true;
+    }
+    let Some(last) = kept.last() else {
+        return false;
+    };
+    match hits.searcher.snapshot.row(*number, steps) {
+        Some(row) => last.id > row.id,
+        None => true,
+    }
+}
+
+// Puts into `both` the first `most` of what is kept and of the rows of the hits, in place of what was there. A row is read only where
+// there is room left for it.
+fn merge<'a, L: Ledger>(
+    kept: &[&'a Cell],
+    hits: &Hits<'a>,
     most: usize,
-) -> Result<Vec<&'a Cell>, AllocError>
-    ensures { IfOk result (λ both. lent_in both ≡ take most (merged goes_before (lent_in left.entry) (lent_in right.entry))) }
+    both: &mut Vec<&'a Cell>,
+    steps: &mut Steps<L>,
+) -> Result<(), AllocError>
+    ensures { OnOk result (lent_in both.new ≡ take most (merged goes_before (map lent kept.now) (hit_rows hits.now))) }
 {
-    let room = left.len().saturating_add(right.len()).min(most);
-    let mut both = Vec::with_capacity(alloc, room)?;
-    let mut left = VecDeque::from_vec(left);
-    let mut right = VecDeque::from_vec(right);
-    while both.len() < most {
-        let Some(cell) = pop_next(&mut left, &mut right) else {
-            return Ok(both);
-        };
-        both.push(cell)?;
+    both.clear();
+    let mut passed = 0;
+    for number in hits.numbers.as_slice() {
+        if both.len() >= most {
+            return Ok(());
+        }
+        if let Some(row) = hits.searcher.snapshot.row(*number, steps) {
+            passed += put_row(&kept[passed..], row, most, both)?;
+        }
     }
-    Ok(both)
+    put_first(&kept[passed..], most, both)
 }
 
-// Takes the document that comes next out of its list.
-fn pop_next<'a>(left: &mut VecDeque<&'a Cell>, right: &mut VecDeque<&'a Cell>) -> Option<&'a Cell>
-    ensures { let before = merged goes_before (map lent left.old.items) (map lent right.old.items) in
-        MatchOption result (before ≡ []) (λ cell.
-        before ≡ lent cell ∷ merged goes_before (map lent left.new.items) (map lent right.new.items)) }
+// Puts the row at the end of `both`, and before it those of the cells that go before it, as long as there are fewer than `most`. So
+// many cells are passed; the others come after it.
+fn put_row<'a>(
+    cells: &[&'a Cell],
+    row: &'a Cell,
+    most: usize,
+    both: &mut Vec<&'a Cell>,
+) -> Result<usize, AllocError>
+    requires { length both.old.items ≤ most }
+    ensures few { length both.new.items ≤ most }
+    ensures within { IfOk result (λ count. count ≤ length cells.now) }
+    ensures same { IfOk result (λ count. (later : List Write)
+        → take most (lent_in both.new ++ merged goes_before (drop count (map lent cells.now)) later)
+        ≡ take most (lent_in both.old ++ merged goes_before (map lent cells.now) (arc_value row.now ∷ later))) }
 {
-    if is_left_next(left, right) {
-        left.pop_front()
-    } else {
-        right.pop_front()
-    }
+    let room = cells.len().min(most - both.len());
+    let count = count_before(&cells[..room], row);
+    put_first(&cells[..count], most, both)?;
+    put_first(&[row], most, both)?;
+    Ok(count)
 }
 
-// Whether the document that comes next is the left list's.
-fn is_left_next(left: &VecDeque<&Cell>, right: &VecDeque<&Cell>) -> bool
-    ensures { result ≡ is_left_next goes_before (map lent left.now.items) (map lent right.now.items) }
+// Puts the first of the cells at the end of `both`, as many as make it `most` at most.
+fn put_first<'a>(
+    cells: &[&'a Cell],
+    most: usize,
+    both: &mut Vec<&'a Cell>,
+) -> Result<(), AllocError>
+    requires { length both.old.items ≤ most }
+    ensures few { length both.new.items ≤ most }
+    ensures put { OnOk result (lent_in both.new ≡ take most (lent_in both.old ++ map lent cells.now)) }
 {
-    match (left.front(), right.front()) {
-        (Some(one), Some(other)) => one.id <= other.id,
-        (_, None) => true,
-        (None, Some(_)) => false,
+    let room = cells.len().min(most - both.len());
+    both.extend_from_slice(&cells[..room])
+}
+
+// How many cells go before the row, up to the first that does not.
+fn count_before(cells: &[&Cell], row: &Cell) -> usize
+    ensures within { result ≤ length cells.now }
+    ensures before { All (λ (write : Write). goes_before write (arc_value row.now) ≡ true) (take result (map lent cells.now)) }
+    ensures ends { (default : Write) → result < length cells.now → goes_before (slice_index_or (map lent cells.now) result default) (arc_value row.now) ≡ false }
+{
+    let mut count = 0;
+    while count < cells.len() && cells[count].id <= row.id {
+        count += 1;
     }
+    count
 }

@@ -4,7 +4,7 @@ use Rattle.std.proofs.lemmas.List.Sorted.{length_permutation}
 use Rattle.sc_eval.specs.Conditions.{condition_of}
 use Rattle.sc_fanout.specs.Pages.{IsStartOf, all_of}
 use Rattle.sc_fanout.specs.Hits.{lent, lent_in, lists_of}
-use Rattle.sc_fanout.proofs.HitLemmas.{heads-all}
+use Rattle.sc_fanout.proofs.HitLemmas.{hits-begin}
 use Rattle.sc_fanout.proofs.pages.page.Goals as goal
 
 pub returns : goal.returns
@@ -16,7 +16,7 @@ returns c =
     let kept = c.in_ok-kept.kept in
     let begins : IsStartOf (all_of wholes) most (lent_in kept) =
     c.in_ok-kept.ensures wholes c.requires.may_be
-    (c.in_ok-lists.ensures ∙ heads-all condition most (start + c.args.ask.now.rows) c.args.all.now c.reach-most.ensures.few c.requires.kept) in
+    (hits-begin condition most (start + c.args.ask.now.rows) c.args.all.now c.reach-most.ensures.few c.requires.kept) in
     record {
       found = c.requires.counted;
       sorted = begins.sorted;

@@ -1,0 +1,43 @@
+-- The documents of one searcher more come in, or none of them does.
+use Rattle.std.proofs.Common.{◌≡◌, ◌++◌, List, length, map, take, get_or, sym, ap, subst, ◌∙◌, arith, nat_cmp}
+use Rattle.std.specs.Cmp.Lexicographic.{slice_cmp}
+use Rattle.std.specs.List.Sorted.{IsSortedByKey}
+use Rattle.std.proofs.lemmas.List.{get_or-map, length-map}
+use Rattle.sc_record.specs.declared.write.Write.{Write}
+use Rattle.sc_fanout.specs.Pages.{all_of}
+use Rattle.sc_fanout.specs.Merging.{goes_before, merged}
+use Rattle.sc_fanout.specs.Hits.{hit_rows, lent, lent_in}
+use Rattle.sc_fanout.proofs.StartLemmas.{first-cut, first-more, first-none, first-sorted, first-start}
+use Rattle.sc_fanout.proofs.merging.first_of_all.Goals.{then-may_come_in+in_ok-merge, else-may_come_in}
+use Rattle.sc_fanout.proofs.merging.first_of_all.Goals as goal
+
+pub loop-hits-preserved : goal.loop-hits-preserved
+loop-hits-preserved g c = λ wholes found alike.
+    let most = c.args.most in
+    let k = c.loop-hits.hits-index in
+    let all = map hit_rows c.args.all.now in
+    let rows = hit_rows c.hits-item.result in
+    let kept = lent_in c.loop-hits.kept in
+    let before = c.loop-hits.invariant wholes found alike in
+    let there : get_or all k rows ≡ rows =
+    get_or-map hit_rows c.args.all.now k c.hits-item.result rows c.loop-hits-test.true ∙ ap hit_rows (sym c.hits-item.is) in
+    let slice : map lent c.as_slice.result.now ≡ kept = ap (map lent) c.as_slice.ensures.value in
+    let ascend : IsSortedByKey (λ (write : Write). write.id) (slice_cmp nat_cmp) (map lent c.as_slice.result.now) =
+    subst (IsSortedByKey (λ (write : Write). write.id) (slice_cmp nat_cmp)) (sym slice) (first-sorted (all_of (take k wholes)) most kept before) in
+    let made : lent_in c.if-may_come_in.kept ≡ take most (merged goes_before kept rows) =
+    elim c.if-may_come_in.branch [
+      | then-may_come_in+in_ok-merge w ↦
+          ap lent_in (w.kept-is ∙ w.swap.ensures.x_after) ∙ w.in_ok-merge.ensures
+          ∙ ap (λ cells. take most (merged goes_before (map lent cells) rows)) w.as_slice-then-may_come_in.ensures.value
+      | else-may_come_in w ↦
+          ap lent_in w.kept-is ∙ sym (first-cut (all_of (take k wholes)) most kept before) ∙ ap (take most) (sym slice)
+          ∙ sym (c.may_come_in.ensures w.if-may_come_in.false ascend)
+          ∙ ap (λ (writes : List Write). take most (merged goes_before writes rows)) slice
+    ] in
+    first-more most k wholes all rows kept (lent_in c.if-may_come_in.kept) found alike
+    (omega (arith, c.loop-hits-test.true, length-map c.args.all.now hit_rows)) there before made
+
+pub returns : goal.returns
+returns g c = λ wholes found alike.
+    first-start c.args.most c.loop-hits.hits-index wholes (map hit_rows c.args.all.now) (lent_in c.loop-hits.kept) alike
+    (omega (arith, c.loop-hits-test.false, length-map c.args.all.now hit_rows)) (c.loop-hits.invariant wholes found alike)

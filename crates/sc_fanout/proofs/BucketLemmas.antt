@@ -1,6 +1,6 @@
 -- What the searchers of a bucket find is what a search finds in its journal.
 use Rattle.std.proofs.Common.{◌≡◌, ◌≢◌, ℕ, ℤ, zero, suc, ◌+◌, ◌≤◌, Bool, true, false, cond, ◌&&◌, List, [], ◌∷◌, ◌++◌, length, map, drop, Option, Some, None, All, Contains, count_by, refl, sym, ap, subst, ◌∙◌, ◌⊎◌, inl, inr, arith}
-use Rattle.std.specs.Prelude.{filter, Result, Ok, Err, IfOk}
+use Rattle.std.specs.Prelude.{filter, Result, Ok, Err, OnOk}
 use Rattle.std.specs.Int.{w32}
 use Rattle.std.proofs.Math.Facts.{sfits_to_z}
 use Rattle.std.proofs.lemmas.Bool.Decides.{not_from_Decides}
@@ -42,7 +42,7 @@ use Rattle.sc_bucket.proofs.WriteLemmas.{Contains-find}
 use Rattle.sc_collection.specs.Desks.{IsBucketOf}
 use Rattle.sc_fanout.specs.Pages.{AreFound, all_of}
 use Rattle.sc_fanout.specs.Searches.{IsInRoute, IsFoundIn}
-use Rattle.sc_fanout.specs.Steps.{asks_for, is_asked, rows_in, found_in, IsOfSlice, AreOfSlices, IsJournalOf, AreAsked, HaveTerms}
+use Rattle.sc_fanout.specs.Steps.{asks_for, is_asked, rows_in, found_in, Adds, IsOfSlice, AreOfSlices, IsJournalOf, AreAsked, HaveTerms}
 use Rattle.sc_fanout.proofs.TakenLemmas.{asks_for-Decides}
 use Rattle.sc_fanout.proofs.ExactlyLemmas.{AreExactly, AreExactly-none, AreExactly-same, AreExactly-append, ascend-once, AscendById-filter}
 
@@ -325,19 +325,23 @@ are-found condition searchers rows =
     (is-found condition) searchers rows)
 
 -- what was taken of a sound bucket
-pub asked : {E : Type 0} {V : Type 0} (layout : Layout) (number : ℕ) (bucket : Bucket) (route : Option Range) (items : V → List Searcher) (taken : Result V E)
+pub asked : {E V : Type 0} (layout : Layout) (number : ℕ) (bucket : Bucket) (route : Option Range) (old new : List Searcher) (taken : Result V E)
     → IsSound bucket → IsBucketOf layout number bucket
-    → IfOk taken (λ v. AreOfSlices bucket.journal.entries (filter (is_asked route) bucket.map) (items v))
-    → IfOk taken (λ v. AreAsked layout number bucket.journal.entries route (items v))
-asked layout number bucket route items (Err fault) sound is_of each = each
-asked layout number bucket route items (Ok v) sound is_of each =
+    → OnOk taken (Adds (AreOfSlices bucket.journal.entries (filter (is_asked route) bucket.map)) old new)
+    → OnOk taken (Adds (AreAsked layout number bucket.journal.entries route) old new)
+asked layout number bucket route old new (Err fault) sound is_of adds = adds
+asked layout number bucket route old new (Ok v) sound is_of adds =
     let same : bucket.map ≡ map_after layout.first bucket.journal.entries =
     sound.journal.map_is ∙ ap (λ (slices : List Slice). map_after slices bucket.journal.entries) is_of.first in
     record {
-      is_of = record {
-        is_map = subst IsMap same (bucket_has_map bucket sound.journal);
-        legal = subst (λ (slices : List Slice). IsLegal slices bucket.journal.entries) is_of.first sound.journal.legal;
-        ids = is_of.ids;
+      more = adds.more;
+      added = adds.added;
+      are = record {
+        is_of = record {
+          is_map = subst IsMap same (bucket_has_map bucket sound.journal);
+          legal = subst (λ (slices : List Slice). IsLegal slices bucket.journal.entries) is_of.first sound.journal.legal;
+          ids = is_of.ids;
+        };
+        each = subst (λ (slices : List Slice). AreOfSlices bucket.journal.entries (filter (is_asked route) slices) adds.more) same adds.are;
       };
-      each = subst (λ (slices : List Slice). AreOfSlices bucket.journal.entries (filter (is_asked route) slices) (items v)) same each;
     }

@@ -1,5 +1,5 @@
 -- Rows that are read one after another, at the numbers of hits, and what is put at the end of a list.
-use Rattle.std.proofs.Common.{◌≡◌, ℕ, zero, suc, ◌+◌, ◌-◌, ◌<◌, ◌≤◌, cond, is_ok, List, [], ◌∷◌, ◌++◌, length, map, take, drop, get_or, slice_get, option_to_list, Option, Some, None, option_map, Result, Ok, Err, OnOk, refl, sym, ap, ap₂, subst, ◌∙◌, arith, append_assoc, inl, inr, true, false, All}
+use Rattle.std.proofs.Common.{◌≡◌, ℕ, ◌+◌, ◌-◌, ◌<◌, ◌≤◌, cond, is_ok, List, [], ◌∷◌, ◌++◌, length, map, take, drop, get_or, slice_get, option_to_list, Option, Some, None, option_map, Result, Ok, Err, OnOk, sym, ap, ap₂, subst, ◌∙◌, arith, append_assoc, inl, inr, true, false, All}
 use Rattle.std.specs.Cmp.Lexicographic.{slice_cmp}
 use Rattle.std.specs.List.{flat_map}
 use Rattle.std.specs.List.Sorted.{IsSortedByKey}

@@ -1,5 +1,5 @@
 -- What the steps of a search come to.
-use Rattle.std.specs.Prelude.{◌≡◌, ℕ, ◌&&◌, Bool, true, false, int_le, List, [], ◌∷◌, length, filter, All, Option, Some, None, ⊤}
+use Rattle.std.specs.Prelude.{◌≡◌, ℕ, ◌&&◌, Bool, true, false, int_le, List, [], ◌∷◌, ◌++◌, length, filter, All, Option, Some, None, ⊤}
 use Rattle.std.specs.Arc.{arc_value}
 use Rattle.std.specs.List.{AllByRecursion}
 use mathlib.Core.List.{IsPrefix}
@@ -63,6 +63,12 @@ pub record IsJournalOf (layout : Layout) (number : ℕ) (journal : List Entry) :
 pub record AreAsked (layout : Layout) (number : ℕ) (journal : List Entry) (route : Option Range) (searchers : List Searcher) : Type 0 where
   pub is_of : IsJournalOf layout number journal
   pub each : AreOfSlices journal (filter (is_asked route) (map_after layout.first journal)) searchers
+
+-- the searchers are the old ones and, after them, some of which this holds
+pub record Adds (these : List Searcher → Type 0) (old new : List Searcher) : Type 0 where
+  pub more : List Searcher
+  pub added : new ≡ old ++ more
+  pub are : these more
 
 -- A bucket was looked at in one hold, whose stop is kept, and what was taken is so by its journal then.
 pub record LooksAtOne (layout : Layout) (old new : View) (number : ℕ) (taken : List Entry → Type 0) : Type 0 where

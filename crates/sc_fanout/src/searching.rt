@@ -1,4 +1,4 @@
-ghost use Rattle.std.specs.Prelude.{◌≡◌, ◌+◌, ◌<◌, ◌≤◌, length, filter, All, IfOk};
+ghost use Rattle.std.specs.Prelude.{◌≡◌, ◌+◌, ◌<◌, ◌≤◌, length, filter, All, OnOk};
 ghost use Rattle.sc_snapshot.specs.Rows.{AreRows};
 ghost use Rattle.sc_bucket.specs.Sound.{IsSound};
 ghost use Rattle.sc_bucket.specs.declared.standing.Searcher.{Searcher};
@@ -6,7 +6,7 @@ ghost use Rattle.sc_seen.specs.Moments.{view_of};
 ghost use Rattle.sc_collection.specs.Desks.{nothing_out, IsDeskAtRest};
 ghost use Rattle.sc_collection.specs.Kept.{trail_room};
 ghost use Rattle.sc_fanout.specs.Searches.{SearchesBuckets};
-ghost use Rattle.sc_fanout.specs.Steps.{asks_for, is_asked, rows_in, AreOfSlices, AreAsked, LooksAtOne};
+ghost use Rattle.sc_fanout.specs.Steps.{asks_for, is_asked, rows_in, Adds, AreOfSlices, AreAsked, LooksAtOne};
 
 use crate::ask::Ask;
 use crate::pages::page;
@@ -38,31 +38,28 @@ pub fn search<R: Threads + Sync, D: Desk>(
     ensures requests { trail.new.requests ≡ trail.old.requests }
 {
     let most = ask.start as usize + ask.rows as usize;
-    let mut rows: u64 = 0;
     let mut searchers = Vec::new(alloc);
     for b in 0..desk.buckets() {
-        let mut more = take_searchers(alloc, desk, trail, b, &ask.route)?;
-        rows = rows.saturating_add(rows_of(more.as_slice()));
-        searchers.append(&mut more)?;
+        take_searchers(desk, trail, b, &ask.route, &mut searchers)?;
     }
-    let parts = parts_for(rows);
+    let parts = parts_for(rows_of(searchers.as_slice()));
     let found = find_in_parts(rt, alloc, &ask.query, searchers.as_slice(), most, parts)?;
     page(alloc, ask, found.count, found.hits.as_slice())
 }
 
-// The searchers of a bucket that the route asks for, taken in one hold, whose stop is kept.
+// Puts the searchers of a bucket that the route asks for at the end of the others. They are taken in one hold, whose stop is kept.
 fn take_searchers<D: Desk>(
-    alloc: Global,
     desk: &mut D,
     trail: &mut Trail,
     b: u32,
     route: &Option<Range>,
-) -> Result<Vec<Searcher>, AllocError>
+    searchers: &mut Vec<Searcher>,
+) -> Result<(), AllocError>
     requires nothing_out { D.out desk.old ≡ nothing_out }
     requires within { b < (D.layout desk.old).buckets }
     requires room { length trail.old.stops < trail_room }
     ensures looks { LooksAtOne (D.layout desk.old) (view_of (D.seen desk.old) trail.old.stops) (view_of (D.seen desk.new) trail.new.stops) b
-        (λ journal. IfOk result (λ searchers. AreAsked (D.layout desk.old) b journal route.now searchers.items)) }
+        (λ journal. OnOk result (Adds (AreAsked (D.layout desk.old) b journal route.now) searchers.old.items searchers.new.items)) }
     ensures layout { D.layout desk.new ≡ D.layout desk.old }
     ensures rest { IsDeskAtRest (D.layout desk.new) (D.out desk.new) (D.seen desk.new) }
     ensures stops { length trail.new.stops ≡ length trail.old.stops + 1 }
@@ -74,22 +71,21 @@ fn take_searchers<D: Desk>(
         place: bucket.entries(),
         made: false,
     });
-    let searchers = searchers_of(alloc, &bucket, route);
+    let taken = add_searchers(&bucket, route, searchers);
     desk.give(b, bucket);
-    searchers
+    taken
 }
 
-// The searchers of a bucket that the route asks for, in the order of the map.
-fn searchers_of(
-    alloc: Global,
+// Puts the searchers of a bucket that the route asks for at the end of the others, in the order of the map.
+fn add_searchers(
     bucket: &Bucket,
     route: &Option<Range>,
-) -> Result<Vec<Searcher>, AllocError>
+    searchers: &mut Vec<Searcher>,
+) -> Result<(), AllocError>
     requires { IsSound bucket.now }
-    ensures { IfOk result (λ searchers.
-        AreOfSlices bucket.now.journal.entries (filter (is_asked route.now) bucket.now.map) searchers.items) }
+    ensures { OnOk result (Adds (AreOfSlices bucket.now.journal.entries (filter (is_asked route.now) bucket.now.map))
+        searchers.old.items searchers.new.items) }
 {
-    let mut searchers = Vec::new(alloc);
     let mut from = 0;
     while let Some(searcher) = bucket.searcher(from)? {
         from = searcher.next;
@@ -97,7 +93,7 @@ fn searchers_of(
             searchers.push(searcher)?;
         }
     }
-    Ok(searchers)
+    Ok(())
 }
 
 // Whether the route asks for slices of this range.

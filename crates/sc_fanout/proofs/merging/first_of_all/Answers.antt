@@ -1,5 +1,5 @@
 -- The documents of one searcher more come in, or none of them does.
-use Rattle.std.proofs.Common.{◌≡◌, ◌++◌, List, length, map, take, get_or, sym, ap, subst, ◌∙◌, arith, nat_cmp}
+use Rattle.std.proofs.Common.{◌≡◌, List, map, take, get_or, sym, ap, subst, ◌∙◌, arith, nat_cmp}
 use Rattle.std.specs.Cmp.Lexicographic.{slice_cmp}
 use Rattle.std.specs.List.Sorted.{IsSortedByKey}
 use Rattle.std.proofs.lemmas.List.{get_or-map, length-map}
@@ -7,7 +7,7 @@ use Rattle.sc_record.specs.declared.write.Write.{Write}
 use Rattle.sc_fanout.specs.Pages.{all_of}
 use Rattle.sc_fanout.specs.Merging.{goes_before, merged}
 use Rattle.sc_fanout.specs.Hits.{hit_rows, lent, lent_in}
-use Rattle.sc_fanout.proofs.StartLemmas.{first-cut, first-more, first-none, first-sorted, first-start}
+use Rattle.sc_fanout.proofs.StartLemmas.{first-cut, first-more, first-sorted, first-start}
 use Rattle.sc_fanout.proofs.merging.first_of_all.Goals.{then-may_come_in+in_ok-merge, else-may_come_in}
 use Rattle.sc_fanout.proofs.merging.first_of_all.Goals as goal
 

@@ -1,5 +1,5 @@
 -- The last that is kept goes before the first row.
-use Rattle.std.proofs.Common.{◌≡◌, false, Some, map, take, length, ◌-◌, slice_get, sym, ap, ap₂, ◌∙◌, arith, drop, option_copied, option_map, is_gt, nat_cmp, Option}
+use Rattle.std.proofs.Common.{◌≡◌, false, Some, map, take, length, ◌-◌, slice_get, sym, ap, ap₂, ◌∙◌, arith, drop, option_copied, option_map, is_gt, nat_cmp}
 use Rattle.std.specs.Arc.{arc_value}
 use Rattle.std.specs.Cmp.Lexicographic.{slice_cmp}
 use Rattle.std.proofs.lemmas.List.{length-map}

@@ -1,13 +1,13 @@
 -- One row more is put, or there is none, or all are put.
-use Rattle.std.proofs.Common.{◌≡◌, ◌≤◌, ◌∷◌, ◌++◌, ◌-◌, Some, None, length, map, take, drop, sym, ap, ap₂, subst, ◌∙◌, arith, option_copied, option_map, slice_get, get_or, IfOk}
+use Rattle.std.proofs.Common.{◌≡◌, ◌-◌, length, map, take, drop, sym, ap, ◌∙◌, arith, option_copied, option_map, slice_get, get_or}
 use Rattle.std.specs.Arc.{arc_value}
 use Rattle.std.proofs.lemmas.Result.{IfOk-weaker}
-use Rattle.std.proofs.lemmas.List.{length-map, length-drop, take_rest}
+use Rattle.std.proofs.lemmas.List.{length-drop, take_rest}
 use Rattle.sc_snapshot.specs.Rows.{SnapshotState}
 use Rattle.sc_fanout.specs.Merging.{goes_before, merged}
 use Rattle.sc_fanout.specs.Steps.{rows_in}
 use Rattle.sc_fanout.specs.Hits.{hit_rows, lent, lent_in}
-use Rattle.sc_fanout.proofs.RowLemmas.{put-all, put-next, put-none, put-rest}
+use Rattle.sc_fanout.proofs.RowLemmas.{put-next, put-none, put-rest}
 use Rattle.sc_fanout.proofs.merging.merge.Goals.{in-Some+in_ok-passed, in_default}
 use Rattle.sc_fanout.proofs.merging.merge.Goals as goal
 

@@ -1,5 +1,5 @@
 -- The cells before the row are put, and then the row.
-use Rattle.std.proofs.Common.{take, length, ap, ◌∙◌, arith}
+use Rattle.std.proofs.Common.{arith}
 use Rattle.std.specs.Arc.{arc_value}
 use Rattle.std.proofs.lemmas.List.{length-map, length-take-le}
 use Rattle.sc_fanout.specs.Hits.{lent, lent_in}

@@ -1,7 +1,8 @@
 -- The searchers of the buckets are taken in turn, and a page is shown of what they find.
-use Rattle.std.proofs.Common.{◌≡◌, ◌+◌, List, map, All, refl, sym, ap, ◌∙◌, subst, arith}
+use Rattle.std.proofs.Common.{◌≡◌, ◌+◌, ◌^◌, ◌≤◌, ◌++◌, List, length, map, All, refl, sym, ap, ◌∙◌, subst, arith}
 use Rattle.std.specs.Prelude.{⊤, IfOk}
-use Rattle.std.proofs.lemmas.List.{map-append}
+use Rattle.std.proofs.Math.Pow.{pow_mono}
+use Rattle.std.proofs.lemmas.List.{length-map, map-append}
 use Rattle.std.proofs.lemmas.List.Elements.{All-nil, All-append}
 use Rattle.std.proofs.lemmas.Result.{err_from_is_err_and}
 use Rattle.sc_record.specs.declared.write.Write.{Write}
@@ -16,12 +17,13 @@ use Rattle.sc_fanout.specs.Pages.{IsPageOf, all_of}
 use Rattle.sc_fanout.specs.Hits.{lists_of}
 use Rattle.sc_fanout.proofs.BucketLemmas.{asked-terms}
 use Rattle.sc_fanout.proofs.FoundLemmas.{lists-found}
-use Rattle.sc_fanout.proofs.SearchLemmas.{FoundSoFar-none, FoundSoFar-more, Looked-more, searched-fault, searched}
+use Rattle.sc_fanout.proofs.SearchLemmas.{all-left, all-right, Looked-none, FoundSoFar-none, FoundSoFar-more, Looked-more, searched-fault, searched}
 use Rattle.sc_fanout.proofs.searching.search.Goals as goal
 
 pub loop-b-init : goal.loop-b-init
 loop-b-init g c = record {
-  far = FoundSoFar-none (g.D.Desk.layout c.args.desk.now) (view_of (g.D.Desk.seen c.args.desk.now) c.args.trail.now.stops) c.args.ask.now
+  looked = Looked-none (g.D.Desk.layout c.args.desk.now) (view_of (g.D.Desk.seen c.args.desk.now) c.args.trail.now.stops);
+  far = λ rows. FoundSoFar-none (g.D.Desk.layout c.args.desk.now) (view_of (g.D.Desk.seen c.args.desk.now) c.args.trail.now.stops) c.args.ask.now
       (map (found_in (condition_of c.args.ask.now.query)) c.new-searchers.result.items)
       (ap (map (found_in (condition_of c.args.ask.now.query))) c.new-searchers.ensures.items);
   terms = subst (All HaveTerms) (sym c.new-searchers.ensures.items) (All-nil HaveTerms);
@@ -31,8 +33,8 @@ loop-b-init g c = record {
   requests = refl;
 }
 
-pub returns-in_err-more-clause-searched : goal.returns-in_err-more-clause-searched
-returns-in_err-more-clause-searched g c =
+pub returns-in_err-take_searchers-clause-searched : goal.returns-in_err-take_searchers-clause-searched
+returns-in_err-take_searchers-clause-searched g c =
     let layout = g.D.Desk.layout c.args.desk.now in
     let old = view_of (g.D.Desk.seen c.args.desk.now) c.args.trail.now.stops in
     let between = view_of (g.D.Desk.seen c.loop-b.desk) c.loop-b.trail.stops in
@@ -40,28 +42,11 @@ returns-in_err-more-clause-searched g c =
     let failed = err_from_is_err_and c.from_residual.result c.from_residual.ensures.1 in
     let looks : LooksAtOne layout between new c.loop-b.b (λ (journal : List Entry). ⊤) =
     subst (λ (l : Layout). LooksAtOne l between new c.loop-b.b (λ (journal : List Entry). ⊤))
-    c.loop-b.invariant.layout c.in_err-more.ensures.looks in
+    c.loop-b.invariant.layout c.in_err-take_searchers.ensures.looks in
     searched-fault layout old new c.args.ask.now (c.loop-b.b + 1) failed.0 c.from_residual.result
     failed.1 (omega (arith, c.loop-b-test.true, c.buckets-b-end.ensures.count))
     (Looked-more layout old between new c.loop-b.b (λ (journal : List Entry). ⊤)
-    c.loop-b.invariant.far.looked looks)
-
-pub returns-in_err-append-clause-searched : goal.returns-in_err-append-clause-searched
-returns-in_err-append-clause-searched g c =
-    let layout = g.D.Desk.layout c.args.desk.now in
-    let old = view_of (g.D.Desk.seen c.args.desk.now) c.args.trail.now.stops in
-    let between = view_of (g.D.Desk.seen c.loop-b.desk) c.loop-b.trail.stops in
-    let new = view_of (g.D.Desk.seen c.take_searchers.new.desk) c.take_searchers.new.trail.stops in
-    let taken : List Entry → Type 0 =
-    λ journal. AreAsked (g.D.Desk.layout c.loop-b.desk) c.loop-b.b journal c.args.ask.now.route c.in_ok-more.more.items in
-    let failed = err_from_is_err_and c.from_residual-in_err-append.result c.from_residual-in_err-append.ensures.1 in
-    let looks : LooksAtOne layout between new c.loop-b.b taken =
-    subst (λ (l : Layout). LooksAtOne l between new c.loop-b.b taken)
-    c.loop-b.invariant.layout c.in_ok-more.ensures.looks in
-    searched-fault layout old new c.args.ask.now (c.loop-b.b + 1) failed.0
-    c.from_residual-in_err-append.result failed.1 (omega (arith, c.loop-b-test.true, c.buckets-b-end.ensures.count))
-    (Looked-more layout old between new c.loop-b.b taken
-    c.loop-b.invariant.far.looked looks)
+    c.loop-b.invariant.looked looks)
 
 pub loop-b-preserved : goal.loop-b-preserved
 loop-b-preserved g c =
@@ -72,27 +57,47 @@ loop-b-preserved g c =
     let condition = condition_of c.args.ask.now.query in
     let route = c.args.ask.now.route in
     let before = c.loop-b.searchers.items in
-    let more = c.in_ok-more.more.items in
-    let taken = c.in_ok-more.ensures.looks in
+    let AreAll : List Searcher → Type 0 = All (λ (searcher : Searcher). AreRows (rows_in searcher)) in
+    let taken = c.in_ok-take_searchers.ensures.looks in
+    let more = taken.is_taken.more in
+    let next = taken.is_taken.added in
+    let one : LooksAtOne (g.D.Desk.layout c.loop-b.desk) between new c.loop-b.b
+    (λ (journal : List Entry). AreAsked (g.D.Desk.layout c.loop-b.desk) c.loop-b.b journal route more) =
+    record { journal = taken.journal; begins = taken.begins; keeps = taken.keeps; is_taken = taken.is_taken.are } in
     let looks : LooksAtOne layout between new c.loop-b.b
     (λ (journal : List Entry). AreAsked layout c.loop-b.b journal route more) =
     subst (λ (l : Layout). LooksAtOne l between new c.loop-b.b
     (λ (journal : List Entry). AreAsked l c.loop-b.b journal route more))
-    c.loop-b.invariant.layout taken in
-    let rows : All (λ (searcher : Searcher). AreRows (rows_in searcher)) more =
-    subst (All (λ (searcher : Searcher). AreRows (rows_in searcher))) c.as_slice.ensures.value c.rows_of.ensures in
-    let next = c.in_ok-append.ensures.items in
+    c.loop-b.invariant.layout one in
     record {
-      far = FoundSoFar-more layout old between new c.args.ask.now c.loop-b.b
-          (map (found_in condition) before) (map (found_in condition) c.append.new.self.items) more c.loop-b.invariant.far looks rows
+      looked = Looked-more layout old between new c.loop-b.b (λ (journal : List Entry). AreAsked layout c.loop-b.b journal route more)
+          c.loop-b.invariant.looked looks;
+      far = λ rows.
+          let all : AreAll (before ++ more) = subst AreAll next rows in
+          FoundSoFar-more layout old between new c.args.ask.now c.loop-b.b
+          (map (found_in condition) before) (map (found_in condition) c.take_searchers.new.searchers.items) more
+          (c.loop-b.invariant.far (all-left (λ (searcher : Searcher). AreRows (rows_in searcher)) before more all)) looks
+          (all-right (λ (searcher : Searcher). AreRows (rows_in searcher)) before more all)
           (ap (map (found_in condition)) next ∙ map-append (found_in condition) before more);
       terms = subst (All HaveTerms) (sym next) (All-append HaveTerms before more c.loop-b.invariant.terms
-          (asked-terms (g.D.Desk.layout c.loop-b.desk) c.loop-b.b taken.journal route more taken.is_taken));
+          (asked-terms (g.D.Desk.layout c.loop-b.desk) c.loop-b.b taken.journal route more taken.is_taken.are));
       layout = c.take_searchers.ensures.layout ∙ c.loop-b.invariant.layout;
       rest = c.take_searchers.ensures.rest;
       stops = omega (arith, c.take_searchers.ensures.stops, c.loop-b.invariant.stops);
       requests = c.take_searchers.ensures.requests ∙ c.loop-b.invariant.requests;
     }
+
+pub find_in_parts-requires-clause-few : goal.find_in_parts-requires-clause-few
+find_in_parts-requires-clause-few g c =
+    let searchers = c.loop-b.searchers.items in
+    let rows : All (λ (searcher : Searcher). AreRows (rows_in searcher)) searchers =
+    subst (All (λ (searcher : Searcher). AreRows (rows_in searcher))) c.as_slice.ensures.value c.rows_of.ensures in
+    let few = (c.loop-b.invariant.far rows).few in
+    let many = length-map searchers (found_in (condition_of c.args.ask.now.query)) in
+    let same = ap (λ (ss : List Searcher). length ss) c.as_slice-2.ensures.value in
+    let (k, small, is) = c.buckets-b-end.ensures.power in
+    let most : 2 ^ k ≤ 256 = pow_mono {i = k} {j = 8} small in
+    omega (arith, few, many, same, c.loop-b.auto.b-end, is, most)
 
 pub returns-clause-searched : goal.returns-clause-searched
 returns-clause-searched g c =
@@ -101,11 +106,13 @@ returns-clause-searched g c =
     let ask = c.args.ask.now in
     let condition = condition_of ask.query in
     let searchers = c.loop-b.searchers.items in
+    let rows : All (λ (searcher : Searcher). AreRows (rows_in searcher)) searchers =
+    subst (All (λ (searcher : Searcher). AreRows (rows_in searcher))) c.as_slice.ensures.value c.rows_of.ensures in
     let found : lists_of condition c.as_slice-3.result.now ≡ map (found_in condition) searchers =
     ap (lists_of condition) c.as_slice-3.ensures.value
     ∙ lists-found condition (ask.start + ask.rows) c.as_slice-2.result.now c.in_ok-found.found c.in_ok-found.ensures
     ∙ ap (map (found_in condition)) c.as_slice-2.ensures.value in
     searched (g.D.Desk.layout c.args.desk.now) (view_of (g.D.Desk.seen c.args.desk.now) c.args.trail.now.stops)
     (view_of (g.D.Desk.seen c.loop-b.desk) c.loop-b.trail.stops) ask c.loop-b.b (map (found_in condition) searchers) c.page.result
-    (omega (arith, low, high, c.buckets-b-end.ensures.count)) c.loop-b.invariant.far
+    (omega (arith, low, high, c.buckets-b-end.ensures.count)) (c.loop-b.invariant.far rows)
     (subst (λ (lists : List (List Write)). IfOk c.page.result (IsPageOf (all_of lists) ask.start ask.rows)) found c.page.ensures)

@@ -51,6 +51,6 @@ returns-clause-looks g c =
         goes = GoesOn-held layout old new held bucket false [] c.requires.within c.hold-bucket.ensures.extends (sym (append-nil journal)) refl sees;
         kept = stops;
       };
-      is_taken = asked layout c.args.b bucket c.args.route.now (λ v. v.items) c.searchers_of-searchers.result c.hold-bucket.ensures.sound c.hold-bucket.ensures.is_of
-          c.searchers_of-searchers.ensures;
+      is_taken = asked layout c.args.b bucket c.args.route.now c.args.searchers.now.items c.add_searchers-taken.new.searchers.items c.add_searchers-taken.result
+          c.hold-bucket.ensures.sound c.hold-bucket.ensures.is_of c.add_searchers-taken.ensures;
     }

@@ -16,13 +16,14 @@ pub enum Kept {
     LeftAlone,
 }
 
-/// Joins two lists of rows that ascend, in one pass over both. The only error is that memory was refused.
+/// Joins two lists of rows that ascend, in one pass over both. Room for all that may be kept is made once. The only error is that memory
+/// was refused.
 pub fn join(alloc: Global, how: Kept, left: &[u32], right: &[u32]) -> Result<Vec<u32>, AllocError>
     requires left { IsStrictlyIncreasing left.now }
     requires right { IsStrictlyIncreasing right.now }
     ensures { IfOk result (λ rows. IsJoin how left.now right.now rows.items) }
 {
-    let mut rows = Vec::new(alloc);
+    let mut rows = Vec::with_capacity(alloc, room_for(how, left.len(), right.len()))?;
     let mut low = 0;
     let mut high = 0;
     'merging: while low < left.len() && high < right.len() {
@@ -47,6 +48,15 @@ pub fn join(alloc: Global, how: Kept, left: &[u32], right: &[u32]) -> Result<Vec
     extend_kept(&mut rows, keeps_left(how), &left[low..])?;
     extend_kept(&mut rows, keeps_right(how), &right[high..])?;
     Ok(rows)
+}
+
+// How many rows of two lists of these lengths may be kept.
+fn room_for(how: Kept, left: usize, right: usize) -> usize {
+    match how {
+        Kept::Both => left.min(right),
+        Kept::Either => left.saturating_add(right),
+        Kept::LeftAlone => left,
+    }
 }
 
 // Puts the row at the end where it is kept.

@@ -42,7 +42,7 @@ pub struct Accepted {
     pub place: u64,
 }
 
-/// Why an order was not accepted. The bucket is as it was.
+/// Why an order was not accepted. The bucket is as it was, but for room in memory.
 #[derive(Debug, Drop, Error)]
 pub enum AcceptFault {
     /// The order's condition is not met by the version that was found.
@@ -86,7 +86,7 @@ impl From<PartialFault> for AcceptFault {
 impl Bucket {
     /// Carries out an order at this timestamp, in milliseconds (Solr Reference Guide, "Optimistic Concurrency", "Atomic
     /// Updates"). The first cause of a refusal counts, in the order of `AcceptFault`; out of memory never stands in the place
-    /// of a conflict. After a refusal the bucket is as it was.
+    /// of a conflict. After a refusal the bucket is as it was, but for room in memory.
     pub fn accept(
         &mut self,
         alloc: Global,

@@ -8,8 +8,8 @@ use crate::bucket::Bucket;
 use sc_record::Entry;
 
 impl Bucket {
-    /// Delivers what is in flight of the write at this place, and notes in the journal that every other core that takes the write
-    /// was sent it. It takes no memory.
+    /// Delivers what is in flight of the write at this place, and notes in the journal that it was delivered to every other core that
+    /// had to take it, or that the core is gone or down. It takes no memory.
     pub fn settle(&mut self, place: u64)
         requires sound { IsSound self.old }
         requires written { IsSome (write_at self.old.journal.entries place) }

@@ -5,7 +5,8 @@ use sc_record::{List, SliceId};
 use sc_snapshot::Snapshot;
 use std::sync::Arc;
 
-/// What serves the searches of an active slice: its range, and the committed rows of its leader.
+/// What serves the searches of an active slice: its range, and the committed rows of its leader; after a switch those of the parent's
+/// leader, until the next commit.
 #[derive(Drop)]
 pub struct Standing {
     pub slice: SliceId,

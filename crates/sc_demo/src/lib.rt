@@ -6,7 +6,8 @@
 //! there (`count_on`). `write`, `split_first` and `count_on` work over any `Desk`.
 //!
 //! It depends on `sc_workload` for the orders, on `sc_update`, `sc_split` and `sc_fanout`, whose clauses it uses, on `sc_shared` for the desk of
-//! each thread, and on `sc_server` for what a station reports of its crews. What waits stands here and in `sc_shared`'s holds alone.
+//! each thread, and on `sc_server` for what a station reports of its crews. `run_demo` waits for its makers, a hold of `sc_shared` for a
+//! lock, and a search for the threads of its parts.
 //!
 //! Proved of `run_demo` (`EndsDemo`): which status comes when, with its cause in the sink or the hosts; that each crew that the station gave is
 //! back; and where all makers worked (`Demonstrates`), that each did what it was to do over passes of one collection, what all of them have seen

@@ -38,8 +38,8 @@ last_write journal id = last_of (writes_of journal id)
 abbrev pub found : List Entry → List ℕ → ℤ
 found journal id = found_version (last_write journal id)
 
--- the entry settles the write at the place: it says that every other core that had to take the write was sent it, made
--- before the update is answered
+-- the entry settles the write at the place: it says that the write was delivered to every other core that had to take it,
+-- or that the core is gone or down; it is made before the update is answered
 abbrev pub settles : ℕ → Entry → Bool
 settles place (entry.Settled settled) = settled == place
 settles place _ = false

@@ -2,8 +2,9 @@
 //! being built. It depends on `sc_record` and `sc_ulog`, and does no input and no output.
 //!
 //! A layer above speaks of a `Replica` as the record `Core`, and of each call as a step of it: `led`, `fed`, `received`,
-//! `replayed`. In each of them a write whose version isn't greater than that of its id's cell is dropped. Only `reserve`
-//! and `Cells::share` take memory.
+//! `replayed`. Where a core applies a write that it was fed, received or replays, one whose version isn't greater than that of
+//! its id's cell is dropped; a core that buffers keeps each write that it receives, and `led` puts its write in, which is above
+//! the clock. Only `reserve` and `Cells::share` take memory.
 //!
 //! Proved: each call of `Replica` is a step of the record `Core` (`specs/Core`): `lead`, `receive`, `feed` and `replay`
 //! are `led`, `received`, `fed` and `replayed`; a write that is fed, replayed, or received by a core that does not buffer

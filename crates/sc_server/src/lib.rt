@@ -4,8 +4,8 @@
 //! a crew of the station (its clock, hosts, pace and listener), passes of its own, and a trail; it is one call of `sc_session`'s `work`
 //! over a `Shared` desk, so each of its connections has the promise of `serve`.
 //!
-//! It depends on `sc_session` for `work` and the traits `Station` and `Listener`, and on `sc_shared` for the desk. What waits for a lock or
-//! a worker stands here and in `sc_shared`'s holds alone; a search waits for the threads of its parts.
+//! It depends on `sc_session` for `work` and the traits `Station` and `Listener`, and on `sc_shared` for the desk. `run_server`
+//! waits for its workers, a hold of `sc_shared` for a lock, and a search for the threads of its parts.
 //!
 //! Proved of `run_server` (`EndsServer`): which status comes when, with its cause in the station, the sink, the hosts or a listener; that
 //! each crew that the station gave is back (where no worker began: as it was given, all but the first one's hosts); and that in a run of all

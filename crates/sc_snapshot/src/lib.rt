@@ -11,7 +11,8 @@
 //! the live rows that have a term, ascending and within a bound on comparisons; `live` gives exactly the live rows and `is_live` tells
 //! them; `at` and `share_rows` have the same rows.
 //!
-//! Tested alone: the worked rows; `next` runs in each commit of the scenarios and of the stored run.
+//! Tested alone: the worked rows; in the scenarios and in the stored run `next` runs in each commit of a bucket that was written to, unless
+//! it was just split (`at` where nothing was written, `from_list` right after a switch).
 //!
 //! Neither: speed, and so how much less `next` takes than `of` and how many pieces there are; that a snapshot shares the writes holds by
 //! construction.

@@ -75,8 +75,9 @@ impl Snapshot {
         })
     }
 
-    /// The snapshot at this place after these changes, which ascend by the ids' bytes: each is put in the place of the row of its id, or else in order. What it
-    /// takes grows with the changes, and with the postings of the index at the speed of copying; no other row is looked at. The only error is that memory was
+    /// The snapshot at this place after these changes, which ascend by the ids' bytes: each is put in the place of the row of its id, or else
+    /// in order. What it takes grows with the changes, with a step for the number and the mark of each row, a look-up for each posting and a
+    /// share of each key. Of the old rows only those are read among which a change's place is sought. The only error is that memory was
     /// refused.
     pub fn next(&self, alloc: Global, place: u64, changes: &[Cell]) -> Result<Snapshot, AllocError>
         requires ascend { AscendById (map arc_value changes.now) }

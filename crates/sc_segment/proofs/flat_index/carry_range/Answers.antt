@@ -1,5 +1,5 @@
 -- One key of the old index more.
-use Rattle.std.proofs.Common.{◌≡◌, ℕ, ◌+◌, ◌<◌, ◌≤◌, List, length, take, get_or, slice_get, Some, ap, ◌∙◌, arith}
+use Rattle.std.proofs.Common.{◌≡◌, ◌+◌, ◌≤◌, length, take, get_or, ap, arith}
 use Rattle.std.specs.List.{slice_range}
 use Rattle.sc_segment.proofs.EntryLemmas.{so_far-old}
 use Rattle.sc_segment.proofs.FlatLemmas.{begin, begin_from_clauses, length-entries, length-range, rows_among-begin, rows_among-rises, placed, laid_out-rows, laid_out-put, closed-put, entry-put}

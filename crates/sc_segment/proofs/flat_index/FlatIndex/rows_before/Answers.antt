@@ -1,5 +1,5 @@
 -- The rows of the keys before a place are those before where its own begin.
-use Rattle.std.proofs.Common.{◌≡◌, ◌≤◌, length, take, ap, ◌∙◌, arith}
+use Rattle.std.proofs.Common.{◌≡◌, ◌≤◌, length, take, ap, arith}
 use Rattle.sc_segment.proofs.FlatLemmas.{begin, begin_from_clauses, length-entries, rows_among-begin}
 use Rattle.sc_segment.specs.Flat.{FlatState, rows_among}
 use Rattle.sc_segment.proofs.flat_index.FlatIndex.rows_before.Goals as goal

@@ -8,8 +8,8 @@ use crate::write::Cell;
 pub enum Entry {
     /// A write that was accepted.
     Write(Cell),
-    /// Every other core that had to take the write at this place, counted from 0, was sent it. It comes before the update is
-    /// answered.
+    /// The write at this place, counted from 0, was delivered to every other core that had to take it, or the core is gone or
+    /// down. It comes before the update is answered.
     Settled {
         place: u64,
     },

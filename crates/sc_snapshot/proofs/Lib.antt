@@ -9,5 +9,6 @@ mod PieceLemmas
 mod EditLemmas
 mod PlaceLemmas
 mod EditedLemmas
+mod PartLemmas
 mod SurveyLemmas
 pub mod CountLemmas

@@ -1,5 +1,7 @@
 -- The rows of a snapshot.
-use Rattle.std.specs.Prelude.{◌≡◌, ℕ, ◌≤◌, ◌^◌, if◌then◌else◌, is_some, List, length}
+use Rattle.std.specs.Prelude.{◌≡◌, ℕ, ◌≤◌, ◌^◌, Bool, if◌then◌else◌, is_some, List, length}
+use Rattle.sc_hash.specs.Bounds.{bounds, contains}
+use Rattle.sc_hash.specs.declared.range.Range.{Range}
 use Rattle.sc_record.specs.declared.write.Write.{Write}
 use Rattle.sc_record.specs.Writes.{write_of, AscendById}
 
@@ -16,3 +18,7 @@ pub record AreRows (rows : List Write) : Type 0 where
 -- the rows after these changes: of each id the change, where there is one, else the old row
 abbrev pub AreChanged : (old changes new : List Write) → Type 0
 AreChanged old changes new = (id : List ℕ) → write_of new id ≡ (if is_some (write_of changes id) then write_of changes id else write_of old id)
+
+-- the row's hash is in the range
+abbrev pub is_within : Range → Write → Bool
+is_within range row = contains row.hash (bounds range)

@@ -45,8 +45,8 @@ impl Change {
         Ok(change)
     }
 
-    // No row is told yet.
-    fn begin(alloc: Global, rows: usize) -> Result<Change, AllocError>
+    /// No row is told yet.
+    pub(crate) fn begin(alloc: Global, rows: usize) -> Result<Change, AllocError>
         ensures { IfOk result (λ change. (old new : List Write) → IsChange old new 0 0 change) }
     {
         Ok(Change {
@@ -55,8 +55,8 @@ impl Change {
         })
     }
 
-    // The next old row is not kept where it is replaced.
-    fn leave(&mut self, is_replaced: bool) -> Result<(), AllocError>
+    /// The next old row is not kept where it is replaced.
+    pub(crate) fn leave(&mut self, is_replaced: bool) -> Result<(), AllocError>
         ensures change { OnOk result ((old new : List Write) (low high : ℕ) → IsChange old new low high self.old
             → IsChange old new (low + (if is_replaced then 1 else 0)) high self.new) }
         ensures added { OnOk result (self.new.added ≡ self.old.added) }
@@ -67,8 +67,8 @@ impl Change {
         Ok(())
     }
 
-    // The next old row is the next new one.
-    fn keep(&mut self, number: u32) -> Result<(), AllocError>
+    /// The next old row is the next new one.
+    pub(crate) fn keep(&mut self, number: u32) -> Result<(), AllocError>
         ensures change { OnOk result ((old new : List Write) (low : ℕ) (row : Write) → IsChange old new low number self.old
             → slice_get old low ≡ Some row → slice_get new number ≡ Some row → IsChange old new (low + 1) (number + 1) self.new) }
         ensures added { OnOk result (self.new.added ≡ self.old.added) }

@@ -59,6 +59,16 @@ pub(crate) fn edited_pieces(
     cutting.finish()
 }
 
+/// These cells in pieces of their own. The only error is that memory was refused.
+pub(crate) fn pieces_of(alloc: Global, cells: Vec<Cell>) -> Result<Pieces, AllocError>
+    requires { length cells.items ≤ 2 ^ 24 }
+    ensures { IfOk result (λ pieces. pieces ≡ map arc_value cells.items) }
+{
+    let mut pieces = Pieces::new(alloc);
+    cut(&mut pieces, alloc, cells)?;
+    Ok(pieces)
+}
+
 impl Cutting {
     fn new(alloc: Global) -> Cutting
         ensures { result ≡ [] }

@@ -1,6 +1,9 @@
-ghost use Rattle.std.specs.Prelude.{◌≡◌, ◌≤◌, ◌^◌, map, length, IfOk};
+ghost use Rattle.std.specs.Prelude.{◌≡◌, ◌≤◌, ◌^◌, List, map, length, IfOk};
 ghost use Rattle.std.specs.Arc.{arc_value};
+ghost use Rattle.sc_record.specs.declared.write.Write.{Write};
+ghost use Rattle.sc_segment.specs.Carrying.{KeepsOrder};
 ghost use Rattle.sc_segment.specs.Index.{IsIndexOf};
+ghost use Rattle.sc_snapshot.specs.Change.{IsChange};
 ghost use Rattle.sc_snapshot.specs.Edits.{edited, AreInOrder};
 ghost use Rattle.sc_snapshot.specs.Rows.{AreRows};
 ghost use Rattle.sc_snapshot.specs.Postings.{key_order, keyed_rows, IsIndexed};
@@ -54,6 +57,25 @@ impl Index {
         let survey = self.survey.next(alloc, old, new, edits)?;
         Ok(Index { segment, survey })
     }
+
+    /// The index of these rows, which this change makes of the old ones, from that of the old ones: no term is filed but those of the
+    /// change. Each row is looked at. The only error is that memory was refused.
+    pub(crate) fn carried(
+        &self,
+        alloc: Global,
+        change: Change,
+        rows: &[Cell],
+    ) -> Result<Index, AllocError>
+        requires order { KeepsOrder change.moved.items }
+        requires rows { AreRows (map arc_value rows.now) }
+        ensures { IfOk result (λ index. (old : List Write) → IsIndexed old self.now
+            → IsChange old (map arc_value rows.now) (length old) (length (map arc_value rows.now)) change
+            → IsIndexed (map arc_value rows.now) index) }
+    {
+        let segment = carried_segment(alloc, &self.segment, change)?;
+        let survey = Survey::of(alloc, rows)?;
+        Ok(Index { segment, survey })
+    }
 }
 
 // The live rows of each term.
@@ -70,7 +92,7 @@ fn segment_of(alloc: Global, rows: &[Cell]) -> Result<Segment<TermKey>, AllocErr
     builder.finish()
 }
 
-// The live rows of each term, from those of the old rows.
+// The live rows of each term after the edits, from those of the old rows.
 fn next_segment(
     alloc: Global,
     segment: &Segment<TermKey>,
@@ -83,7 +105,22 @@ fn next_segment(
     requires new { length (edited old.now 0 edits.now) ≤ 2 ^ 24 }
     ensures { IfOk result (IsIndexOf key_order (keyed_rows 0 (edited old.now 0 edits.now))) }
 {
-    let Change { moved, added } = Change::of(alloc, old, edits)?;
+    let change = Change::of(alloc, old, edits)?;
+    let next = carried_segment(alloc, segment, change)?;
+    Ok(next)
+}
+
+// The live rows of each term after the change, from those of the old rows.
+fn carried_segment(
+    alloc: Global,
+    segment: &Segment<TermKey>,
+    change: Change,
+) -> Result<Segment<TermKey>, AllocError>
+    requires { KeepsOrder change.moved.items }
+    ensures { IfOk result (λ carried. (old new : List Write) → IsChange old new (length old) (length new) change
+        → IsIndexOf key_order (keyed_rows 0 old) segment.now → IsIndexOf key_order (keyed_rows 0 new) carried) }
+{
+    let Change { moved, added } = change;
     let added = added.finish()?;
     let carried = segment.carried(alloc, moved.as_slice(), &added)?;
     Ok(carried)

@@ -1,17 +1,19 @@
-ghost use Rattle.std.specs.Prelude.{◌≡◌, ℕ, ◌+◌, ◌-◌, ◌*◌, ◌^◌, ◌<◌, ◌≤◌, ◌≤ℤ◌, All, length, map, is_some, slice_get, IfOk, Some, List, option_copied, option_map};
+ghost use Rattle.std.specs.Prelude.{◌≡◌, ℕ, ◌+◌, ◌-◌, ◌*◌, ◌^◌, ◌<◌, ◌≤◌, ◌≤ℤ◌, All, filter, length, map, is_some, slice_get, IfOk, Some, List, option_copied, option_map};
 ghost use Rattle.std.specs.Arc.{arc_value};
 ghost use Rattle.std.specs.List.Sorted.{IsStrictlyIncreasing};
 ghost use Rattle.sc_record.specs.declared.write.Write.{Write};
 ghost use Rattle.sc_record.specs.Writes.{AscendById};
 ghost use Rattle.sc_segment.specs.Joining.{has_row};
-ghost use Rattle.sc_snapshot.specs.Rows.{AreRows, AreChanged};
+ghost use Rattle.sc_snapshot.specs.Rows.{AreRows, AreChanged, is_within};
 ghost use Rattle.sc_snapshot.specs.Postings.{has_term, term_count, is_live_at};
 
-use crate::cutting::edited_pieces;
+use crate::cutting::{edited_pieces, pieces_of};
 use crate::edits::edits_of;
 use crate::index::Index;
+use crate::part::Part;
 use crate::plain::Rows;
 use crate::term_key::TermKey;
+use sc_hash::Range;
 use sc_record::{Cell, List};
 use sc_segment::Steps;
 use std::alloc::{AllocError, Global};
@@ -92,6 +94,21 @@ impl Snapshot {
         let index = self.index.next(alloc, old, &new, edits.as_slice())?;
         Ok(Snapshot {
             rows: Rows::from_pieces(alloc, place, new)?,
+            index: Arc::new(alloc, index)?,
+        })
+    }
+
+    /// The rows whose hashes are in the range, at the same place, with an index that is carried over: no term is filed. What it takes
+    /// grows with the rows, of which each is looked at, and with the postings of the index at the speed of copying. The only error is
+    /// that memory was refused.
+    pub fn within(&self, alloc: Global, range: &Range) -> Result<Snapshot, AllocError>
+        ensures { IfOk result (λ snapshot. snapshot ≡ record self.now { rows = filter (is_within range.now) self.now.rows }) }
+    {
+        let Part { cells, change } = Part::of(alloc, self.rows.pieces(), range)?;
+        let index = self.index.carried(alloc, change, cells.as_slice())?;
+        let pieces = pieces_of(alloc, cells)?;
+        Ok(Snapshot {
+            rows: Rows::from_pieces(alloc, self.rows.place(), pieces)?,
             index: Arc::new(alloc, index)?,
         })
     }

@@ -1,0 +1,21 @@
+-- What is kept of the old rows, and what is filed of the new ones, is the index of the new rows.
+use Rattle.std.proofs.Common.{List, ℕ, Option, length, refl, sym, subst}
+use Rattle.sc_segment.specs.Carrying.{KeepsOrder, IsCarried}
+use Rattle.sc_snapshot.specs.Postings.{key_order}
+use Rattle.sc_snapshot.specs.declared.term_key.TermKey.{TermKey}
+use Rattle.sc_snapshot.proofs.NextLemmas.{carried_terms}
+use Rattle.sc_snapshot.proofs.index.carried_segment.Goals as goal
+
+pub carried-requires : goal.carried-requires
+carried-requires c = subst (λ (os : List (Option ℕ)). KeepsOrder os) (sym c.as_slice.ensures.value) c.requires
+
+pub returns : goal.returns
+returns c = λ old new is terms.
+    let change = c.args.change in
+    let segment = c.args.segment.now in
+    let carried = c.in_ok-carried.carried in
+    let moves = c.in_ok-carried.ensures in
+    let from : IsCarried key_order change.moved.items segment c.in_ok-added.added carried =
+    subst (λ (os : List (Option ℕ)). IsCarried key_order os segment c.in_ok-added.added carried) c.as_slice.ensures.value moves in
+    carried_terms old new (length old) (length new) change is segment carried refl terms
+    (subst (λ (index : List (TermKey × List ℕ)). IsCarried key_order change.moved.items segment index carried) c.in_ok-added.ensures from)

@@ -1,0 +1,45 @@
+-- The rows of the range are rows, and the index that is carried over is theirs.
+use Rattle.std.proofs.Common.{◌≡◌, ℕ, List, filter, length, map, sym, ap, subst, ◌∙◌, arith}
+use Rattle.std.proofs.lemmas.List.{length-map}
+use Rattle.std.specs.Arc.{arc_value}
+use Rattle.sc_record.specs.declared.write.Write.{Write}
+use Rattle.sc_snapshot.specs.Rows.{SnapshotState, AreRows, is_within}
+use Rattle.sc_snapshot.proofs.NextLemmas.{keeps_order}
+use Rattle.sc_snapshot.proofs.PartLemmas.{rows-passing}
+use Rattle.sc_snapshot.proofs.snapshot.Snapshot.within.Goals as goal
+
+pub carried-requires-clause-order : goal.carried-requires-clause-order
+carried-requires-clause-order c =
+    let all = c.pieces.result.now in
+    let some = filter (is_within c.args.range.now) all in
+    keeps_order all some (length all) (length some) c.in_ok-cells.field-0.change c.in_ok-cells.ensures.change
+
+pub carried-requires-clause-rows : goal.carried-requires-clause-rows
+carried-requires-clause-rows c =
+    let all : AreRows c.pieces.result.now = subst AreRows (sym c.pieces.ensures.rows) c.pieces.ensures.are_rows in
+    subst AreRows (sym (ap (map arc_value) c.as_slice.ensures.value ∙ c.in_ok-cells.ensures.cells))
+    (rows-passing (is_within c.args.range.now) c.pieces.result.now all)
+
+pub pieces_of-requires : goal.pieces_of-requires
+pieces_of-requires c =
+    let all : AreRows c.pieces.result.now = subst AreRows (sym c.pieces.ensures.rows) c.pieces.ensures.are_rows in
+    let few = (rows-passing (is_within c.args.range.now) c.pieces.result.now all).bounded in
+    let size = length-map c.in_ok-cells.field-0.cells.items arc_value in
+    let same = ap (λ (rows : List Write). length rows) c.in_ok-cells.ensures.cells in
+    omega (arith, few, size, same)
+
+pub from_pieces-requires : goal.from_pieces-requires
+from_pieces-requires c =
+    let all : AreRows c.pieces.result.now = subst AreRows (sym c.pieces.ensures.rows) c.pieces.ensures.are_rows in
+    subst AreRows (sym (c.in_ok-pieces.ensures ∙ c.in_ok-cells.ensures.cells)) (rows-passing (is_within c.args.range.now) c.pieces.result.now all)
+
+pub returns : goal.returns
+returns c =
+    let now = c.args.self.now in
+    let test = is_within c.args.range.now in
+    let same : c.pieces.result.now ≡ now.rows = c.pieces.ensures.rows ∙ ap (λ (s : SnapshotState). s.rows) c.self.view_is in
+    let rows = c.in_ok-pieces.ensures ∙ c.in_ok-cells.ensures.cells ∙ ap (filter test) same in
+    let place : c.place.result ≡ now.place = c.place.ensures ∙ ap (λ (s : SnapshotState). s.place) c.self.view_is in
+    c.in_ok-from_pieces.ensures
+    ∙ ap (λ (n : ℕ). record { place = n; rows = c.in_ok-pieces.pieces }) place
+    ∙ ap (λ (these : List Write). record { place = now.place; rows = these }) rows

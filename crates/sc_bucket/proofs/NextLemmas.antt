@@ -7,7 +7,7 @@ use Rattle.std.specs.declared.alloc.AllocError.{AllocError}
 use Rattle.std.specs.declared.alloc.Global.{Global}
 use Rattle.std.specs.declared.sync.Arc.{Arc}
 use Rattle.std.proofs.lemmas.List.{append-nil, append_assoc}
-use Rattle.std.proofs.lemmas.List.Elements.{All-head, All-tail, All-contains, All-contains_itself, All-weaker, Contains-append_right, filter-append}
+use Rattle.std.proofs.lemmas.List.Elements.{All-head, All-tail, All-contains, All-contains_itself, All-filter, All-weaker, Contains-append_right, filter-append, filter_passes}
 use Rattle.std.proofs.lemmas.Option.{none-some}
 use Rattle.sc_hash.specs.Range.{IsWithin}
 use Rattle.sc_hash.proofs.BoundsLemmas.{contains-Decides}
@@ -32,7 +32,7 @@ use Rattle.sc_bucket.specs.Entries.{uncommitted}
 use Rattle.sc_bucket.specs.Cores.{IsCoreWithoutRoom, IsLeaderOf}
 use Rattle.sc_bucket.specs.Pending.{is_within}
 use Rattle.sc_bucket.specs.Searchers.{rows_of, ShowsCommitted}
-use Rattle.sc_bucket.specs.Taking.{AreChangesOf, AreLastOf, IsLastOf, IsOfLeader}
+use Rattle.sc_bucket.specs.Taking.{AreChangesOf, AreCommittedOf, AreLastOf, IsLastOf, IsOfLeader}
 use Rattle.sc_bucket.specs.Sound.{IsInRange, HasLastWrites, Serves, AreWritten, AreInRange, IsSound}
 use Rattle.sc_bucket.specs.declared.bucket.Bucket.{Bucket}
 use Rattle.sc_bucket.specs.declared.standing.Standing.{Standing}
@@ -194,6 +194,7 @@ its_leader b slice core sound there active core_there leads =
       within = within.0;
     }
 
+-- ---- what was committed of a slice
 -- the rows of the slice's last searcher are writes of the journal, and show what was committed
 last_shows : (b : Bucket) (slice : Slice) (last : Standing) → IsSound b → IsLastOf b slice last
     → ShowsCommitted b.journal.entries slice (rows_of last)
@@ -202,27 +203,75 @@ last_shows b slice last sound is =
     → (searcher.range ≡ s.range) × ShowsCommitted b.journal.entries s (rows_of searcher))
     b.searchers last sound.searchers.show is.kept slice is.there (sym is.of_slice)).1
 
+-- where their hashes are in the slice's range they are all that was committed of it
+pub AreCommittedOf-last : (b : Bucket) (slice : Slice) (last : Standing) → IsSound b → IsLastOf b slice last → All (IsInRange slice) (rows_of last)
+    → AreCommittedOf b slice (rows_of last)
+AreCommittedOf-last b slice last sound is within = record {
+  there = is.there;
+  active = is.active;
+  shows = last_shows b slice last sound is;
+  within = within;
+}
+
+-- what the one test finds passes the other, which leaves it there
+find_implied : {A : Type 0} (p q : A → Bool) (xs : List A) → All (Implies p q) xs → find p (filter q xs) ≡ find p xs
+find_implied p q [] implied = refl
+find_implied {A} p q (x ∷ xs) implied =
+    by (q x) (p x) refl refl (All-head (Implies p q) x xs implied) (find_implied p q xs (All-tail (Implies p q) x xs implied)) where
+      by : (b c : Bool) → q x ≡ b → p x ≡ c → (p x ≡ true → q x ≡ true) → find p (filter q xs) ≡ find p xs
+          → find p (cond b (x ∷ filter q xs) (filter q xs)) ≡ cond c (Some x) (find p xs)
+      by true true kept is given rest = rw is refl
+      by true false kept is given rest = rw is rest
+      by false true kept is given rest = let both : true ≡ false = sym (given is) ∙ kept in absurd (cc)
+      by false false kept is given rest = rest
+
+-- else those of them whose hashes are
+pub AreCommittedOf-within : (b : Bucket) (slice : Slice) (last : Standing) → IsSound b → IsLastOf b slice last
+    → AreCommittedOf b slice (filter (is_within slice.range) (rows_of last))
+AreCommittedOf-within b slice last sound is =
+    let entries : List Entry = b.journal.entries in
+    let rows : List Write = rows_of last in
+    let test = is_within slice.range in
+    let shows = last_shows b slice last sound is in
+    record {
+      there = is.there;
+      active = is.active;
+      shows = record {
+        written = All-filter test (Contains (writes entries)) rows shows.written;
+        last = λ id within.
+            find_implied (is_of id) test rows
+            (All-weaker (Contains (writes entries)) (Implies (is_of id) test)
+            (λ one there of. ap (λ (hash : ℤ). contains hash (bounds slice.range))
+            (legal_hash b.first entries one sound.journal.legal there ∙ ap route_hash (id_from_is_of id one of))
+            ∙ (contains-Decides (route_hash id) slice.range.min slice.range.max).1 within)
+            rows shows.written)
+            ∙ shows.last id within;
+      };
+      within = All-weaker (λ (row : Write). test row ≡ true) (IsInRange slice)
+          (λ row passes. (contains-Decides row.hash slice.range.min slice.range.max).0 passes) (filter test rows) (filter_passes test rows);
+    }
+
+-- ---- and after the changes
 -- after the changes they are the cells of its leader
-leader_has : (b : Bucket) (slice : Slice) (last : Standing) (changes rows : List Write) → IsSound b → IsLastOf b slice last
-    → All (IsInRange slice) (rows_of last) → AreChangesOf b.journal.entries slice changes → AscendById rows
-    → AreChanged (rows_of last) changes rows → (core : Core) × Contains b.replicas core × IsLeaderOf slice.id core × (rows ≡ core.cells)
-leader_has b slice last changes rows sound is within are ascend changed =
+leader_has : (b : Bucket) (slice : Slice) (old changes rows : List Write) → IsSound b → AreCommittedOf b slice old
+    → AreChangesOf b.journal.entries slice changes → AscendById rows
+    → AreChanged old changes rows → (core : Core) × Contains b.replicas core × IsLeaderOf slice.id core × (rows ≡ core.cells)
+leader_has b slice old changes rows sound is are ascend changed =
     let (core, there, leads) = AreLed-from_keys b.map b.replicas sound.cores.leaders slice is.there is.active in
     let its = its_leader b slice core sound is.there is.active there leads in (
       core,
       there,
       leads,
-      rows_are_cells b.first b.journal.entries slice (rows_of last) changes rows core sound.journal.legal
-          (last_shows b slice last sound is) within are ascend changed its,
+      rows_are_cells b.first b.journal.entries slice old changes rows core sound.journal.legal is.shows is.within are ascend changed its,
     )
 
 -- so the snapshot of such rows is that of the leader
-pub IsOfLeader-changed : (b : Bucket) (slice : Slice) (last : Standing) (changes : List Write) (snapshot : SnapshotState) → IsSound b
-    → IsLastOf b slice last → All (IsInRange slice) (rows_of last) → AreChangesOf b.journal.entries slice changes
-    → AscendById snapshot.rows → AreChanged (rows_of last) changes snapshot.rows → snapshot.place ≡ length b.journal.entries
+IsOfLeader-changed : (b : Bucket) (slice : Slice) (old changes : List Write) (snapshot : SnapshotState) → IsSound b
+    → AreCommittedOf b slice old → AreChangesOf b.journal.entries slice changes
+    → AscendById snapshot.rows → AreChanged old changes snapshot.rows → snapshot.place ≡ length b.journal.entries
     → IsOfLeader b slice snapshot
-IsOfLeader-changed b slice last changes snapshot sound is within are ascend changed here =
-    let (core, there, leads, same) = leader_has b slice last changes snapshot.rows sound is within are ascend changed in
+IsOfLeader-changed b slice old changes snapshot sound is are ascend changed here =
+    let (core, there, leads, same) = leader_has b slice old changes snapshot.rows sound is are ascend changed in
     record {
       core = core;
       there = there;
@@ -232,11 +281,11 @@ IsOfLeader-changed b slice last changes snapshot sound is within are ascend chan
     }
 
 -- and there are not too many
-pub bounded-changed : (b : Bucket) (slice : Slice) (last : Standing) (changes : List Write) → IsSound b → IsLastOf b slice last
-    → All (IsInRange slice) (rows_of last) → AreChangesOf b.journal.entries slice changes
-    → (rows : List Write) → AscendById rows → AreChanged (rows_of last) changes rows → length rows ≤ 2 ^ 24
-bounded-changed b slice last changes sound is within are rows ascend changed =
-    let (core, there, leads, same) = leader_has b slice last changes rows sound is within are ascend changed in
+pub bounded-changed : (b : Bucket) (slice : Slice) (old changes : List Write) → IsSound b → AreCommittedOf b slice old
+    → AreChangesOf b.journal.entries slice changes
+    → (rows : List Write) → AscendById rows → AreChanged old changes rows → length rows ≤ 2 ^ 24
+bounded-changed b slice old changes sound is are rows ascend changed =
+    let (core, there, leads, same) = leader_has b slice old changes rows sound is are ascend changed in
     let cells = All-contains (λ (one : Core). AreRows one.cells) b.replicas core (AreRows-sound b sound) there in
     subst (λ (these : List Write). length these ≤ 2 ^ 24) (sym same) cells.bounded
 
@@ -252,22 +301,22 @@ AreChangesOf-none journal slice none = record {
   last = subst (λ (these : List Write). AreLastOf (filter (is_within slice.range) these) []) (sym none) (λ id. refl);
 }
 
--- where there are no changes it is that of the last searcher, at another place
-pub IsOfLeader-same : (b : Bucket) (slice : Slice) (last : Standing) (place : ℕ) (snapshot : SnapshotState) → IsSound b
-    → IsLastOf b slice last → All (IsInRange slice) (rows_of last) → AreChangesOf b.journal.entries slice []
-    → AreRows (rows_of last) → place ≡ length b.journal.entries → snapshot ≡ record (arc_value last.snapshot) { place = place }
+-- where there are no changes it is of the same rows, at another place
+pub IsOfLeader-same : (b : Bucket) (slice : Slice) (last : SnapshotState) (place : ℕ) (snapshot : SnapshotState) → IsSound b
+    → AreCommittedOf b slice last.rows → AreChangesOf b.journal.entries slice []
+    → AreRows last.rows → place ≡ length b.journal.entries → snapshot ≡ record last { place = place }
     → IsOfLeader b slice snapshot
-IsOfLeader-same b slice last place snapshot sound is within unchanged rows here same =
-    let these : snapshot.rows ≡ rows_of last = ap (λ (s : SnapshotState). s.rows) same in
-    IsOfLeader-changed b slice last [] snapshot sound is within unchanged (subst AscendById (sym these) rows.ascend)
+IsOfLeader-same b slice last place snapshot sound is unchanged rows here same =
+    let these : snapshot.rows ≡ last.rows = ap (λ (s : SnapshotState). s.rows) same in
+    IsOfLeader-changed b slice last.rows [] snapshot sound is unchanged (subst AscendById (sym these) rows.ascend)
     (λ id. ap (λ (all : List Write). write_of all id) these)
     (ap (λ (s : SnapshotState). s.place) same ∙ here)
 
 -- else it is the next one after them
-pub IsOfLeader-next : (b : Bucket) (slice : Slice) (last : Standing) (changes : List Write) (place : ℕ) (next : Result SnapshotState AllocError)
-    → IsSound b → IsLastOf b slice last → All (IsInRange slice) (rows_of last) → AreChangesOf b.journal.entries slice changes
+pub IsOfLeader-next : (b : Bucket) (slice : Slice) (old changes : List Write) (place : ℕ) (next : Result SnapshotState AllocError)
+    → IsSound b → AreCommittedOf b slice old → AreChangesOf b.journal.entries slice changes
     → place ≡ length b.journal.entries → IfOk next (λ (s : SnapshotState). s.place ≡ place) → IfOk next (λ (s : SnapshotState). AreRows s.rows)
-    → IfOk next (λ (s : SnapshotState). AreChanged (rows_of last) changes s.rows) → IfOk next (IsOfLeader b slice)
-IsOfLeader-next b slice last changes place (Err fault) sound is within are here at rows changed = tt
-IsOfLeader-next b slice last changes place (Ok snapshot) sound is within are here at rows changed =
-    IsOfLeader-changed b slice last changes snapshot sound is within are rows.ascend changed (at ∙ here)
+    → IfOk next (λ (s : SnapshotState). AreChanged old changes s.rows) → IfOk next (IsOfLeader b slice)
+IsOfLeader-next b slice old changes place (Err fault) sound is are here at rows changed = tt
+IsOfLeader-next b slice old changes place (Ok snapshot) sound is are here at rows changed =
+    IsOfLeader-changed b slice old changes snapshot sound is are rows.ascend changed (at ∙ here)

@@ -1,5 +1,5 @@
 -- What the parts of `searchers_at` do.
-use Rattle.std.specs.Prelude.{◌≡◌, ℕ, List, length, filter, map, Option, option_map, Contains}
+use Rattle.std.specs.Prelude.{◌≡◌, ℕ, List, length, filter, map, Option, option_map, All, Contains}
 use Rattle.std.proofs.Common.{Bor}
 use Rattle.std.specs.Arc.{arc_value}
 use Rattle.std.specs.BTreeMap.{BTreeMap, get_by, values}
@@ -18,6 +18,8 @@ use Rattle.sc_journal.specs.Journal.{last_of}
 use Rattle.sc_bucket.specs.Cores.{IsLeaderOf}
 use Rattle.sc_bucket.specs.Entries.{uncommitted}
 use Rattle.sc_bucket.specs.Pending.{is_within}
+use Rattle.sc_bucket.specs.Searchers.{ShowsCommitted}
+use Rattle.sc_bucket.specs.Sound.{IsInRange}
 use Rattle.sc_bucket.specs.declared.bucket.Bucket.{Bucket}
 use Rattle.sc_bucket.specs.declared.standing.Standing.{Standing}
 
@@ -34,6 +36,13 @@ pub record IsOfLeader (b : Bucket) (slice : Slice) (snapshot : SnapshotState) : 
   pub there : Contains b.replicas core
   pub leader : IsLeaderOf slice.id core
   pub snapshot_is : snapshot ≡ record { place = length b.journal.entries; rows = core.cells }
+
+-- the slice is active; these rows show what was committed of it, and have hashes of its range alone
+pub record AreCommittedOf (b : Bucket) (slice : Slice) (rows : List Write) : Type 0 where
+  pub there : Contains b.map slice
+  pub active : slice.state ≡ states.Active
+  pub shows : ShowsCommitted b.journal.entries slice rows
+  pub within : All (IsInRange slice) rows
 
 -- of each id the last of these writes, where there is one
 abbrev pub AreLastOf : (these last : List Write) → Type 0

@@ -6,10 +6,10 @@ ghost use Rattle.sc_cluster.specs.declared.slice.State.TheVariants as states;
 ghost use Rattle.sc_replica.specs.Core.{Core};
 ghost use Rattle.sc_bucket.specs.Cores.{IsNewCore};
 ghost use Rattle.sc_bucket.specs.Room.{BucketHasRoom, BucketIsFull};
-ghost use Rattle.sc_bucket.specs.Sound.{AreActive, IsInRange, IsSound};
+ghost use Rattle.sc_bucket.specs.Sound.{AreActive, IsSound};
 ghost use Rattle.sc_bucket.specs.declared.standing.Standing.{Standing};
-ghost use Rattle.sc_bucket.specs.Searchers.{rows_of, AreLed, AreTaken, IsTaken, HasParentSearcher, ArePrepared};
-ghost use Rattle.sc_bucket.specs.Taking.{AreChangesOf, IsLastOf, IsOfLeader};
+ghost use Rattle.sc_bucket.specs.Searchers.{AreLed, AreTaken, IsTaken, HasParentSearcher, ArePrepared};
+ghost use Rattle.sc_bucket.specs.Taking.{AreChangesOf, AreCommittedOf, IsLastOf, IsOfLeader};
 ghost use Rattle.sc_bucket.specs.Events.{IsSameButRoom, Commits};
 
 use crate::bucket::Bucket;
@@ -19,7 +19,7 @@ use crate::spares::hand_on;
 use crate::standing::{Standing, searcher_for};
 use sc_cluster::{ClusterMap, Slice, State};
 use sc_hash::Range;
-use sc_record::{Cell, CoreId, Entry, List};
+use sc_record::{Cell, Entry, List};
 use sc_snapshot::Snapshot;
 use std::alloc::{AllocError, Global};
 use std::sync::Arc;
@@ -136,8 +136,8 @@ fn searcher_of(alloc: Global, bucket: &Bucket, slice: &Slice) -> Result<Standing
     })
 }
 
-// The snapshot of the cells of the slice's leader as they are: that of its last searcher with the changes, where all of its rows are in
-// the slice's range, as they are but right after a switch.
+// The snapshot of the cells of the slice's leader as they are: that of its last searcher with the changes. Right after a switch not all
+// of its rows are in the slice's range; the others are left out before.
 fn snapshot_of(
     alloc: Global,
     bucket: &Bucket,
@@ -149,9 +149,10 @@ fn snapshot_of(
     ensures { IfOk result (IsOfLeader bucket.now slice.now) }
 {
     if are_within(&last.snapshot, &slice.range) {
-        changed_snapshot(alloc, bucket, slice, last)
+        changed_snapshot(alloc, bucket, slice, &last.snapshot)
     } else {
-        whole_snapshot(alloc, bucket, slice)
+        let part = last.snapshot.within(alloc, &slice.range)?;
+        changed_snapshot(alloc, bucket, slice, &part)
     }
 }
 
@@ -162,17 +163,16 @@ fn are_within(snapshot: &Snapshot, range: &Range) -> bool
     range.min <= snapshot.least_hash() && snapshot.greatest_hash() <= range.max
 }
 
-// The snapshot of the slice's last searcher with what was written in the slice's range since the last commit. Where nothing was written
-// at all it makes no list.
+// The snapshot of what was committed of the slice, with what was written in the slice's range since the last commit. Where nothing was
+// written at all it makes no list.
 fn changed_snapshot(
     alloc: Global,
     bucket: &Bucket,
     slice: &Slice,
-    last: &Standing,
+    last: &Snapshot,
 ) -> Result<Snapshot, AllocError>
     requires sound { IsSound bucket.now }
-    requires last { IsLastOf bucket.now slice.now last.now }
-    requires within { All (IsInRange slice.now) (rows_of last.now) }
+    requires last { AreCommittedOf bucket.now slice.now last.now.rows }
     ensures { IfOk result (IsOfLeader bucket.now slice.now) }
 {
     let writes = bucket.journal.uncommitted_writes();
@@ -189,49 +189,30 @@ fn next_snapshot(
     alloc: Global,
     bucket: &Bucket,
     slice: &Slice,
-    last: &Standing,
+    last: &Snapshot,
     changes: &[Cell],
 ) -> Result<Snapshot, AllocError>
     requires sound { IsSound bucket.now }
-    requires last { IsLastOf bucket.now slice.now last.now }
-    requires within { All (IsInRange slice.now) (rows_of last.now) }
+    requires last { AreCommittedOf bucket.now slice.now last.now.rows }
     requires changes { AreChangesOf bucket.now.journal.entries slice.now (map arc_value changes.now) }
     ensures { IfOk result (IsOfLeader bucket.now slice.now) }
 {
     if changes.is_empty() {
         same_snapshot(bucket, slice, last)
     } else {
-        last.snapshot.next(alloc, bucket.entries(), changes)
+        last.next(alloc, bucket.entries(), changes)
     }
 }
 
 // The same rows, where nothing in the slice's range changed.
-fn same_snapshot(bucket: &Bucket, slice: &Slice, last: &Standing) -> Result<Snapshot, AllocError>
+fn same_snapshot(bucket: &Bucket, slice: &Slice, last: &Snapshot) -> Result<Snapshot, AllocError>
     requires sound { IsSound bucket.now }
-    requires last { IsLastOf bucket.now slice.now last.now }
-    requires within { All (IsInRange slice.now) (rows_of last.now) }
+    requires last { AreCommittedOf bucket.now slice.now last.now.rows }
     requires unchanged { AreChangesOf bucket.now.journal.entries slice.now [] }
     ensures { IfOk result (IsOfLeader bucket.now slice.now) }
 {
-    let _ = last.snapshot.rows(); // by it the proof knows that they are rows
-    last.snapshot.at(bucket.entries())
-}
-
-// The snapshot of a share of each cell of the slice's leader.
-fn whole_snapshot(alloc: Global, bucket: &Bucket, slice: &Slice) -> Result<Snapshot, AllocError>
-    requires sound { IsSound bucket.now }
-    requires there { Contains bucket.now.map slice.now }
-    ensures { IfOk result (IsOfLeader bucket.now slice.now) }
-{
-    let leader = bucket
-        .replicas
-        .position(CoreId {
-            slice: slice.id,
-            replica: 1,
-        })
-        .unwrap();
-    let cells = bucket.replicas.get(leader).cells().share(alloc)?;
-    Snapshot::from_list(alloc, bucket.entries(), cells)
+    let _ = last.rows(); // by it the proof knows that they are rows
+    last.at(bucket.entries())
 }
 
 /// The searchers of cores without cells, one for each slice of a map, all of which are active.

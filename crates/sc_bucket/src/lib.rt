@@ -24,7 +24,8 @@
 //!
 //! Neither: speed: a look-up is one binary search, an accepted order moves the shorter side of one list at most, and a delivery
 //! the same, by construction; so does a commit look at no row but those of what was written since the last commit, and at none of a
-//! slice in whose range nothing was, but of those that a switch handed on, whose leaders' cells are all looked at.
+//! slice in whose range nothing was, but right after a switch: then it looks once at each row of the searcher that the switch handed
+//! on, to take those of the slice's range, and files no term of any.
 #![tactic(auto)]
 
 // What a bucket keeps.

@@ -1,11 +1,8 @@
--- The rows of the last searcher after the changes are the leader's cells.
-use Rattle.std.proofs.Common.{◌≤◌, ◌^◌, List, length, map, sym, subst}
-use Rattle.std.specs.Prelude.{IfOk}
+-- What was committed is the leader's cells after the changes.
+use Rattle.std.proofs.Common.{List, length, map, sym, subst}
 use Rattle.std.specs.Arc.{arc_value}
 use Rattle.std.proofs.lemmas.Bool.{eqb-true}
 use Rattle.sc_record.specs.declared.write.Write.{Write}
-use Rattle.sc_record.specs.Writes.{AscendById}
-use Rattle.sc_snapshot.specs.Rows.{SnapshotState, AreChanged}
 use Rattle.sc_bucket.specs.Taking.{AreChangesOf}
 use Rattle.sc_bucket.proofs.NextLemmas.{no_cells, IsOfLeader-next, bounded-changed}
 use Rattle.sc_bucket.proofs.commit.next_snapshot.Goals as goal
@@ -18,13 +15,10 @@ same_snapshot-requires-clause-unchanged c =
 pub next-requires-clause-bounded : goal.next-requires-clause-bounded
 next-requires-clause-bounded c =
     let changes : List Write = map arc_value c.args.changes.now in
-    subst (λ (s : SnapshotState). (rows : List Write) → AscendById rows → AreChanged s.rows changes rows → length rows ≤ 2 ^ 24) (sym c.deref.ensures)
-    (bounded-changed c.args.bucket.now c.args.slice.now c.args.last.now changes c.requires.sound c.requires.last c.requires.within c.requires.changes)
+    bounded-changed c.args.bucket.now c.args.slice.now c.args.last.now.rows changes c.requires.sound c.requires.last c.requires.changes
 
 pub returns-else-is_empty : goal.returns-else-is_empty
 returns-else-is_empty c =
-    let last = c.args.last.now in
     let changes : List Write = map arc_value c.args.changes.now in
-    IsOfLeader-next c.args.bucket.now c.args.slice.now last changes c.entries.result c.next.result c.requires.sound c.requires.last
-    c.requires.within c.requires.changes c.entries.ensures.count c.next.ensures.place c.next.ensures.rows
-    (subst (λ (s : SnapshotState). IfOk c.next.result (λ (next : SnapshotState). AreChanged s.rows changes next.rows)) c.deref.ensures c.next.ensures.changed)
+    IsOfLeader-next c.args.bucket.now c.args.slice.now c.args.last.now.rows changes c.entries.result c.next.result c.requires.sound c.requires.last
+    c.requires.changes c.entries.ensures.count c.next.ensures.place c.next.ensures.rows c.next.ensures.changed

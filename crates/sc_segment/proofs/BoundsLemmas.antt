@@ -1,16 +1,15 @@
 -- What holds of each value of an index, after a value is put in.
-use Rattle.std.proofs.Common.{◌≡◌, ℕ, ◌≤◌, ◌==◌, Bool, true, false, cond, List, [], ◌∷◌, ◌++◌, All, le_refl, ◌+◌, length, Some, None, Ok, Err, Result, OnOk, OnErr, refl, sym, ◌∙◌, arith}
+use Rattle.std.proofs.Common.{◌≡◌, ℕ, ◌≤◌, ◌==◌, Bool, true, false, cond, List, [], ◌∷◌, ◌++◌, All, IsPermutation, le_refl, ◌+◌, length, Some, None, Ok, Err, Result, OnOk, OnErr, refl, sym, ap, ◌∙◌, arith}
 use Rattle.std.proofs.lemmas.List.Elements.{All-nil, All-cons, All-head, All-tail, All-push}
 use Rattle.std.proofs.lemmas.List.Filters.{All-dedup}
+use Rattle.std.proofs.lemmas.List.Sorted.{All-permutation}
 use Rattle.std.proofs.lemmas.Map.Entries.{All-lookup}
-use Rattle.std.specs.BTreeMap.{insert_entry, is_at}
 use Rattle.std.specs.declared.cmp.Ordering.{Ordering}
-use Rattle.std.specs.declared.cmp.Ordering.TheVariants.{Less, Equal, Greater}
 use Rattle.std.specs.List.{dedup}
 use Rattle.std.specs.List.Sorted.{IsStrictlySortedBy}
 use Rattle.std.specs.Map.{set_value, lookup}
-use Rattle.std.specs.Ordering.{match_ordering}
-use Rattle.sc_segment.specs.Filing.{FilesRow, NoRowAbove}
+use Rattle.std.specs.Ordering.{is_eq, eq_by_cmp}
+use Rattle.sc_segment.specs.Filing.{FilesRow, NoRowAbove, sorted_entries}
 
 module _ {K X : Type 0} (P : X → Type 0) where
   abbrev Q : K × X → Type 0
@@ -23,39 +22,38 @@ module _ {K X : Type 0} (P : X → Type 0) where
     | false ↦ All-cons Q e (set_value test es w) (All-head Q e es all) (All-set_value test es w (All-tail Q e es all) here)
   ]
 
-  pub All-insert_entry : (cmp : K → K → Ordering) (es : List (K × X)) (k : K) (v : X) → All Q es → P v → All Q (insert_entry cmp es k v)
-  All-insert_entry cmp [] k v all here = All-cons Q (k, v) [] here (All-nil Q)
-  All-insert_entry cmp (e ∷ es) k v all here = elim (cmp k e.0) as (λ o. All Q (match_ordering o ((k, v) ∷ e ∷ es) ((e.0, v) ∷ es) (e ∷ insert_entry cmp es k v))) [
-    | Less ↦ All-cons Q (k, v) (e ∷ es) here all
-    | Equal ↦ All-cons Q (e.0, v) es here (All-tail Q e es all)
-    | Greater ↦ All-cons Q e (insert_entry cmp es k v) (All-head Q e es all) (All-insert_entry cmp es k v (All-tail Q e es all) here)
-  ]
-
 -- no row is above the one that is put at the end, where none was before
 pub All-dedup_push : (rows : List ℕ) (row : ℕ) → All (λ r. r ≤ row) rows → All (λ r. r ≤ row) (dedup (λ x y. x == y) (rows ++ row ∷ []))
 All-dedup_push rows row all = All-dedup (λ x y. x == y) (λ r. r ≤ row) (rows ++ row ∷ []) (All-push (λ r. r ≤ row) rows row all (le_refl row))
 
+-- a test of keys that answers as an order of theirs does
+pub eq-by_cmp : {K : Type 0} (eq : K → K → Bool) (cmp : K → K → Ordering) → ((x y : K) → eq x y ≡ is_eq (cmp x y)) → eq ≡ eq_by_cmp cmp
+eq-by_cmp eq cmp same = λ i x y. same x y i
+
 -- a row put to the rows of a key that the index has
-pub FilesRow-written : {K : Type 0} (cmp : K → K → Ordering) (row : ℕ) (key : K) (old new : List (K × List ℕ)) (rows w : List ℕ) → Some rows ≡ lookup (is_at (cmp key)) old
-    → w ≡ dedup (λ x y. x == y) (rows ++ row ∷ []) → new ≡ set_value (is_at (cmp key)) old w → length new ≡ length old
-    → ((q : K) → lookup (is_at (cmp q)) new ≡ cond (is_at (cmp key) q) (Some w) (lookup (is_at (cmp q)) old)) → NoRowAbove row old → FilesRow cmp row key old new
+pub FilesRow-written : {K : Type 0} (cmp : K → K → Ordering) (row : ℕ) (key : K) (old new : List (K × List ℕ)) (rows w : List ℕ) → Some rows ≡ lookup (eq_by_cmp cmp key) old
+    → w ≡ dedup (λ x y. x == y) (rows ++ row ∷ []) → new ≡ set_value (eq_by_cmp cmp key) old w → length new ≡ length old
+    → ((q : K) → lookup (eq_by_cmp cmp q) new ≡ cond (eq_by_cmp cmp key q) (Some w) (lookup (eq_by_cmp cmp q) old)) → NoRowAbove row old → FilesRow cmp row key old new
 FilesRow-written cmp row key old new rows w found is_w entries len lists bound =
-    let all : All (λ r. r ≤ row) rows = rw (sym found) at (All-lookup (λ rs. All (λ r. r ≤ row) rs) (is_at (cmp key)) old bound) in
+    let all : All (λ r. r ≤ row) rows = rw (sym found) at (All-lookup (λ rs. All (λ r. r ≤ row) rs) (eq_by_cmp cmp key) old bound) in
     record {
       lists = λ q. lists q ∙ rw (is_w, ← found) refl;
       size = len ∙ rw (← found) (omega arith);
-      up_to = rw (entries, is_w) (All-set_value (λ rs. All (λ r. r ≤ row) rs) (is_at (cmp key)) old _ bound (All-dedup_push rows row all));
+      up_to = rw (entries, is_w) (All-set_value (λ rs. All (λ r. r ≤ row) rs) (eq_by_cmp cmp key) old _ bound (All-dedup_push rows row all));
     }
 
 -- a row filed under a key that the index doesn't have
-pub FilesRow-inserted : {K : Type 0} (cmp : K → K → Ordering) (row : ℕ) (key : K) (old new : List (K × List ℕ)) (w : List ℕ) → None ≡ lookup (is_at (cmp key)) old
-    → w ≡ row ∷ [] → new ≡ insert_entry cmp old key w → length new ≡ length old + 1
-    → ((q : K) → lookup (is_at (cmp q)) new ≡ cond (is_at (cmp key) q) (Some w) (lookup (is_at (cmp q)) old)) → NoRowAbove row old → FilesRow cmp row key old new
-FilesRow-inserted cmp row key old new w missed is_w entries len lists bound = record {
-  lists = λ q. lists q ∙ rw (is_w, ← missed) refl;
-  size = len ∙ rw (← missed) refl;
-  up_to = rw (entries, is_w) (All-insert_entry (λ rs. All (λ r. r ≤ row) rs) cmp old key _ bound (All-cons (λ r. r ≤ row) row [] (le_refl row) (All-nil (λ r. r ≤ row))));
-}
+pub FilesRow-inserted : {K : Type 0} (cmp : K → K → Ordering) (row : ℕ) (key : K) (old new : List (K × List ℕ)) (w : List ℕ) → None ≡ lookup (eq_by_cmp cmp key) old
+    → w ≡ row ∷ [] → IsPermutation ((key, w) ∷ old) new → length new ≡ length old + 1
+    → ((q : K) → lookup (eq_by_cmp cmp q) new ≡ cond (eq_by_cmp cmp key q) (Some w) (lookup (eq_by_cmp cmp q) old)) → NoRowAbove row old → FilesRow cmp row key old new
+FilesRow-inserted {K} cmp row key old new w missed is_w entries len lists bound =
+    let P : K × List ℕ → Type 0 = λ e. All (λ r. r ≤ row) e.1 in
+    let here : All (λ r. r ≤ row) w = rw is_w (All-cons (λ r. r ≤ row) row [] (le_refl row) (All-nil (λ r. r ≤ row))) in
+    record {
+      lists = λ q. lists q ∙ rw (is_w, ← missed) refl;
+      size = len ∙ rw (← missed) refl;
+      up_to = All-permutation P ((key, w) ∷ old) new entries (All-cons P (key, w) old here bound);
+    }
 
 pub OnOk_then : {T E : Type 0} {P Q : Type 0} (r : Result T E) → (P → Q) → OnOk r P → OnOk r Q
 OnOk_then (Ok x) f h = f h
@@ -76,3 +74,7 @@ FilesRow-alike same row key old new filed = rw (alike same) at filed
 pub IsStrictlySortedBy-alike : {K : Type 0} {cmp order : K → K → Ordering} → ((x y : K) → cmp x y ≡ order x y) → (ks : List K)
     → IsStrictlySortedBy cmp ks → IsStrictlySortedBy order ks
 IsStrictlySortedBy-alike same ks sorted = rw (alike same) at sorted
+
+pub sorted_entries-alike : {K : Type 0} {cmp order : K → K → Ordering} → ((x y : K) → cmp x y ≡ order x y) → (entries : List (K × List ℕ))
+    → sorted_entries cmp entries ≡ sorted_entries order entries
+sorted_entries-alike same entries = ap (λ by. sorted_entries by entries) (alike same)

@@ -12,3 +12,4 @@ pub mod MembersLemmas
 pub mod RowsLemmas
 pub mod SameRowsLemmas
 pub mod SearchLemmas
+pub mod SortingLemmas

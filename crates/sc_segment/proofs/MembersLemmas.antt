@@ -7,7 +7,7 @@ use Rattle.std.specs.Ordering.{is_eq}
 use Rattle.sc_segment.proofs.RowsLemmas.{same}
 use Rattle.sc_segment.specs.Index.{rows_with, WasAddedWith}
 
-pub Contains-cases : (x : ℕ) (xs : List ℕ) (row : ℕ) → Contains (x ∷ xs) row → (x ≡ row) ⊎ Contains xs row
+pub Contains-cases : {X : Type 0} (x : X) (xs : List X) (row : X) → Contains (x ∷ xs) row → (x ≡ row) ⊎ Contains xs row
 Contains-cases x xs row (zero, within, at) = inl at
 Contains-cases x xs row (suc k, within, at) = inr (k, omega arith, at)
 

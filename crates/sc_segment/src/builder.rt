@@ -1,37 +1,40 @@
 ghost use Rattle.std.specs.Prelude.{◌≡◌, ℕ, ◌≤◌, List, [], ◌∷◌, ◌++◌, All, IfOk, OnOk, OnErr};
-ghost use Rattle.std.specs.BTreeMap.{IsUnchanged};
+ghost use Rattle.std.specs.HashMap.{IsUnchanged};
+ghost use Rattle.std.specs.List.Sorted.{IsStrictlySortedBy};
+ghost use Rattle.std.specs.Map.{keys_of};
 ghost use Rattle.sc_segment.specs.Index.{IsIndexOf, HasRows};
-ghost use Rattle.sc_segment.specs.Filing.{NoRowAbove, FilesRow};
+ghost use Rattle.sc_segment.specs.Filing.{NoRowAbove, FilesRow, sorted_entries};
 
 use crate::flat_index::FlatIndex;
 use crate::key::Key;
 use crate::posting_list::PostingList;
 use crate::segment::Segment;
 use std::alloc::{AllocError, Global};
-use std::collections::BTreeMap;
+use std::collections::HashMap;
+use std::hash::Hash;
 use std::marker::Model;
 
 /// Takes rows with their keys, in the order of the rows. It keeps each distinct key once, and each row
-/// once for each key.
+/// once for each key. A key is found by its hash, and the keys are sorted once, at the end.
 #[derive(Drop)]
-pub struct Builder<K: Key + Ord> {
-    lists: BTreeMap<K, PostingList>,
+pub struct Builder<K: Key + Ord + Hash> {
+    lists: HashMap<K, PostingList>,
     last_row: u32,
     alloc: Global,
 }
 
-impl<K: Key + Ord> Model for Builder<K> {
+impl<K: Key + Ord + Hash> Model for Builder<K> {
     ghost use Rattle.std.specs.Prelude.{◌≡◌};
-    ghost use Rattle.sc_segment.specs.Filing.{BuilderState, NoRowAbove};
+    ghost use Rattle.sc_segment.specs.Filing.{BuilderState, NoRowAbove, sorted_entries};
 
     ghost Value = { BuilderState K };
 
-    ghost view = { λ a. record { index = a.lists.entries; last_row = a.last_row } };
+    ghost view = { λ a. record { index = sorted_entries K.order a.lists.entries; last_row = a.last_row } };
 
     ghost invariant = { λ a. ((x y : K) → K.cmp x y ≡ K.order x y) × NoRowAbove a.last_row a.lists.entries };
 }
 
-impl<K: Key + Ord + Drop> Builder<K> {
+impl<K: Key + Ord + Hash + Drop> Builder<K> {
     /// A builder to which nothing was added. `Ord` and `Key` have to compare alike.
     pub fn new(alloc: Global) -> Self
         requires { (x y : K) → K.cmp x y ≡ K.order x y }
@@ -39,7 +42,7 @@ impl<K: Key + Ord + Drop> Builder<K> {
         ensures last_row { result.last_row ≡ 0 }
     {
         Builder {
-            lists: BTreeMap::new(alloc),
+            lists: HashMap::new(alloc),
             last_row: 0,
             alloc,
         }
@@ -67,10 +70,23 @@ impl<K: Key + Ord + Drop> Builder<K> {
             last_row: _,
             alloc,
         } = self;
-        let entries = lists.into_iter().collect(alloc)?;
+        let entries = sorted(alloc, lists)?;
         let index = flattened(alloc, entries)?;
         Ok(Segment::new(index))
     }
+}
+
+// The keys with their rows, in the order of the keys.
+fn sorted<K: Ord + Hash + Drop>(
+    alloc: Global,
+    lists: HashMap<K, PostingList>,
+) -> Result<Vec<(K, PostingList)>, AllocError>
+    ensures entries { IfOk result (λ entries. entries.items ≡ sorted_entries K.cmp lists.entries) }
+    ensures ascending { IfOk result (λ entries. IsStrictlySortedBy K.cmp (keys_of entries.items)) }
+{
+    let mut entries: Vec<(K, PostingList)> = lists.into_iter().collect(alloc)?;
+    entries.sort_by(|left, right| left.0.cmp(&right.0))?;
+    Ok(entries)
 }
 
 // The keys with their rows, laid out flat.
@@ -89,8 +105,8 @@ fn flattened<K: Drop>(
     Ok(index)
 }
 
-fn file_row<K: Ord + Drop>(
-    lists: &mut BTreeMap<K, PostingList>,
+fn file_row<K: Ord + Hash + Drop>(
+    lists: &mut HashMap<K, PostingList>,
     alloc: Global,
     row: u32,
     key: K,

@@ -1,6 +1,7 @@
 //! Posting lists: which rows have a key, found by a search among the keys that counts its comparisons.
 //!
-//! A `Builder` takes pairs of a row and a key, and becomes a `Segment`, which gives the rows of a key. Where some rows change,
+//! A `Builder` takes pairs of a row and a key, which it finds by its hash, and becomes a `Segment`, which has the keys in order and gives
+//! the rows of a key. Where some rows change,
 //! `Segment::carried` gives the segment of the new rows out of the old one and a small one of what changed. `join` makes
 //! of two lists of rows the list of those in both, in one of them, or in the first alone. A `LiveBits` says which
 //! rows are live. The crate depends on std alone. Contracts see a builder's index and

@@ -1,4 +1,6 @@
-ghost use Rattle.std.specs.Prelude.{◌≡◌, IfOk};
+ghost use Rattle.std.specs.Prelude.{◌≡◌, [], ◌∷◌, IfOk};
+ghost use Rattle.std.specs.Cmp.Lexicographic.{bytes_decides};
+ghost use Rattle.std.specs.Hash.{and-Alike, on_Alike, same_Alike};
 ghost use Rattle.std.proofs.lemmas.Cmp.{on_total};
 ghost use Rattle.sc_record.specs.Terms.{term_cmp};
 ghost use Rattle.sc_record.proofs.TermLemmas.{term_cmp-total};
@@ -7,6 +9,7 @@ use sc_record::Term;
 use sc_segment::{Key, Steps};
 use std::alloc::AllocError;
 use std::cmp::Ordering;
+use std::hash::{Hash, Hasher};
 use std::sync::ledger::Ledger;
 
 /// A term as a key of posting lists. Keys ascend as terms do.
@@ -27,6 +30,19 @@ impl TermKey {
                 key: term.key.clone()?,
             },
         })
+    }
+}
+
+impl Hash for TermKey {
+    ghost hash_input = { λ a. a.term.field ∷ a.term.key ∷ [] };
+
+    ghost respects_eq = { (and-Alike
+        (on_Alike (λ a. a.term.field) (same_Alike (λ text. text ∷ []) bytes_decides))
+        (on_Alike (λ a. a.term.key) (same_Alike (λ text. text ∷ []) bytes_decides))).fed };
+
+    fn hash<H: Hasher>(&self, state: &mut H) {
+        state.write(self.term.field.as_str().as_bytes());
+        state.write(self.term.key.as_str().as_bytes());
     }
 }
 

@@ -14,7 +14,7 @@ use std::process::Abort;
 use std::sync::ledger::{Blank, Ledger};
 use std::test::Fail;
 
-#[derive(Drop, PartialEq, Eq, PartialOrd, Ord)]
+#[derive(Drop, PartialEq, Eq, PartialOrd, Ord, Hash)]
 struct NumberKey {
     number: u32,
 }

@@ -15,7 +15,7 @@ use std::test::Fail;
 
 // A number as a key, which besides counts by itself how often it is compared.
 #[derive(Drop)]
-#[derive_where(PartialEq, Eq, PartialOrd, Ord)]
+#[derive_where(PartialEq, Eq, PartialOrd, Ord, Hash)]
 struct CountedKey<'a> {
     number: u32,
     #[derive_where(skip(EqHashOrd))]

@@ -3,7 +3,7 @@ use Rattle.std.proofs.Common.{◌≡◌, ℕ, suc, ◌+◌, ◌-◌, ◌^◌, Bo
 use Rattle.std.proofs.lemmas.Int.{ints}
 use Rattle.std.proofs.lemmas.List.Elements.{All-contains}
 use Rattle.std.proofs.lemmas.Option.{none-some}
-use Rattle.sc_record.specs.Versions.{version_after}
+use Rattle.sc_record.specs.Versions.{version_after, last_timed_version}
 use Rattle.sc_record.specs.Writes.{is_of, write_of}
 use Rattle.sc_record.specs.declared.write.Write.{Write}
 use Rattle.sc_record.proofs.VersionLemmas.{version_after-above_clock}
@@ -46,7 +46,7 @@ write_may_follow first journal core write now legal is_core clock last hashed te
   terms = terms;
   positive = subst (λ v. pos 0 <ℤ v) (sym version) (version_after-positive first journal now core.clock legal clock);
   newest = newest_from_last first journal write.id write.version legal above;
-  bounded = subst (λ v. v ≤ℤ pos (2 ^ 62 - 2 ^ 20 + (length (writes journal) + 1))) (sym version) (version_after-bounded first journal now core.clock legal clock);
+  bounded = subst (λ v. v ≤ℤ pos (last_timed_version + (length (writes journal) + 1))) (sym version) (version_after-bounded first journal now core.clock legal clock);
 } where
   above : (earlier : Write) → last_write journal write.id ≡ Some earlier → earlier.version <ℤ write.version
   above earlier is =

@@ -1,11 +1,12 @@
 -- What may come after a legal journal keeps it legal, and what is so of each entry of one.
-use Rattle.std.proofs.Common.{◌≡◌, ℕ, ◌+◌, ◌-◌, ◌^◌, ◌≤◌, ◌⊎◌, inl, inr, Bool, true, false, ◌||◌, List, [], ◌∷◌, ◌++◌, length, Some, Option, refl, sym, ap, ◌∙◌, subst, Contains, arith, length-append}
+use Rattle.std.proofs.Common.{◌≡◌, ℕ, ◌+◌, ◌≤◌, ◌⊎◌, inl, inr, Bool, true, false, ◌||◌, List, [], ◌∷◌, ◌++◌, length, Some, Option, refl, sym, ap, ◌∙◌, subst, Contains, arith, length-append}
 use Rattle.std.specs.Prelude.{IsSome, pos, ◌<ℤ◌, ◌≤ℤ◌}
 use Rattle.std.specs.List.{cons_option}
 use Rattle.std.specs.Arc.{arc_value}
 use Rattle.std.proofs.lemmas.Bool.{eqb-true, false≢true}
 use Rattle.std.proofs.lemmas.Int.{ints}
 use Rattle.std.proofs.lemmas.List.{append-nil, append_assoc}
+use Rattle.sc_record.specs.Versions.{last_timed_version}
 use Rattle.sc_record.specs.declared.write.Write.{Write}
 use Rattle.sc_record.specs.declared.entry.Entry.{Entry}
 use Rattle.sc_record.specs.declared.entry.Entry.TheVariants as entry
@@ -176,9 +177,9 @@ length-writes_before before one after write is =
     let end = ap length later in
     omega (arith, lengths, end)
 
--- and no greater than the greatest timestamp (2^62 - 2^20) and the number of writes allow
+-- and no greater than the last timestamp and the number of writes allow
 pub legal_bounded : (first : List Slice) (journal : List Entry) (write : Write) → IsLegal first journal
-    → Contains (writes journal) write → write.version ≤ℤ pos (2 ^ 62 - 2 ^ 20 + length (writes journal))
+    → Contains (writes journal) write → write.version ≤ℤ pos (last_timed_version + length (writes journal))
 legal_bounded first journal write legal there =
     let at = legal_write first journal write legal there in
     let most = at.5.bounded in

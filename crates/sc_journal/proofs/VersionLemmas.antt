@@ -1,12 +1,12 @@
 -- The versions of the writes of a legal journal, and the clocks that they make.
-use Rattle.std.proofs.Common.{◌≡◌, ℕ, ◌+◌, ◌-◌, ◌^◌, ◌⊎◌, inl, inr, Bool, true, false, List, [], ◌∷◌, ◌++◌, length, map, Some, None, Option, refl, sym, ap, ◌∙◌, subst, All, Contains, arith}
+use Rattle.std.proofs.Common.{◌≡◌, ℕ, ◌+◌, ◌⊎◌, inl, inr, Bool, true, false, List, [], ◌∷◌, ◌++◌, length, map, Some, None, Option, refl, sym, ap, ◌∙◌, subst, All, Contains, arith}
 use Rattle.std.specs.Prelude.{ℤ, pos, ◌<ℤ◌, ◌≤ℤ◌}
 use Rattle.std.specs.List.{AllByRecursion}
 use Rattle.std.specs.Arc.{arc_value}
 use Rattle.std.proofs.lemmas.Int.{ints, clamps}
 use Rattle.std.proofs.lemmas.List.{map-append}
 use Rattle.std.proofs.lemmas.List.Elements.{All-contains, All-push, All-from_recursion, recursion_from_All, All-contains_itself, All-weaker, Contains-append_left, Contains-append_right, Contains-push}
-use Rattle.sc_record.specs.Versions.{version_after}
+use Rattle.sc_record.specs.Versions.{version_after, last_timed_version}
 use Rattle.sc_record.specs.Writes.{is_of}
 use Rattle.sc_record.specs.declared.write.Write.{Write}
 use Rattle.sc_record.specs.declared.entry.Entry.{Entry}
@@ -171,14 +171,14 @@ IsClock-push_write journal cell =
     ∙ map-append version_of (writes journal) (arc_value cell ∷ []) in
     inr (subst (λ (vs : List ℤ). Contains vs version) (sym parts) (Contains-push these version))
 
--- a clock is no greater than the greatest timestamp (2^62 - 2^20) and the number of writes allow
+-- a clock is no greater than the last timestamp and the number of writes allow
 pub clock_bounded : (first : List Slice) (journal : List Entry) (clock : ℤ) → IsLegal first journal
-    → IsClock journal clock → clock ≤ℤ pos (2 ^ 62 - 2 ^ 20 + length (writes journal))
+    → IsClock journal clock → clock ≤ℤ pos (last_timed_version + length (writes journal))
 clock_bounded first journal clock legal (inl zero) = omega (arith, ints)
 clock_bounded first journal clock legal (inr there) =
     let at = Contains-from_map (λ (write : Write). write.version) (writes journal) clock there in
     let most = legal_bounded first journal at.0 legal at.1 in
-    subst (λ c. c ≤ℤ pos (2 ^ 62 - 2 ^ 20 + length (writes journal))) at.2 most
+    subst (λ c. c ≤ℤ pos (last_timed_version + length (writes journal))) at.2 most
 
 -- nor is it below 0
 pub clock_not_negative : (first : List Slice) (journal : List Entry) (clock : ℤ) → IsLegal first journal
@@ -196,7 +196,7 @@ version_after-positive first journal now clock legal is =
     version_after-above_zero now clock (clock_not_negative first journal clock legal is)
 
 pub version_after-bounded : (first : List Slice) (journal : List Entry) (now : ℕ) (clock : ℤ) → IsLegal first journal
-    → IsClock journal clock → version_after now clock ≤ℤ pos (2 ^ 62 - 2 ^ 20 + (length (writes journal) + 1))
+    → IsClock journal clock → version_after now clock ≤ℤ pos (last_timed_version + (length (writes journal) + 1))
 version_after-bounded first journal now clock legal is =
     let most = clock_bounded first journal clock legal is in
     let bound = version_after-at_most now clock in

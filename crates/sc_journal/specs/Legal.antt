@@ -1,11 +1,12 @@
 -- Which journals can be.
-use Rattle.std.specs.Prelude.{◌≡◌, ◌<ℤ◌, ◌≤ℤ◌, ℕ, ◌+◌, ◌-◌, ◌^◌, pos, true, false, List, [], ◌∷◌, ◌++◌, length, IsSome, Option, Some, None, ⊤}
+use Rattle.std.specs.Prelude.{◌≡◌, ◌<ℤ◌, ◌≤ℤ◌, ℕ, ◌+◌, pos, true, false, List, [], ◌∷◌, ◌++◌, length, IsSome, Option, Some, None, ⊤}
 use Rattle.std.specs.List.{AllByRecursion}
 use Rattle.sc_record.specs.declared.write.Write.{Write}
 use Rattle.sc_record.specs.declared.slice.SliceId.{SliceId}
 use Rattle.sc_record.specs.declared.slice.SubSlice.{SubSlice}
 use Rattle.sc_record.specs.Names.{key_of_core}
 use Rattle.sc_record.specs.declared.slice.CoreId.{CoreId}
+use Rattle.sc_record.specs.Versions.{last_timed_version}
 use Rattle.sc_record.specs.declared.term.Term.{Term}
 use Rattle.sc_record.specs.declared.document.Field.{Field}
 use Rattle.sc_record.specs.declared.entry.Entry.{Entry}
@@ -25,14 +26,14 @@ HasTerms id None terms = terms ≡ []
 HasTerms id (Some doc) terms = AreTerms id doc terms
 
 -- A write may come after these entries: its hash is that of its id, and its terms are those of its document. Its version is
--- above 0 and that of each earlier write of its id, and no greater than the greatest timestamp (2^62 - 2^20) and the number
--- of writes up to it allow.
+-- above 0 and that of each earlier write of its id, and no greater than that of the last timestamp and the number of writes
+-- up to it allow.
 pub record MayWrite (before : List Entry) (write : Write) : Type 0 where
   pub hash : write.hash ≡ route_hash write.id
   pub terms : HasTerms write.id write.doc write.terms
   pub positive : pos 0 <ℤ write.version
   pub newest : AllByRecursion (λ (earlier : Write). earlier.version <ℤ write.version) (writes_of before write.id)
-  pub bounded : write.version ≤ℤ pos (2 ^ 62 - 2 ^ 20 + (length (writes before) + 1))
+  pub bounded : write.version ≤ℤ pos (last_timed_version + (length (writes before) + 1))
 
 -- the entry settles an earlier write that no earlier entry settles
 pub record MaySettle (before : List Entry) (place : ℕ) : Type 0 where

@@ -25,6 +25,18 @@ meets condition found =
     int_eq condition (pos 0) || int_eq condition found
     || (int_lt condition (pos 0) && int_lt found (pos 0)) || (int_eq condition (pos 1) && int_lt (pos 0) found)
 
+-- the last timestamp, in milliseconds, that versions keep apart: a later one counts as it
+abbrev pub last_timestamp : ℕ
+last_timestamp = 2 ^ 42 - 1
+
+-- how many versions a millisecond has
+abbrev pub versions_a_millisecond : ℕ
+versions_a_millisecond = 2 ^ 20
+
 -- the version of a write at this timestamp (milliseconds), after a clock: the greater of the timestamp's and the clock's next
 abbrev pub version_after : ℕ → ℤ → ℤ
-version_after now clock = int_max (pos (min now (2 ^ 42 - 1) * 2 ^ 20)) (clock +ℤ pos 1)
+version_after now clock = int_max (pos (min now last_timestamp * versions_a_millisecond)) (clock +ℤ pos 1)
+
+-- the greatest version that a timestamp gives
+abbrev pub last_timed_version : ℕ
+last_timed_version = last_timestamp * versions_a_millisecond

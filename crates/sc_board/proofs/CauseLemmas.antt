@@ -2,6 +2,7 @@
 use Rattle.std.proofs.Common.{◌≡◌, ◌≢◌, ◌∙◌, ℕ, ◌+◌, ◌<◌, ◌≤◌, List, [], length, Some, None, sym, subst, arith}
 use Rattle.std.proofs.lemmas.Option.{none-some, same_Some}
 use Rattle.std.specs.Prelude.{Result, Ok, Err, IfOk}
+use Rattle.sc_cluster.specs.Limits.{most_slices}
 use Rattle.sc_cluster.specs.declared.plan.SplitPlan.{SplitPlan}
 use Rattle.sc_cluster.specs.declared.slice.State.{State}
 use Rattle.sc_cluster.specs.declared.slice.State.TheVariants as states
@@ -129,11 +130,11 @@ module _ (basis : BoardBasis) (entries : List BoardEntry) (asked : Asked) where
       not_cut faults.LogFull before is = absurd (omega arith)
       not_cut faults.Memory before is = is
 
-      pub many_first : 256 < length (board_map basis.first entries) + parts_of asked.cut
+      pub many_first : most_slices < length (board_map basis.first entries) + parts_of asked.cut
           → IsFirstCause basis entries asked faults.TooManySlices
       many_first many = record { holds = many; first = not_cut }
 
-      module _ (few : length (board_map basis.first entries) + parts_of asked.cut ≤ 256) where
+      module _ (few : length (board_map basis.first entries) + parts_of asked.cut ≤ most_slices) where
         not_many : (other : BoardFault) → order_of other < 6 → Prevents basis entries asked other → ⊥
         not_many faults.UnknownShard before held = not_cut faults.UnknownShard (omega arith) held
         not_many (faults.Running shard) before held = not_cut (faults.Running shard) (omega arith) held

@@ -4,6 +4,7 @@ use Rattle.std.specs.Prelude.{is_some, MatchOption}
 use Rattle.std.proofs.lemmas.Option.{none-some, same_Some}
 use Rattle.std.specs.List.{fold, count_by}
 use Rattle.sc_record.specs.declared.slice.SliceId.{SliceId}
+use Rattle.sc_cluster.specs.Limits.{most_slices}
 use Rattle.sc_cluster.specs.declared.plan.SplitPlan.{SplitPlan}
 use Rattle.sc_cluster.specs.declared.slice.State.TheVariants as states
 use Rattle.sc_cluster.specs.declared.slice.Slice.{Slice}
@@ -46,7 +47,7 @@ sound_keepers it sound idle =
 
 -- ---- a new board
 pub sound_new : {K : Type 0} (it : Board K) → IsMap it.first → All (λ (slice : Slice). slice.state ≡ states.Active) it.first
-    → greatest_id it.first < 256 → it.limit ≤ greatest_journal → it.journal.entries ≡ [] → it.map ≡ it.first → it.owed ≡ 0
+    → greatest_id it.first < most_slices → it.limit ≤ greatest_journal → it.journal.entries ≡ [] → it.map ≡ it.first → it.owed ≡ 0
     → is_some it.keepers ≡ true → IsSoundBoard it
 sound_new it is_map active ids limit none same owed there = record {
   first_map = is_map;
@@ -312,7 +313,7 @@ dropped_last it slice sound last =
 
 -- ---- ids
 -- where there is room for a split, the ids of its slices are below 2^32
-pub ids_short : {K : Type 0} (it : Board K) (n : ℕ) → IsSoundBoard it → BoardHasRoom 4 it.limit it.first it.journal.entries → n ≤ 256
+pub ids_short : {K : Type 0} (it : Board K) (n : ℕ) → IsSoundBoard it → BoardHasRoom 4 it.limit it.first it.journal.entries → n ≤ most_slices
     → greatest_id it.map + n < 2 ^ 32
 ids_short it n sound room few =
     let most = board_ids it.first it.journal.entries sound.legal in

@@ -1,5 +1,6 @@
 -- What is true of a board at every moment.
 use Rattle.std.specs.Prelude.{◌≡◌, ◌≤◌, ◌<◌, ◌+◌, not, [], length, is_some}
+use Rattle.sc_cluster.specs.Limits.{most_slices}
 use Rattle.sc_cluster.specs.Slices.{forming, greatest_id}
 use Rattle.sc_cluster.specs.Map.{IsMap}
 use Rattle.sc_journal.specs.Limits.{greatest_journal}
@@ -11,7 +12,7 @@ use Rattle.sc_board.specs.declared.board.Board.{Board}
 pub record IsSoundBoard {K : Type 0} (board : Board K) : Type 0 where
   pub first_map : IsMap board.first
   pub first_idle : forming board.first ≡ []
-  pub first_ids : greatest_id board.first < 256
+  pub first_ids : greatest_id board.first < most_slices
   pub limited : board.limit ≤ greatest_journal
   pub legal : IsLegalBoard board.first board.journal.entries
   pub map_is : board.map ≡ board_map board.first board.journal.entries

@@ -6,6 +6,7 @@ use Rattle.sc_hash.specs.Bounds.{bounds}
 use Rattle.sc_cluster.specs.declared.slice.State.TheVariants as states
 use Rattle.sc_cluster.specs.declared.slice.Slice.{Slice}
 use Rattle.sc_cluster.specs.declared.plan.SplitPlan.{SplitPlan}
+use Rattle.sc_cluster.specs.Limits.{most_slices}
 use Rattle.sc_cluster.specs.Cut.{cut}
 use Rattle.sc_cluster.specs.Tiles.{Tiles}
 use Rattle.sc_cluster.specs.Slices.{forming}
@@ -103,7 +104,7 @@ Prevents basis entries asked (faults.NotActive state) =
 Prevents basis entries asked faults.RangeTooSmall =
     IsOfNamed (board_map basis.first entries) asked.shard (IsTooSmallFor asked.cut)
 Prevents basis entries asked faults.BadRanges = IsOfNamed (board_map basis.first entries) asked.shard (AreNotOf asked.cut)
-Prevents basis entries asked faults.TooManySlices = 256 < length (board_map basis.first entries) + parts_of asked.cut
+Prevents basis entries asked faults.TooManySlices = most_slices < length (board_map basis.first entries) + parts_of asked.cut
 Prevents basis entries asked faults.LogFull = BoardIsFull 4 basis.limit basis.first entries
 Prevents basis entries asked faults.Memory = ⊥
 

@@ -2,6 +2,7 @@
 
 ghost use Rattle.std.specs.Prelude.{◌≡◌, ◌≤◌, ◌+◌, ℕ, List, Some, None, length, map, IfOk, IfErr, OnOk, OnErr};
 ghost use Rattle.sc_cluster.specs.declared.slice.Slice.{Slice};
+ghost use Rattle.sc_cluster.specs.Limits.{most_slices};
 ghost use Rattle.sc_cluster.specs.Plans.{sub_bounds, IsPlan};
 ghost use Rattle.sc_seen.specs.Board.{MayNote, BoardHasRoom};
 ghost use Rattle.sc_board.specs.Boards.{IsSoundBoard};
@@ -14,7 +15,7 @@ ghost use Rattle.sc_board.specs.declared.fault.BoardFault.{BoardFault};
 use crate::board::Board;
 use crate::cut::Cut;
 use crate::fault::BoardFault;
-use sc_cluster::{Slice, SplitPlan, State, cut, tiles};
+use sc_cluster::{MOST_SLICES, Slice, SplitPlan, State, cut, tiles};
 use sc_record::CloneIn;
 use sc_seen::BoardEntry;
 use std::alloc::{AllocError, Global};
@@ -55,7 +56,7 @@ impl<K: Drop> Board<K> {
     {
         let parent = self.parent_of(shard)?;
         check_ranges(parent, cut)?;
-        if self.map.len() + parts_of(cut) > 256 {
+        if self.map.len() + parts_of(cut) > MOST_SLICES {
             return Err(BoardFault::TooManySlices);
         }
         if self.limit < self.journal.len() + self.owed + 4 {
@@ -88,7 +89,7 @@ impl<K: Drop> Board<K> {
         requires cut { IsCut how.now }
         requires slice { (name : List ℕ) × MaySplit self.now.map name slice.now }
         requires fits { MayBeCut how.now slice.now }
-        requires few { length self.now.map + parts_of how.now ≤ 256 }
+        requires few { length self.now.map + parts_of how.now ≤ most_slices }
         requires room { BoardHasRoom 4 self.now.limit self.now.first self.now.journal.entries }
         ensures parent { IfOk result (λ plan. plan.parent ≡ slice.now.id) }
         ensures ranges { IfOk result (λ plan. map sub_bounds plan.subs ≡ ranges_of how.now slice.now) }

@@ -1,6 +1,7 @@
 ghost use Rattle.std.specs.Prelude.{◌≡◌, ◌<◌, ◌≤◌, [], Some, None, All};
 ghost use Rattle.sc_cluster.specs.declared.slice.State.TheVariants as states;
 ghost use Rattle.sc_cluster.specs.declared.slice.Slice.{Slice};
+ghost use Rattle.sc_cluster.specs.Limits.{most_slices};
 ghost use Rattle.sc_cluster.specs.Slices.{greatest_id};
 ghost use Rattle.sc_journal.specs.Limits.{greatest_journal};
 
@@ -43,7 +44,7 @@ impl<K: Drop> Board<K> {
         keepers: K,
     ) -> Result<Board<K>, AllocError>
         requires active { All (λ (slice : Slice). slice.state ≡ states.Active) first }
-        requires ids { greatest_id first < 256 }
+        requires ids { greatest_id first < most_slices }
         requires limit { limit ≤ greatest_journal }
         ensures sound { IfOk result IsSoundBoard }
         ensures first { IfOk result (λ board. board.first ≡ first) }

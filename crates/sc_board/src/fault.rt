@@ -1,4 +1,4 @@
-use sc_cluster::State;
+use sc_cluster::{MOST_SLICES, State};
 use sc_record::Text;
 use std::alloc::AllocError;
 use thiserror::Error;
@@ -21,8 +21,8 @@ pub enum BoardFault {
     /// The ranges are not the parts of the slice's.
     #[error("ranges do not cover the shard")]
     BadRanges,
-    /// There would be more than 256 slices.
-    #[error("more than 256 shards")]
+    /// There would be more slices than a map may have.
+    #[error("more than {MOST_SLICES} shards")]
     TooManySlices,
     /// The journal has no room for the entry that says so and for those that it owes then.
     #[error("update log is full")]

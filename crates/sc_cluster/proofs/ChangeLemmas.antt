@@ -5,6 +5,7 @@ use Rattle.std.specs.List.Sorted.{IsStrictlyIncreasing}
 use Rattle.std.proofs.lemmas.List.{length-map, length-append}
 use Rattle.std.proofs.lemmas.List.Sums.{length-filter, count_by-le-length}
 use Rattle.sc_cluster.specs.declared.slice.Slice.{Slice}
+use Rattle.sc_cluster.specs.Limits.{most_slices}
 use Rattle.sc_cluster.specs.Tiles.{Tiles}
 use Rattle.sc_cluster.specs.Slices.{active_ranges}
 use Rattle.sc_cluster.specs.Map.{least_hash, greatest_hash, IsMap}
@@ -20,7 +21,7 @@ length-filter-le p xs = omega (arith, length-filter p xs, count_by-le-length p x
 
 -- the slices are few
 pub change_few : (slices : List Slice) (change : Change) → IsMap slices → MayChange slices change
-    → length (after slices change) ≤ 256
+    → length (after slices change) ≤ most_slices
 change_few slices (Change.Begun parent subs) is_map may =
     let few = may.few in omega (arith, length-append slices (map begun_slice subs), length-map subs begun_slice)
 change_few slices (Change.Recovering parent) is_map may =

@@ -8,6 +8,7 @@ use Rattle.std.proofs.lemmas.List.Elements.{All-weaker}
 use Rattle.sc_hash.specs.Range.{size_of}
 use Rattle.sc_cluster.specs.declared.slice.State.TheVariants as states
 use Rattle.sc_cluster.specs.declared.slice.Slice.{Slice}
+use Rattle.sc_cluster.specs.Limits.{most_slices}
 use Rattle.sc_cluster.specs.Tiles.{Tiles}
 use Rattle.sc_cluster.specs.Cut.{part, first_parts, cut}
 use Rattle.sc_cluster.specs.Slices.{is_active_state, is_active, slice_bounds, active_ranges}
@@ -81,7 +82,7 @@ first_bounds shards replicas nodes slices first =
           ∙ sym (get_or-first_parts least_hash greatest_hash shards shards i d (omega arith))
 
 -- and tile all hashes
-pub first_tile : (shards replicas nodes : ℕ) (slices : List Slice) → 1 ≤ shards → shards ≤ 256
+pub first_tile : (shards replicas nodes : ℕ) (slices : List Slice) → 1 ≤ shards → shards ≤ most_slices
     → AreFirst shards replicas nodes slices → Tiles (active_ranges slices) least_hash greatest_hash
 first_tile shards replicas nodes slices one few first =
     let size : pos shards ≤ℤ size_of least_hash greatest_hash = omega (arith, ints) in

@@ -7,6 +7,7 @@ use Rattle.sc_record.specs.declared.slice.SliceId.{SliceId}
 use Rattle.sc_record.specs.declared.slice.SubSlice.{SubSlice}
 use Rattle.sc_cluster.specs.declared.slice.State.TheVariants as states
 use Rattle.sc_cluster.specs.declared.slice.Slice.{Slice}
+use Rattle.sc_cluster.specs.Limits.{most_slices}
 use Rattle.sc_cluster.specs.Slices.{is_forming, forming, greatest_id}
 use Rattle.sc_cluster.specs.Map.{IsSubOf, IsSplitting, IsMap, AreFirst}
 use Rattle.sc_cluster.specs.Plans.{sub_bounds, MayCut, IsPlanned, IsPlan}
@@ -28,7 +29,7 @@ first_is_idle shards replicas nodes slices first =
     active_settled slices (first_active shards replicas nodes slices first))
 
 -- and they are a map
-pub first_is_map : (shards replicas nodes : ℕ) (slices : List Slice) → 1 ≤ shards → shards ≤ 256
+pub first_is_map : (shards replicas nodes : ℕ) (slices : List Slice) → 1 ≤ shards → shards ≤ most_slices
     → AreFirst shards replicas nodes slices → IsMap slices
 first_is_map shards replicas nodes slices one few first = record {
   few = let count = first.count in omega arith;
@@ -43,7 +44,7 @@ first_is_map shards replicas nodes slices one few first = record {
 pub planned_is_plan : (slices : List Slice) (parent : SliceId) (subs : List SubSlice) (slice : Slice)
     → IsMap slices → forming slices ≡ [] → MayCut slices parent (map sub_bounds subs) slice
     → ((i : ℕ) (sub : SubSlice) → slice_get subs i ≡ Some sub → IsPlanned slice (greatest_id slices) i sub)
-    → length slices + length subs ≤ 256 → IsPlan slices parent subs
+    → length slices + length subs ≤ most_slices → IsPlan slices parent subs
 planned_is_plan slices parent subs slice is_map idle may_cut planned few = record {
   idle = idle;
   cut = (slice, may_cut, planned);

@@ -16,6 +16,7 @@ use Rattle.sc_record.specs.declared.slice.SliceId.{SliceId}
 use Rattle.sc_record.specs.declared.slice.SubSlice.{SubSlice}
 use Rattle.sc_cluster.specs.declared.slice.State.TheVariants as states
 use Rattle.sc_cluster.specs.declared.slice.Slice.{Slice}
+use Rattle.sc_cluster.specs.Limits.{most_slices}
 use Rattle.sc_cluster.specs.Slices.{is_active_state, is_active, is_forming, forming, first_name, sub_prefix, sub_name}
 use Rattle.sc_cluster.specs.Map.{IsSubOf, IsSplitting, IsMap, AreFirst}
 use Rattle.sc_cluster.specs.Plans.{IsPlanned, IsPlan}
@@ -103,7 +104,7 @@ first_name-HasNoUnderscore i =
         (omega arith, (omega arith, (omega arith, (omega arith, (omega arith, tt)))))
 
 -- the names of a new collection's slices are distinct
-pub first_names : (shards replicas nodes : ℕ) (slices : List Slice) → shards ≤ 256
+pub first_names : (shards replicas nodes : ℕ) (slices : List Slice) → shards ≤ most_slices
     → AreFirst shards replicas nodes slices → IsDistinct bytes_eq (map (λ (slice : Slice). slice.name) slices)
 first_names shards replicas nodes slices few first = distinct_from_differ slices differ
   where
@@ -119,7 +120,7 @@ first_names shards replicas nodes slices few first = distinct_from_differ slices
         omega arith
 
 -- and none begins as a sub's would
-pub first_apart : (shards replicas nodes : ℕ) (slices : List Slice) → shards ≤ 256
+pub first_apart : (shards replicas nodes : ℕ) (slices : List Slice) → shards ≤ most_slices
     → AreFirst shards replicas nodes slices → IsApart slices
 first_apart shards replicas nodes slices few first parent slice there (i, within, at) active begins =
     let is = first.each i slice (slice_get_read slices (length slices) i slice refl within (sym at)) in
@@ -155,7 +156,7 @@ differ_planned slices parent subs plan i j d before within same =
     let (slice, may_cut, planned) = plan.cut in
     let one = planned i (get_or subs i d) (slice_get-get_or subs i d (omega arith)) in
     let other = planned j (get_or subs j d) (slice_get-get_or subs j d within) in
-    let few : length slices + length subs ≤ 256 = plan.few in
+    let few : length slices + length subs ≤ most_slices = plan.few in
     let names : sub_name slice.name i ≡ sub_name slice.name j = sym one.name ∙ same ∙ other.name in
     let decimals = append_cancel_left (sub_prefix slice.name) (decimal i) (decimal j) names in
     let equal : i ≡ j = decimal_injective i j (omega arith) (omega arith) decimals in

@@ -1,4 +1,5 @@
 -- What the contracts of this crate cite, lowest first.
+pub mod Limits
 pub mod Cut
 pub mod Tiles
 pub mod Slices

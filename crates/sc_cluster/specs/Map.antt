@@ -6,6 +6,7 @@ use Rattle.std.specs.Str.{bytes_eq}
 use Rattle.sc_hash.specs.Range.{IsWithin}
 use Rattle.sc_cluster.specs.declared.slice.State.TheVariants as states
 use Rattle.sc_cluster.specs.declared.slice.Slice.{Slice}
+use Rattle.sc_cluster.specs.Limits.{most_slices}
 use Rattle.sc_cluster.specs.Tiles.{Tiles}
 use Rattle.sc_cluster.specs.Cut.{part}
 use Rattle.sc_cluster.specs.Slices.{is_active, is_forming, forming, slice_bounds, active_ranges, first_name, sub_prefix, sub_name}
@@ -33,7 +34,7 @@ pub record IsSplitting (slices : List Slice) (parent : Slice) : Type 0 where
 
 -- the slices are those of a cluster, in order of creation
 pub record IsMap (slices : List Slice) : Type 0 where
-  pub few : length slices ≤ 256
+  pub few : length slices ≤ most_slices
   pub ids : IsStrictlyIncreasing (map (λ (slice : Slice). slice.id.0) slices)
   pub names : IsDistinct bytes_eq (map (λ (slice : Slice). slice.name) slices)
   -- the active slices share out all hashes

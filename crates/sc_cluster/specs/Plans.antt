@@ -4,6 +4,7 @@ use Rattle.sc_record.specs.declared.slice.SliceId.{SliceId}
 use Rattle.sc_record.specs.declared.slice.SubSlice.{SubSlice}
 use Rattle.sc_cluster.specs.declared.slice.State.TheVariants as states
 use Rattle.sc_cluster.specs.declared.slice.Slice.{Slice}
+use Rattle.sc_cluster.specs.Limits.{most_slices}
 use Rattle.sc_cluster.specs.Tiles.{Tiles}
 use Rattle.sc_cluster.specs.Slices.{forming, greatest_id, sub_name}
 
@@ -31,4 +32,4 @@ pub record IsPlan (slices : List Slice) (parent : SliceId) (subs : List SubSlice
   pub cut : (slice : Slice) × MayCut slices parent (map sub_bounds subs) slice
       × ((i : ℕ) (sub : SubSlice) → slice_get subs i ≡ Some sub → IsPlanned slice (greatest_id slices) i sub)
   pub fresh : (slice : Slice) (sub : SubSlice) → Contains slices slice → Contains subs sub → slice.name ≢ sub.name
-  pub few : length slices + length subs ≤ 256
+  pub few : length slices + length subs ≤ most_slices

@@ -13,7 +13,7 @@ use crate::tile::tile;
 use sc_record::{SliceId, SubSlice};
 
 /// The most slices of a map.
-const MOST: usize = 256;
+pub const MOST_SLICES: usize = 256;
 
 // The id is the one that sub i, from 0, has where the greatest id is this.
 fn is_next_id(id: SliceId, greatest: u32, i: usize) -> bool
@@ -61,7 +61,7 @@ pub(crate) fn is_plan(slices: &[Slice], plan: &SplitPlan) -> bool
     if !parent.state.is_active() {
         return false;
     }
-    if subs.len() > MOST - slices.len() {
+    if subs.len() > MOST_SLICES - slices.len() {
         return false;
     }
     tile(subs, &parent.range) && are_planned(parent, greatest_id(slices), subs)

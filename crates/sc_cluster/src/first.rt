@@ -1,6 +1,7 @@
 //! The slices of a new collection.
 
 ghost use Rattle.std.specs.Prelude.{◌≤◌, ◌<◌, IfOk};
+ghost use Rattle.sc_cluster.specs.Limits.{most_slices};
 ghost use Rattle.sc_cluster.specs.Map.{IsFirst, AreFirst};
 
 use crate::name::first_name;
@@ -24,7 +25,7 @@ fn first_slice(
     nodes: u32,
     i: u32,
 ) -> Result<Slice, AllocError>
-    requires shards { shards ≤ 256 }
+    requires shards { shards ≤ most_slices }
     requires slice { i < shards }
     requires replicas { 1 ≤ replicas }
     requires nodes { 1 ≤ nodes }
@@ -48,7 +49,7 @@ pub(crate) fn first_slices(
     nodes: u32,
 ) -> Result<Vec<Slice>, AllocError>
     requires least { 1 ≤ shards }
-    requires most { shards ≤ 256 }
+    requires most { shards ≤ most_slices }
     requires replicas { 1 ≤ replicas }
     requires nodes { 1 ≤ nodes }
     ensures { IfOk result (λ slices. AreFirst shards replicas nodes slices.items) }

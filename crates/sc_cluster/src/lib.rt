@@ -40,6 +40,7 @@ mod allow;
 // What follows from the definitions.
 mod laws;
 
+pub use allow::MOST_SLICES;
 pub use laws::changes_keep_a_map;
 pub use map::ClusterMap;
 pub use name::core_name;

@@ -37,6 +37,7 @@ impl Model for ClusterMap {
 
 impl ClusterMap {
     ghost use Rattle.sc_cluster.specs.declared.slice.Slice.{Slice};
+    ghost use Rattle.sc_cluster.specs.Limits.{most_slices};
     ghost use Rattle.sc_cluster.specs.Slices.{forming, greatest_id};
     ghost use Rattle.sc_cluster.specs.Map.{IsMap, Leads, AreFirst};
     ghost use Rattle.sc_cluster.specs.Plans.{sub_bounds, MayCut, IsPlan};
@@ -51,7 +52,7 @@ impl ClusterMap {
         nodes: u32,
     ) -> Result<ClusterMap, AllocError>
         requires least { 1 ≤ shards }
-        requires most { shards ≤ 256 }
+        requires most { shards ≤ most_slices }
         requires replicas { 1 ≤ replicas }
         requires nodes { 1 ≤ nodes }
         ensures slices { IfOk result (AreFirst shards replicas nodes) }
@@ -128,7 +129,7 @@ impl ClusterMap {
     ) -> Result<SplitPlan, AllocError>
         requires idle { forming self.now ≡ [] }
         requires parent { (slice : Slice) × MayCut self.now parent (map bounds ranges.now) slice }
-        requires few { length self.now + length ranges.now ≤ 256 }
+        requires few { length self.now + length ranges.now ≤ most_slices }
         requires ids { greatest_id self.now + length ranges.now < 2 ^ 32 }
         ensures parent { IfOk result (λ plan. plan.parent ≡ parent) }
         ensures ranges { IfOk result (λ plan. map sub_bounds plan.subs ≡ map bounds ranges.now) }

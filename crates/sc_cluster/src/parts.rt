@@ -3,6 +3,7 @@
 ghost use Rattle.std.specs.Prelude.{◌≡◌, ◌≤◌, ◌<◌, ◌-◌, ◌^◌, ◌↔◌, ◌≤ℤ◌, ◌<ℤ◌, pos, negsuc, IfOk, map};
 ghost use Rattle.sc_hash.specs.Range.{IsWithin, size_of};
 ghost use Rattle.sc_hash.specs.Bounds.{bounds};
+ghost use Rattle.sc_cluster.specs.Limits.{most_slices};
 ghost use Rattle.sc_cluster.specs.Tiles.{Tiles};
 ghost use Rattle.sc_cluster.specs.Cut.{rounded_down, share_start, border, part, cut};
 
@@ -69,7 +70,7 @@ fn border(range: Range, n: u32, i: u32) -> i64
 /// Part i of n, from 0.
 pub(crate) fn part(range: &Range, n: u32, i: u32) -> Range
     requires part { i < n }
-    requires most { n ≤ 256 }
+    requires most { n ≤ most_slices }
     requires size { pos n ≤ℤ size_of range.now.min range.now.max }
     ensures { bounds result ≡ part range.now.min range.now.max n i }
 {
@@ -84,7 +85,7 @@ pub(crate) fn part(range: &Range, n: u32, i: u32) -> Range
 // The parts of the range.
 fn parts_of(alloc: Global, range: &Range, n: u32) -> Result<List<Range>, AllocError>
     requires least { 1 ≤ n }
-    requires most { n ≤ 256 }
+    requires most { n ≤ most_slices }
     requires size { pos n ≤ℤ size_of range.now.min range.now.max }
     ensures { IfOk result (λ parts. map bounds parts ≡ cut range.now.min range.now.max n) }
 {
@@ -100,7 +101,7 @@ fn parts_of(alloc: Global, range: &Range, n: u32) -> Result<List<Range>, AllocEr
 /// that share the first 16 bits of their hash stay together.
 pub fn cut(alloc: Global, range: &Range, n: u32) -> Result<List<Range>, CutFault>
     requires least { 1 ≤ n }
-    requires most { n ≤ 256 }
+    requires most { n ≤ most_slices }
     ensures value { IfOk result (λ parts. map bounds parts ≡ cut range.now.min range.now.max n) }
     ensures tiles { IfOk result (λ parts. Tiles (map bounds parts) range.now.min range.now.max) }
     ensures too_small { (result ≡ Err CutFault.TooSmall) ↔ (size_of range.now.min range.now.max <ℤ pos n) }

@@ -9,6 +9,7 @@ use Rattle.std.proofs.lemmas.List.Sums.{fold-append, sum_by-cons}
 use Rattle.sc_record.specs.declared.slice.SliceId.{SliceId}
 use Rattle.sc_record.specs.declared.entry.Entry.{Entry}
 use Rattle.sc_record.specs.declared.entry.Entry.TheVariants as entry
+use Rattle.sc_cluster.specs.Limits.{most_slices}
 use Rattle.sc_cluster.specs.declared.plan.SplitPlan.{SplitPlan}
 use Rattle.sc_cluster.specs.declared.slice.State.{State}
 use Rattle.sc_cluster.specs.declared.slice.State.TheVariants as states
@@ -314,7 +315,7 @@ pub boards_have_prefixes : HasLegalBoardPrefixes
 boards_have_prefixes = IsLegalBoard-prefix
 
 -- ---- ids
-subs_are_few : (slices : List Slice) (change : Change) → MayChange slices change → subs_begun change ≤ 256
+subs_are_few : (slices : List Slice) (change : Change) → MayChange slices change → subs_begun change ≤ most_slices
 subs_are_few slices (Change.Begun parent subs) may = let few = may.few in omega arith
 subs_are_few slices (Change.Recovering parent) may = omega arith
 subs_are_few slices (Change.Switched parent) may = omega arith
@@ -322,14 +323,14 @@ subs_are_few slices (Change.Failed parent) may = omega arith
 subs_are_few slices (Change.Dropped slice) may = omega arith
 
 ids_up : (slices : List Slice) (change : Change) → MayChange slices change
-    → greatest_id (after slices change) ≤ greatest_id slices + 256
+    → greatest_id (after slices change) ≤ greatest_id slices + most_slices
 ids_up slices change may =
     omega (arith, counts_ids_up slices (change ∷ []) (may, tt), sum_by-cons subs_begun change [], subs_are_few slices change may)
 
 pub board_ids : (first : List Slice) (entries : List BoardEntry) → IsLegalBoard first entries
-    → greatest_id (board_map first entries) ≤ greatest_id first + 256 * length entries
+    → greatest_id (board_map first entries) ≤ greatest_id first + most_slices * length entries
 board_ids first entries =
-    board_induction first (λ j. greatest_id (board_map first j) ≤ greatest_id first + 256 * length j) (omega arith)
+    board_induction first (λ j. greatest_id (board_map first j) ≤ greatest_id first + most_slices * length j) (omega arith)
     (λ j one legal may most.
     let up = ids_up (board_map first j) (board_change_of one) (may_change first j one may) in
     let is = ap greatest_id (board_map-push first j one) in

@@ -3,6 +3,7 @@ use Rattle.std.specs.Prelude.{◌≡◌, ◌≤◌, ◌<◌, ◌↔◌, ℕ, ◌
 use Rattle.sc_record.specs.declared.slice.SliceId.{SliceId}
 use Rattle.sc_cluster.specs.declared.plan.SplitPlan.{SplitPlan}
 use Rattle.sc_cluster.specs.declared.slice.Slice.{Slice}
+use Rattle.sc_cluster.specs.Limits.{most_slices}
 use Rattle.sc_cluster.specs.Slices.{forming, greatest_id}
 use Rattle.sc_cluster.specs.Map.{IsMap}
 use Rattle.sc_cluster.specs.Changes.{IsSplit}
@@ -52,11 +53,11 @@ BoardsGoOn = (first : List Slice) (entries : List BoardEntry) (plan : SplitPlan)
     IsLegalBoard first recovered
     → MayNote first recovered (board.Done plan.parent) × MayNote first recovered (board.Failed plan.parent))
 
--- no id is above the greatest at first by more than 256 for each entry, so that each is below 2^32 while the journal may grow
+-- no id is above the greatest at first by more than the most slices for each entry, so that each is below 2^32 while the journal may grow
 abbrev pub BoardsCountIdsUp : Type 0
 BoardsCountIdsUp = (first : List Slice) (entries : List BoardEntry) → IsMap first → forming first ≡ [] → IsLegalBoard first entries
-    → (greatest_id (board_map first entries) ≤ greatest_id first + 256 * length entries)
-    × (greatest_id first < 256 → length entries < greatest_journal → greatest_id (board_map first entries) < 2 ^ 32)
+    → (greatest_id (board_map first entries) ≤ greatest_id first + most_slices * length entries)
+    × (greatest_id first < most_slices → length entries < greatest_journal → greatest_id (board_map first entries) < 2 ^ 32)
 
 -- a split that failed leaves the slices as they were before it began, whether it came to recover them or not
 abbrev pub FailedLeavesTheMap : Type 0

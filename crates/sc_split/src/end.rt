@@ -30,7 +30,7 @@ pub enum SplitEnd {
     RangeTooSmall,
     /// The ranges do not tile that of the shard.
     BadRanges,
-    /// There would be more than 256 shards.
+    /// There would be more shards than a map may have.
     TooManySlices,
     /// The journal of the board, or of a bucket, has no room for a split.
     LogFull,

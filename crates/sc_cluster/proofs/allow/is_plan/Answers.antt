@@ -2,6 +2,7 @@
 use Rattle.std.proofs.Common.{◌≡◌, ◌≤◌, ◌+◌, ℕ, List, length, map, Some, slice_get, arith, subst, sym, ap, ◌∙◌}
 use Rattle.std.proofs.lemmas.Bool.{false≢true}
 use Rattle.sc_record.specs.declared.slice.SubSlice.{SubSlice}
+use Rattle.sc_cluster.specs.Limits.{most_slices}
 use Rattle.sc_cluster.specs.Tiles.{Tiles}
 use Rattle.sc_cluster.specs.Slices.{is_active_state}
 use Rattle.sc_cluster.specs.Plans.{sub_bounds, IsPlanned, IsPlan}
@@ -38,7 +39,7 @@ returns-then-tile c =
     let active = active_from_test parent.state (sym c.is_active.ensures ∙ c.if-not-is_active.false) in
     let tiles = c.tile.ensures.0 c.if-tile.true in
     let ArePlanned : List SubSlice → ℕ → Type 0 = λ all n. (i : ℕ) (sub : SubSlice) → slice_get all i ≡ Some sub → IsPlanned parent n i sub in
-    let room : length slices + length subs ≤ 256 = let few = c.requires.few in omega (arith, c.if-subs-slices.false) in (
+    let room : length slices + length subs ≤ most_slices = let few = c.requires.few in omega (arith, c.if-subs-slices.false) in (
       λ passes.
           subst (λ all. IsPlan slices plan.parent all) c.as_slice-subs.ensures
           (planned_is_plan slices plan.parent subs parent c.requires (c.is_idle.ensures.0 c.if-not-is_idle.false)

@@ -2,6 +2,7 @@
 use Rattle.std.proofs.Common.{◌∙◌, ◌+◌, ◌≤◌, length, refl, sym, ap, subst, arith}
 use Rattle.std.proofs.lemmas.List.{length-map}
 use Rattle.sc_hash.specs.Bounds.{bounds}
+use Rattle.sc_cluster.specs.Limits.{most_slices}
 use Rattle.sc_board.specs.Splits.{parts_of, AreOf}
 use Rattle.sc_board.proofs.NamedLemmas.{named_there, parts_count}
 use Rattle.sc_board.proofs.SoundLemmas.{ids_short}
@@ -24,7 +25,7 @@ plan-requires-clause-few g c =
     let range = c.args.slice.now.range in
     let count = sym (length-map c.in-Ok.ranges bounds) ∙ ap length c.in-Ok.ensures.value
     ∙ parts_count range.min range.max c.in-Parts.n c.in-Parts.n in
-    let few = subst (λ how. length c.args.self.now.map + parts_of how ≤ 256) c.in-Parts.is c.requires.few in
+    let few = subst (λ how. length c.args.self.now.map + parts_of how ≤ most_slices) c.in-Parts.is c.requires.few in
     omega (arith, count, few)
 
 pub plan-requires-clause-ids : goal.plan-requires-clause-ids
@@ -46,5 +47,5 @@ plan-requires-in-Ranges-clause-parent g c =
 
 pub plan-requires-in-Ranges-clause-ids : goal.plan-requires-in-Ranges-clause-ids
 plan-requires-in-Ranges-clause-ids g c =
-    let few = subst (λ how. length c.args.self.now.map + parts_of how ≤ 256) c.in-Ranges.is c.requires.few in
+    let few = subst (λ how. length c.args.self.now.map + parts_of how ≤ most_slices) c.in-Ranges.is c.requires.few in
     ids_short c.args.self.now (length c.in-Ranges.list) c.requires.sound c.requires.room (omega (arith, few))

@@ -7,6 +7,7 @@ use Rattle.std.proofs.lemmas.List.{length-map, map-append}
 use Rattle.sc_hash.specs.Bounds.{bounds}
 use Rattle.sc_hash.specs.declared.range.Range.{Range}
 use Rattle.sc_model.specs.Parameters.{between_commas}
+use Rattle.sc_board.specs.Splits.{least_parts, most_parts}
 use Rattle.sc_admin.specs.Ranges.{all_some, may_be_parts, range_of, ranges_of}
 
 -- values that are all there
@@ -38,13 +39,13 @@ both_true : (a b : Bool) → a && b ≡ true → (a ≡ true) × (b ≡ true)
 both_true true b h = (refl, h)
 both_true false b h = cc
 
-within_parts : (n : ℕ) → 2 ≤ n → n ≤ 8 → may_be_parts n ≡ true
-within_parts n least most = rw (le-leb 2 n least, le-leb n 8 most) refl
+within_parts : (n : ℕ) → least_parts ≤ n → n ≤ most_parts → may_be_parts n ≡ true
+within_parts n least most = rw (le-leb least_parts n least, le-leb n most_parts most) refl
 
-parts_within : (n : ℕ) → may_be_parts n ≡ true → (2 ≤ n) × (n ≤ 8)
+parts_within : (n : ℕ) → may_be_parts n ≡ true → (least_parts ≤ n) × (n ≤ most_parts)
 parts_within n h =
-    let both = both_true (nat_le 2 n) (nat_le n 8) h in
-    (leb-true 2 n both.0, leb-true n 8 both.1)
+    let both = both_true (nat_le least_parts n) (nat_le n most_parts) h in
+    (leb-true least_parts n both.0, leb-true n most_parts both.1)
 
 -- a part that is no range
 pub ranges_of-no_range : (text : List ℕ) (i : ℕ) (part : List ℕ) → i < length (between_commas text)
@@ -54,7 +55,7 @@ ranges_of-no_range text i part within is none =
     (all_some-none range_of (between_commas text) i part within is none)
 
 -- more parts than a cut may have
-pub ranges_of-too_many : (text : List ℕ) → 8 < length (between_commas text) → None ≡ ranges_of text
+pub ranges_of-too_many : (text : List ℕ) → most_parts < length (between_commas text) → None ≡ ranges_of text
 ranges_of-too_many text more =
     not_chosen (may_be_parts (length (between_commas text))) (all_some (map range_of (between_commas text)))
     (λ h. let both = parts_within (length (between_commas text)) h in omega arith)
@@ -65,7 +66,7 @@ same_length ranges parts same = sym (length-map ranges Some) ∙ ap length same 
 
 -- fewer than a cut may have
 pub ranges_of-too_few : (text : List ℕ) (ranges : List (ℤ × ℤ)) → map Some ranges ≡ map range_of (between_commas text)
-    → length ranges < 2 → None ≡ ranges_of text
+    → length ranges < least_parts → None ≡ ranges_of text
 ranges_of-too_few text ranges same few =
     let as_many = same_length ranges (between_commas text) same in
     not_chosen (may_be_parts (length (between_commas text))) (all_some (map range_of (between_commas text)))
@@ -73,7 +74,7 @@ ranges_of-too_few text ranges same few =
 
 -- every part is a range
 pub ranges_of-all : (text : List ℕ) (ranges : List (ℤ × ℤ)) → map Some ranges ≡ map range_of (between_commas text)
-    → 2 ≤ length ranges → length ranges ≤ 8 → Some ranges ≡ ranges_of text
+    → least_parts ≤ length ranges → length ranges ≤ most_parts → Some ranges ≡ ranges_of text
 ranges_of-all text ranges same least most =
     let as_many = same_length ranges (between_commas text) same in
     let within : may_be_parts (length (between_commas text)) ≡ true = within_parts (length (between_commas text)) (omega arith) (omega arith) in

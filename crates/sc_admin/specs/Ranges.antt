@@ -4,6 +4,7 @@ use Rattle.std.specs.Char.{digit_value}
 use Rattle.std.specs.List.{list_all, before_first, after_first}
 use Rattle.std.specs.Option.{option_map}
 use Rattle.sc_hash.specs.Range.{bound_of}
+use Rattle.sc_board.specs.Splits.{least_parts, most_parts}
 use Rattle.sc_model.specs.Parameters.{between_commas}
 
 -- the text is one to eight hexadecimal digits, in either case
@@ -28,13 +29,6 @@ abbrev pub all_some : {X : Type 0} → List (Option X) → Option (List X)
 all_some [] = Some []
 all_some (None ∷ values) = None
 all_some (Some value ∷ values) = option_map (λ rest. value ∷ rest) (all_some values)
-
--- the least and the most ranges of a cut
-abbrev pub least_parts : ℕ
-least_parts = 2
-
-abbrev pub most_parts : ℕ
-most_parts = 8
 
 -- the number of parts is one that a cut may have
 abbrev pub may_be_parts : ℕ → Bool

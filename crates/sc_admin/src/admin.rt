@@ -5,7 +5,7 @@ use std::alloc::Global;
 /// What is asked of the collection.
 #[derive(Debug, Drop)]
 pub enum Admin {
-    /// To split the shard of this name, by a cut of 2 to 8 parts.
+    /// To split the shard of this name, by this cut.
     Split { shard: Text, cut: Cut },
     /// To show the shards.
     Status,

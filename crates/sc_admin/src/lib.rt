@@ -5,7 +5,7 @@
 //! `sc_collection` and on the cores of `sc_cores`. The layers above use the clauses of `read_admin`, which say what the parameters ask for
 //! or which of them is at fault, those of `status_body` and `split_body`, which give each body's whole text, and that of `delete`.
 //!
-//! Proved: `read_admin` is the definition `asked_admin` of the list of parameters, and a cut that it reads has 2 to 8 parts;
+//! Proved: `read_admin` is the definition `asked_admin` of the list of parameters, and a cut that it reads has as many parts as one may;
 //! `status_body` and `split_body` are the texts of `specs/Status` and `specs/Splits`; `delete` went as `IsDelete` of `specs/Deletes` says:
 //! the board refused it, by the first cause, and all is as it was, or the slice of that name was dropped from each bucket and from the
 //! board, at one stop of it, and then each of its cores was stopped, or stopping one failed and a core of the slice is named.

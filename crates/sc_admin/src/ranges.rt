@@ -3,6 +3,7 @@
 ghost use Rattle.std.specs.Prelude.{◌≡◌, ◌≤◌, IfOk, IfSome, map, length};
 ghost use Rattle.std.specs.Option.{option_map};
 ghost use Rattle.sc_hash.specs.Bounds.{bounds};
+ghost use Rattle.sc_board.specs.Splits.{least_parts, most_parts};
 ghost use Rattle.sc_admin.specs.Ranges.{range_of, ranges_of};
 
 use sc_hash::{Range, parse_range};
@@ -22,10 +23,11 @@ fn range_of(text: &str) -> Option<Range>
     parse_range(text)
 }
 
-/// The ranges between the commas of a text. None where one is no range, or where there are fewer than 2 or more than 8.
+/// The ranges between the commas of a text. None where one is no range, or where there are fewer or more than a cut
+/// may have.
 pub(crate) fn ranges_of(alloc: Global, text: &str) -> Result<Option<List<Range>>, AllocError>
     ensures ranges { IfOk result (λ list. option_map (map bounds) list ≡ ranges_of text.now) }
-    ensures number { IfOk result (λ found. IfSome found (λ list. (2 ≤ length list) × (length list ≤ 8))) }
+    ensures number { IfOk result (λ found. IfSome found (λ list. (least_parts ≤ length list) × (length list ≤ most_parts))) }
 {
     let mut ranges = List::new(alloc);
     for part in text.split(',') {

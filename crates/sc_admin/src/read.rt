@@ -1,13 +1,13 @@
 //! What the parameters of a request ask of the collection.
 
-ghost use Rattle.std.specs.Prelude.{◌≡◌, ◌&&◌, Ok, Some, IfOk, IfErr, IfSome, codes, is_some, option_copied};
+ghost use Rattle.std.specs.Prelude.{◌≡◌, ◌-◌, ◌&&◌, Ok, Some, None, IfOk, IfErr, IfSome, codes, if◌then◌else◌, is_some, option_copied};
 ghost use Rattle.sc_board.specs.Splits.{IsCut};
 ghost use Rattle.sc_admin.specs.Commands as commands;
 ghost use Rattle.sc_admin.specs.Cuts.{IsCutIfAny};
-ghost use Rattle.sc_admin.specs.Ranges.{ranges_of};
+ghost use Rattle.sc_admin.specs.Ranges.{may_be_parts, ranges_of};
 
 use crate::admin::{Action, Admin, AdminFault};
-use crate::ranges::ranges_of;
+use crate::ranges::{LEAST_PARTS, MOST_PARTS, ranges_of};
 use sc_board::Cut;
 use sc_model::{Param, is_other_than, parameter};
 use sc_record::{List, Text};
@@ -134,14 +134,27 @@ fn in_parts(alloc: Global, text: &str) -> Result<Cut, AdminFault>
     }
 }
 
-/// The number of parts that one digit asks for, from 2 to 8.
+/// The number of parts that one digit asks for, where a cut may have as many.
 fn parts_asked(text: &[u8]) -> Option<u32>
     ensures number { result ≡ commands.parts_asked text.now }
     ensures cut { IfSome result (λ n. IsCut (Cut.Parts n)) }
 {
     match text {
-        [digit @ b'2'..=b'8'] => Some(u32::from(*digit - b'0')),
+        [digit] => parts_of_digit(*digit),
         _ => None,
+    }
+}
+
+/// The number of parts that this digit asks for, where a cut may have as many.
+fn parts_of_digit(digit: u8) -> Option<u32>
+    ensures number { result ≡ (if may_be_parts (digit - 48) then Some (digit - 48) else None) }
+    ensures cut { IfSome result (λ n. IsCut (Cut.Parts n)) }
+{
+    let number = digit.saturating_sub(b'0');
+    if LEAST_PARTS <= usize::from(number) && usize::from(number) <= MOST_PARTS {
+        Some(u32::from(number))
+    } else {
+        None
     }
 }
 

@@ -25,10 +25,17 @@ abbrev pub parts_of : Cut → ℕ
 parts_of (cuts.Parts n) = n
 parts_of (cuts.Ranges list) = length list
 
--- a cut gives 2 to 8 ranges
+-- the least and the most ranges of a cut
+abbrev pub least_parts : ℕ
+least_parts = 2
+
+abbrev pub most_parts : ℕ
+most_parts = 8
+
+-- a cut gives as many ranges as it may
 pub record IsCut (cut : Cut) : Type 0 where
-  pub least : 2 ≤ parts_of cut
-  pub most : parts_of cut ≤ 8
+  pub least : least_parts ≤ parts_of cut
+  pub most : parts_of cut ≤ most_parts
 
 -- the ranges of a slice that is cut so, where its range can be
 abbrev pub ranges_of : Cut → Slice → List (ℤ × ℤ)

@@ -1,7 +1,7 @@
 use sc_hash::Range;
 use sc_record::List;
 
-/// How the range of a slice is to be cut: into 2 to 8 ranges.
+/// How the range of a slice is to be cut: into as many ranges as a cut may have.
 #[derive(Debug, Drop)]
 pub enum Cut {
     /// Into `n` parts of about the same size.

@@ -1,5 +1,7 @@
 -- What a trail keeps of a connection, and when a connection has had enough.
-use Rattle.std.specs.Prelude.{ℕ, ◌+◌, Bool, ◌||◌, List, length, nat_le}
+use Rattle.std.specs.Prelude.{ℕ, ◌+◌, ◌*◌, Bool, ◌||◌, List, length, nat_le}
+use Rattle.sc_record.specs.Orders.{order_limit}
+use Rattle.sc_router.specs.Route.{most_buckets}
 use Rattle.sc_seen.specs.declared.stop.Stop.{Stop}
 
 -- the stops that were kept, in order, and how many requests were answered
@@ -17,7 +19,7 @@ stop_limit = 65536
 
 -- the most stops of one request: two for each order of an update, and one for each bucket
 abbrev pub stops_of_request : ℕ
-stops_of_request = 8448
+stops_of_request = 2 * order_limit + most_buckets
 
 -- how many stops a trail has room for: those after which no further request is taken, and those of one request more
 abbrev pub trail_room : ℕ

@@ -1,6 +1,7 @@
 -- Which shapes a collection may have, and how it is laid out by one.
-use Rattle.std.specs.Prelude.{◌≡◌, ◌==◌, ◌&&◌, Bool, true, nat_le, ℕ, ◌+◌, ◌-◌, ◌*◌, [], ◌∷◌}
-use Rattle.std.specs.List.{list_any}
+use Rattle.std.specs.Prelude.{◌≡◌, ◌==◌, ◌&&◌, Bool, true, nat_le, ℕ, ◌+◌, ◌-◌, ◌*◌, ◌^◌, []}
+use Rattle.std.specs.List.{list_any, range_with_len}
+use Rattle.sc_router.specs.Route.{most_bucket_bits}
 use Rattle.sc_cluster.specs.Map.{AreFirst}
 use Rattle.sc_journal.specs.Limits.{least_journal, greatest_journal}
 use Rattle.sc_seen.specs.Seen.{Layout, Seen}
@@ -14,9 +15,9 @@ least_limit shape = least_journal + shape.shards * (shape.replicas - 1)
 abbrev pub is_in_range : (least most : ℕ) → ℕ → Bool
 is_in_range least most number = nat_le least number && nat_le number most
 
--- a power of two from 1 to 256
+-- a power of two, from 1 to the most buckets
 abbrev pub is_bucket_count : ℕ → Bool
-is_bucket_count number = list_any (λ count. number == count) (1 ∷ 2 ∷ 4 ∷ 8 ∷ 16 ∷ 32 ∷ 64 ∷ 128 ∷ 256 ∷ [])
+is_bucket_count number = list_any (λ k. number == 2 ^ k) (range_with_len 0 (most_bucket_bits + 1))
 
 -- each number of the shape is in its range
 abbrev pub is_shape : Shape → Bool

@@ -53,7 +53,7 @@ pub trait Desk {
     /// What they keep.
     ghost keeping: { Self → Self.Keepers → Keeping };
 
-    /// How many buckets there are: a power of two from 1 to 256.
+    /// How many buckets there are: a power of two.
     fn buckets(&self) -> u32
         ensures count { result ≡ (layout self.now).buckets }
         ensures power { IsBucketCount result }

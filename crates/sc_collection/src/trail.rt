@@ -2,6 +2,8 @@ ghost use Rattle.std.specs.Prelude.{◌≡◌, ◌+◌, ◌<◌, ◌^◌, [], �
 ghost use Rattle.sc_collection.specs.Kept.{Kept, is_full, request_limit, trail_room};
 
 use crate::packed::PackedStop;
+use sc_record::MAX_ORDERS;
+use sc_router::MOST_BUCKETS;
 use sc_seen::Stop;
 use std::alloc::{AllocError, Global};
 use std::marker::Model;
@@ -12,8 +14,8 @@ const MAX_REQUESTS: u32 = 1_000;
 /// The number of stops after which a connection takes no further request.
 const MAX_STOPS: usize = 65_536;
 
-/// The most stops of one request: two for each of the 4,096 orders that one update may have, and one for each of 256 buckets.
-const STOPS_OF_REQUEST: usize = 2 * 4_096 + 256;
+/// The most stops of one request: two for each order of an update, and one for each bucket.
+const STOPS_OF_REQUEST: usize = 2 * MAX_ORDERS + MOST_BUCKETS;
 
 /// How many stops a trail has room for: those after which a connection takes no further request, and those of one request more.
 const ROOM: usize = MAX_STOPS + STOPS_OF_REQUEST;

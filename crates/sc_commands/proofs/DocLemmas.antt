@@ -4,6 +4,7 @@ use Rattle.std.proofs.Math.Path.{ap₂}
 use Rattle.std.proofs.lemmas.Bool.{lt-ltb}
 use Rattle.std.proofs.lemmas.List.{length-map}
 use Rattle.serde_json.specs.Data.{Data, null, boolean, number, string, array, object, Items, no_items, item}
+use Rattle.sc_record.specs.Orders.{order_limit}
 use Rattle.sc_schema.specs.declared.raw.RawDoc.{RawDoc}
 use Rattle.sc_schema.specs.declared.raw.RawField.{RawField}
 use Rattle.sc_json.specs.Bodies.{json_of}
@@ -11,7 +12,7 @@ use Rattle.sc_json.specs.Flat.{doc_fields, first_doc, docs_in, docs_of}
 use Rattle.sc_json.specs.RawDocs.{raw_fields_of}
 use Rattle.sc_commands.specs.Commands.{add, one, followed_by, each, added, asks_commit, reading}
 use Rattle.sc_commands.specs.Listed.{added_docs}
-use Rattle.sc_commands.specs.Updates.{order_limit, asked_by, with_commit, read_commands, read_value}
+use Rattle.sc_commands.specs.Updates.{asked_by, with_commit, read_commands, read_value}
 use Rattle.sc_commands.specs.declared.batch.Flags.{Flags}
 use Rattle.sc_commands.specs.declared.fault.CommandFault.TheVariants as faults
 

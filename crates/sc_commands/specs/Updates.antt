@@ -1,6 +1,7 @@
 -- What an update asks for: the orders of its body, or why it is refused.
 use Rattle.std.specs.Prelude.{◌≡◌, ◌⊎◌, ℕ, ◌-◌, ◌^◌, min, ◌||◌, List, [], ◌∷◌, length, map, nat_lt, if◌then◌else◌, Option, Some, None, Result, Ok, Err}
 use Rattle.serde_json.specs.Data.{Data}
+use Rattle.sc_record.specs.Orders.{order_limit}
 use Rattle.sc_record.specs.declared.order.Change.TheVariants.{Delete}
 use Rattle.sc_schema.specs.Documents.{OrderContent, content_of, document_order, and_then, found_map}
 use Rattle.sc_schema.specs.declared.fault.DocFault.{DocFault}
@@ -10,10 +11,6 @@ use Rattle.sc_commands.specs.declared.batch.Flags.{Flags}
 use Rattle.sc_commands.specs.declared.batch.Batch.{Batch}
 use Rattle.sc_commands.specs.declared.fault.CommandFault.{CommandFault}
 use Rattle.sc_commands.specs.declared.fault.CommandFault.TheVariants as faults
-
--- the most orders of a body
-abbrev pub order_limit : ℕ
-order_limit = 4096
 
 -- a deletion of the document of this id, under this condition
 abbrev pub as_deletion : OrderContent → OrderContent

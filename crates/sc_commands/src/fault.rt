@@ -1,3 +1,4 @@
+use sc_record::MAX_ORDERS;
 use sc_schema::DocFault;
 use thiserror::Error;
 
@@ -11,8 +12,8 @@ pub enum CommandFault {
     /// the greatest of 32 bits.
     #[error("unexpected content at command {at}")]
     BadShape { at: u32 },
-    /// More than 4,096 orders.
-    #[error("more than 4096 commands")]
+    /// More orders than an update may have.
+    #[error("more than {MAX_ORDERS} commands")]
     TooMany,
     /// The first fault of the first document, or id to delete, that has one.
     #[error("{0}")]

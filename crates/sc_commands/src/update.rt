@@ -1,5 +1,6 @@
 ghost use Rattle.std.specs.Prelude.{◌≡◌, ◌≤◌, ◌-◌, ◌^◌, length, min, Some, Ok, IfOk, IfErr};
 ghost use Rattle.serde_json.specs.View.{view};
+ghost use Rattle.sc_record.specs.Orders.{order_limit};
 ghost use Rattle.sc_schema.specs.declared.raw.RawDoc.{RawDoc};
 ghost use Rattle.sc_json.specs.Bodies.{json_of};
 ghost use Rattle.sc_commands.specs.Listed.{added_docs};
@@ -11,13 +12,10 @@ use crate::fault::CommandFault;
 use crate::forms::{FormFault, commands_of};
 use crate::orders::{orders_of, orders_of_docs};
 use sc_json::{JsonFault, count_docs, flat_docs, read};
-use sc_record::List;
+use sc_record::{List, MAX_ORDERS};
 use sc_schema::{DocFault, RawDoc};
 use serde_json::Value;
 use std::alloc::{AllocError, Global};
-
-/// The most orders of a body.
-const MAX_ORDERS: usize = 4096;
 
 /// A body of fewer bytes has no more documents than that: each takes two, and a comma or a bracket.
 const MANY_BYTES: usize = 3 * MAX_ORDERS;
@@ -29,7 +27,7 @@ pub fn read_update(alloc: Global, body: &[u8], flags: &Flags) -> Result<Batch, C
     ensures ok { IfOk result
         (λ batch. updates.asked_by flags.now body.now ≡ Ok (updates.update_of batch)) }
     ensures fault { IfErr result (updates.IsCommandFault (updates.asked_by flags.now body.now)) }
-    ensures few { IfOk result (λ batch. length batch.orders ≤ updates.order_limit) }
+    ensures few { IfOk result (λ batch. length batch.orders ≤ order_limit) }
 {
     if body.is_empty() {
         return Ok(Batch {
@@ -51,7 +49,7 @@ fn read_other(alloc: Global, body: &[u8], flags: &Flags) -> Result<Batch, Comman
         (λ batch. updates.read_value flags.now (json_of body.now) ≡ Ok (updates.update_of batch)) }
     ensures fault { IfErr result
         (updates.IsCommandFault (updates.read_value flags.now (json_of body.now))) }
-    ensures few { IfOk result (λ batch. length batch.orders ≤ updates.order_limit) }
+    ensures few { IfOk result (λ batch. length batch.orders ≤ order_limit) }
 {
     if body.len() < MANY_BYTES {
         return read_tree(alloc, body, flags);
@@ -69,7 +67,7 @@ fn read_docs(alloc: Global, docs: List<RawDoc>, flags: &Flags) -> Result<Batch, 
         (λ batch. updates.read_commands flags.now (Ok (added_docs docs)) ≡ Ok (updates.update_of batch)) }
     ensures fault { IfErr result
         (updates.IsCommandFault (updates.read_commands flags.now (Ok (added_docs docs)))) }
-    ensures few { IfOk result (λ batch. length batch.orders ≤ updates.order_limit) }
+    ensures few { IfOk result (λ batch. length batch.orders ≤ order_limit) }
 {
     if docs.len() > MAX_ORDERS {
         return Err(CommandFault::TooMany);
@@ -90,7 +88,7 @@ fn read_tree(alloc: Global, body: &[u8], flags: &Flags) -> Result<Batch, Command
         (λ batch. updates.read_value flags.now (json_of body.now) ≡ Ok (updates.update_of batch)) }
     ensures fault { IfErr result
         (updates.IsCommandFault (updates.read_value flags.now (json_of body.now))) }
-    ensures few { IfOk result (λ batch. length batch.orders ≤ updates.order_limit) }
+    ensures few { IfOk result (λ batch. length batch.orders ≤ order_limit) }
 {
     match read(alloc, body) {
         Ok(value) => read_value(alloc, value, flags),
@@ -105,7 +103,7 @@ fn read_value(alloc: Global, value: Value, flags: &Flags) -> Result<Batch, Comma
         (λ batch. updates.read_value flags.now (Some (view value)) ≡ Ok (updates.update_of batch)) }
     ensures fault { IfErr result
         (updates.IsCommandFault (updates.read_value flags.now (Some (view value)))) }
-    ensures few { IfOk result (λ batch. length batch.orders ≤ updates.order_limit) }
+    ensures few { IfOk result (λ batch. length batch.orders ≤ order_limit) }
 {
     let commands = match commands_of(alloc, value) {
         Ok(commands) => commands,

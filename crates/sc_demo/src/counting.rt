@@ -2,6 +2,7 @@
 ghost use Rattle.std.specs.Prelude.{◌≡◌, ◌≤◌, ◌∷◌, [], IfOk, OnOk};
 ghost use Rattle.sc_eval.specs.Conditions.{condition_of};
 ghost use Rattle.sc_session.specs.Queries.{HaveCondition};
+ghost use Rattle.sc_router.specs.Route.{most_buckets};
 ghost use Rattle.sc_collection.specs.Desks.{IsDeskAtRest};
 ghost use Rattle.sc_demo.specs.Finding.{AreCommitted, AreFound, FindsBy};
 
@@ -28,7 +29,7 @@ pub fn count_on<R: Threads + Sync, D: Desk>(
     desk: &mut D,
     trail: &mut Trail,
 ) -> Result<Found, AllocError>
-    requires buckets { (D.layout desk.old).buckets ≤ 256 }
+    requires buckets { (D.layout desk.old).buckets ≤ most_buckets }
     requires rest { IsDeskAtRest (D.layout desk.old) (D.out desk.old) (D.seen desk.old) }
     ensures found { IfOk result (AreFound (D.layout desk.old) (D.seen desk.old) (D.seen desk.new)) }
     ensures layout { D.layout desk.new ≡ D.layout desk.old }
@@ -43,7 +44,7 @@ pub fn count_on<R: Threads + Sync, D: Desk>(
 
 /// Commits every bucket, with an empty trail. One whose journal has no room for that is passed over. An error means out of memory.
 fn commit<D: Desk>(alloc: Global, desk: &mut D, trail: &mut Trail) -> Result<(), AllocError>
-    requires buckets { (D.layout desk.old).buckets ≤ 256 }
+    requires buckets { (D.layout desk.old).buckets ≤ most_buckets }
     requires rest { IsDeskAtRest (D.layout desk.old) (D.out desk.old) (D.seen desk.old) }
     ensures committed { OnOk result (AreCommitted (D.layout desk.old) (D.seen desk.old) (D.seen desk.new)) }
     ensures layout { D.layout desk.new ≡ D.layout desk.old }
@@ -65,7 +66,7 @@ fn found_by<R: Threads + Sync, D: Desk>(
     trail: &mut Trail,
     query: &str,
 ) -> Result<u64, AllocError>
-    requires buckets { (D.layout desk.old).buckets ≤ 256 }
+    requires buckets { (D.layout desk.old).buckets ≤ most_buckets }
     requires rest { IsDeskAtRest (D.layout desk.old) (D.out desk.old) (D.seen desk.old) }
     ensures found { IfOk result (FindsBy (D.layout desk.old) (D.seen desk.old) (D.seen desk.new) query.now) }
     ensures layout { D.layout desk.new ≡ D.layout desk.old }

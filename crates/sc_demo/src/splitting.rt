@@ -1,6 +1,7 @@
 //! The split beside the workers.
 ghost use Rattle.std.specs.Prelude.{◌≡◌, ◌≤◌, codes};
 ghost use Rattle.sc_cores.specs.Cores.{outside_of};
+ghost use Rattle.sc_router.specs.Route.{most_buckets};
 ghost use Rattle.sc_collection.specs.Desks.{IsDeskAtRest};
 ghost use Rattle.sc_demo.specs.Splitting.{SplitsFirst};
 
@@ -17,7 +18,7 @@ pub fn split_first<D: Desk, H: Hosts, P: Pace>(
     pace: &mut P,
     trail: &mut Trail,
 ) -> SplitEnd
-    requires buckets { (D.layout desk.old).buckets ≤ 256 }
+    requires buckets { (D.layout desk.old).buckets ≤ most_buckets }
     requires rest { IsDeskAtRest (D.layout desk.old) (D.out desk.old) (D.seen desk.old) }
     ensures split { SplitsFirst (D.layout desk.old)
         (record {

@@ -1,5 +1,6 @@
 //! The orders of one worker.
 ghost use Rattle.std.specs.Prelude.{◌≡◌, ◌≤◌, ◌<◌, ◌^◌, length, map};
+ghost use Rattle.sc_router.specs.Route.{most_buckets};
 ghost use Rattle.sc_collection.specs.Desks.{IsDeskAtRest};
 ghost use Rattle.sc_workload.specs.Batches.{IsSmall, contents};
 ghost use Rattle.sc_workload.specs.Workload.{orders_of};
@@ -29,7 +30,7 @@ pub fn write<D: Desk, C: Clock>(
     requires most { count ≤ 100000 }
     requires worker { worker < workers }
     requires workers { workers ≤ 64 }
-    requires buckets { (D.layout desk.old).buckets ≤ 256 }
+    requires buckets { (D.layout desk.old).buckets ≤ most_buckets }
     requires rest { IsDeskAtRest (D.layout desk.old) (D.out desk.old) (D.seen desk.old) }
     ensures made { MakesOrders C.gives (D.layout desk.old) (writing (D.seen desk.old) clock.old) (writing (D.seen desk.new) clock.new)
         (orders_of (record { seed = seed; count = count }) worker workers) result }
@@ -56,7 +57,7 @@ fn write_batches<D: Desk, C: Clock>(
 ) -> Written
     requires batches { ArePlain batches.now }
     requires few { length (contents batches.now) < 2 ^ 32 }
-    requires buckets { (D.layout desk.old).buckets ≤ 256 }
+    requires buckets { (D.layout desk.old).buckets ≤ most_buckets }
     requires rest { IsDeskAtRest (D.layout desk.old) (D.out desk.old) (D.seen desk.old) }
     ensures made { MakesOrders C.gives (D.layout desk.old) (writing (D.seen desk.old) clock.old) (writing (D.seen desk.new) clock.new)
         (contents batches.now) result }
@@ -83,7 +84,7 @@ fn write_batch<D: Desk, C: Clock>(
     batch: &Batch,
 ) -> Written
     requires plain { IsPlain batch.now }
-    requires buckets { (D.layout desk.old).buckets ≤ 256 }
+    requires buckets { (D.layout desk.old).buckets ≤ most_buckets }
     requires rest { IsDeskAtRest (D.layout desk.old) (D.out desk.old) (D.seen desk.old) }
     ensures made { MakesOrders C.gives (D.layout desk.old) (writing (D.seen desk.old) clock.old) (writing (D.seen desk.new) clock.new)
         (map content_of batch.now.orders) result }

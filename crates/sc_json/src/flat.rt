@@ -11,7 +11,7 @@ ghost use Rattle.sc_json.specs.RawDocs.{raw_value, raw_fields, raw_fields_of};
 
 use crate::flat_value::{Unread, next_flat};
 use json::{Reader, Scratch, Token};
-use sc_record::{List, Text};
+use sc_record::{List, MAX_ORDERS, Text};
 use sc_schema::{RawDoc, RawField, RawValue};
 use std::alloc::{AllocError, Global};
 use std::cmp::Ordering;
@@ -19,14 +19,11 @@ use std::cmp::Ordering;
 /// For how many members a document takes room with its first.
 const FEW_MEMBERS: usize = 8;
 
-/// The most documents that are kept. No update has more.
-const MOST_DOCS: usize = 4096;
-
 /// The most members of a document that is read here: to put each at its place takes time that grows with their square.
 const MOST_MEMBERS: usize = 64;
 
-/// The documents of a body that is an array of at most 4,096 flat objects, each of which has at most 64 keys, each once. `None`
-/// says nothing of a body.
+/// The documents of a body that is an array of no more flat objects than an update has orders, each of which has at most 64 keys,
+/// each once. `None` says nothing of a body.
 pub fn flat_docs(alloc: Global, body: &[u8]) -> Result<Option<List<RawDoc>>, AllocError>
     ensures { IfOk result (λ found. IfSome found
         (λ docs. option_and_then flat.docs_of (json_of body.now) ≡ Some (map flat.doc_fields docs))) }
@@ -73,7 +70,7 @@ fn rest_of_docs(alloc: Global, reader: &mut Reader<'_>) -> Result<List<RawDoc>, 
 {
     let mut docs = List::new(alloc);
     'docs: while !reader.take_end_array() {
-        if docs.len() >= MOST_DOCS {
+        if docs.len() >= MAX_ORDERS {
             return Err(Unread::Other);
         }
         let doc = next_doc(alloc, reader)?;

@@ -1,5 +1,5 @@
--- Which changes an order may ask for (Solr Reference Guide, "Atomic Updates").
-use Rattle.std.specs.Prelude.{◌-◌, ◌^◌, Bool, true, false, ◌&&◌, ℤ, pos, negsuc, int_le, List, map, IsTrue, Option, Some, None, ⊤}
+-- Which changes an order may ask for (Solr Reference Guide, "Atomic Updates"), and how many orders an update may have.
+use Rattle.std.specs.Prelude.{ℕ, ◌-◌, ◌^◌, Bool, true, false, ◌&&◌, ℤ, pos, negsuc, int_le, List, map, IsTrue, Option, Some, None, ⊤}
 use mathlib.Core.Bool.{Bool-set}
 use Rattle.std.specs.Coded.{×_prop, Unit-prop}
 use Rattle.std.specs.List.{list_all, AllByRecursion, AllByRecursion-prop}
@@ -14,6 +14,10 @@ use Rattle.sc_record.specs.declared.order.How.TheVariants as hows
 use Rattle.sc_record.specs.declared.order.FieldChange.{FieldChange}
 use Rattle.sc_record.specs.declared.order.Change.{Change}
 use Rattle.sc_record.specs.declared.order.Change.TheVariants as changes
+
+-- the most orders of an update
+abbrev pub order_limit : ℕ
+order_limit = 4096
 
 -- the number has 32 bits
 abbrev pub is_int : ℤ → Bool

@@ -54,7 +54,7 @@ pub use entry::Entry;
 pub use id::{Id, IdFault, MAX_ID_LENGTH};
 pub use kind::{MAX_NAME_LENGTH, kind_of};
 pub use list::List;
-pub use order::{Change, FieldChange, How, Order};
+pub use order::{Change, FieldChange, How, MAX_ORDERS, Order};
 pub use slice::{CoreId, SliceId, SubSlice};
 pub use term::Term;
 pub use text::Text;

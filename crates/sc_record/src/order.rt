@@ -6,6 +6,9 @@ use crate::list::List;
 use crate::text::Text;
 use crate::value::Value;
 
+/// The most orders of an update.
+pub const MAX_ORDERS: usize = 4_096;
+
 /// How an atomic update changes the values of one field (Solr Reference Guide, "Atomic Updates").
 #[derive(Debug, Drop)]
 pub enum How {

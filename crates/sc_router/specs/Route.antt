@@ -24,9 +24,17 @@ route_hash id = cast_signed w32 (route_bits id)
 abbrev pub plain_hash : List ℕ → ℤ
 plain_hash id = cast_signed w32 (murmur3 id 0)
 
--- a number of buckets: a power of two from 1 to 256
+-- the most buckets, as a power of two
+abbrev pub most_bucket_bits : ℕ
+most_bucket_bits = 8
+
+-- the most buckets
+abbrev pub most_buckets : ℕ
+most_buckets = 2 ^ most_bucket_bits
+
+-- a number of buckets: a power of two, from 1 to the most
 abbrev pub IsBucketCount : ℕ → Type 0
-IsBucketCount buckets = (k : ℕ) × (k ≤ 8) × (buckets ≡ 2 ^ k)
+IsBucketCount buckets = (k : ℕ) × (k ≤ most_bucket_bits) × (buckets ≡ 2 ^ k)
 
 -- the bucket of an id
 abbrev pub bucket_of : List ℕ → ℕ → ℕ

@@ -15,4 +15,4 @@ mod part;
 mod route;
 mod share;
 
-pub use route::{bucket_of, key_range, plain_hash, route_hash};
+pub use route::{MOST_BUCKETS, bucket_of, key_range, plain_hash, route_hash};

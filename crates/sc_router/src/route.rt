@@ -11,6 +11,9 @@ use crate::part::{Part, first_part};
 use crate::share::{joined, key_and_count};
 use sc_hash::{Range, murmur3};
 
+/// The most buckets over which ids are spread.
+pub const MOST_BUCKETS: usize = 256;
+
 // The bits of a routing hash, and how many of the lowest ones an empty last part leaves open.
 #[derive(Clone, Copy)]
 struct Routing {

@@ -12,7 +12,8 @@ use Rattle.sc_reply.specs.Refusals as refusals
 use Rattle.sc_commands.specs.declared.batch.Batch.{Batch}
 use Rattle.sc_router.specs.Route.{IsBucketCount}
 use Rattle.sc_collection.specs.Kept.{stops_of_request, trail_room}
-use Rattle.sc_commands.specs.Updates.{update_of, order_limit}
+use Rattle.sc_record.specs.Orders.{order_limit}
+use Rattle.sc_commands.specs.Updates.{update_of}
 use Rattle.sc_journal.specs.Journal.{last_of}
 use Rattle.sc_journal.specs.Outcomes.{Outcome, accepted, conflict, partial, log_full, out_of_memory}
 use Rattle.sc_seen.specs.Seen.{Layout, Seen, SeesMore}

@@ -1,7 +1,8 @@
 -- What the code reads of a request, as the definitions see it.
 use Rattle.std.specs.Prelude.{◌≡◌, ◌≤◌, ◌<◌, ◌^◌, List, length, IfSome, ⊤}
 use Rattle.sc_reply.specs.Refusals as refusals
-use Rattle.sc_commands.specs.Updates.{update_of, order_limit}
+use Rattle.sc_record.specs.Orders.{order_limit}
+use Rattle.sc_commands.specs.Updates.{update_of}
 use Rattle.sc_model.specs.declared.message.Param.{Param}
 use Rattle.sc_admin.specs.Commands.{command_of}
 use Rattle.sc_admin.specs.Cuts.{IsCutIfAny}

@@ -1,8 +1,9 @@
 //! Laws of the exchanges of a connection, above their definitions, and its limits.
 
-ghost use Rattle.std.specs.Prelude.{◌≡◌, ◌+◌, ◌*◌, ◌^◌, ◌≤◌};
+ghost use Rattle.std.specs.Prelude.{◌≡◌, ◌+◌, ◌*◌, ◌≤◌};
+ghost use Rattle.sc_record.specs.Orders.{order_limit};
+ghost use Rattle.sc_router.specs.Route.{most_buckets};
 ghost use Rattle.sc_collection.specs.Kept.{stops_of_request};
-ghost use Rattle.sc_commands.specs.Updates.{order_limit};
 ghost use Rattle.sc_session.specs.Requests.{most_ids, most_rows, last_row};
 ghost use Rattle.sc_session.specs.declared.asked.TheConstants.{MOST_IDS};
 ghost use Rattle.sc_session.specs.declared.select.TheConstants.{MOST_ROWS, LAST_ROW};
@@ -23,11 +24,11 @@ pub fn gets_of_ids_show_own_writes<C: Clock>()
 {}
 
 /// The limits that a user meets are the numbers of the definitions, and a trail has room for the stops of any one request: two for
-/// each order of an update and one for each of 2^8 buckets, or one for each id of a get.
+/// each order of an update and one for each bucket, or one for each id of a get.
 pub fn limits_are_as_defined()
     ensures ids { MOST_IDS ≡ most_ids }
     ensures rows { MOST_ROWS ≡ most_rows }
     ensures last_row { LAST_ROW ≡ last_row }
-    ensures stops_of_an_update { stops_of_request ≡ 2 * order_limit + 2 ^ 8 }
+    ensures stops_of_an_update { stops_of_request ≡ 2 * order_limit + most_buckets }
     ensures stops_of_a_get { most_ids ≤ stops_of_request }
 {}

@@ -4,7 +4,7 @@ ghost use Rattle.sc_seen.specs.Batches.{deletes};
 ghost use Rattle.sc_bucket.specs.Events.{outcome_of};
 ghost use Rattle.sc_collection.specs.Desks.{IsDeskAtRest};
 ghost use Rattle.sc_collection.specs.Kept.{trail_room};
-ghost use Rattle.sc_commands.specs.Updates.{order_limit};
+ghost use Rattle.sc_record.specs.Orders.{order_limit};
 ghost use Rattle.sc_update.specs.Updated.{IsUpdated, order_fault, commit_fault};
 ghost use Rattle.sc_collection.specs.Committing.{commit_outcome};
 ghost use Rattle.sc_update.specs.Steps.{AnswersAll, Takes, HasRoomToShowOne, ending};

@@ -16,8 +16,6 @@ pub fn cause_line(alloc: Global, name: &str) -> Result<String, Fault> {
 
 fn plain_cause(name: &str) -> Result<Cause<'static>, Fault> {
     match name {
-        "BadHead" => Ok(Cause::BadHead),
-        "TooLarge" => Ok(Cause::TooLarge),
         "NotFound" => Ok(Cause::NotFound),
         "MethodNotAllowed" => Ok(Cause::MethodNotAllowed),
         "EncodedBody" => Ok(Cause::EncodedBody),

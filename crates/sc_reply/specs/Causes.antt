@@ -5,8 +5,6 @@ use Rattle.sc_reply.specs.declared.cause.Cause.TheVariants as causes
 
 -- the refusal of a cause, whose names are borrowed
 abbrev pub refusal_of : Cause → refusals.Refusal
-refusal_of causes.BadHead = refusals.bad_head
-refusal_of causes.TooLarge = refusals.too_large
 refusal_of causes.NotFound = refusals.not_found
 refusal_of causes.MethodNotAllowed = refusals.method_not_allowed
 refusal_of causes.EncodedBody = refusals.encoded_body

@@ -9,10 +9,6 @@ use std::alloc::{AllocError, Global};
 /// Why a request is refused.
 #[derive(Debug, Drop)]
 pub enum Cause<'a> {
-    /// The bytes are no request, or its body's length or coding is malformed (RFC 9112).
-    BadHead,
-    /// The head or the body is longer than is read.
-    TooLarge,
     /// No such path.
     NotFound,
     /// Neither GET nor POST.
@@ -93,8 +89,7 @@ impl<'a> Cause<'a> {
         ensures { result ≡ status_of (refusal_of self.now) }
     {
         match self {
-            Cause::BadHead
-            | Cause::BadJson
+            Cause::BadJson
             | Cause::BadShape { .. }
             | Cause::TooMany
             | Cause::NoId
@@ -109,7 +104,6 @@ impl<'a> Cause<'a> {
             | Cause::RangeTooSmall
             | Cause::BadRanges
             | Cause::TooManySlices => 400,
-            Cause::TooLarge => 413,
             Cause::NotFound => 404,
             Cause::MethodNotAllowed => 405,
             Cause::EncodedBody => 415,
@@ -126,8 +120,6 @@ impl<'a> Cause<'a> {
         ensures { IfOk result (λ text. text ≡ message_of (refusal_of self.now)) }
     {
         match self {
-            Cause::BadHead => Text::new(alloc, "bad request"),
-            Cause::TooLarge => Text::new(alloc, "request is too large"),
             Cause::NotFound => Text::new(alloc, "not found"),
             Cause::MethodNotAllowed => Text::new(alloc, "method not allowed"),
             Cause::EncodedBody => Text::new(alloc, "encoded bodies are not read"),

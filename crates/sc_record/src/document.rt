@@ -69,14 +69,6 @@ impl Doc {
             Err(_) => None,
         }
     }
-
-    pub fn into_fields(self) -> List<Field>
-        ensures value { result ≡ self }
-        ensures document { IsDocument result }
-    {
-        let Doc { fields } = self;
-        fields
-    }
 }
 
 impl CloneIn for Doc {

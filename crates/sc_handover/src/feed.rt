@@ -10,7 +10,7 @@ use sc_bucket::Bucket;
 use sc_record::CoreId;
 
 /// How many rows of a snapshot one piece of a feed looks at, at most.
-pub const FEED_LIMIT: u32 = 64;
+const FEED_LIMIT: u32 = 64;
 
 /// Feeds the core a piece: looks at the next 64 rows of its snapshot, or at all that are left where they are fewer, and applies those
 /// whose hash is in the core's range. Says whether no row is left; then the core's feed is gone. It takes no memory.

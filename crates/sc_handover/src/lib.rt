@@ -44,7 +44,7 @@ mod rejoining;
 pub use aborting::abort;
 pub use beginning::{BeginFault, begin};
 pub use drop::drop_shard;
-pub use feed::{FEED_LIMIT, feed_piece};
+pub use feed::feed_piece;
 pub use getting_ready::ready;
 pub use growing::grow;
 pub use leading::take_lead;

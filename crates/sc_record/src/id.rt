@@ -13,7 +13,7 @@ use std::marker::Model;
 use thiserror::Error;
 
 /// The most bytes that an id has.
-pub const MAX_ID_LENGTH: usize = 512;
+const MAX_ID_LENGTH: usize = 512;
 
 /// What names a document: a text of 1 to 512 bytes, which contracts see as its UTF-8 bytes.
 #[derive(Clone, Debug, Drop)]

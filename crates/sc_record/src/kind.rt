@@ -4,7 +4,7 @@ ghost use Rattle.sc_record.specs.Fields.{kind_of};
 use crate::value::Kind;
 
 /// The most bytes that the name of a dynamic field has.
-pub const MAX_NAME_LENGTH: usize = 256;
+const MAX_NAME_LENGTH: usize = 256;
 
 /// The kind of the field of this name, and whether it has many values: by the name's ending, as
 /// the dynamic fields of Solr's default schema are (Solr Reference Guide, "Dynamic Fields").

@@ -5,7 +5,7 @@ use std::marker::Model;
 use std::str;
 
 /// The most bytes of a text that lies in the value itself, so that a `Text` takes 16 bytes.
-pub const MAX_SHORT_LENGTH: usize = 14;
+const MAX_SHORT_LENGTH: usize = 14;
 
 /// A text of at most 14 bytes, which lies in the value itself, and which contracts see as its UTF-8 bytes.
 #[derive(Drop)]

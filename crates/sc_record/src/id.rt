@@ -15,7 +15,7 @@ use thiserror::Error;
 /// The most bytes that an id has.
 const MAX_ID_LENGTH: usize = 512;
 
-/// What names a document: a text of 1 to 512 bytes, which contracts see as its UTF-8 bytes.
+/// What names a document: a text that is not empty and not too long, which contracts see as its UTF-8 bytes.
 #[derive(Clone, Debug, Drop)]
 pub struct Id {
     text: Text,
@@ -93,7 +93,7 @@ impl PartialEq for Id {
     ghost laws = { partial_equiv_from_equiv nat_list_eq_equiv };
 
     fn eq(&self, other: &Id) -> bool {
-        self.as_str() == other.as_str()
+        self.text == other.text
     }
 }
 
@@ -121,6 +121,6 @@ impl Ord for Id {
     ghost matches_eq = { texts_ties };
 
     fn cmp(&self, other: &Id) -> Ordering {
-        self.as_str().cmp(other.as_str())
+        self.text.cmp(&other.text)
     }
 }

@@ -6,8 +6,8 @@
 //! version by `shown` and `found`, test an order's condition by `meets`, and give each new write the
 //! version of `next_version`, which is above the clock and at least the timestamp's.
 //!
-//! Proved: `next_version` is above the clock and at least the timestamp's (up to 2^42 - 1 ms); `meets` is the rule of
-//! conditions; `kind_of`, `found`; ids of 1 to 512 bytes; an `Order`'s changes fit their fields; a `Text` is the text that it
+//! Proved: `next_version` is above the clock and at least the timestamp's (up to the last); `meets` is the rule of
+//! conditions; `kind_of`, `found`; an id is neither empty nor too long; an `Order`'s changes fit their fields; a `Text` is the text that it
 //! was made of, however it is kept; a core's replica is counted from 1, and a planned slice has a range, a replica and a
 //! node; `clone_in` gives a value that equals its original.
 //!

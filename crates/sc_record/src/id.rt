@@ -13,7 +13,7 @@ use std::marker::Model;
 use thiserror::Error;
 
 /// The most bytes that an id has.
-const MAX_ID_LENGTH: usize = 512;
+pub const MAX_ID_LENGTH: usize = 512;
 
 /// What names a document: a text that is not empty and not too long, which contracts see as its UTF-8 bytes.
 #[derive(Clone, Debug, Drop)]

@@ -51,7 +51,7 @@ pub use ack::Ack;
 pub use copy::{CloneIn, clone_items};
 pub use document::{Doc, Field};
 pub use entry::Entry;
-pub use id::{Id, IdFault};
+pub use id::{Id, IdFault, MAX_ID_LENGTH};
 pub use kind::kind_of;
 pub use list::List;
 pub use order::{Change, FieldChange, How, MAX_ORDERS, Order};

@@ -1,6 +1,9 @@
 -- Why a request is refused: the status (RFC 9110, section 15) and the message of each refusal.
 use Rattle.std.specs.Prelude.{ℕ, ℤ, List, ◌++◌, codes, decimal}
 use Rattle.std.specs.Fmt.{signed_decimal}
+use Rattle.sc_record.specs.Ids.{id_limit}
+use Rattle.sc_record.specs.Orders.{order_limit}
+use Rattle.sc_cluster.specs.Limits.{most_slices}
 
 -- why a request is refused, with the names and the numbers that its message shows
 pub data Refusal : Type 0 where
@@ -72,9 +75,9 @@ message_of encoded_body = codes "encoded bodies are not read"
 message_of no_length = codes "length required"
 message_of bad_json = codes "invalid JSON"
 message_of (bad_shape at) = codes "unexpected content at command " ++ decimal at
-message_of too_many = codes "more than 4096 commands"
+message_of too_many = codes "more than " ++ decimal order_limit ++ codes " commands"
 message_of no_id = codes "Document is missing mandatory uniqueKey field: id"
-message_of id_too_long = codes "id is longer than 512 bytes"
+message_of id_too_long = codes "id is longer than " ++ decimal id_limit ++ codes " bytes"
 message_of (unknown_field name) = codes "unknown field '" ++ name ++ codes "'"
 message_of (wrong_value name) = codes "wrong value for field '" ++ name ++ codes "'"
 message_of (partial name) = codes "field '" ++ name ++ codes "' can't take this change"
@@ -88,7 +91,7 @@ message_of (running shard) = codes "split of " ++ shard ++ codes " is running"
 message_of (shard_state state) = codes "shard is " ++ state
 message_of range_too_small = codes "range of shard is too small"
 message_of bad_ranges = codes "ranges do not cover the shard"
-message_of too_many_slices = codes "more than 256 shards"
+message_of too_many_slices = codes "more than " ++ decimal most_slices ++ codes " shards"
 message_of (host_fault core) = codes "host failed on core " ++ core
 message_of stopped = codes "split was stopped"
 message_of memory = codes "out of memory"

@@ -3,7 +3,8 @@ ghost use Rattle.std.specs.Fmt.{signed_decimal};
 ghost use Rattle.sc_reply.specs.Refusals.{status_of, message_of};
 ghost use Rattle.sc_reply.specs.Causes.{refusal_of};
 
-use sc_record::Text;
+use sc_cluster::MOST_SLICES;
+use sc_record::{MAX_ID_LENGTH, MAX_ORDERS, Text};
 use std::alloc::{AllocError, Global};
 
 /// Why a request is refused.
@@ -23,11 +24,11 @@ pub enum Cause<'a> {
     BadShape {
         at: u32,
     },
-    /// More than 4,096 orders.
+    /// More orders than an update may have.
     TooMany,
     /// A document without an id, or with one that is null or empty.
     NoId,
-    /// An id of more than 512 bytes.
+    /// An id that is too long.
     IdTooLong,
     /// A field of which no kind is known.
     UnknownField {
@@ -126,9 +127,9 @@ impl<'a> Cause<'a> {
             Cause::NoLength => Text::new(alloc, "length required"),
             Cause::BadJson => Text::new(alloc, "invalid JSON"),
             Cause::BadShape { at } => numbered(alloc, "unexpected content at command ", *at),
-            Cause::TooMany => Text::new(alloc, "more than 4096 commands"),
+            Cause::TooMany => limited(alloc, "more than ", MAX_ORDERS, " commands"),
             Cause::NoId => Text::new(alloc, "Document is missing mandatory uniqueKey field: id"),
-            Cause::IdTooLong => Text::new(alloc, "id is longer than 512 bytes"),
+            Cause::IdTooLong => limited(alloc, "id is longer than ", MAX_ID_LENGTH, " bytes"),
             Cause::UnknownField { name } => quoted(alloc, "unknown field '", name, "'"),
             Cause::WrongValue { name } => quoted(alloc, "wrong value for field '", name, "'"),
             Cause::Partial { name } => quoted(alloc, "field '", name, "' can't take this change"),
@@ -145,7 +146,7 @@ impl<'a> Cause<'a> {
             Cause::ShardState { state } => ending(alloc, "shard is ", state),
             Cause::RangeTooSmall => Text::new(alloc, "range of shard is too small"),
             Cause::BadRanges => Text::new(alloc, "ranges do not cover the shard"),
-            Cause::TooManySlices => Text::new(alloc, "more than 256 shards"),
+            Cause::TooManySlices => limited(alloc, "more than ", MOST_SLICES, " shards"),
             Cause::HostFault { core } => ending(alloc, "host failed on core ", core),
             Cause::Stopped => Text::new(alloc, "split was stopped"),
             Cause::Memory => Text::new(alloc, "out of memory"),
@@ -158,6 +159,13 @@ fn numbered(alloc: Global, before: &str, n: u32) -> Result<Text, AllocError>
     ensures { IfOk result (λ text. text ≡ before.now ++ decimal n) }
 {
     Ok(Text::from_string(alloc, format!(in alloc; "{before}{n}")?)?)
+}
+
+/// A limit between words.
+fn limited(alloc: Global, before: &str, limit: usize, after: &str) -> Result<Text, AllocError>
+    ensures { IfOk result (λ text. text ≡ before.now ++ decimal limit ++ after.now) }
+{
+    Ok(Text::from_string(alloc, format!(in alloc; "{before}{limit}{after}")?)?)
 }
 
 /// The words and a name after them.

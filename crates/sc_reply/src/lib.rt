@@ -1,7 +1,7 @@
 //! What is answered: the bodies of all answers to updates, gets and searches, and the status and the message of each cause of
 //! a refusal (RFC 8259; Solr Reference Guide, "Response Writers").
 //!
-//! It may depend on `sc_record` and `sc_json`, which shows documents and prints. The layers above use the clauses that give
+//! It may depend on `sc_record` and `sc_cluster`, whose limits its messages tell, and on `sc_json`, which shows documents and prints. The layers above use the clauses that give
 //! each body's whole text, and those of `Cause::status` and `Cause::message`.
 //!
 //! Proved: the bodies of updates, errors and gets, and their messages, are the texts of `specs/Bodies` and `Refusals`.

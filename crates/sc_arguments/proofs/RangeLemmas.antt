@@ -5,7 +5,7 @@ use Rattle.sc_collection.specs.declared.shape.Shape.{Shape}
 use Rattle.sc_collection.specs.Shapes.{is_shape, IsShape, is_in_range}
 use Rattle.sc_arguments.specs.declared.asked.Server.{Server}
 use Rattle.sc_arguments.specs.declared.asked.Demo.{Demo}
-use Rattle.sc_arguments.specs.Arguments.{IsServer, IsDemo}
+use Rattle.sc_arguments.specs.Arguments.{most_workers, IsServer, most_orders, IsDemo}
 
 pub asked_is_shape : (shape asked : Shape) → Some shape ≡ cond (is_shape asked) (Some asked) None → IsShape shape
 asked_is_shape shape asked found = by (is_shape asked) refl found where
@@ -23,15 +23,15 @@ four_true a b c d ha hb hc hd = rw ha (rw hb (rw hc hd))
 
 -- it can be run where its shape is one that a collection may have, and each of its own numbers is in its range
 pub server_in_range : (server : Server) → IsShape server.shape → (1 ≤ server.port) × (server.port ≤ 65535)
-    → (1 ≤ server.workers) × (server.workers ≤ 64) → (1 ≤ server.max_connections) × (server.max_connections ≤ 4294967295) → IsServer server
+    → (1 ≤ server.workers) × (server.workers ≤ most_workers) → (1 ≤ server.max_connections) × (server.max_connections ≤ 4294967295) → IsServer server
 server_in_range server shape port workers connections =
-    four_true (is_shape server.shape) (is_in_range 1 65535 server.port) (is_in_range 1 64 server.workers) (is_in_range 1 4294967295 server.max_connections)
-    shape (in_range 1 65535 server.port port) (in_range 1 64 server.workers workers) (in_range 1 4294967295 server.max_connections connections)
+    four_true (is_shape server.shape) (is_in_range 1 65535 server.port) (is_in_range 1 most_workers server.workers) (is_in_range 1 4294967295 server.max_connections)
+    shape (in_range 1 65535 server.port port) (in_range 1 most_workers server.workers workers) (in_range 1 4294967295 server.max_connections connections)
 
 two_true : (a b : Bool) → a ≡ true → b ≡ true → (a && b) ≡ true
 two_true a b ha hb = rw ha hb
 
 -- it can be made where each of its numbers is in its range
-pub demo_in_range : (demo : Demo) → (1 ≤ demo.count) × (demo.count ≤ 100000) → (1 ≤ demo.workers) × (demo.workers ≤ 64) → IsDemo demo
+pub demo_in_range : (demo : Demo) → (1 ≤ demo.count) × (demo.count ≤ most_orders) → (1 ≤ demo.workers) × (demo.workers ≤ most_workers) → IsDemo demo
 demo_in_range demo count workers =
-    two_true (is_in_range 1 100000 demo.count) (is_in_range 1 64 demo.workers) (in_range 1 100000 demo.count count) (in_range 1 64 demo.workers workers)
+    two_true (is_in_range 1 most_orders demo.count) (is_in_range 1 most_workers demo.workers) (in_range 1 most_orders demo.count count) (in_range 1 most_workers demo.workers workers)

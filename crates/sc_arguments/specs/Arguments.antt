@@ -46,10 +46,15 @@ server_of given = record {
   max_connections = number_or 4294967295 (codes "--max-connections") given;
 }
 
+-- the most workers of a server or of a demonstration
+abbrev pub most_workers : ℕ
+most_workers = 64
+
 -- each number of the server is in its range
 abbrev pub is_server : Server → Bool
 is_server server =
-    is_shape server.shape && is_in_range 1 65535 server.port && is_in_range 1 64 server.workers && is_in_range 1 4294967295 server.max_connections
+    is_shape server.shape && is_in_range 1 65535 server.port && is_in_range 1 most_workers server.workers
+    && is_in_range 1 4294967295 server.max_connections
 
 -- it is one that can be run
 abbrev pub IsServer : Server → Type 0
@@ -63,9 +68,13 @@ demo_of given = record {
   workers = number_or 4 (codes "--workers") given;
 }
 
+-- the most orders of a demonstration
+abbrev pub most_orders : ℕ
+most_orders = 100000
+
 -- each number of the workload is in its range; a seed may be any number of 64 bits
 abbrev pub is_demo : Demo → Bool
-is_demo demo = is_in_range 1 100000 demo.count && is_in_range 1 64 demo.workers
+is_demo demo = is_in_range 1 most_orders demo.count && is_in_range 1 most_workers demo.workers
 
 -- it is one that can be made
 abbrev pub IsDemo : Demo → Type 0

@@ -11,6 +11,12 @@ use clap::ArgMatches;
 use sc_collection::Shape;
 use std::alloc::{AllocError, Global};
 
+/// The most workers of a server or of a demonstration.
+const MOST_WORKERS: u32 = 64;
+
+/// The most orders of a demonstration.
+const MOST_ORDERS: u32 = 100_000;
+
 /// What the arguments ask for.
 #[derive(Clone, Copy, Debug, PartialEq, Eq)]
 pub enum Asked {
@@ -40,7 +46,7 @@ pub struct Server {
     pub clock: Option<u64>,
     /// The port at which the server listens, from 1.
     pub port: u16,
-    /// How many workers serve connections, from 1 to 64.
+    /// How many workers serve connections, from 1.
     pub workers: u32,
     /// How many connections each worker serves, from 1.
     pub max_connections: u32,
@@ -51,9 +57,9 @@ pub struct Server {
 pub struct Demo {
     /// The seed of the workload.
     pub seed: u64,
-    /// How many orders it has, from 1 to 100000.
+    /// How many orders it has, from 1.
     pub count: u32,
-    /// How many workers make it, from 1 to 64.
+    /// How many workers make it, from 1.
     pub workers: u32,
 }
 
@@ -127,7 +133,7 @@ fn server_in(found: &ArgMatches<'_>) -> Option<Server>
         shape: shape_of(found)?,
         clock: number_given(found, "clock"),
         port: within(number_or(8983, found, "port"), 1, 65_535)? as u16,
-        workers: within(number_or(4, found, "workers"), 1, 64)?,
+        workers: within(number_or(4, found, "workers"), 1, MOST_WORKERS)?,
         max_connections: within(
             number_or(4_294_967_295, found, "max-connections"),
             1,
@@ -155,7 +161,7 @@ fn demo_in(found: &ArgMatches<'_>) -> Option<Demo>
 {
     Some(Demo {
         seed: number_or(1, found, "seed"),
-        count: within(number_or(1000, found, "count"), 1, 100_000)?,
-        workers: within(number_or(4, found, "workers"), 1, 64)?,
+        count: within(number_or(1000, found, "count"), 1, MOST_ORDERS)?,
+        workers: within(number_or(4, found, "workers"), 1, MOST_WORKERS)?,
     })
 }

@@ -5,14 +5,14 @@ use Rattle.std.proofs.lemmas.Bool.{and_parts}
 use Rattle.std.proofs.lemmas.Bool.Decides.{nat_tests}
 use Rattle.sc_collection.specs.Shapes.{is_in_range}
 use Rattle.sc_arguments.specs.declared.asked.Demo.{Demo}
-use Rattle.sc_arguments.specs.Arguments.{IsDemo}
+use Rattle.sc_arguments.specs.Arguments.{most_workers, most_orders, IsDemo}
 use Rattle.sc_demo.specs.declared.task.Task.TheVariants as tasks
 use Rattle.sc_demo.specs.Making.{IsTaskOf, task_at}
 
 -- the numbers of a demonstration that its making needs
 pub record HasNumbers (demo : Demo) : Type 0 where
-  pub count : (1 ≤ demo.count) × (demo.count ≤ 100000)
-  pub workers : (1 ≤ demo.workers) × (demo.workers ≤ 64)
+  pub count : (1 ≤ demo.count) × (demo.count ≤ most_orders)
+  pub workers : (1 ≤ demo.workers) × (demo.workers ≤ most_workers)
 
 in_range : (least most number : ℕ) → is_in_range least most number ≡ true → (least ≤ number) × (number ≤ most)
 in_range least most number is =
@@ -23,8 +23,8 @@ in_range least most number is =
 
 pub numbers : (demo : Demo) → IsDemo demo → HasNumbers demo
 numbers demo is =
-    let both = and_parts (is_in_range 1 100000 demo.count) (is_in_range 1 64 demo.workers) is in
-    record { count = in_range 1 100000 demo.count both.0; workers = in_range 1 64 demo.workers both.1 }
+    let both = and_parts (is_in_range 1 most_orders demo.count) (is_in_range 1 most_workers demo.workers) is in
+    record { count = in_range 1 most_orders demo.count both.0; workers = in_range 1 most_workers demo.workers both.1 }
 
 -- the task of each number is one of the workload
 pub task_fits : (demo : Demo) (number : ℕ) → IsTaskOf demo (task_at demo number)

@@ -12,7 +12,7 @@ use Rattle.sc_shared.specs.Passes.{seen_of}
 use Rattle.sc_shared.specs.Collections.{Locks, layout_of}
 use Rattle.sc_shared.specs.Sharing.{ArePasses}
 use Rattle.sc_arguments.specs.declared.asked.Demo.{Demo}
-use Rattle.sc_arguments.specs.Arguments.{IsDemo, demo_shape}
+use Rattle.sc_arguments.specs.Arguments.{most_orders, IsDemo, demo_shape}
 use Rattle.sc_server.specs.Crews.{seen_with}
 use Rattle.sc_server.specs.Needs.{AreNew}
 use Rattle.sc_server.specs.Reports.{StartsCores}
@@ -125,7 +125,7 @@ module _ {R C H P L : Type 0} (reports : Reports C H P) where
     pub after_is : new.passes ≡ Some after
     pub did_is : new.made ≡ Some did
     pub made : Makes reports (layout_of old.collection.now) old.demo old.task (making (seen_of before) old.crew) (making (seen_of after) new.crew) did
-    pub few : accepted_by did ≤ 100000
+    pub few : accepted_by did ≤ most_orders
     pub listener : new.crew.listener ≡ old.crew.listener
 
   -- each of the makers has worked

@@ -1,10 +1,11 @@
 //! All makers: they get their crews, work beside each other, and give their crews back.
-ghost use Rattle.std.specs.Prelude.{◌≡◌, ◌≤◌, ◌<◌, ◌^◌, ℕ, true, false, [], length, map, All, None, IfSome, IfOk, OnOk, vec_len, vec_capacity};
+ghost use Rattle.std.specs.Prelude.{◌≡◌, ◌≤◌, ◌<◌, ◌+◌, ◌^◌, ℕ, true, false, [], length, map, All, None, IfSome, IfOk, OnOk, vec_len, vec_capacity};
 ghost use Rattle.std.specs.List.{list_any, sum_by};
 ghost use Rattle.sc_cores.specs.Cores.{outside_of};
 ghost use Rattle.sc_shared.specs.Passes.{seen_of};
 ghost use Rattle.sc_shared.specs.Collections.{Locks, layout_of, SeesBoth};
 ghost use Rattle.sc_shared.specs.Sharing.{ArePasses};
+ghost use Rattle.sc_arguments.specs.Arguments.{most_workers, most_orders};
 ghost use Rattle.sc_server.specs.Crews.{SetsBelow, SetsReportedBelow, seen_with};
 ghost use Rattle.sc_server.specs.Serving.{IsOneStory};
 ghost use Rattle.sc_demo.specs.Making.{accepted_in, ran_out_in};
@@ -79,7 +80,7 @@ pub fn make_all<
 >(rt: &R, alloc: Global, makers: &mut [Maker<'a, R, C, H, P, L>], cores: &[Host]) -> Outcome
     requires ready { All IsReadyToMake makers.old }
     requires some { 1 ≤ length makers.old }
-    requires most { length makers.old ≤ 65 }
+    requires most { length makers.old ≤ most_workers + 1 }
     ensures makes { MakesAll
         (record {
           gives = C.gives;
@@ -135,9 +136,9 @@ fn work_all<
 
 /// What came of makers that have worked.
 fn outcome_of<'a, R, C, H, P, L>(alloc: Global, makers: &[Maker<'a, R, C, H, P, L>]) -> Outcome
-    requires few { All (λ maker. accepted_in maker.made ≤ 100000) makers.now }
+    requires few { All (λ maker. accepted_in maker.made ≤ most_orders) makers.now }
     requires some { 1 ≤ length makers.now }
-    requires most { length makers.now ≤ 65 }
+    requires most { length makers.now ≤ most_workers + 1 }
     ensures { IsOutcomeOf makers.now result }
 {
     if any_ran_out(makers) {
@@ -161,8 +162,8 @@ fn any_ran_out<'a, R, C, H, P, L>(makers: &[Maker<'a, R, C, H, P, L>]) -> bool
 
 /// How many orders were accepted.
 fn accepted_by<'a, R, C, H, P, L>(makers: &[Maker<'a, R, C, H, P, L>]) -> u32
-    requires few { All (λ maker. accepted_in maker.made ≤ 100000) makers.now }
-    requires most { length makers.now ≤ 65 }
+    requires few { All (λ maker. accepted_in maker.made ≤ most_orders) makers.now }
+    requires most { length makers.now ≤ most_workers + 1 }
     ensures { result ≡ sum_by (λ maker. accepted_in maker.made) makers.now }
 {
     let mut accepted = 0;

@@ -7,7 +7,7 @@ use Rattle.std.proofs.lemmas.List.Elements.{All-weaker}
 use Rattle.sc_lock.specs.Tokens.{splits_left}
 use Rattle.sc_collection.specs.Shapes.{is_shape, IsShape, is_in_range}
 use Rattle.sc_arguments.specs.declared.asked.Server.{Server}
-use Rattle.sc_arguments.specs.Arguments.{IsServer}
+use Rattle.sc_arguments.specs.Arguments.{most_workers, IsServer}
 use Rattle.sc_shared.specs.declared.passes.Passes.{Passes}
 use Rattle.sc_shared.specs.Passes.{BucketPass, seen_of, CanSplit}
 use Rattle.sc_shared.specs.Collections.{Locks, SeesTheSame, SeesOthers}
@@ -17,7 +17,7 @@ use Rattle.sc_server.specs.Needs.{AreNew}
 -- the numbers of a server that its making needs
 pub record HasNumbers (server : Server) : Type 0 where
   pub shape : IsShape server.shape
-  pub workers : (1 ≤ server.workers) × (server.workers ≤ 64)
+  pub workers : (1 ≤ server.workers) × (server.workers ≤ most_workers)
   pub most : 1 ≤ server.max_connections
 
 in_range : (least most number : ℕ) → is_in_range least most number ≡ true → (least ≤ number) × (number ≤ most)
@@ -31,14 +31,14 @@ pub numbers : (server : Server) → IsServer server → HasNumbers server
 numbers server is =
     let shape : Bool = is_shape server.shape in
     let port : Bool = is_in_range 1 65535 server.port in
-    let workers : Bool = is_in_range 1 64 server.workers in
+    let workers : Bool = is_in_range 1 most_workers server.workers in
     let connections : Bool = is_in_range 1 4294967295 server.max_connections in
     let third = and_parts (shape && port && workers) connections is in
     let second = and_parts (shape && port) workers third.0 in
     let first = and_parts shape port second.0 in
     record {
       shape = first.0;
-      workers = in_range 1 64 server.workers second.1;
+      workers = in_range 1 most_workers server.workers second.1;
       most = (in_range 1 4294967295 server.max_connections third.1).0;
     }
 

@@ -1,5 +1,5 @@
 //! The orders of one worker.
-ghost use Rattle.std.specs.Prelude.{◌≤◌, ◌<◌, IfOk};
+ghost use Rattle.std.specs.Prelude.{◌≤◌, ◌<◌, ◌^◌, IfOk};
 ghost use Rattle.sc_workload.specs.Workload.{Workload};
 ghost use Rattle.sc_workload.specs.Batches.{AreBatchesOf};
 
@@ -19,9 +19,8 @@ pub fn orders(
     workers: u32,
 ) -> Result<List<Batch>, AllocError>
     requires least { 1 ≤ count }
-    requires most { count ≤ 100000 }
+    requires most { count < 2 ^ 28 }
     requires worker { worker < workers }
-    requires workers { workers ≤ 64 }
     ensures { IfOk result (AreBatchesOf (record { seed = seed; count = count }) worker workers) }
 {
     let documents = (count + 1) / 2;

@@ -36,14 +36,18 @@ shape_of given = record {
 abbrev pub script_of : List Setting → Script
 script_of given = record { shape = shape_of given; clock = number_given (codes "--clock") given }
 
--- the server that options ask for: by default it listens at port 8983, and four workers serve it, each as many connections as there are numbers for
+-- the most connections that each worker of a server serves: as many as there are numbers for
+abbrev pub most_connections : ℕ
+most_connections = 4294967295
+
+-- the server that options ask for: by default it listens at port 8983, and four workers serve it, each the most connections
 abbrev pub server_of : List Setting → Server
 server_of given = record {
   shape = shape_of given;
   clock = number_given (codes "--clock") given;
   port = number_or 8983 (codes "--port") given;
   workers = number_or 4 (codes "--workers") given;
-  max_connections = number_or 4294967295 (codes "--max-connections") given;
+  max_connections = number_or most_connections (codes "--max-connections") given;
 }
 
 -- the most workers of a server or of a demonstration
@@ -54,7 +58,7 @@ most_workers = 64
 abbrev pub is_server : Server → Bool
 is_server server =
     is_shape server.shape && is_in_range 1 65535 server.port && is_in_range 1 most_workers server.workers
-    && is_in_range 1 4294967295 server.max_connections
+    && is_in_range 1 most_connections server.max_connections
 
 -- it is one that can be run
 abbrev pub IsServer : Server → Type 0

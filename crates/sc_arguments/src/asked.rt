@@ -14,6 +14,9 @@ use std::alloc::{AllocError, Global};
 /// The most workers of a server or of a demonstration.
 const MOST_WORKERS: u32 = 64;
 
+/// The most connections that each worker of a server serves.
+const MOST_CONNECTIONS: u32 = 4_294_967_295;
+
 /// The most orders of a demonstration.
 const MOST_ORDERS: u32 = 100_000;
 
@@ -135,9 +138,9 @@ fn server_in(found: &ArgMatches<'_>) -> Option<Server>
         port: within(number_or(8983, found, "port"), 1, 65_535)? as u16,
         workers: within(number_or(4, found, "workers"), 1, MOST_WORKERS)?,
         max_connections: within(
-            number_or(4_294_967_295, found, "max-connections"),
+            number_or(u64::from(MOST_CONNECTIONS), found, "max-connections"),
             1,
-            4_294_967_295,
+            MOST_CONNECTIONS,
         )?,
     })
 }

@@ -7,7 +7,7 @@ use Rattle.std.proofs.lemmas.List.Elements.{All-weaker}
 use Rattle.sc_lock.specs.Tokens.{splits_left}
 use Rattle.sc_collection.specs.Shapes.{is_shape, IsShape, is_in_range}
 use Rattle.sc_arguments.specs.declared.asked.Server.{Server}
-use Rattle.sc_arguments.specs.Arguments.{most_workers, IsServer}
+use Rattle.sc_arguments.specs.Arguments.{most_connections, most_workers, IsServer}
 use Rattle.sc_shared.specs.declared.passes.Passes.{Passes}
 use Rattle.sc_shared.specs.Passes.{BucketPass, seen_of, CanSplit}
 use Rattle.sc_shared.specs.Collections.{Locks, SeesTheSame, SeesOthers}
@@ -32,14 +32,14 @@ numbers server is =
     let shape : Bool = is_shape server.shape in
     let port : Bool = is_in_range 1 65535 server.port in
     let workers : Bool = is_in_range 1 most_workers server.workers in
-    let connections : Bool = is_in_range 1 4294967295 server.max_connections in
+    let connections : Bool = is_in_range 1 most_connections server.max_connections in
     let third = and_parts (shape && port && workers) connections is in
     let second = and_parts (shape && port) workers third.0 in
     let first = and_parts shape port second.0 in
     record {
       shape = first.0;
       workers = in_range 1 most_workers server.workers second.1;
-      most = (in_range 1 4294967295 server.max_connections third.1).0;
+      most = (in_range 1 most_connections server.max_connections third.1).0;
     }
 
 -- passes that have seen the same have seen nothing still

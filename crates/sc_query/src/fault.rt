@@ -8,7 +8,7 @@ use thiserror::Error;
 #[derive(Clone, Copy, Debug, PartialEq, Eq, Error)]
 pub enum QueryFault {
     /// The place, in bytes from 0, of the first token that can't follow those before it; the text's length where it ends
-    /// too early, and 4096 where it is longer than that.
+    /// too early, and the most bytes of a query where it is longer than that.
     #[error("bad query at {at}")]
     At { at: u32 },
     /// Memory ran out. The text may be read again.

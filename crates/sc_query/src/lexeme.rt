@@ -2,6 +2,7 @@
 
 ghost use Rattle.std.specs.Prelude.{◌≡◌, ◌<◌, ◌≤◌, [], ◌∷◌, length, drop, IfOk, IfNone, IfSome, string_bytes};
 ghost use Rattle.std.specs.Str.{IsCharBoundary};
+ghost use Rattle.sc_query.specs.Grammar.{query_limit};
 ghost use Rattle.sc_query.specs.Tokens.{is_space, ends_run, ends_field, ends_quoted, up_to, plain};
 ghost use Rattle.sc_query.specs.Tokens.{is_cut_short, opens_quoted, opens_value};
 ghost use Rattle.sc_query.specs.Tokens.{token_of, run_token, quoted_leaf, word_at, token_at, placed, tokens_from};
@@ -159,8 +160,8 @@ fn run_lexeme<'a>(field: &'a str, run: &'a str) -> Lexeme<'a>
 
 // A leaf whose value is quoted, from the value's first byte on, and how many bytes it takes with its field.
 fn quoted_lexeme<'a>(field: &'a str, text: &'a str) -> (Lexeme<'a>, usize)
-    requires field { length field.now ≤ 4096 }
-    requires text { length text.now ≤ 4096 }
+    requires field { length field.now ≤ query_limit }
+    requires text { length text.now ≤ query_limit }
     ensures token { token_of result.0 ≡ (quoted_leaf field.now (up_to ends_quoted text.now) text.now).0 }
     ensures len { result.1 ≡ (quoted_leaf field.now (up_to ends_quoted text.now) text.now).1 }
 {
@@ -174,7 +175,7 @@ fn quoted_lexeme<'a>(field: &'a str, text: &'a str) -> (Lexeme<'a>, usize)
 
 // A token that is no parenthesis, and how many bytes it takes.
 fn word_at(text: &str) -> (Lexeme<'_>, usize)
-    requires { length text.now ≤ 4096 }
+    requires { length text.now ≤ query_limit }
     ensures token { token_of result.0 ≡ (word_at (up_to ends_field text.now) text.now).0 }
     ensures len { result.1 ≡ (word_at (up_to ends_field text.now) text.now).1 }
 {
@@ -191,7 +192,7 @@ fn word_at(text: &str) -> (Lexeme<'_>, usize)
 // The token that begins with a text's first byte, which is no space, and how many bytes it takes.
 fn lexeme_at(text: &str) -> (Lexeme<'_>, usize)
     requires some { 0 < length text.now }
-    requires in_limit { length text.now ≤ 4096 }
+    requires in_limit { length text.now ≤ query_limit }
     ensures token { token_of result.0 ≡ (token_at text.now).0 }
     ensures len { result.1 ≡ (token_at text.now).1 }
 {
@@ -204,7 +205,7 @@ fn lexeme_at(text: &str) -> (Lexeme<'_>, usize)
 
 /// The first token from a place of a text on; None where only spaces are left.
 pub fn next(text: &str, from: usize) -> Option<Found<'_>>
-    requires in_limit { length text.now ≤ 4096 }
+    requires in_limit { length text.now ≤ query_limit }
     requires start { IsCharBoundary text.now from }
     ensures none { IfNone result (tokens_from 0 from (drop from text.now) ≡ []) }
     ensures some { IfSome result (λ found. tokens_from 0 from (drop from text.now)

@@ -11,9 +11,9 @@ use std::alloc::Global;
 /// The longest text that is read, in bytes.
 const LONGEST: usize = 4096;
 
-/// Reads a query text of at most 4,096 bytes: words `field:value` and `*:*` under `NOT`, `AND` and `OR`, the tightest first,
+/// Reads a query text of at most `LONGEST` bytes: words `field:value` and `*:*` under `NOT`, `AND` and `OR`, the tightest first,
 /// and parentheses. A backslash stands for the character after it, and a value in quotes may hold spaces and parentheses.
-/// `AND` and `OR` group to the left, and at most 32 parentheses and `NOT`s may be open at once. Places count bytes from 0.
+/// `AND` and `OR` group to the left, and parentheses and `NOT`s may be open at once up to the limit of the grammar. Places count bytes from 0.
 ///
 /// It takes time in proportion to the text's length, and no recursion.
 pub fn parse(alloc: Global, text: &str) -> Result<Query, QueryFault>

@@ -3,7 +3,7 @@
 ghost use Rattle.std.specs.Prelude.{◌≡◌, ℕ, ◌+◌, ◌-◌, ◌≤◌, nat_lt, length, if◌then◌else◌, Ok, Err, None, IfOk, IfNone, IfSome};
 ghost use Rattle.sc_query.specs.Tokens.{plain};
 ghost use Rattle.sc_query.specs.Tree.{Tree, tree_of, negated};
-ghost use Rattle.sc_query.specs.Grammar.{HasTree, HasFault};
+ghost use Rattle.sc_query.specs.Grammar.{query_limit, HasTree, HasFault};
 ghost use Rattle.sc_query.specs.declared.fault.QueryFault.TheVariants.{At};
 
 use crate::fault::QueryFault;
@@ -118,9 +118,9 @@ fn leaf(alloc: Global, field: &str, value: &str, at: u32) -> Result<Query, Alloc
     Ok(Query::Leaf { field, value, at })
 }
 
-/// Reads a whole text of at most 4,096 bytes.
+/// Reads a whole text that is no longer than a query may be.
 pub fn read(alloc: Global, text: &str) -> Result<Query, QueryFault>
-    requires { length text.now ≤ 4096 }
+    requires { length text.now ≤ query_limit }
     ensures tree { IfOk result (λ query. HasTree text.now (tree_of query)) }
     ensures fault { (at : ℕ) → result ≡ Err (At at) → HasFault text.now at }
 {

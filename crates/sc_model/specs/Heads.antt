@@ -8,6 +8,7 @@ use Rattle.std.specs.Str.Parse.{digits_value}
 use Rattle.httparse.specs.Grammar.{RequestHead, field_value, trim_ows}
 use Rattle.httparse.specs.Spans.{name_and_value}
 use Rattle.form_urlencoded.specs.Form.{raw_pairs, decode, split}
+use Rattle.sc_chunks.specs.Coding.{data_limit}
 use Rattle.sc_model.specs.declared.message.Incoming.{Incoming}
 use Rattle.sc_model.specs.declared.message.Method.{Method}
 use Rattle.sc_model.specs.declared.message.Method.TheVariants as methods
@@ -21,9 +22,9 @@ head_limit = 65536
 abbrev pub line_limit : ℕ
 line_limit = 128
 
--- the most bytes of a body
+-- the most bytes of a body, which are those of the data of a chunked one
 abbrev pub body_limit : ℕ
-body_limit = 16777216
+body_limit = data_limit
 
 -- the values of the headers of a name, which is read in any case, in order and without the white space around them
 abbrev pub header_values : List ℕ → RequestHead → List (List ℕ)

@@ -1,7 +1,7 @@
 -- The cores of a bucket by their names, and which of them serves a hash.
 use Rattle.std.proofs.Common.{[], ◌∷◌, get_or, take, ◌++◌, ◌≡◌, ◌∙◌, ℕ, ℤ, zero, suc, ◌+◌, ◌<◌, Bool, List, length, map, slice_get, Some, None, Option, All, AllPairs, Contains, MatchOption, IsSome, true, false, ◌⊎◌, inl, inr, refl, sym, ap, subst, append_assoc, arith}
 use Rattle.std.specs.Bool.{Decides}
-use Rattle.std.specs.List.{flat_map, range_with_len, AllWithin, HoldsAt}
+use Rattle.std.specs.List.{IsDistinct, flat_map, range_with_len, AllWithin, HoldsAt}
 use Rattle.std.specs.List.Sorted.{IsStrictlyIncreasing}
 use Rattle.std.proofs.lemmas.Bool.{cases_order}
 use Rattle.std.proofs.lemmas.Bool.Decides.{Decides-and, Decides-like, Decides-eqb}
@@ -21,7 +21,7 @@ use Rattle.sc_cluster.proofs.ListLemmas.{Contains-map}
 use Rattle.sc_cluster.proofs.PairLemmas.{AllPairs-from_map}
 use Rattle.sc_replica.specs.Core.{Core}
 use Rattle.sc_record.specs.Names.{is_core}
-use Rattle.sc_bucket.specs.Cores.{core_key, core_keys, slice_keys, core_number, CoresAscend, AreApart, IsLeaderOf, IsLeaderAt}
+use Rattle.sc_bucket.specs.Cores.{core_key, core_keys, slice_keys, core_number, CoresAscend, IsLeaderOf, IsLeaderAt}
 use Rattle.sc_bucket.proofs.PlaceLemmas.{some_at}
 use mathlib.Core.HLevel.{is_prop→PathP}
 use native.Mathlib.Bridge.{le_prop}
@@ -47,6 +47,10 @@ is_core-itself name = (is_core-Decides name name).1 refl
 -- the name of a core
 abbrev pub name_of : Core → CoreId
 name_of core = core.core
+
+-- no two cores have one name
+abbrev pub AreApart : List Core → Type 0
+AreApart cores = IsDistinct is_core (map name_of cores)
 
 -- two names of which one has the lower number are of two cores
 apart_by_number : (one other : CoreId) → core_number one < core_number other → is_core one other ≡ false

@@ -1,6 +1,6 @@
 -- The cores of a bucket, by their names.
 use Rattle.std.specs.Prelude.{◌≡◌, ◌<◌, ◌≤◌, Contains, ℕ, ◌+◌, ◌*◌, ◌^◌, ℤ, Bool, ◌&&◌, not, nat_eq, nat_lt, int_le, if◌then◌else◌, List, [], ◌∷◌, map, filter, max, pos, slice_get, Some, false}
-use Rattle.std.specs.List.{IsDistinct, flat_map, list_any, range_with_len}
+use Rattle.std.specs.List.{flat_map, list_any, range_with_len}
 use Rattle.std.specs.List.Sorted.{IsStrictlyIncreasing}
 use Rattle.sc_record.specs.declared.slice.SliceId.{SliceId}
 use Rattle.sc_record.specs.Names.{is_core}
@@ -41,10 +41,6 @@ put_by_name core (other ∷ cores) =
 -- the slice of a core is one of these
 abbrev pub is_of_one : List Slice → CoreId → Bool
 is_of_one slices core = list_any (λ (slice : Slice). nat_eq slice.id.0 core.slice.0) slices
-
--- no two cores have one name
-abbrev pub AreApart : List Core → Type 0
-AreApart cores = IsDistinct is_core (map (λ (core : Core). core.core) cores)
 
 -- the core of the slice takes part in what is written: the slice is active, or a split is making it, and the core is not down
 abbrev pub is_attached : Slice → Core → Bool

@@ -5,7 +5,7 @@ use Rattle.sc_collection.specs.declared.shape.Shape.{Shape}
 use Rattle.sc_collection.specs.Shapes.{is_shape, IsShape, is_in_range}
 use Rattle.sc_arguments.specs.declared.asked.Server.{Server}
 use Rattle.sc_arguments.specs.declared.asked.Demo.{Demo}
-use Rattle.sc_arguments.specs.Arguments.{most_connections, most_workers, IsServer, most_orders, IsDemo}
+use Rattle.sc_arguments.specs.Arguments.{most_connections, greatest_port, most_workers, IsServer, most_orders, IsDemo}
 
 pub asked_is_shape : (shape asked : Shape) → Some shape ≡ cond (is_shape asked) (Some asked) None → IsShape shape
 asked_is_shape shape asked found = by (is_shape asked) refl found where
@@ -22,11 +22,11 @@ four_true : (a b c d : Bool) → a ≡ true → b ≡ true → c ≡ true → d 
 four_true a b c d ha hb hc hd = rw ha (rw hb (rw hc hd))
 
 -- it can be run where its shape is one that a collection may have, and each of its own numbers is in its range
-pub server_in_range : (server : Server) → IsShape server.shape → (1 ≤ server.port) × (server.port ≤ 65535)
+pub server_in_range : (server : Server) → IsShape server.shape → (1 ≤ server.port) × (server.port ≤ greatest_port)
     → (1 ≤ server.workers) × (server.workers ≤ most_workers) → (1 ≤ server.max_connections) × (server.max_connections ≤ most_connections) → IsServer server
 server_in_range server shape port workers connections =
-    four_true (is_shape server.shape) (is_in_range 1 65535 server.port) (is_in_range 1 most_workers server.workers) (is_in_range 1 most_connections server.max_connections)
-    shape (in_range 1 65535 server.port port) (in_range 1 most_workers server.workers workers) (in_range 1 most_connections server.max_connections connections)
+    four_true (is_shape server.shape) (is_in_range 1 greatest_port server.port) (is_in_range 1 most_workers server.workers) (is_in_range 1 most_connections server.max_connections)
+    shape (in_range 1 greatest_port server.port port) (in_range 1 most_workers server.workers workers) (in_range 1 most_connections server.max_connections connections)
 
 two_true : (a b : Bool) → a ≡ true → b ≡ true → (a && b) ≡ true
 two_true a b ha hb = rw ha hb

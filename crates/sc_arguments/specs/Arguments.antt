@@ -50,6 +50,10 @@ server_of given = record {
   max_connections = number_or most_connections (codes "--max-connections") given;
 }
 
+-- the greatest port
+abbrev pub greatest_port : ℕ
+greatest_port = 65535
+
 -- the most workers of a server or of a demonstration
 abbrev pub most_workers : ℕ
 most_workers = 64
@@ -57,7 +61,7 @@ most_workers = 64
 -- each number of the server is in its range
 abbrev pub is_server : Server → Bool
 is_server server =
-    is_shape server.shape && is_in_range 1 65535 server.port && is_in_range 1 most_workers server.workers
+    is_shape server.shape && is_in_range 1 greatest_port server.port && is_in_range 1 most_workers server.workers
     && is_in_range 1 most_connections server.max_connections
 
 -- it is one that can be run

@@ -11,6 +11,9 @@ use clap::ArgMatches;
 use sc_collection::Shape;
 use std::alloc::{AllocError, Global};
 
+/// The greatest port.
+const GREATEST_PORT: u32 = 65_535;
+
 /// The most workers of a server or of a demonstration.
 const MOST_WORKERS: u32 = 64;
 
@@ -135,7 +138,7 @@ fn server_in(found: &ArgMatches<'_>) -> Option<Server>
     Some(Server {
         shape: shape_of(found)?,
         clock: number_given(found, "clock"),
-        port: within(number_or(8983, found, "port"), 1, 65_535)? as u16,
+        port: within(number_or(8983, found, "port"), 1, GREATEST_PORT)? as u16,
         workers: within(number_or(4, found, "workers"), 1, MOST_WORKERS)?,
         max_connections: within(
             number_or(u64::from(MOST_CONNECTIONS), found, "max-connections"),

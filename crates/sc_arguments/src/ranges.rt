@@ -7,18 +7,37 @@ use crate::options::number_or;
 use clap::ArgMatches;
 use sc_collection::Shape;
 
+/// The most nodes.
+const MOST_NODES: u32 = 16;
+
+/// The most shards of a new collection.
+const MOST_SHARDS: u32 = 64;
+
+/// The most replicas of a shard.
+const MOST_REPLICAS: u32 = 4;
+
+/// The least limit of a journal, beside an entry for each follower.
+const LEAST_JOURNAL: u32 = 16;
+
+/// The greatest limit of a journal.
+const GREATEST_JOURNAL: u32 = 16_777_216;
+
 /// The shape of these options, where each of its numbers is in its range.
 pub(crate) fn shape_of(found: &ArgMatches<'_>) -> Option<Shape>
     requires values { HaveValues found.now }
     ensures { result ≡ (let shape = asked.shape_of (settings_found found.now) in
         if is_shape shape then Some shape else None) }
 {
-    let nodes = within(number_or(1, found, "nodes"), 1, 16)?;
-    let shards = within(number_or(1, found, "shards"), 1, 64)?;
-    let replicas = within(number_or(1, found, "replicas"), 1, 4)?;
+    let nodes = within(number_or(1, found, "nodes"), 1, MOST_NODES)?;
+    let shards = within(number_or(1, found, "shards"), 1, MOST_SHARDS)?;
+    let replicas = within(number_or(1, found, "replicas"), 1, MOST_REPLICAS)?;
     let buckets = bucket_count(number_or(64, found, "buckets"))?;
-    let least = 16 + shards * (replicas - 1);
-    let limit = within(number_or(1_048_576, found, "log-limit"), least, 16_777_216)?;
+    let least = LEAST_JOURNAL + shards * (replicas - 1);
+    let limit = within(
+        number_or(1_048_576, found, "log-limit"),
+        least,
+        GREATEST_JOURNAL,
+    )?;
     Some(Shape {
         nodes,
         shards,
@@ -40,7 +59,7 @@ pub(crate) fn within(number: u64, least: u32, most: u32) -> Option<u32>
     }
 }
 
-/// The number, where it is a power of two from 1 to 256.
+/// The number, where it is one of buckets.
 fn bucket_count(number: u64) -> Option<u32>
     ensures { result ≡ (if is_bucket_count number then Some number else None) }
 {

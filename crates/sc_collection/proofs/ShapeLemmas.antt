@@ -7,7 +7,7 @@ use Rattle.std.proofs.lemmas.Bool.Decides.{nat_tests}
 use Rattle.sc_router.specs.Route.{IsBucketCount}
 use Rattle.sc_journal.specs.Limits.{greatest_journal}
 use Rattle.sc_collection.specs.declared.shape.Shape.{Shape}
-use Rattle.sc_collection.specs.Shapes.{least_limit, is_in_range, is_bucket_count, IsShape}
+use Rattle.sc_collection.specs.Shapes.{least_limit, is_in_range, is_bucket_count, most_nodes, most_shards, most_replicas, IsShape}
 
 -- what holds of each number of a list holds of one that is among them
 holds_of : (P : ℕ → Type 0) (number : ℕ) (numbers : List ℕ) → AllByRecursion P numbers → list_any (λ other. number == other) numbers ≡ true → P number
@@ -32,17 +32,17 @@ in_range least most number is =
 
 -- the ranges of the numbers of a shape
 pub record HasRanges (shape : Shape) : Type 0 where
-  pub nodes : (1 ≤ shape.nodes) × (shape.nodes ≤ 16)
-  pub shards : (1 ≤ shape.shards) × (shape.shards ≤ 64)
-  pub replicas : (1 ≤ shape.replicas) × (shape.replicas ≤ 4)
+  pub nodes : (1 ≤ shape.nodes) × (shape.nodes ≤ most_nodes)
+  pub shards : (1 ≤ shape.shards) × (shape.shards ≤ most_shards)
+  pub replicas : (1 ≤ shape.replicas) × (shape.replicas ≤ most_replicas)
   pub buckets : IsBucketCount shape.buckets
   pub limit : (least_limit shape ≤ shape.log_limit) × (shape.log_limit ≤ greatest_journal)
 
 pub ranges : (shape : Shape) → IsShape shape → HasRanges shape
 ranges shape is =
-    let nodes : Bool = is_in_range 1 16 shape.nodes in
-    let shards : Bool = is_in_range 1 64 shape.shards in
-    let replicas : Bool = is_in_range 1 4 shape.replicas in
+    let nodes : Bool = is_in_range 1 most_nodes shape.nodes in
+    let shards : Bool = is_in_range 1 most_shards shape.shards in
+    let replicas : Bool = is_in_range 1 most_replicas shape.replicas in
     let buckets : Bool = is_bucket_count shape.buckets in
     let limit : Bool = is_in_range (least_limit shape) greatest_journal shape.log_limit in
     let last = and_parts (nodes && shards && replicas && buckets) limit is in
@@ -50,9 +50,9 @@ ranges shape is =
     let third = and_parts (nodes && shards) replicas fourth.0 in
     let second = and_parts nodes shards third.0 in
     record {
-      nodes = in_range 1 16 shape.nodes second.0;
-      shards = in_range 1 64 shape.shards second.1;
-      replicas = in_range 1 4 shape.replicas third.1;
+      nodes = in_range 1 most_nodes shape.nodes second.0;
+      shards = in_range 1 most_shards shape.shards second.1;
+      replicas = in_range 1 most_replicas shape.replicas third.1;
       buckets = bucket_count shape.buckets fourth.1;
       limit = in_range (least_limit shape) greatest_journal shape.log_limit last.1;
     }

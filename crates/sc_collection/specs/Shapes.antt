@@ -19,10 +19,21 @@ is_in_range least most number = nat_le least number && nat_le number most
 abbrev pub is_bucket_count : ℕ → Bool
 is_bucket_count number = list_any (λ k. number == 2 ^ k) (range_with_len 0 (most_bucket_bits + 1))
 
+-- the most nodes, shards at first, and replicas of each shard
+abbrev pub most_nodes : ℕ
+most_nodes = 16
+
+abbrev pub most_shards : ℕ
+most_shards = 64
+
+abbrev pub most_replicas : ℕ
+most_replicas = 4
+
 -- each number of the shape is in its range
 abbrev pub is_shape : Shape → Bool
 is_shape shape =
-    is_in_range 1 16 shape.nodes && is_in_range 1 64 shape.shards && is_in_range 1 4 shape.replicas && is_bucket_count shape.buckets
+    is_in_range 1 most_nodes shape.nodes && is_in_range 1 most_shards shape.shards && is_in_range 1 most_replicas shape.replicas
+    && is_bucket_count shape.buckets
     && is_in_range (least_limit shape) greatest_journal shape.log_limit
 
 -- it is one that a collection may have

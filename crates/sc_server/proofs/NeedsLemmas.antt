@@ -7,7 +7,7 @@ use Rattle.std.proofs.lemmas.List.Elements.{All-weaker}
 use Rattle.sc_lock.specs.Tokens.{splits_left}
 use Rattle.sc_collection.specs.Shapes.{is_shape, IsShape, is_in_range}
 use Rattle.sc_arguments.specs.declared.asked.Server.{Server}
-use Rattle.sc_arguments.specs.Arguments.{most_connections, most_workers, IsServer}
+use Rattle.sc_arguments.specs.Arguments.{most_connections, greatest_port, most_workers, IsServer}
 use Rattle.sc_shared.specs.declared.passes.Passes.{Passes}
 use Rattle.sc_shared.specs.Passes.{BucketPass, seen_of, CanSplit}
 use Rattle.sc_shared.specs.Collections.{Locks, SeesTheSame, SeesOthers}
@@ -30,7 +30,7 @@ in_range least most number is =
 pub numbers : (server : Server) → IsServer server → HasNumbers server
 numbers server is =
     let shape : Bool = is_shape server.shape in
-    let port : Bool = is_in_range 1 65535 server.port in
+    let port : Bool = is_in_range 1 greatest_port server.port in
     let workers : Bool = is_in_range 1 most_workers server.workers in
     let connections : Bool = is_in_range 1 most_connections server.max_connections in
     let third = and_parts (shape && port && workers) connections is in

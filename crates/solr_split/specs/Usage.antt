@@ -1,5 +1,9 @@
 -- What the program says to a person.
-use Rattle.std.specs.Prelude.{ℕ, ◌==◌, List, ◌++◌, codes, if◌then◌else◌}
+use Rattle.std.specs.Prelude.{ℕ, ◌==◌, List, ◌++◌, codes, decimal, if◌then◌else◌}
+use Rattle.sc_router.specs.Route.{most_buckets}
+use Rattle.sc_journal.specs.Limits.{least_journal, greatest_journal}
+use Rattle.sc_collection.specs.Shapes.{most_nodes, most_shards, most_replicas}
+use Rattle.sc_arguments.specs.Arguments.{most_connections, greatest_port, most_workers, most_orders}
 
 -- arguments that the usage gives as an example of `script`
 abbrev pub example : List ℕ
@@ -19,21 +23,21 @@ usage =
     codes "usage: solr_split script|serve|demo [OPTION VALUE | OPTION=VALUE]...\n"
     ++ codes "script serves one connection over standard input and output, serve those to a port,\n"
     ++ codes "and demo makes a workload by several workers while the shard is split, and tells what came of it. Options of script and serve:\n"
-    ++ codes "  --nodes            1 to 16 nodes (1)\n"
-    ++ codes "  --shards           1 to 64 shards (1)\n"
-    ++ codes "  --replicas         1 to 4 replicas of each shard (1)\n"
-    ++ codes "  --buckets          a power of two from 1 to 256 (64)\n"
-    ++ codes "  --log-limit        16 to 16777216 entries in the journal of a bucket (1048576);\n"
-    ++ codes "                     with R replicas of each of S shards at least 16 + S * (R - 1)\n"
+    ++ codes "  --nodes            1 to " ++ decimal most_nodes ++ codes " nodes (1)\n"
+    ++ codes "  --shards           1 to " ++ decimal most_shards ++ codes " shards (1)\n"
+    ++ codes "  --replicas         1 to " ++ decimal most_replicas ++ codes " replicas of each shard (1)\n"
+    ++ codes "  --buckets          a power of two from 1 to " ++ decimal most_buckets ++ codes " (64)\n"
+    ++ codes "  --log-limit        " ++ decimal least_journal ++ codes " to " ++ decimal greatest_journal ++ codes " entries in the journal of a bucket (1048576);\n"
+    ++ codes "                     with R replicas of each of S shards at least " ++ decimal least_journal ++ codes " + S * (R - 1)\n"
     ++ codes "  --clock            a timestamp from 0 to 18446744073709551615, in milliseconds, at which the clock stands still (the machine's clock)\n"
     ++ codes "Options of serve:\n"
-    ++ codes "  --port             1 to 65535, the port (8983)\n"
-    ++ codes "  --workers          1 to 64 workers (4)\n"
-    ++ codes "  --max-connections  1 to 4294967295 connections that each worker serves (4294967295)\n"
+    ++ codes "  --port             1 to " ++ decimal greatest_port ++ codes ", the port (8983)\n"
+    ++ codes "  --workers          1 to " ++ decimal most_workers ++ codes " workers (4)\n"
+    ++ codes "  --max-connections  1 to " ++ decimal most_connections ++ codes " connections that each worker serves (" ++ decimal most_connections ++ codes ")\n"
     ++ codes "Options of demo:\n"
     ++ codes "  --seed             0 to 18446744073709551615, which documents the orders begin with (1)\n"
-    ++ codes "  --count            1 to 100000 orders (1000)\n"
-    ++ codes "  --workers          1 to 64 workers (4)\n"
+    ++ codes "  --count            1 to " ++ decimal most_orders ++ codes " orders (1000)\n"
+    ++ codes "  --workers          1 to " ++ decimal most_workers ++ codes " workers (4)\n"
     ++ codes "as in: solr_split " ++ example ++ codes " < requests\n"
     ++ codes "       solr_split " ++ server_example ++ codes "\n"
     ++ codes "       solr_split " ++ demo_example

@@ -41,7 +41,7 @@ mod allow;
 mod laws;
 
 pub use allow::MOST_SLICES;
-pub use laws::changes_keep_a_map;
+pub use laws::{changes_keep_a_map, limits_are_as_defined};
 pub use map::ClusterMap;
 pub use name::core_name;
 pub use parts::{CutFault, cut};

@@ -47,12 +47,16 @@ mod order;
 // What a journal is made of.
 mod entry;
 
+// What follows from the definitions.
+mod laws;
+
 pub use ack::Ack;
 pub use copy::{CloneIn, clone_items};
 pub use document::{Doc, Field};
 pub use entry::Entry;
 pub use id::{Id, IdFault, MAX_ID_LENGTH};
 pub use kind::kind_of;
+pub use laws::limits_are_as_defined;
 pub use list::List;
 pub use order::{Change, FieldChange, How, MAX_ORDERS, Order};
 pub use slice::{CoreId, SliceId, SubSlice};

@@ -15,4 +15,8 @@ mod part;
 mod route;
 mod share;
 
+// The limit of buckets.
+mod laws;
+
+pub use laws::limits_are_as_defined;
 pub use route::{MOST_BUCKETS, bucket_of, key_range, plain_hash, route_hash};

@@ -1,12 +1,8 @@
 -- A slice may be dropped from buckets at rest where the board may note it, and then they are at rest as the board says.
-use Rattle.std.proofs.Common.{◌≡◌, ℕ, ◌≤◌, Bool, List, [], ◌∷◌, ◌++◌, filter, not, Some, None, sym, ap, ◌∙◌, subst, arith}
+use Rattle.std.proofs.Common.{◌≡◌, ℕ, ◌≤◌, List, [], ◌∷◌, ◌++◌, Some, None, sym, ap, ◌∙◌, subst, arith}
 use Rattle.std.specs.Prelude.{All, Contains}
-use Rattle.std.specs.List.{flat_map}
-use Rattle.std.proofs.lemmas.List.{append-nil}
-use Rattle.std.proofs.lemmas.List.Concat.{flat_map-append}
-use Rattle.std.proofs.lemmas.List.Elements.{All-filter, filter-append}
+use Rattle.std.proofs.lemmas.List.Elements.{All-filter}
 use Rattle.sc_record.specs.declared.slice.SliceId.{SliceId}
-use Rattle.sc_record.specs.declared.entry.Entry.{Entry}
 use Rattle.sc_record.specs.declared.entry.Entry.TheVariants as entry
 use Rattle.sc_cluster.specs.declared.slice.Slice.{Slice}
 use Rattle.sc_cluster.specs.Changes.{Change, IsInactive, after}
@@ -14,11 +10,12 @@ use Rattle.sc_io.specs.declared.hosts.Host.{Host}
 use Rattle.sc_cores.specs.Cores.{cores_of_slice}
 use Rattle.sc_ulog.specs.declared.mode.Mode.TheVariants.{Active}
 use Rattle.sc_seen.specs.Board.{MayNote, board_map, running_split}
-use Rattle.sc_seen.specs.Rounds.{Round, GoTogether, board_entries, bucket_entries}
+use Rattle.sc_seen.specs.Rounds.{Round, GoTogether}
 use Rattle.sc_seen.specs.Seen.{Layout}
 use Rattle.sc_seen.specs.declared.board.BoardEntry.{BoardEntry}
 use Rattle.sc_seen.specs.declared.board.BoardEntry.TheVariants as board
 use Rattle.sc_seen.proofs.BoardLemmas.{board_map-push, running_where}
+use Rattle.sc_seen.proofs.RoundLemmas.{GoTogether-more}
 use Rattle.sc_board.specs.declared.board.Board.{Board}
 use Rattle.sc_board.specs.Boards.{IsSoundBoard}
 use Rattle.sc_board.specs.Splits.{slice_named, IsOfNamed}
@@ -26,7 +23,7 @@ use Rattle.sc_board.proofs.SoundLemmas.{sound_map, sound_stands}
 use Rattle.sc_board.proofs.NamedLemmas.{named_there, same_by_id}
 use Rattle.sc_keeper.specs.declared.part.CorePart.{CorePart}
 use Rattle.sc_keeper.specs.Conditions.{MayDrop}
-use Rattle.sc_collection.specs.Desks.{Keeping, IsAtRest, AreAtRest, changes_cores}
+use Rattle.sc_collection.specs.Desks.{Keeping, IsAtRest, AreAtRest}
 use Rattle.sc_admin.specs.Dropping.{Known, OfBuckets, IsDroppedIn, DropsSlice}
 
 -- no split runs where a slice may be dropped
@@ -42,17 +39,6 @@ may_at_rest layout first entries keeping slice same may rest b low below =
     let at = rest b below in
     (at.idle, subst (λ (slices : List Slice). IsInactive slices slice) (ap (λ (f : List Slice). board_map f entries) same ∙ sym at.map_is) may.1)
 
--- the entries of one round more go together
-together_more : (entries : List BoardEntry) (own : List Entry) (round : Round) → GoTogether entries own
-    → GoTogether (entries ++ board_entries round) (own ++ bucket_entries round)
-together_more entries own round (rounds, of_board, of_bucket) = (
-  rounds ++ round ∷ [],
-  ap (λ (es : List BoardEntry). es ++ board_entries round) of_board ∙ more board_entries,
-  ap (λ (es : List Entry). es ++ bucket_entries round) of_bucket ∙ more bucket_entries,
-) where
-  more : {A : Type 0} (f : Round → List A) → flat_map f rounds ++ f round ≡ flat_map f (rounds ++ round ∷ [])
-  more f = sym (flat_map-append f rounds (round ∷ []) ∙ ap (λ xs. flat_map f rounds ++ xs) (append-nil (f round)))
-
 -- a bucket from which the slice was dropped is at rest as the board says then
 at_rest_dropped : (first : List Slice) (entries given : List BoardEntry) (old new : Known) (slice : SliceId) (b : ℕ)
     → given ≡ entries ++ board.Dropped slice ∷ [] → IsAtRest entries (board_map first entries) (old.keeping.part b) (old.keeping.own b)
@@ -64,13 +50,10 @@ at_rest_dropped first entries given old new slice b noted was is = record {
   active = subst (All (λ (core : CorePart). core.mode ≡ Active)) (sym is.part.cores_are)
       (All-filter _ (λ (core : CorePart). core.mode ≡ Active) (old.keeping.part b).cores was.active);
   unfed = is.part.feeds_are ∙ was.unfed;
-  together = subst (λ (es : List BoardEntry). GoTogether es (filter goes_with (new.keeping.own b))) (sym noted)
-      (subst (GoTogether (entries ++ board.Dropped slice ∷ []))
-      (sym (ap (filter goes_with) is.own ∙ filter-append goes_with (old.keeping.own b) (entry.Dropped slice ∷ [])))
-      (together_more entries (filter goes_with (old.keeping.own b)) (Round.dropped slice) was.together));
-} where
-  goes_with : Entry → Bool
-  goes_with one = not (changes_cores one)
+  together = subst (λ (es : List BoardEntry). GoTogether es (new.keeping.own b)) (sym noted)
+      (subst (GoTogether (entries ++ board.Dropped slice ∷ [])) (sym is.own)
+      (GoTogether-more (Round.dropped slice) entries (old.keeping.own b) was.together));
+}
 
 -- so are all
 pub rest_dropped : (layout : Layout) (entries given : List BoardEntry) (old new : Known) (slice : SliceId)

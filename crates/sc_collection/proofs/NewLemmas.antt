@@ -1,6 +1,6 @@
 -- A new desk for one thread.
 use Rattle.std.proofs.Common.{◌≡◌, ◌≤◌, ◌<◌, ℕ, cond, List, [], ◌∷◌, length, Option, Some, None, slice_get, get_or, refl, sym, ap, ◌∙◌, subst, arith}
-use Rattle.std.specs.Prelude.{◌==◌, Bool, true, false, not, All, map, filter}
+use Rattle.std.specs.Prelude.{◌==◌, Bool, true, false, All, map}
 use Rattle.std.specs.List.{AllByRecursion}
 use Rattle.std.proofs.lemmas.List.Elements.{All-map, All-weaker}
 use Rattle.std.proofs.lemmas.Option.{slice_get-get_or}
@@ -21,7 +21,7 @@ use Rattle.sc_keeper.specs.declared.part.Part.{Part}
 use Rattle.sc_keeper.specs.Part.{part_of, part_of_core, part_of_feed, keeper_entries}
 use Rattle.sc_board.specs.declared.board.Board.{Board}
 use Rattle.sc_board.specs.Boards.{IsSoundBoard}
-use Rattle.sc_collection.specs.Desks.{IsAtRest, changes_cores}
+use Rattle.sc_collection.specs.Desks.{IsAtRest}
 use Rattle.sc_collection.specs.Alone.{AloneState, desk_of, layout_of, out_of, board_out_of, bucket_in, journal_in, part_in, places, pass_places, seen_of, IsKept, IsHome, IsDesk, IsNewSlot, AreNew}
 use Rattle.sc_collection.specs.Shapes.{SeesNothing}
 
@@ -34,7 +34,7 @@ new_at_rest first limit bucket slot = subst (λ (one : Bucket). IsAtRest [] firs
   active = All-map (λ (core : CorePart). core.mode ≡ Active) part_of_core slot.bucket.replicas
       (All-weaker IsNewCore (λ (core : Core). core.mode ≡ Active) (λ core new. new.active) slot.bucket.replicas slot.cores);
   unfed = ap (map part_of_feed) slot.unfed;
-  together = ([], refl, ap (λ (journal : List Entry). filter (λ (one : Entry). not (changes_cores one)) (keeper_entries journal)) slot.empty);
+  together = ([], refl, ap keeper_entries slot.empty);
 }) where
   same : slot.bucket ≡ bucket
   same = let both : Some bucket ≡ Some slot.bucket = slot.there in cc

@@ -1,9 +1,8 @@
 -- What a desk says of the buckets and of the board that it hands out, and asks of those that it takes back.
-use Rattle.std.specs.Prelude.{◌≡◌, ◌≢◌, ◌<◌, ◌⊎◌, ℕ, Bool, true, false, List, [], ◌∷◌, ◌++◌, length, nat_lt, not, filter, if◌then◌else◌, Option, Some, None, All, Contains}
+use Rattle.std.specs.Prelude.{◌≡◌, ◌≢◌, ◌<◌, ◌⊎◌, ℕ, Bool, true, false, List, [], ◌∷◌, ◌++◌, length, nat_lt, if◌then◌else◌, Option, Some, None, All, Contains}
 use Rattle.std.specs.List.{AllByRecursion}
 use Rattle.sc_record.specs.declared.write.Write.{Write}
 use Rattle.sc_record.specs.declared.entry.Entry.{Entry}
-use Rattle.sc_record.specs.declared.entry.Entry.TheVariants as entry
 use Rattle.sc_router.specs.Route.{bucket_of}
 use Rattle.sc_cluster.specs.declared.slice.Slice.{Slice}
 use Rattle.sc_ulog.specs.declared.mode.Mode.TheVariants.{Active}
@@ -125,20 +124,14 @@ pub record KeepsGiven (held : Held) (given : Bucket) (old new : Keeping) : Type 
   pub own : new.own held.number ≡ old.own held.number ++ made
   pub others_own : (number : ℕ) → number ≢ held.number → new.own number ≡ old.own number
 
--- the entry changes which cores serve, and goes with none of the board
-abbrev pub changes_cores : Entry → Bool
-changes_cores (entry.Up core) = true
-changes_cores (entry.Led core) = true
-changes_cores _ = false
-
 -- Where no split runs, a bucket is as the board says: it has the board's map, no split is open in it, each core is active and none is
--- fed. The entries that its keeper made, but those that change which cores serve, are those that go with the board's.
+-- fed. The entries that its keeper made are those that go with the board's, and no other.
 pub record IsAtRest (entries : List BoardEntry) (slices : List Slice) (part : Part) (own : List Entry) : Type 0 where
   pub map_is : part.map ≡ slices
   pub idle : part.phase ≡ phases.Idle
   pub active : All (λ (core : CorePart). core.mode ≡ Active) part.cores
   pub unfed : part.feeds ≡ []
-  pub together : GoTogether entries (filter (λ (one : Entry). not (changes_cores one)) own)
+  pub together : GoTogether entries own
 
 -- so is each bucket of the collection
 abbrev pub AreAtRest : Layout → List BoardEntry → Keeping → Type 0

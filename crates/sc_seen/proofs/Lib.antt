@@ -2,4 +2,5 @@
 pub mod BoardLemmas
 pub mod ExtendsLemmas
 pub mod GoesOnLemmas
+pub mod RoundLemmas
 pub mod BatchLemmas

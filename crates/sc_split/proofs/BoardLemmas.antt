@@ -1,9 +1,8 @@
 -- What the board hands out and takes back while one's own split runs.
 use Rattle.std.proofs.Common.{◌≡◌, ◌≢◌, ℕ, ◌+◌, ◌<◌, true, List, [], ◌∷◌, ◌++◌, length, ltb, Some, refl, sym, ap, ◌∙◌, subst, inr, arith, cond}
-use Rattle.std.specs.Prelude.{Contains, All, not, filter}
+use Rattle.std.specs.Prelude.{Contains, All}
 use Rattle.std.proofs.lemmas.Bool.{lt-ltb}
 use Rattle.std.proofs.lemmas.List.{length_push}
-use Rattle.sc_record.specs.declared.entry.Entry.{Entry}
 use Rattle.sc_cluster.specs.declared.slice.Slice.{Slice}
 use Rattle.sc_ulog.specs.declared.mode.Mode.TheVariants.{Active}
 use Rattle.sc_seen.specs.Board.{MayNote, running_split}
@@ -12,7 +11,7 @@ use Rattle.sc_seen.specs.declared.board.BoardEntry.{BoardEntry}
 use Rattle.sc_seen.specs.Rounds.{GoTogether}
 use Rattle.sc_keeper.specs.declared.part.CorePart.{CorePart}
 use Rattle.sc_keeper.specs.declared.part.Part.{Part}
-use Rattle.sc_collection.specs.Desks.{Out, Keeping, KeepsOn, IsBoardOf, MayReplaceBoard, SeesBoardGiven, OwnsSplit, IsAtRest, AreAtRest, changes_cores, place_added}
+use Rattle.sc_collection.specs.Desks.{Out, Keeping, KeepsOn, IsBoardOf, MayReplaceBoard, SeesBoardGiven, OwnsSplit, IsAtRest, AreAtRest, place_added}
 use Rattle.sc_split.specs.Steps.{NotesOne}
 
 -- the place of one entry that was added
@@ -73,6 +72,5 @@ at-rest-still layout layout' entries entries' old new same-layout same keeps res
         idle = ap (λ (part : Part). part.phase) (keeps.part number) ∙ (rest number below).idle;
         active = subst (λ (part : Part). All (λ (core : CorePart). core.mode ≡ Active) part.cores) (sym (keeps.part number)) (rest number below).active;
         unfed = ap (λ (part : Part). part.feeds) (keeps.part number) ∙ (rest number below).unfed;
-        together = subst (λ (own : List Entry). GoTogether entries (filter (λ (one : Entry). not (changes_cores one)) own)) (sym (keeps.own number))
-            (rest number below).together;
+        together = subst (GoTogether entries) (sym (keeps.own number)) (rest number below).together;
       }

@@ -1,12 +1,9 @@
 -- Once a split is switched in each bucket it is closed: the board may have the keepers back, and in each bucket the split stays switched.
-use Rattle.std.proofs.Common.{◌≡◌, ℕ, ◌≤◌, Bool, true, false, not, cond, List, [], ◌∷◌, ◌++◌, length, map, refl, sym, ap, ◌∙◌, subst, arith, append_assoc}
-use Rattle.std.specs.Prelude.{filter, find, Contains, Option}
-use Rattle.std.specs.List.{flat_map}
+use Rattle.std.proofs.Common.{◌≡◌, ℕ, ◌≤◌, Bool, true, false, cond, List, [], ◌∷◌, ◌++◌, length, map, refl, sym, ap, ◌∙◌, subst, arith, append_assoc}
+use Rattle.std.specs.Prelude.{find, Contains, Option}
 use Rattle.std.specs.Option.{option_or, option_map_or}
 use Rattle.std.proofs.lemmas.List.{append-nil, length_push, map-append}
-use Rattle.std.proofs.lemmas.List.Elements.{filter-append}
 use Rattle.std.proofs.lemmas.List.Folds.{find-append}
-use Rattle.std.proofs.lemmas.Grind.{flat_map-append}
 use mathlib.Core.List.{IsPrefix}
 use Rattle.sc_record.specs.declared.slice.SubSlice.{SubSlice}
 use Rattle.sc_record.specs.declared.entry.Entry.{Entry}
@@ -20,14 +17,15 @@ use Rattle.sc_journal.proofs.ListLemmas.{slice_get-append_end}
 use Rattle.sc_journal.proofs.SplitLemmas.{after_all-append}
 use Rattle.sc_seen.specs.Board.{board_change_of, board_map, MayNote}
 use Rattle.sc_seen.specs.Rounds as rounds
-use Rattle.sc_seen.specs.Rounds.{Round, board_entries, bucket_entries, GoTogether}
+use Rattle.sc_seen.specs.Rounds.{board_entries, GoTogether}
 use Rattle.sc_seen.specs.Seen.{Layout, Seen, Extends, GoesOn, AreLegal, is_noted, noted_at}
 use Rattle.sc_seen.specs.Moments.{View, view_of}
 use Rattle.sc_seen.specs.Commits.{commit_stops}
 use Rattle.sc_seen.specs.declared.board.BoardEntry.{BoardEntry}
 use Rattle.sc_seen.specs.declared.board.BoardEntry.TheVariants as board
 use Rattle.sc_seen.proofs.ExtendsLemmas.{IsPrefix-length, NotesBoard-same, Extends-then}
-use Rattle.sc_collection.specs.Desks.{AreAtRest, OwnsSplit, changes_cores}
+use Rattle.sc_seen.proofs.RoundLemmas.{GoTogether-more}
+use Rattle.sc_collection.specs.Desks.{AreAtRest, OwnsSplit}
 use Rattle.sc_collection.specs.Committing.{CommitsAll, commit_outcome}
 use Rattle.sc_bucket.specs.declared.commit.CommitFault.{CommitFault}
 use Rattle.sc_keeper.specs.Part.{keeper_entries}
@@ -50,23 +48,6 @@ map-done first entries plan =
     ap (after_all first) (map-append board_change_of entries (board_entries (rounds.done plan)))
     ∙ after_all-append first (map board_change_of entries) (map board_change_of (board_entries (rounds.done plan)))
     ∙ may_leave_recovery_out (after (board_map first entries) (Change.Begun plan.parent plan.subs)) plan.parent (Change.Switched plan.parent) refl
-
--- the entries that a keeper made, but those that change which cores serve
-abbrev pub of_board : List Entry → List Entry
-of_board own = filter (λ (one : Entry). not (changes_cores one)) own
-
--- those that it made in one round more go with the board's
-pub together-more : (round : Round) (entries : List BoardEntry) (own : List Entry) → of_board (bucket_entries round) ≡ bucket_entries round
-    → GoTogether entries (of_board own) → GoTogether (entries ++ board_entries round) (of_board (own ++ bucket_entries round))
-together-more round entries own all (before, board_is, own_is) = (
-  before ++ round ∷ [],
-  ap (λ es. es ++ board_entries round) board_is ∙ ap (λ es. flat_map board_entries before ++ es) (sym (append-nil (board_entries round)))
-      ∙ sym (flat_map-append board_entries before (round ∷ [])),
-  filter-append (λ (one : Entry). not (changes_cores one)) own (bucket_entries round) ∙ ap (λ es. of_board own ++ es) all
-      ∙ ap (λ es. es ++ bucket_entries round) own_is
-      ∙ ap (λ es. flat_map bucket_entries before ++ es) (sym (append-nil (bucket_entries round)))
-      ∙ sym (flat_map-append bucket_entries before (round ∷ [])),
-)
 
 -- each bucket is at rest as the board says once the split is noted there as done
 pub rest-done : (layout : Layout) (split : OpenSplit) (entries now : List BoardEntry) (known : Known)
@@ -92,8 +73,8 @@ rest-done layout split entries now known now_is base done = subst (λ (es : List
         idle = here.idle;
         active = here.active;
         unfed = here.unfed;
-        together = subst (λ (own : List Entry). GoTogether (entries ++ board_entries (rounds.done plan)) (of_board own)) (sym here.ended.own)
-            (together-more (rounds.done plan) entries (split.base.keeping.own b) refl (base b below).together);
+        together = subst (GoTogether (entries ++ board_entries (rounds.done plan))) (sym here.ended.own)
+            (GoTogether-more (rounds.done plan) entries (split.base.keeping.own b) (base b below).together);
       }
 
 -- ---- the split is switched in a bucket, and stays so

@@ -17,6 +17,7 @@ use Rattle.sc_seen.specs.Rounds.{board_entries, GoTogether}
 use Rattle.sc_seen.specs.Seen.{Layout, Seen, AreLegal}
 use Rattle.sc_seen.proofs.BoardLemmas.{failed_leaves_the_map}
 use Rattle.sc_seen.proofs.ExtendsLemmas.{IsPrefix-self, Extends-then}
+use Rattle.sc_seen.proofs.RoundLemmas.{GoTogether-more}
 use Rattle.sc_keeper.specs.declared.part.CorePart.{CorePart}
 use Rattle.sc_keeper.specs.declared.part.Part.{Part}
 use Rattle.sc_collection.specs.Desks.{OwnsSplit, IsAtRest, AreAtRest}
@@ -28,7 +29,7 @@ use Rattle.sc_split.specs.Driving.{HasBegunOnBoard, IsHalted, GivesUp, recoverin
 use Rattle.sc_split.proofs.OpenLemmas.{same-self}
 use Rattle.sc_split.proofs.LoopLemmas.{in-both}
 use Rattle.sc_split.proofs.OwnLemmas.{owns-split, may-note-failed}
-use Rattle.sc_split.proofs.CloseLemmas.{of_board, together-more, extends-buckets, extends-board, notes-after}
+use Rattle.sc_split.proofs.CloseLemmas.{extends-buckets, extends-board, notes-after}
 use Rattle.sc_split.proofs.FailedLemmas.{failed-here, failed-unbegun}
 
 -- ---- the board is as it was left
@@ -78,8 +79,8 @@ rest-given-up first split entries recovered known b may base failed = record {
   idle = failed.given_up.idle;
   active = failed.given_up.active;
   unfed = failed.given_up.unfed;
-  together = subst (λ (own : List Entry). GoTogether (entries ++ board_entries (rounds.failed split.plan recovered true)) (of_board own))
-      (sym failed.ended.own) (together-more (rounds.failed split.plan recovered true) entries (split.base.keeping.own b) refl base.together);
+  together = subst (GoTogether (entries ++ board_entries (rounds.failed split.plan recovered true))) (sym failed.ended.own)
+      (GoTogether-more (rounds.failed split.plan recovered true) entries (split.base.keeping.own b) base.together);
 }
 
 -- where it had not begun
@@ -93,9 +94,9 @@ rest-unbegun first split entries recovered old new b may base unbegun same = rec
   idle = ap (λ (part : Part). part.phase) part_is ∙ base.idle;
   active = subst (λ (part : Part). All (λ (core : CorePart). core.mode ≡ Active) part.cores) (sym part_is) base.active;
   unfed = ap (λ (part : Part). part.feeds) part_is ∙ base.unfed;
-  together = subst (λ (own : List Entry). GoTogether (entries ++ board_entries (rounds.failed split.plan recovered false)) (of_board own))
+  together = subst (GoTogether (entries ++ board_entries (rounds.failed split.plan recovered false)))
       (append-nil (split.base.keeping.own b) ∙ sym (same.own ∙ unbegun.own))
-      (together-more (rounds.failed split.plan recovered false) entries (split.base.keeping.own b) refl base.together);
+      (GoTogether-more (rounds.failed split.plan recovered false) entries (split.base.keeping.own b) base.together);
 } where
   part_is : part_in new b ≡ part_in split.base b
   part_is = same.part_is ∙ unbegun.part_is

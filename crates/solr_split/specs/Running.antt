@@ -112,7 +112,7 @@ AreStarted nodes slices outside =
 
 -- The cores of a collection of the script's shape, in which nothing had happened, were started, and one connection was served over it;
 -- the status is that of its end. What was seen after it is all that happened: of a bucket's journal each entry was made at one of the
--- connection's stops, or its keeper made it, and those, but for Up and Led, go with the board's; each entry of the board was made by a
+-- connection's stops, or its keeper made it, and those that its keeper made go with the board's; each entry of the board was made by a
 -- command.
 pub record RunsScript {C : Type 0} (script : Script) (gives : C → ℕ → C → Type 0) (before after : Machine C) (status : ℕ) : Type 0 where
   pub began : AloneState

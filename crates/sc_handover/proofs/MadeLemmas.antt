@@ -19,13 +19,17 @@ use Rattle.sc_record.specs.Names.{is_core}
 use Rattle.sc_bucket.specs.Cores.{slice_keys, core_number, CoresAscend, without_room, IsCoreWithoutRoom}
 use Rattle.sc_bucket.specs.Pending.{to_feed, left_of}
 use Rattle.sc_bucket.specs.Events.{AreSameCores}
-use Rattle.sc_bucket.proofs.CoreLemmas.{name_of, is_core-itself, AreApart-from_ascending}
+use Rattle.sc_bucket.proofs.CoreLemmas.{name_of, same_name_by, is_core-itself, AreApart-from_ascending}
 use Rattle.sc_bucket.proofs.FeedLemmas.{fed_core, to_feed-of}
 use Rattle.sc_bucket.proofs.TakenLemmas.{Contains-slice_get}
 use Rattle.sc_bucket.proofs.InOrderLemmas.{in_order-empty}
-use Rattle.sc_handover.specs.Made.{first_core, empty_core, first_feed, IsRoomyFor}
+use Rattle.sc_handover.specs.Made.{leader_of, first_core, empty_core, first_feed, IsRoomyFor}
 use Rattle.sc_handover.proofs.PlanLemmas.{leaders_rise}
 use Rattle.sc_snapshot.specs.Rows.{SnapshotState}
+
+-- replica 1 of a slice is its leader
+pub leader_named : (slice : SliceId) (core : CoreId) → core.slice ≡ slice → core.replica ≡ 1 → core ≡ leader_of slice
+leader_named slice core of_slice first = same_name_by core (leader_of slice) (ap (λ (id : SliceId). id.0) of_slice) first
 
 -- the leader of a sub as it is made
 abbrev pub made_core : SubSlice → Core

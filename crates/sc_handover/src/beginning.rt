@@ -24,7 +24,7 @@ use std::alloc::{AllocError, Global};
 use std::sync::Arc;
 use thiserror::Error;
 
-/// Why a split did not begin. The bucket is as it was.
+/// Why a split did not begin. The bucket is as it was, but for room in memory.
 #[derive(Clone, Copy, Debug, PartialEq, Eq, Error)]
 pub enum BeginFault {
     /// The journal has no room for the entry that says so and for those that it owes then.
@@ -46,7 +46,7 @@ impl From<AllocError> for BeginFault {
 }
 
 /// Begins the split of the plan, which commits too. The subs join the map in construction, each with its leader, which is fed from the
-/// parent's cells as they are. All memory is taken first; after an error the bucket is as it was.
+/// parent's cells as they are. All memory is taken first; after an error the bucket is as it was, but for room in memory.
 pub fn begin(alloc: Global, bucket: &mut Bucket, plan: &SplitPlan) -> Result<(), BeginFault>
     requires sound { IsSound bucket.old }
     requires can { CanBegin bucket.old plan.now.parent plan.now.subs }
@@ -198,10 +198,7 @@ fn core_of(
 fn first_core(sub: &SubSlice) -> CoreId
     ensures { result ≡ first_core sub.now }
 {
-    CoreId {
-        slice: sub.id,
-        replica: 1,
-    }
+    CoreId::leader(sub.id)
 }
 
 // A sub's range.

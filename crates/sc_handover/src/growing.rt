@@ -24,10 +24,7 @@ pub fn grow(alloc: Global, bucket: &mut Bucket, core: CoreId) -> Result<(), Allo
     ensures grown { OnOk result ((sub : Slice) → CanGrow bucket.old core sub → Grows bucket.old core sub bucket.new) }
     ensures refused { OnErr result (DeliversAllTo bucket.old (leader_of core.slice) bucket.new) }
 {
-    let leader = CoreId {
-        slice: core.slice,
-        replica: 1,
-    };
+    let leader = CoreId::leader(core.slice);
     bucket.deliver_all_to(leader);
     let (replica, feed) = follower(alloc, bucket, leader, core)?;
     join(bucket, replica, feed)

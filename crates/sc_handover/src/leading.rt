@@ -31,10 +31,7 @@ fn change_seats(bucket: &mut Bucket, core: CoreId)
     ensures changed { ChangesSeats bucket.old core bucket.new }
     ensures whole { IsLedWhole bucket.new core.slice }
 {
-    let leader = CoreId {
-        slice: core.slice,
-        replica: 1,
-    };
+    let leader = CoreId::leader(core.slice);
     let first = bucket.replicas.position(leader).unwrap();
     let second = bucket.replicas.position(core).unwrap();
     bucket.replicas.exchange(first, second);

@@ -15,7 +15,7 @@ use sc_replica::Replica;
 use std::alloc::{AllocError, Global};
 use thiserror::Error;
 
-/// Why a core did not rejoin. The bucket is as it was.
+/// Why a core did not rejoin. The bucket is as it was, but for room in memory.
 #[derive(Clone, Copy, Debug, PartialEq, Eq, Error)]
 pub enum RejoinFault {
     /// The journal has no room for the entry that says so and for the one more that it owes then.
@@ -38,7 +38,7 @@ impl From<AllocError> for RejoinFault {
 
 /// Has a follower that is down take part again, as a new core: it loses what it had, buffers what comes, and is to be fed its
 /// leader's cells as they are (Solr Reference Guide, "SolrCloud Recoveries and Write Tolerance"). All memory is taken first; after an
-/// error the bucket is as it was.
+/// error the bucket is as it was, but for room in memory.
 pub fn rejoin(alloc: Global, bucket: &mut Bucket, core: CoreId) -> Result<(), RejoinFault>
     requires sound { IsSound bucket.old }
     requires can { CanRejoin bucket.old core }
@@ -52,10 +52,7 @@ pub fn rejoin(alloc: Global, bucket: &mut Bucket, core: CoreId) -> Result<(), Re
         return Err(RejoinFault::LogFull);
     }
     bucket.journal.reserve(entries as usize)?;
-    let leader = CoreId {
-        slice: core.slice,
-        replica: 1,
-    };
+    let leader = CoreId::leader(core.slice);
     let (fresh, feed) = follower(alloc, bucket, leader, core)?;
     put_rejoined(bucket, fresh, feed)?;
     Ok(())

@@ -5,12 +5,7 @@ use Rattle.std.proofs.lemmas.List.{map-append}
 use Rattle.sc_record.specs.declared.slice.SubSlice.{SubSlice}
 use Rattle.sc_record.specs.declared.slice.CoreId.{CoreId}
 use Rattle.sc_bucket.proofs.CoreLemmas.{same_name_by}
-use Rattle.sc_handover.specs.Made.{first_core}
 use Rattle.sc_split.specs.Stages.{follower_of}
-
--- a core that leads a sub
-pub first-is : (sub : SubSlice) (core : CoreId) → core.slice ≡ sub.id → core.replica ≡ 1 → core ≡ first_core sub
-first-is sub core slice replica = same_name_by core (first_core sub) (ap (λ id. id.0) slice) replica
 
 -- a further replica of a sub
 pub follower-is : (sub : SubSlice) (core : CoreId) (k : ℕ) → core.slice ≡ sub.id → core.replica ≡ suc (k + 1) → core ≡ follower_of sub k

@@ -1,6 +1,6 @@
 -- Once all is delivered to the leader, the replica may join still, and both together are the event.
-use Rattle.std.proofs.Common.{refl}
 use Rattle.std.proofs.lemmas.Result.{on_ok_weaker}
+use Rattle.sc_handover.proofs.MadeLemmas.{leader_named}
 use Rattle.sc_handover.proofs.GrowLemmas.{none_to_leader, CanGrow-delivered, CanFollow-grown, Grows-joined}
 use Rattle.sc_handover.proofs.growing.grow.Goals as goal
 
@@ -11,8 +11,12 @@ follower-requires-clause-can c =
     let all = c.deliver_all_to.ensures.delivered in (
       can.0,
       CanFollow-grown mid c.args.core _ can.0 c.deliver_all_to.ensures.sound (CanGrow-delivered c.args.bucket.now mid _ c.args.core can.0 all can.1)
-          refl (none_to_leader c.args.bucket.now mid _ all),
+          (leader_named c.args.core.slice c.leader-leader.result c.leader-leader.ensures.slice c.leader-leader.ensures.first)
+          (none_to_leader c.args.bucket.now mid _ all),
     )
+
+pub follower-requires-clause-leads : goal.follower-requires-clause-leads
+follower-requires-clause-leads c = leader_named c.args.core.slice c.leader-leader.result c.leader-leader.ensures.slice c.leader-leader.ensures.first
 
 pub join-requires-clause-made : goal.join-requires-clause-made
 join-requires-clause-made c =
@@ -20,7 +24,8 @@ join-requires-clause-made c =
     let mid = c.deliver_all_to.new.self in
     let all = c.deliver_all_to.ensures.delivered in
     let still = CanGrow-delivered c.args.bucket.now mid _ c.args.core can.0 all can.1 in
-    let follows = CanFollow-grown mid c.args.core _ can.0 c.deliver_all_to.ensures.sound still refl
+    let follows = CanFollow-grown mid c.args.core _ can.0 c.deliver_all_to.ensures.sound still
+    (leader_named c.args.core.slice c.leader-leader.result c.leader-leader.ensures.slice c.leader-leader.ensures.first)
     (none_to_leader c.args.bucket.now mid _ all) in
     (c.args.core, can.0, still, follows, c.in_ok-replica.ensures can.0 follows)
 
@@ -32,7 +37,9 @@ returns-clause-grown c =
     let all = c.deliver_all_to.ensures.delivered in
     let still = CanGrow-delivered c.args.bucket.now mid _ c.args.core sub all can in
     Grows-joined c.args.bucket.now c.deliver_all_to.new.self c.join.new.bucket _ c.args.core sub c.in_ok-replica.replica
-    c.in_ok-replica.feed c.deliver_all_to.ensures.delivered refl refl can
+    c.in_ok-replica.feed c.deliver_all_to.ensures.delivered c.leader-leader.ensures.slice c.leader-leader.ensures.first can
     (c.in_ok-replica.ensures sub
-    (CanFollow-grown mid c.args.core _ sub c.deliver_all_to.ensures.sound still refl (none_to_leader c.args.bucket.now mid _ all)))
+    (CanFollow-grown mid c.args.core _ sub c.deliver_all_to.ensures.sound still
+    (leader_named c.args.core.slice c.leader-leader.result c.leader-leader.ensures.slice c.leader-leader.ensures.first)
+    (none_to_leader c.args.bucket.now mid _ all)))
     joins) c.join.ensures.joined

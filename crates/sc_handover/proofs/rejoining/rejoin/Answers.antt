@@ -6,6 +6,7 @@ use Rattle.sc_journal.specs.Splits.{owed}
 use Rattle.sc_bucket.specs.Kept.{JournalState}
 use Rattle.sc_bucket.specs.Sound.{IsSound}
 use Rattle.sc_handover.specs.Seats.{Rejoins}
+use Rattle.sc_handover.proofs.MadeLemmas.{leader_named}
 use Rattle.sc_handover.proofs.FollowingLemmas.{core_named}
 use Rattle.sc_handover.proofs.ReservedLemmas.{IsSound-reserved}
 use Rattle.sc_handover.proofs.RejoinedLemmas.{CanFollow-rejoined}
@@ -25,6 +26,9 @@ pub follower-requires-clause-can : goal.follower-requires-clause-can
 follower-requires-clause-can c =
     CanFollow-rejoined (record c.args.bucket.now { journal = c.reserve.new.self }) c.args.core
     (IsSound-reserved c.args.bucket.now c.reserve.new.self _ c.in_ok-reserve.ensures.ok c.requires.sound) c.requires.can.follower
+
+pub follower-requires-clause-leads : goal.follower-requires-clause-leads
+follower-requires-clause-leads c = leader_named c.args.core.slice c.leader-leader.result c.leader-leader.ensures.slice c.leader-leader.ensures.first
 
 pub returns-in_err-fresh-clause-sound : goal.returns-in_err-fresh-clause-sound
 returns-in_err-fresh-clause-sound c =

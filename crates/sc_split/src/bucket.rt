@@ -22,7 +22,7 @@ use sc_handover::{
 use sc_record::CoreId;
 use std::alloc::{AllocError, Global};
 
-/// Begins the split of the plan in this bucket. After an error nothing of the bucket was changed.
+/// Begins the split of the plan in this bucket. After an error nothing of the bucket's part was changed.
 pub(crate) fn begin_in<D: Desk>(
     alloc: Global,
     desk: &mut D,

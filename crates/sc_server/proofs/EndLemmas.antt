@@ -12,7 +12,7 @@ use Rattle.sc_shared.specs.Collections.{Locks, layout_of}
 use Rattle.sc_arguments.specs.declared.asked.Server.{Server}
 use Rattle.sc_server.specs.declared.worker.Worker.{Worker}
 use Rattle.sc_server.specs.Reports.{Reports}
-use Rattle.sc_server.specs.Working.{Told, ServesAll}
+use Rattle.sc_server.specs.Working.{Told, ServesAll, serving}
 use Rattle.sc_server.specs.Needs.{listening_line}
 use Rattle.sc_server.specs.Crews.{SetsBelow, SetsReportedBelow, AreEnlisted, AreReportedBack, seen_by}
 use Rattle.sc_server.specs.Serving.{IsOneStory, Front, AreGivenAndBack, WritesNothing, IsEnd, EndsServer}
@@ -40,13 +40,14 @@ told_of written faults = record { written = written; faults = faults }
 -- how workers ended is the same of equal workers, reports and statuses
 pub served_as : {R C H P L S W : Type 0} (reports : Reports C H P L S W) (cores : List Host) (line : List ℕ)
     (as_old old as_new new : List (Worker R C H P L)) (before as_after after : Told) (as_status status : ℕ)
-    → as_old ≡ old → new ≡ as_new → after ≡ as_after → status ≡ as_status → ServesAll reports cores line as_old as_new before as_after as_status
-    → ServesAll reports cores line old new before after status
+    → as_old ≡ old → new ≡ as_new → after ≡ as_after → status ≡ as_status
+    → ServesAll reports cores line (serving as_old before) (serving as_new as_after) as_status
+    → ServesAll reports cores line (serving old before) (serving new after) status
 served_as {R} {C} {H} {P} {L} reports cores line as_old old as_new new before as_after after as_status status old_is new_is after_is status_is served =
-    subst (ServesAll reports cores line old new before after) (sym status_is)
-    (subst (λ (told : Told). ServesAll reports cores line old new before told as_status) (sym after_is)
-    (subst (λ (ones : List (Worker R C H P L)). ServesAll reports cores line old ones before as_after as_status) (sym new_is)
-    (subst (λ (ones : List (Worker R C H P L)). ServesAll reports cores line ones as_new before as_after as_status) old_is served)))
+    subst (ServesAll reports cores line (serving old before) (serving new after)) (sym status_is)
+    (subst (λ (told : Told). ServesAll reports cores line (serving old before) (serving new told) as_status) (sym after_is)
+    (subst (λ (ones : List (Worker R C H P L)). ServesAll reports cores line (serving old before) (serving ones as_after) as_status) (sym new_is)
+    (subst (λ (ones : List (Worker R C H P L)). ServesAll reports cores line (serving ones before) (serving as_new as_after) as_status) old_is served)))
 
 -- what a station reports between two steps of a server
 pub record Between (C H P L : Type 0) : Type 0 where
@@ -143,8 +144,8 @@ module _ {C H P L S W : Type 0} (reports : Reports C H P L S W) (server : Server
     pub all_given : (cores : List Host) (line : List ℕ) (all : Seen) {status : ℕ} → HasShape server.shape (layout_of locks)
         → cores ≡ cores_of_map server.shape.nodes (layout_of locks).first → line ≡ listening_line server.port → length enlisted ≡ server.workers
         → length new ≡ length enlisted → IsOneStory (layout_of locks) (map seen_by new) all
-        → ServesAll reports cores line enlisted new (record { written = before.written; faults = before.write_faults })
-        (record { written = after.written; faults = after.write_faults }) status
+        → ServesAll reports cores line (serving enlisted (told_of before.written before.write_faults))
+        (serving new (told_of after.written after.write_faults)) status
         → EndsServer reports server before after status
     all_given cores line all shape cores_are line_is count still story served =
         ends reports server locks before after enlisted new (are server locks before after opened now enlisted new same has done still)

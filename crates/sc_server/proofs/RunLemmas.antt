@@ -14,7 +14,7 @@ use Rattle.sc_shared.specs.Collections.{Locks, layout_of}
 use Rattle.sc_arguments.specs.declared.asked.Server.{Server}
 use Rattle.sc_server.specs.declared.worker.Worker.{Worker}
 use Rattle.sc_server.specs.Reports.{Reports, WorkerCrew, StartsCores, with_moment, without_moment, clock_gives, setting, beside}
-use Rattle.sc_server.specs.Working.{IsReady, with_hosts, HasFirstHosts, ended_by_fault, has_failed, status_after, HasWorked, HaveWorked, FirstFails, FirstStarts, Told, ServesAll}
+use Rattle.sc_server.specs.Working.{IsReady, with_hosts, HasFirstHosts, ended_by_fault, has_failed, status_after, HasWorked, HaveWorked, FirstFails, FirstStarts, Told, ServesAll, serving}
 use Rattle.sc_io.specs.Pieces.{AddsPrefix}
 use Rattle.sc_server.specs.Needs.{listening_line}
 use Rattle.sc_server.specs.Crews.{IsEnlisted, AreEnlisted, AreReportedBack, seen_with, seen_by}
@@ -97,7 +97,7 @@ module _ {R C H P L S W : Type 0} (reports : Reports C H P L S W) (server : Serv
       (starts : FirstStarts reports (cores_of_map cores_nodes (layout_of locks).first) enlisted began) (have : HaveWorked reports began new) where
     -- it is a run of this worker
     record IsRunOf (number : ℕ) (worker : Worker R C H P L) (run : WorkerRun C H P L) : Type 0 where
-      is : IsWorkerRun reports server (layout_of locks) before after number run
+      is : IsWorkerRun (record { reports = reports; layout = layout_of locks }) server before after number run
       after_is : seen_by worker ≡ run.after
       end_is : worker.end ≡ Some run.end
 
@@ -231,8 +231,8 @@ module _ {R C H P L S W : Type 0} (reports : Reports C H P L S W) (server : Serv
       (cores_are : cores ≡ cores_of_map server.shape.nodes (layout_of locks).first) (line_is : line ≡ listening_line server.port)
       (count : length enlisted ≡ server.workers) (story : IsOneStory (layout_of locks) (map seen_by new) all)
       (crews : AreGivenAndBack before after server.workers) (open_faults : after.open_faults ≡ before.open_faults) where
-    is_end : {status : ℕ} → ServesAll reports cores line enlisted new (record { written = before.written; faults = before.write_faults })
-        (record { written = after.written; faults = after.write_faults }) status → IsEnd reports server before after status
+    is_end : {status : ℕ} → ServesAll reports cores line (serving enlisted (record { written = before.written; faults = before.write_faults }))
+        (serving new (record { written = after.written; faults = after.write_faults })) status → IsEnd reports server before after status
     is_end (ServesAll.host_fails fails same) =
         IsEnd.host_fails (fails_to_start count crews open_faults fails
         (record { written = ap (λ (told : Told). told.written) same; write_faults = ap (λ (told : Told). told.faults) same }))
@@ -246,6 +246,6 @@ module _ {R C H P L S W : Type 0} (reports : Reports C H P L S W) (server : Serv
         (IsEnd.runs (runs began server.shape.nodes shape.nodes begins have)
         (runs_server began server.shape.nodes shape.nodes begins have all shape count story crews open_faults written faults))
 
-    pub ends : {status : ℕ} → ServesAll reports cores line enlisted new (record { written = before.written; faults = before.write_faults })
-        (record { written = after.written; faults = after.write_faults }) status → EndsServer reports server before after status
+    pub ends : {status : ℕ} → ServesAll reports cores line (serving enlisted (record { written = before.written; faults = before.write_faults }))
+        (serving new (record { written = after.written; faults = after.write_faults })) status → EndsServer reports server before after status
     ends served = with_causes reports server before after (is_end served)

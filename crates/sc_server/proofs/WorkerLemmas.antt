@@ -10,7 +10,7 @@ use Rattle.sc_session.specs.Working.{IsWorked}
 use Rattle.sc_shared.specs.Collections.{Locks}
 use Rattle.sc_server.specs.declared.worker.Worker.{Worker}
 use Rattle.sc_server.specs.Reports.{Reports, WorkerCrew, StartsCores, clock_gives, setting, beside}
-use Rattle.sc_server.specs.Working.{IsReady, IsReadyToWork, ended_by_fault, with_hosts, HasFirstHosts, status_after, HasWorked, HaveWorked, FirstStarts, Told, ServesAll}
+use Rattle.sc_server.specs.Working.{IsReady, IsReadyToWork, ended_by_fault, with_hosts, HasFirstHosts, status_after, HasWorked, HaveWorked, FirstStarts, Told, ServesAll, serving}
 
 -- what each element has, each still has once the first is replaced by one that has it
 pub all_with_first : {A : Type 0} (P : A → Type 0) (all : List A) (first : A) → All P all → P first → All P (set all 0 first)
@@ -106,7 +106,7 @@ module _ {R C H P L S W : Type 0} (reports : Reports C H P L S W) (cores : List 
   pub serves_host_fails : (before : Told)
       → (reports.outside (get_or workers 0 d).crew.hosts (get_or workers 0 d).crew.pace).start_faults
       < (reports.outside hosts (get_or workers 0 d).crew.pace).start_faults
-      → ServesAll reports cores line workers (set workers 0 (with_hosts hosts (get_or workers 0 d))) before before 8
+      → ServesAll reports cores line (serving workers before) (serving (set workers 0 (with_hosts hosts (get_or workers 0 d))) before) 8
   serves_host_fails before fault =
       ServesAll.host_fails (record { first = get_or workers 0 d; hosts = hosts; is = first_hosts hosts d workers some; fault = fault }) refl
 
@@ -114,7 +114,7 @@ module _ {R C H P L S W : Type 0} (reports : Reports C H P L S W) (cores : List 
   pub serves_line_fails : (before after : Told)
       → StartsCores cores (reports.outside (get_or workers 0 d).crew.hosts (get_or workers 0 d).crew.pace) (reports.outside hosts (get_or workers 0 d).crew.pace)
       → before.faults < after.faults → IfSome before.written (λ bytes. AddsPrefix bytes line after.written)
-      → ServesAll reports cores line workers (set workers 0 (with_hosts hosts (get_or workers 0 d))) before after 5
+      → ServesAll reports cores line (serving workers before) (serving (set workers 0 (with_hosts hosts (get_or workers 0 d))) after) 5
   serves_line_fails before after starts fault part = ServesAll.line_fails (first_starts starts) fault part
 
   -- the workers have worked, and some listener failed or none
@@ -123,9 +123,9 @@ module _ {R C H P L S W : Type 0} (reports : Reports C H P L S W) (cores : List 
       → IfSome before.written (λ bytes. after.written ≡ Some (bytes ++ line)) → after.faults ≡ before.faults
       → HaveWorked reports (set workers 0 (with_hosts hosts (get_or workers 0 d))) new
       → list_any (λ (worker : Worker R C H P L). ended_by_fault worker.end) new ≡ failed
-      → ServesAll reports cores line workers new before after (if failed then 7 else 0)
+      → ServesAll reports cores line (serving workers before) (serving new after) (if failed then 7 else 0)
   serves_works new before after failed starts written faults worked is =
-      subst (ServesAll reports cores line workers new before after) (status_by new failed is)
+      subst (ServesAll reports cores line (serving workers before) (serving new after)) (status_by new failed is)
       (ServesAll.works (set workers 0 (with_hosts hosts (get_or workers 0 d))) (first_starts starts) written faults worked)
 
 module _ {R C H P L S W : Type 0} (reports : Reports C H P L S W) where

@@ -92,9 +92,27 @@ pub record WorkerRun (C H P L : Type 0) : Type 0 where
   pub after : Seen
   pub end : WorkEnd
 
+-- what the workers of one server work by: what the parts of their crews report, and how the collection is laid out
+pub record WorkerSetting (C H P L S W : Type 0) : Type 1 where
+  pub reports : Reports C H P L S W
+  pub layout : Layout
+
 -- the status of a server whose workers have all ended
 abbrev pub status_of : {C H P L : Type 0} → List (WorkerRun C H P L) → ℕ
 status_of {C} {H} {P} {L} runs = if list_any (λ (run : WorkerRun C H P L). has_failed run.end) runs then 7 else 0
+
+module _ {C H P L S W : Type 0} (at : WorkerSetting C H P L S W) where
+  -- A worker of this number worked over the collection, from the beginning on: the station gave its crew, where it reports that; it did
+  -- what every worker promises; and the station has its crew back. The first one's hosts had started the cores of the first map.
+  pub record IsWorkerRun (server : Server) (before after : Front C H P L) (number : ℕ) (run : WorkerRun C H P L) : Type 0 where
+    pub crew : IsGivenAndBack before after number run.given (without_moment run.back)
+    pub first : number ≡ 0
+        → StartsFirst at.layout.nodes at.layout.first (at.reports.outside run.given.hosts run.given.pace) (at.reports.outside run.began.hosts run.began.pace)
+    pub hosts : number ≢ 0 → run.began.hosts ≡ run.given.hosts
+    pub rest : run.began ≡ record (with_moment server.clock run.given) { hosts = run.began.hosts }
+    pub new : SeesNothing run.before
+    pub worked : IsWorked (clock_gives at.reports) (setting at.reports at.layout) server.max_connections (beside at.reports run.before run.began)
+        (beside at.reports run.after run.back) run.end
 
 module _ {C H P L S W : Type 0} (reports : Reports C H P L S W) where
   -- Starting one of the first cores failed, and nothing was written.
@@ -116,24 +134,14 @@ module _ {C H P L S W : Type 0} (reports : Reports C H P L S W) where
     pub fault : before.write_faults < after.write_faults
     pub part : IfSome before.written (λ old. AddsPrefix old (listening_line server.port) after.written)
 
-  -- A worker of this number worked over the collection, from the beginning on: the station gave its crew, where it reports that; it did
-  -- what every worker promises; and the station has its crew back. The first one's hosts had started the cores of the first map.
-  pub record IsWorkerRun (server : Server) (layout : Layout) (before after : Front C H P L) (number : ℕ) (run : WorkerRun C H P L) : Type 0 where
-    pub crew : IsGivenAndBack before after number run.given (without_moment run.back)
-    pub first : number ≡ 0 → StartsFirst layout.nodes layout.first (reports.outside run.given.hosts run.given.pace) (reports.outside run.began.hosts run.began.pace)
-    pub hosts : number ≢ 0 → run.began.hosts ≡ run.given.hosts
-    pub rest : run.began ≡ record (with_moment server.clock run.given) { hosts = run.began.hosts }
-    pub new : SeesNothing run.before
-    pub worked : IsWorked (clock_gives reports) (setting reports layout) server.max_connections (beside reports run.before run.began)
-        (beside reports run.after run.back) run.end
-
   -- All workers of a server worked over one collection of its shape, in which nothing had happened: what they have seen of each journal are
   -- beginnings of one, and no two of them made the same entry. The line was written before, and the port didn't fail.
   pub record RunsServer (server : Server) (before after : Front C H P L) (runs : List (WorkerRun C H P L)) : Type 0 where
     pub layout : Layout
     pub shape : HasShape server.shape layout
     pub count : length runs ≡ server.workers
-    pub each : (number : ℕ) (run : WorkerRun C H P L) → slice_get runs number ≡ Some run → IsWorkerRun server layout before after number run
+    pub each : (number : ℕ) (run : WorkerRun C H P L) → slice_get runs number ≡ Some run
+        → IsWorkerRun (record { reports = reports; layout = layout }) server before after number run
     pub all : Seen
     pub story : IsOneStory layout (map (λ (run : WorkerRun C H P L). run.after) runs) all
     pub crews : AreGivenAndBack before after server.workers

@@ -56,6 +56,15 @@ pub record Told : Type 0 where
   pub written : Option (List ℕ)
   pub faults : ℕ
 
+-- what stands beside a server at one moment: its workers, and what its sink reports
+pub record ServerState (R C H P L : Type 0) : Type 0 where
+  pub workers : List (Worker R C H P L)
+  pub told : Told
+
+-- the same, of these workers and of what is reported
+abbrev pub serving : {R C H P L : Type 0} → List (Worker R C H P L) → Told → ServerState R C H P L
+serving workers told = record { workers = workers; told = told }
+
 module _ {R C H P L S W : Type 0} (reports : Reports C H P L S W) where
   -- The worker has worked: from what its passes had seen before, with its crew as it was, to what they have seen since, with its crew
   -- as it is then.
@@ -92,10 +101,10 @@ module _ {R C H P L S W : Type 0} (reports : Reports C H P L S W) where
   -- How workers ended that were to begin with these cores and to write this line, with this status: a core was not started, and nothing
   -- was written; the cores were started, and writing the line failed after a prefix of it; or the line was written as well, and each worker has worked from
   -- there.
-  pub data ServesAll (cores : List Host) (line : List ℕ) (old new : List (Worker R C H P L)) (before after : Told) : (status : ℕ) → Type 0 where
-    host_fails : FirstFails old new → after ≡ before → ServesAll cores line old new before after 8
-    line_fails : FirstStarts cores old new → before.faults < after.faults → IfSome before.written (λ bytes. AddsPrefix bytes line after.written)
-        → ServesAll cores line old new before after 5
-    works : (began : List (Worker R C H P L)) → FirstStarts cores old began
-        → IfSome before.written (λ bytes. after.written ≡ Some (bytes ++ line)) → after.faults ≡ before.faults
-        → HaveWorked began new → ServesAll cores line old new before after (status_after new)
+  pub data ServesAll (cores : List Host) (line : List ℕ) (old new : ServerState R C H P L) : (status : ℕ) → Type 0 where
+    host_fails : FirstFails old.workers new.workers → new.told ≡ old.told → ServesAll cores line old new 8
+    line_fails : FirstStarts cores old.workers new.workers → old.told.faults < new.told.faults
+        → IfSome old.told.written (λ bytes. AddsPrefix bytes line new.told.written) → ServesAll cores line old new 5
+    works : (began : List (Worker R C H P L)) → FirstStarts cores old.workers began
+        → IfSome old.told.written (λ bytes. new.told.written ≡ Some (bytes ++ line)) → new.told.faults ≡ old.told.faults
+        → HaveWorked began new.workers → ServesAll cores line old new (status_after new.workers)

@@ -6,7 +6,7 @@ ghost use Rattle.sc_arguments.specs.Arguments.{IsServer};
 ghost use Rattle.sc_shared.specs.Passes.{seen_of};
 ghost use Rattle.sc_shared.specs.Collections.{Locks, layout_of, SeesBoth};
 ghost use Rattle.sc_shared.specs.Sharing.{ArePasses};
-ghost use Rattle.sc_server.specs.Working.{IsReady, IsReadyToWork, ended_by_fault, HasWorked, HaveWorked, ServesAll};
+ghost use Rattle.sc_server.specs.Working.{IsReady, IsReadyToWork, ended_by_fault, HasWorked, HaveWorked, ServesAll, serving};
 ghost use Rattle.sc_server.specs.Needs.{IsKit};
 ghost use Rattle.sc_server.specs.Crews.{SetsBelow, SetsReportedBelow, AreEnlisted, AreReportedBack, seen_with, seen_by};
 ghost use Rattle.sc_server.specs.Serving.{IsOneStory, EndsServer};
@@ -182,9 +182,9 @@ fn serve_all<
           written = L.W.written;
           write_faults = L.W.faults;
         })
-        cores.now line.now workers.old workers.new
-        (record { written = W.written sink.old; faults = W.faults sink.old })
-        (record { written = W.written sink.new; faults = W.faults sink.new })
+        cores.now line.now
+        (serving workers.old (record { written = W.written sink.old; faults = W.faults sink.old }))
+        (serving workers.new (record { written = W.written sink.new; faults = W.faults sink.new }))
         result }
     ensures ready { (collection : Locks) → All (IsReady collection) workers.old → All (IsReady collection) workers.new }
     ensures count { length workers.new ≡ length workers.old }

@@ -1,4 +1,5 @@
 -- What the proofs of a run share, and what the usage's examples ask for.
+pub mod AskedLemmas
 pub mod CrewLemmas
 pub mod DemoLemmas
 pub mod MapCoreLemmas

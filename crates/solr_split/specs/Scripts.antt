@@ -53,7 +53,7 @@ module _ {C H P L : Type 0} where
     pub back : Crew C H P L
     pub lends : LendsFirst before.front after.front given back
     pub runs : RunsOrFails script reports.gives (machine_by reports before given) (machine_by reports after back)
-        (untouched × (back.clock ≡ given.clock) × (back.pace ≡ given.pace)) (back.hosts ≡ given.hosts) status
+        (record { hosts = back.hosts ≡ given.hosts; others = untouched × (back.clock ≡ given.clock) × (back.pace ≡ given.pace) }) status
     pub host_fault : status ≡ 8
         → (reports.outside given.hosts given.pace).start_faults < (reports.outside back.hosts back.pace).start_faults
 

@@ -1,12 +1,12 @@
 //! All that the program does, by what its arguments ask for.
-ghost use Rattle.std.specs.Prelude.{◌≡◌, ◌≢◌, ◌<◌, ◌↔◌, ◌⊎◌, map, string_bytes, IfSome, None};
+ghost use Rattle.std.specs.Prelude.{◌≡◌, ◌≢◌, ◌<◌, ◌↔◌, map, string_bytes};
 ghost use Rattle.sc_cores.specs.Cores.{outside_of};
 ghost use Rattle.sc_collection.specs.Shapes.{IsShape};
-ghost use Rattle.sc_arguments.specs.Arguments.{asked_of, IsServer, IsDemo};
+ghost use Rattle.sc_arguments.specs.Arguments.{IsServer, IsDemo};
 ghost use Rattle.sc_server.specs.Serving.{EndsServer};
 ghost use Rattle.sc_demo.specs.Demos.{EndsDemo};
-ghost use Rattle.solr_split.specs.Running.{script_of, server_of, demo_of};
 ghost use Rattle.solr_split.specs.Scripts.{EndsScript};
+ghost use Rattle.solr_split.specs.Runs.{EndsRun};
 
 use crate::script::run_script;
 use sc_arguments::{Asked, Demo, Script, Server, asked_of};
@@ -38,19 +38,20 @@ pub fn run<S: Source, W: Sink, T: Station, R: Threads + Wait + Sync>(
     sink: &mut W,
     station: &mut T,
 ) -> u8
-    // The status is 2 only where nothing is asked for, and there it is 2, or 6 where reading the arguments found no memory.
-    ensures bad_arguments { result ≡ 2 → asked_of (map string_bytes arguments.now) ≡ None }
-    ensures nothing_asked { asked_of (map string_bytes arguments.now) ≡ None → (result ≡ 2) ⊎ (result ≡ 6) }
-
-    // Where nothing is asked for, nothing is read, written or opened.
-    ensures nothing_done { asked_of (map string_bytes arguments.now) ≡ None → (source.new ≡ source.old) × (sink.new ≡ sink.old) × (station.new ≡ station.old) }
-
-    // A script serves one connection, unless memory ran out or a host failed before it began.
-    ensures script { IfSome (script_of (map string_bytes arguments.now)) (λ script. EndsScript script
+    ensures { EndsRun
         (record {
           gives = T.C.gives;
           outside = λ hosts pace. outside_of (T.H.started hosts) (T.H.start_faults hosts) (T.H.stop_faults hosts) (T.P.stops pace);
+          coming = T.L.coming;
+          taken = T.L.taken;
+          faults = T.L.faults;
+          out = T.L.out;
+          rest = T.L.S.rest;
+          read_faults = T.L.S.faults;
+          written = T.L.W.written;
+          write_faults = T.L.W.faults;
         })
+        (map string_bytes arguments.now)
         (record {
           front = record {
             crews = T.crews station.old;
@@ -75,69 +76,12 @@ pub fn run<S: Source, W: Sink, T: Station, R: Threads + Wait + Sync>(
           unread = S.rest source.new;
           read_faults = S.faults source.new;
         })
-        ((source.new ≡ source.old) × (sink.new ≡ sink.old)) result) }
-
-    // A server serves the connections to its port by all its workers, unless it fails before.
-    ensures serve { IfSome (server_of (map string_bytes arguments.now)) (λ server. EndsServer
         (record {
-          gives = T.C.gives;
-          outside = λ hosts pace. outside_of (T.H.started hosts) (T.H.start_faults hosts) (T.H.stop_faults hosts) (T.P.stops pace);
-          coming = T.L.coming;
-          taken = T.L.taken;
-          faults = T.L.faults;
-          out = T.L.out;
-          rest = T.L.S.rest;
-          read_faults = T.L.S.faults;
-          written = T.L.W.written;
-          write_faults = T.L.W.faults;
+          source = source.new ≡ source.old;
+          sink = sink.new ≡ sink.old;
+          station = station.new ≡ station.old;
         })
-        server
-        (record {
-          crews = T.crews station.old;
-          crews_back = T.crews_back station.old;
-          out = T.out station.old;
-          open_faults = T.faults station.old;
-          written = W.written sink.old;
-          write_faults = W.faults sink.old;
-        })
-        (record {
-          crews = T.crews station.new;
-          crews_back = T.crews_back station.new;
-          out = T.out station.new;
-          open_faults = T.faults station.new;
-          written = W.written sink.new;
-          write_faults = W.faults sink.new;
-        })
-        result) }
-
-    // A demonstration makes its workload by all its makers, and tells what came of it, unless it fails before.
-    ensures demo { IfSome (demo_of (map string_bytes arguments.now)) (λ demo. EndsDemo
-        (record {
-          gives = T.C.gives;
-          outside = λ hosts pace. outside_of (T.H.started hosts) (T.H.start_faults hosts) (T.H.stop_faults hosts) (T.P.stops pace);
-        })
-        demo
-        (record {
-          crews = T.crews station.old;
-          crews_back = T.crews_back station.old;
-          out = T.out station.old;
-          open_faults = T.faults station.old;
-          written = W.written sink.old;
-          write_faults = W.faults sink.old;
-        })
-        (record {
-          crews = T.crews station.new;
-          crews_back = T.crews_back station.new;
-          out = T.out station.new;
-          open_faults = T.faults station.new;
-          written = W.written sink.new;
-          write_faults = W.faults sink.new;
-        })
-        result) }
-    ensures demo_reads { IfSome (demo_of (map string_bytes arguments.now)) (λ demo. source.new ≡ source.old) }
-    ensures server_reads { IfSome (server_of (map string_bytes arguments.now)) (λ server. source.new ≡ source.old) }
-    ensures read_fault { (result ≡ 4) ↔ (S.faults source.old < S.faults source.new) }
-    ensures write_fault { (result ≡ 5) ↔ (W.faults sink.old < W.faults sink.new) }
+        result }
 {
     let Ok(asked) = asked_of(alloc, arguments) else {
         return 6;

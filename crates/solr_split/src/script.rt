@@ -62,7 +62,11 @@ pub(crate) fn run_script<R: Threads + Sync, S: Source, W: Sink, C: Clock, H: Hos
           read_faults = S.faults source.new;
           write_faults = W.faults sink.new;
         })
-        (((source.new ≡ source.old) × (sink.new ≡ sink.old)) × (clock.new ≡ clock.old) × (pace.new ≡ pace.old)) (hosts.new ≡ hosts.old) result }
+        (record {
+          hosts = hosts.new ≡ hosts.old;
+          others = ((source.new ≡ source.old) × (sink.new ≡ sink.old)) × (clock.new ≡ clock.old) × (pace.new ≡ pace.old);
+        })
+        result }
     ensures status { result ≢ 2 }
     ensures read_fault { (result ≡ 4) ↔ (S.faults source.old < S.faults source.new) }
     ensures write_fault { (result ≡ 5) ↔ (W.faults sink.old < W.faults sink.new) }

@@ -1,13 +1,28 @@
--- Where there is no memory to read the arguments, all is left as it was.
-use Rattle.std.proofs.Common.{refl}
-use Rattle.solr_split.proofs.MemoryLemmas.{so_of_one, script_without_memory, server_without_memory, demo_without_memory}
+-- What a run leaves is what the part of it leaves that was asked for.
+use Rattle.std.proofs.Common.{◌∙◌, refl, sym}
+use Rattle.solr_split.proofs.AskedLemmas.{ends_without_memory, ends_unasked, ends_script, ends_server, ends_demo}
 use Rattle.solr_split.proofs.run.run.Goals as goal
 
-pub returns-in_default-clause-script : goal.returns-in_default-clause-script
-returns-in_default-clause-script g c = so_of_one _ (λ script. script_without_memory _ _ _ (refl, refl) script) _
+pub returns-in_default : goal.returns-in_default
+returns-in_default g c = ends_without_memory _ _ _ _ refl refl refl
 
-pub returns-in_default-clause-serve : goal.returns-in_default-clause-serve
-returns-in_default-clause-serve g c = so_of_one _ (λ server. server_without_memory _ _ server) _
+pub returns-in-None : goal.returns-in-None
+returns-in-None g c = ends_unasked _ _ _ _ refl refl refl (sym c.in-Ok.ensures.asked ∙ c.in-None.is)
 
-pub returns-in_default-clause-demo : goal.returns-in_default-clause-demo
-returns-in_default-clause-demo g c = so_of_one _ (λ demo. demo_without_memory _ _ demo) _
+pub returns-in-Some-Script : goal.returns-in-Some-Script
+returns-in-Some-Script g c =
+    let ran = c.run_by_crew.ensures in
+    ends_script _ _ _ _ _ c.run_by_crew.result c.in-Some-Script.script (sym c.in-Ok.ensures.asked ∙ c.in-Some-Script.is) ran.script ran.status
+    ran.read_fault ran.write_fault
+
+pub returns-in-Some-Serve : goal.returns-in-Some-Serve
+returns-in-Some-Serve g c =
+    let ran = c.run_workers.ensures in
+    ends_server _ _ _ _ _ c.run_workers.result refl refl ran.status ran.write_fault c.in-Some-Serve.server
+    (sym c.in-Ok.ensures.asked ∙ c.in-Some-Serve.is) ran.ends
+
+pub returns-in-Some-Demo : goal.returns-in-Some-Demo
+returns-in-Some-Demo g c =
+    let ran = c.run_makers.ensures in
+    ends_demo _ _ _ _ _ c.run_makers.result refl refl ran.status ran.write_fault c.in-Some-Demo.demo
+    (sym c.in-Ok.ensures.asked ∙ c.in-Some-Demo.is) ran.ends

@@ -12,10 +12,10 @@ use Rattle.sc_server.specs.Serving.{EndsServer}
 use Rattle.sc_demo.specs.Demos.{EndsDemo}
 use Rattle.solr_split.specs.Running.{script_in, server_in, demo_in}
 use Rattle.solr_split.specs.Scripts.{Beside, EndsScript}
-use Rattle.solr_split.specs.Runs.{AsBefore, EndsRun}
+use Rattle.solr_split.specs.Runs.{RunUntouched, EndsRun}
 use Rattle.solr_split.proofs.MemoryLemmas.{so_of_one, script_without_memory, server_without_memory, demo_without_memory}
 
-module _ {C H P L S W : Type 0} (reports : Reports C H P L S W) (arguments : List (List ℕ)) (beside : Beside C H P L) (same : AsBefore)
+module _ {C H P L S W : Type 0} (reports : Reports C H P L S W) (arguments : List (List ℕ)) (beside : Beside C H P L) (same : RunUntouched)
     (source : same.source) (sink : same.sink) (station : same.station) where
   -- there was no memory to read the arguments
   pub ends_without_memory : EndsRun reports arguments beside beside same 6
@@ -50,7 +50,7 @@ module _ {C H P L S W : Type 0} (reports : Reports C H P L S W) (arguments : Lis
     write_fault = (λ five. absurd (omega (arith, five)), λ more. absurd (omega (arith, more)));
   }
 
-module _ {C H P L S W : Type 0} (reports : Reports C H P L S W) (arguments : List (List ℕ)) (before after : Beside C H P L) (same : AsBefore)
+module _ {C H P L S W : Type 0} (reports : Reports C H P L S W) (arguments : List (List ℕ)) (before after : Beside C H P L) (same : RunUntouched)
     (status : ℕ) where
   -- a script was asked for
   pub ends_script : (script : Script) → asked_of arguments ≡ Some (asking.Script script)

@@ -134,7 +134,7 @@ pub record RunsScript {C : Type 0} (script : Script) (gives : C → ℕ → C �
   pub status_is : status ≡ exit_status end
 
 -- two facts of what a script was handed: that its hosts are as they were, and that all others are
-pub record Untouched : Type 1 where
+pub record ScriptUntouched : Type 1 where
   pub hosts : Type 0
   pub others : Type 0
 
@@ -144,7 +144,7 @@ pub record FailsToStart (before after : Outside) (untouched : Type 0) : Type 0 w
   pub fault : before.start_faults < after.start_faults
 
 -- a script was run; or memory ran out before it began, and all was left as it was; or a core of the first map was not started
-abbrev pub RunsOrFails : {C : Type 0} → Script → (C → ℕ → C → Type 0) → (before after : Machine C) → Untouched → ℕ → Type 0
+abbrev pub RunsOrFails : {C : Type 0} → Script → (C → ℕ → C → Type 0) → (before after : Machine C) → ScriptUntouched → ℕ → Type 0
 RunsOrFails script gives before after untouched status =
     RunsScript script gives before after status ⊎ ((status ≡ 6) × untouched.others × untouched.hosts)
     ⊎ ((status ≡ 8) × FailsToStart before.outside after.outside untouched.others)

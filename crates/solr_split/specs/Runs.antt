@@ -8,14 +8,14 @@ use Rattle.solr_split.specs.Running.{script_of, server_of, demo_of}
 use Rattle.solr_split.specs.Scripts.{Beside, EndsScript}
 
 -- three facts of what a run was handed: that its source is as it was, that its sink is, and that its station is
-pub record AsBefore : Type 1 where
+pub record RunUntouched : Type 1 where
   pub source : Type 0
   pub sink : Type 0
   pub station : Type 0
 
 module _ {C H P L S W : Type 0} (reports : Reports C H P L S W) where
   -- How a run ended, with this status, by what these arguments ask for.
-  pub record EndsRun (arguments : List (List ℕ)) (before after : Beside C H P L) (same : AsBefore) (status : ℕ) : Type 0 where
+  pub record EndsRun (arguments : List (List ℕ)) (before after : Beside C H P L) (same : RunUntouched) (status : ℕ) : Type 0 where
     -- The status is 2 only where nothing is asked for, and there it is 2, or 6 where reading the arguments found no memory.
     pub bad_arguments : status ≡ 2 → asked_of arguments ≡ None
     pub nothing_asked : asked_of arguments ≡ None → (status ≡ 2) ⊎ (status ≡ 6)

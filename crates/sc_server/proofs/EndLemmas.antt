@@ -14,7 +14,7 @@ use Rattle.sc_server.specs.declared.worker.Worker.{Worker}
 use Rattle.sc_server.specs.Reports.{Reports}
 use Rattle.sc_server.specs.Working.{Told, ServesAll, serving}
 use Rattle.sc_server.specs.Needs.{listening_line}
-use Rattle.sc_server.specs.Crews.{SetsBelow, SetsReportedBelow, AreEnlisted, AreReportedBack, seen_by}
+use Rattle.sc_server.specs.Crews.{SetsBelow, SetsReportedBelow, AreEnlisted, AreReportedBack, StationState, HaveCrews, HaveGivenBack, seen_by}
 use Rattle.sc_server.specs.Serving.{IsOneStory, Front, AreGivenAndBack, WritesNothing, IsEnd, EndsServer}
 use Rattle.sc_server.proofs.FrontLemmas.{none_given_and_back, given_and_back, unused}
 use Rattle.sc_server.proofs.CauseLemmas.{with_causes}
@@ -49,43 +49,26 @@ served_as {R} {C} {H} {P} {L} reports cores line as_old old as_new new before as
     (subst (λ (ones : List (Worker R C H P L)). ServesAll reports cores line (serving old before) (serving ones as_after) as_status) (sym new_is)
     (subst (λ (ones : List (Worker R C H P L)). ServesAll reports cores line (serving ones before) (serving as_new as_after) as_status) old_is served)))
 
--- what a station reports between two steps of a server
-pub record Between (C H P L : Type 0) : Type 0 where
-  pub crews : Option (ℕ → Option (Crew C H P L))
-  pub crews_back : Option (ℕ → Option (Crew C H P L))
-  pub out : ℕ → Bool
-  pub faults : ℕ
+-- what a station reports
+abbrev pub station_of : {C H P L : Type 0} (crews crews_back : Option (ℕ → Option (Crew C H P L))) → (ℕ → Bool) → ℕ → StationState C H P L
+station_of crews crews_back out faults = record { crews = crews; crews_back = crews_back; out = out; faults = faults }
 
-abbrev pub between_of : {C H P L : Type 0} (crews crews_back : Option (ℕ → Option (Crew C H P L))) → (ℕ → Bool) → ℕ → Between C H P L
-between_of crews crews_back out faults = record { crews = crews; crews_back = crews_back; out = out; faults = faults }
+-- the same, by a front
+abbrev pub station_at : {C H P L : Type 0} → Front C H P L → StationState C H P L
+station_at front = station_of front.crews front.crews_back front.out front.open_faults
 
 -- nothing of it has changed
-pub record IsSame {C H P L : Type 0} (before : Front C H P L) (opened : Between C H P L) : Type 0 where
+pub record IsSame {C H P L : Type 0} (before : Front C H P L) (opened : StationState C H P L) : Type 0 where
   pub crews : opened.crews ≡ before.crews
   pub crews_back : opened.crews_back ≡ before.crews_back
   pub out : AreAsBefore before.out opened.out
   pub faults : opened.faults ≡ before.open_faults
 
 module _ {R C H P L : Type 0} (server : Server) (locks : Locks) where
-  -- the workers have their crews
-  pub record HasEnlisted (enlisted : List (Worker R C H P L)) (opened now : Between C H P L) : Type 0 where
-    pub are : AreEnlisted server locks opened.crews enlisted
-    pub crews : SetsReportedBelow (length enlisted) None opened.crews now.crews
-    pub out : SetsBelow (length enlisted) true opened.out now.out
-    pub crews_back : now.crews_back ≡ opened.crews_back
-    pub faults : now.faults ≡ opened.faults
-
-  -- the crews of workers are back
-  pub record HasDismissed (new : List (Worker R C H P L)) (now : Between C H P L) (after : Front C H P L) : Type 0 where
-    pub crews_back : AreReportedBack new now.crews_back after.crews_back
-    pub out : SetsBelow (length new) false now.out after.out
-    pub crews : after.crews ≡ now.crews
-    pub faults : after.open_faults ≡ now.faults
-
-  module _ (before after : Front C H P L) (opened now : Between C H P L) (enlisted new : List (Worker R C H P L)) (same : IsSame before opened)
-      (has : HasEnlisted enlisted opened now) (done : HasDismissed new now after) (count : length new ≡ length enlisted) where
+  module _ (before after : Front C H P L) (opened now : StationState C H P L) (enlisted new : List (Worker R C H P L)) (same : IsSame before opened)
+      (has : HaveCrews server locks enlisted opened now) (done : HaveGivenBack new now (station_at after)) (count : length new ≡ length enlisted) where
     pub are : AreEnlisted server locks before.crews enlisted
-    are = subst (λ (crews : Option (ℕ → Option (Crew C H P L))). AreEnlisted server locks crews enlisted) same.crews has.are
+    are = subst (λ (crews : Option (ℕ → Option (Crew C H P L))). AreEnlisted server locks crews enlisted) same.crews has.enlisted
 
     pub back : AreReportedBack new before.crews_back after.crews_back
     back =
@@ -104,7 +87,7 @@ module _ {R C H P L : Type 0} (server : Server) (locks : Locks) where
 
 module _ {C H P L S W : Type 0} (reports : Reports C H P L S W) (server : Server) (before after : Front C H P L) where
   -- memory ran out before any crew was given
-  pub none_given : (opened : Between C H P L) → IsSame before opened → after.crews ≡ opened.crews → after.crews_back ≡ opened.crews_back
+  pub none_given : (opened : StationState C H P L) → IsSame before opened → after.crews ≡ opened.crews → after.crews_back ≡ opened.crews_back
       → AreAsBefore opened.out after.out → after.open_faults ≡ opened.faults → WritesNothing before after → EndsServer reports server before after 6
   none_given opened same crews crews_back out faults silent = with_causes reports server before after (IsEnd.no_memory (record {
     count = 0;
@@ -124,12 +107,12 @@ module _ {C H P L S W : Type 0} (reports : Reports C H P L S W) (server : Server
     silent = silent;
   }))
 
-  module _ {R : Type 0} (locks : Locks) (opened now : Between C H P L) (enlisted new : List (Worker R C H P L)) (same : IsSame before opened)
-      (has : HasEnlisted server locks enlisted opened now) (done : HasDismissed server locks new now after) where
+  module _ {R : Type 0} (locks : Locks) (opened now : StationState C H P L) (enlisted new : List (Worker R C H P L)) (same : IsSame before opened)
+      (has : HaveCrews server locks enlisted opened now) (done : HaveGivenBack new now (station_at after)) where
     -- memory ran out for the crew of a worker
     pub some_given : new ≡ enlisted → length enlisted ≤ server.workers → WritesNothing before after → EndsServer reports server before after 6
     some_given as_enlisted at_most silent =
-        let back_is = subst (λ (ones : List (Worker R C H P L)). HasDismissed server locks ones now after) as_enlisted done in
+        let back_is = subst (λ (ones : List (Worker R C H P L)). HaveGivenBack ones now (station_at after)) as_enlisted done in
         with_causes reports server before after (IsEnd.no_memory (record {
           count = length enlisted;
           at_most = at_most;

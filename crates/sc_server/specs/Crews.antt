@@ -1,5 +1,5 @@
 -- How workers get their crews from a station, and how the station gets them back.
-use Rattle.std.specs.Prelude.{◌≡◌, ◌≤◌, ◌<◌, ℕ, List, [], length, slice_get, Option, Some, None, IfSome}
+use Rattle.std.specs.Prelude.{◌≡◌, ◌≤◌, ◌<◌, ℕ, Bool, true, false, List, [], length, slice_get, Option, Some, None, IfSome}
 use Rattle.sc_seen.specs.Seen.{Seen}
 use Rattle.sc_session.specs.declared.station.Crew.{Crew}
 use Rattle.sc_shared.specs.declared.passes.Passes.{Passes}
@@ -18,6 +18,14 @@ pub record SetsBelow {A : Type 0} (count : ℕ) (value : A) (old new : ℕ → A
 -- the same of what stands at each number where that is reported, which it goes on to be
 abbrev pub SetsReportedBelow : {A : Type 0} → ℕ → A → (old new : Option (ℕ → A)) → Type 0
 SetsReportedBelow {A} count value old new = IfSome old (λ before. (after : ℕ → A) × (new ≡ Some after) × SetsBelow count value before after)
+
+-- What a station reports at one moment: the crews that are still to be given, those that are back and those that are out, by the worker's
+-- number; and how often opening the port has failed.
+pub record StationState (C H P L : Type 0) : Type 0 where
+  pub crews : Option (ℕ → Option (Crew C H P L))
+  pub crews_back : Option (ℕ → Option (Crew C H P L))
+  pub out : ℕ → Bool
+  pub faults : ℕ
 
 -- what these passes have seen; none have seen nothing
 abbrev pub seen_with : Option Passes → Seen
@@ -55,3 +63,18 @@ module _ {R C H P L : Type 0} where
   abbrev pub AreReportedBack : List (Worker R C H P L) → (old new : Option (ℕ → Option (Crew C H P L))) → Type 0
   AreReportedBack workers old new =
       IfSome old (λ before. (after : ℕ → Option (Crew C H P L)) × (new ≡ Some after) × AreBack workers before after)
+
+  -- these workers were given their crews, by their numbers, and all else of the station is as it was
+  pub record HaveCrews (server : Server) (locks : Locks) (workers : List (Worker R C H P L)) (old new : StationState C H P L) : Type 0 where
+    pub enlisted : AreEnlisted server locks old.crews workers
+    pub crews : SetsReportedBelow (length workers) None old.crews new.crews
+    pub out : SetsBelow (length workers) true old.out new.out
+    pub crews_back : new.crews_back ≡ old.crews_back
+    pub faults : new.faults ≡ old.faults
+
+  -- the crews of these workers are back, and all else of the station is as it was
+  pub record HaveGivenBack (workers : List (Worker R C H P L)) (old new : StationState C H P L) : Type 0 where
+    pub crews_back : AreReportedBack workers old.crews_back new.crews_back
+    pub out : SetsBelow (length workers) false old.out new.out
+    pub crews : new.crews ≡ old.crews
+    pub faults : new.faults ≡ old.faults

@@ -1,5 +1,5 @@
 //! All workers, from the port to the status.
-ghost use Rattle.std.specs.Prelude.{◌≡◌, ◌≤◌, ◌<◌, ◌^◌, ℕ, true, false, [], length, map, All, None, IfSome, OnOk, vec_len, vec_capacity};
+ghost use Rattle.std.specs.Prelude.{◌≡◌, ◌≤◌, ◌<◌, ◌^◌, ℕ, true, [], length, map, All, IfSome, OnOk, vec_len, vec_capacity};
 ghost use Rattle.std.specs.List.{list_any};
 ghost use Rattle.sc_cores.specs.Cores.{outside_of};
 ghost use Rattle.sc_arguments.specs.Arguments.{IsServer};
@@ -8,7 +8,7 @@ ghost use Rattle.sc_shared.specs.Collections.{Locks, layout_of, SeesBoth};
 ghost use Rattle.sc_shared.specs.Sharing.{ArePasses};
 ghost use Rattle.sc_server.specs.Working.{IsReady, IsReadyToWork, ended_by_fault, HasWorked, HaveWorked, ServesAll, serving};
 ghost use Rattle.sc_server.specs.Needs.{IsKit};
-ghost use Rattle.sc_server.specs.Crews.{SetsBelow, SetsReportedBelow, AreEnlisted, AreReportedBack, seen_with, seen_by};
+ghost use Rattle.sc_server.specs.Crews.{HaveCrews, HaveGivenBack, seen_with, seen_by};
 ghost use Rattle.sc_server.specs.Serving.{IsOneStory, EndsServer};
 
 use crate::clock::WorkerClock;
@@ -115,11 +115,19 @@ fn enlist<'a, R, T: Station>(
     requires room { vec_len kits ≤ vec_capacity workers.old }
     ensures all { OnOk result (length workers.new.items ≡ length kits.items) }
     ensures at_most { length workers.new.items ≤ length kits.items }
-    ensures enlisted { AreEnlisted server.now collection.now (T.crews station.old) workers.new.items }
-    ensures crews { SetsReportedBelow (length workers.new.items) None (T.crews station.old) (T.crews station.new) }
-    ensures out { SetsBelow (length workers.new.items) true (T.out station.old) (T.out station.new) }
-    ensures crews_back { T.crews_back station.new ≡ T.crews_back station.old }
-    ensures faults { T.faults station.new ≡ T.faults station.old }
+    ensures have { HaveCrews server.now collection.now workers.new.items
+        (record {
+          crews = T.crews station.old;
+          crews_back = T.crews_back station.old;
+          out = T.out station.old;
+          faults = T.faults station.old;
+        })
+        (record {
+          crews = T.crews station.new;
+          crews_back = T.crews_back station.new;
+          out = T.out station.new;
+          faults = T.faults station.new;
+        }) }
 {
     for kit in kits {
         let Crew {
@@ -271,10 +279,19 @@ fn dismiss<'a, R, T: Station>(
     requires workers { All (IsReady collection.now) workers.items }
     requires out { (number : ℕ) → number < length workers.items → T.out station.old number ≡ true }
     ensures story { IsOneStory (layout_of collection.now) (map seen_by workers.entry.items) (seen_of passes.new) }
-    ensures crews_back { AreReportedBack workers.entry.items (T.crews_back station.old) (T.crews_back station.new) }
-    ensures out { SetsBelow (length workers.entry.items) false (T.out station.old) (T.out station.new) }
-    ensures crews { T.crews station.new ≡ T.crews station.old }
-    ensures faults { T.faults station.new ≡ T.faults station.old }
+    ensures back { HaveGivenBack workers.entry.items
+        (record {
+          crews = T.crews station.old;
+          crews_back = T.crews_back station.old;
+          out = T.out station.old;
+          faults = T.faults station.old;
+        })
+        (record {
+          crews = T.crews station.new;
+          crews_back = T.crews_back station.new;
+          out = T.out station.new;
+          faults = T.faults station.new;
+        }) }
 {
     while let Some(worker) = workers.pop() {
         let Worker {

@@ -59,10 +59,12 @@ returns g c =
     record {
       story = story locks c.loop-worker.passes c.args.workers.items c.loop-worker.workers.items (g.T.Station.crews_back c.args.station.now)
           (g.T.Station.crews_back c.loop-worker.station) (g.T.Station.out c.args.station.now) (g.T.Station.out c.loop-worker.station) is none;
-      crews_back = back locks c.loop-worker.passes c.args.workers.items c.loop-worker.workers.items (g.T.Station.crews_back c.args.station.now)
-          (g.T.Station.crews_back c.loop-worker.station) (g.T.Station.out c.args.station.now) (g.T.Station.out c.loop-worker.station) is none;
-      out = out locks c.loop-worker.passes c.args.workers.items c.loop-worker.workers.items (g.T.Station.crews_back c.args.station.now)
-          (g.T.Station.crews_back c.loop-worker.station) (g.T.Station.out c.args.station.now) (g.T.Station.out c.loop-worker.station) is none;
-      crews = c.loop-worker.invariant.crews;
-      faults = c.loop-worker.invariant.faults;
+      back = record {
+        crews_back = back locks c.loop-worker.passes c.args.workers.items c.loop-worker.workers.items (g.T.Station.crews_back c.args.station.now)
+            (g.T.Station.crews_back c.loop-worker.station) (g.T.Station.out c.args.station.now) (g.T.Station.out c.loop-worker.station) is none;
+        out = out locks c.loop-worker.passes c.args.workers.items c.loop-worker.workers.items (g.T.Station.crews_back c.args.station.now)
+            (g.T.Station.crews_back c.loop-worker.station) (g.T.Station.out c.args.station.now) (g.T.Station.out c.loop-worker.station) is none;
+        crews = c.loop-worker.invariant.crews;
+        faults = c.loop-worker.invariant.faults;
+      };
     }

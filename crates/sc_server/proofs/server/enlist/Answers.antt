@@ -3,6 +3,7 @@ use Rattle.std.proofs.Common.{◌≡◌, ◌∙◌, ℕ, ◌++◌, ◌∷◌, tr
 use Rattle.sc_server.specs.declared.needs.Kit.{Kit}
 use Rattle.sc_session.specs.Stations.{SetsAt, SetsReported}
 use Rattle.sc_server.specs.Needs.{IsKit}
+use Rattle.sc_server.specs.Crews.{SetsReportedBelow}
 use Rattle.sc_server.proofs.CrewLemmas.{as_at_first}
 use Rattle.sc_server.proofs.MatchLemmas.{element_of}
 use Rattle.sc_server.proofs.EnlistLemmas.{none_enlisted, none_given, none_out, few_yet, same_count, still_few, one_more_given, one_more_out, one_more_enlisted}
@@ -59,3 +60,22 @@ loop-kit-preserved g c =
       crews_back = c.crew.ensures.crews_back ∙ i.crews_back;
       faults = c.crew.ensures.faults ∙ i.faults;
     }
+
+pub returns-in_err-clock-clause-have : goal.returns-in_err-clock-clause-have
+returns-in_err-clock-clause-have g c =
+    let i = c.loop-kit.invariant in
+    record {
+      enlisted = i.enlisted;
+      crews = subst (SetsReportedBelow (length c.loop-kit.workers.items) None (g.T.Station.crews c.args.station.now)) (sym c.in_err-clock.ensures.refused) i.crews;
+      out = record {
+        below = λ number below. c.in_err-clock.ensures.refused_out number ∙ i.out.below number below;
+        rest = λ number beyond. c.in_err-clock.ensures.refused_out number ∙ i.out.rest number beyond;
+      };
+      crews_back = c.crew.ensures.crews_back ∙ i.crews_back;
+      faults = c.crew.ensures.faults ∙ i.faults;
+    }
+
+pub returns-clause-have : goal.returns-clause-have
+returns-clause-have g c =
+    let i = c.loop-kit.invariant in
+    record { enlisted = i.enlisted; crews = i.crews; out = i.out; crews_back = i.crews_back; faults = i.faults }

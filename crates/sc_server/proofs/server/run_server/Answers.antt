@@ -8,7 +8,7 @@ use Rattle.sc_server.proofs.EnlistLemmas.{all_ready}
 use Rattle.sc_server.proofs.WorkerLemmas.{on_ok, on_err, ready_to_work}
 use Rattle.sc_shared.specs.Passes.{seen_of}
 use Rattle.sc_server.specs.Serving.{EndsServer}
-use Rattle.sc_server.proofs.EndLemmas.{same_items, same_length, as_served, served_as, told_of, between_of, none_given, not_opened, some_given, all_given}
+use Rattle.sc_server.proofs.EndLemmas.{same_items, same_length, as_served, served_as, told_of, station_of, none_given, not_opened, some_given, all_given}
 use Rattle.sc_server.proofs.server.run_server.Goals.{in-Ok-enlist, in-Err-enlist}
 use Rattle.sc_server.proofs.server.run_server.Goals as goal
 
@@ -58,7 +58,7 @@ serve_all-status-requires-clause-ready g c κs within =
     let locks = c.in-Ok.needs.collection in
     let workers = c.enlist.new.workers.items in
     let each = all_ready c.args.server.now locks (g.T.Station.crews c.open.new.self) workers (numbers c.args.server.now c.requires.server).most
-    c.enlist.ensures.enlisted in
+    c.enlist.ensures.have.enlisted in
     subst (All IsReadyToWork) (sym c.as_mut_slice.ensures.value)
     (All-weaker (IsReady locks) IsReadyToWork (ready_to_work locks) workers each)
 
@@ -86,7 +86,7 @@ pub dismiss-requires-clause-workers : goal.dismiss-requires-clause-workers
 dismiss-requires-clause-workers g c κs within =
     let locks = c.in-Ok.needs.collection in
     let each = all_ready c.args.server.now locks (g.T.Station.crews c.open.new.self) c.enlist.new.workers.items
-    (numbers c.args.server.now c.requires.server).most c.enlist.ensures.enlisted in
+    (numbers c.args.server.now c.requires.server).most c.enlist.ensures.have.enlisted in
     elim c.match-enlist.branch [
       | in-Ok-enlist w ↦
           subst (All (IsReady locks))
@@ -104,17 +104,17 @@ dismiss-requires-clause-out g c κs within =
           w.serve_all-status.ensures.count w.as_mut_slice.ensures.value c.enlist.new.workers.ok.0 in
           let long : length c.match-enlist.workers.items ≡ length w.serve_all-status.new.workers = ap length served in
           let all : length w.as_mut_slice.result.now ≡ length c.enlist.new.workers.items = ap length w.as_mut_slice.ensures.value in
-          c.enlist.ensures.out.below number (omega (arith, below, long, all, w.serve_all-status.ensures.count))
+          c.enlist.ensures.have.out.below number (omega (arith, below, long, all, w.serve_all-status.ensures.count))
       | in-Err-enlist w ↦ λ number below.
           let long : length c.match-enlist.workers.items ≡ length c.enlist.new.workers.items = same_length c.match-enlist.workers c.enlist.new.workers w.workers-is in
-          c.enlist.ensures.out.below number (omega (arith, below, long))
+          c.enlist.ensures.have.out.below number (omega (arith, below, long))
     ]
 
 pub returns : goal.returns
 returns g c =
-    let opened = between_of (g.T.Station.crews c.open.new.self) (g.T.Station.crews_back c.open.new.self) (g.T.Station.out c.open.new.self)
+    let opened = station_of (g.T.Station.crews c.open.new.self) (g.T.Station.crews_back c.open.new.self) (g.T.Station.out c.open.new.self)
     (g.T.Station.faults c.open.new.self) in
-    let now = between_of (g.T.Station.crews c.enlist.new.station) (g.T.Station.crews_back c.enlist.new.station) (g.T.Station.out c.enlist.new.station)
+    let now = station_of (g.T.Station.crews c.enlist.new.station) (g.T.Station.crews_back c.enlist.new.station) (g.T.Station.out c.enlist.new.station)
     (g.T.Station.faults c.enlist.new.station) in
     let most = (numbers c.args.server.now c.requires.server).workers.1 in
     record {
@@ -129,19 +129,7 @@ returns g c =
               out = c.open.ensures.out;
               faults = on_ok _ c.open.result (sym c.is_err.ensures.value ∙ c.if-is_err.false) c.open.ensures.steady;
             })
-            (record {
-              are = c.enlist.ensures.enlisted;
-              crews = c.enlist.ensures.crews;
-              out = c.enlist.ensures.out;
-              crews_back = c.enlist.ensures.crews_back;
-              faults = c.enlist.ensures.faults;
-            })
-            (record {
-              crews_back = c.dismiss.ensures.crews_back;
-              out = c.dismiss.ensures.out;
-              crews = c.dismiss.ensures.crews;
-              faults = c.dismiss.ensures.faults;
-            })
+            c.enlist.ensures.have c.dismiss.ensures.back
             w.as_slice.result.now w.as_bytes.result.now (seen_of c.dismiss.new.passes) c.in-Ok.ensures.shape (w.as_slice.ensures ∙ c.in-Ok.ensures.cores)
             (w.as_bytes.ensures.value ∙ c.in-Ok.ensures.line) (w.in-Ok-enlist.ensures.all ∙ c.in-Ok.ensures.count)
             (ap length served ∙ w.serve_all-status.ensures.count ∙ ap length w.as_mut_slice.ensures.value) c.dismiss.ensures.story
@@ -157,19 +145,7 @@ returns g c =
               out = c.open.ensures.out;
               faults = on_ok _ c.open.result (sym c.is_err.ensures.value ∙ c.if-is_err.false) c.open.ensures.steady;
             })
-            (record {
-              are = c.enlist.ensures.enlisted;
-              crews = c.enlist.ensures.crews;
-              out = c.enlist.ensures.out;
-              crews_back = c.enlist.ensures.crews_back;
-              faults = c.enlist.ensures.faults;
-            })
-            (record {
-              crews_back = c.dismiss.ensures.crews_back;
-              out = c.dismiss.ensures.out;
-              crews = c.dismiss.ensures.crews;
-              faults = c.dismiss.ensures.faults;
-            })
+            c.enlist.ensures.have c.dismiss.ensures.back
             (same_items c.match-enlist.workers c.enlist.new.workers w.workers-is)
             (omega (arith, c.enlist.ensures.at_most, c.in-Ok.ensures.count))
             (record { written = ap g.W.Sink.written w.sink-is; write_faults = ap g.W.Sink.faults w.sink-is }))

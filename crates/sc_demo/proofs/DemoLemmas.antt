@@ -34,7 +34,7 @@ use Rattle.sc_demo.specs.Finding.{AreFound}
 use Rattle.sc_demo.specs.Lines.{Report, lines, split_word}
 use Rattle.sc_demo.specs.Making.{Reports, Makes, accepted_by, accepted_in, has_run_out, making, ran_out_in, task_at, TellsIn}
 use Rattle.sc_demo.specs.Makers.{IsEnlisted, AreEnlisted, AreReportedBack, HasFirstHosts, HasMade, HaveMade, FirstFails, FirstStarts, IsTold, MakesTold, MakesAll, seen_by, with_hosts}
-use Rattle.sc_demo.specs.Telling.{IsReport, TellsReport, TellsOutcome}
+use Rattle.sc_demo.specs.Telling.{IsReport, TellsReport, TellsOutcome, after_makers, tally}
 use Rattle.sc_demo.specs.Together.{own_of_all}
 use Rattle.sc_demo.specs.Demos.{MakerRun, makers_of, IsMakerRun, RunsDemo, SaysOf, Demonstrates, RunsOut, FailsToStart, FailsToWrite, Tells, IsEnd, EndsDemo}
 use Rattle.sc_demo.proofs.MergeLemmas.{total}
@@ -184,7 +184,7 @@ module _ {C H P L : Type 0} (reports : Reports C H P) (demo : Demo) (before afte
 
     -- what was told where memory ran out as they got their crews
     pub early_ends : (all : Seen) (status : ℕ) → length enlisted ≤ makers_of demo
-        → TellsOutcome (layout_of locks) all demo.count (told_of before.written before.write_faults)
+        → TellsOutcome (after_makers (layout_of locks) all) demo.count (told_of before.written before.write_faults)
         (told_of after.written after.write_faults) outcomes.Memory status
         → EndsDemo reports demo before after status
     early_ends all status at_most (same, is) =
@@ -227,7 +227,7 @@ module _ {C H P L : Type 0} (reports : Reports C H P) (demo : Demo) (before afte
           (have : HaveMade reports began new) (shape : HasShape demo_shape (layout_of locks)) (memory : list_any (λ (maker : Maker R C H P L). ran_out_in maker.made) new ≡ false) where
         -- it is a run of this maker
         record IsRunOf (number : ℕ) (maker : Maker R C H P L) (run : MakerRun C H P L) : Type 0 where
-          is : IsMakerRun reports demo before after (layout_of locks) number run
+          is : IsMakerRun (record { reports = reports; layout = layout_of locks }) demo before after number run
           after_is : seen_by maker ≡ run.after
           did_is : maker.made ≡ Some run.did
 
@@ -283,11 +283,11 @@ module _ {C H P L : Type 0} (reports : Reports C H P) (demo : Demo) (before afte
               let same : other ≡ one = same_Some other one (sym at_other ∙ starts.is.rest number different ∙ at) in
               ap (λ (m : Maker R C H P L). m.crew.hosts) same
 
-          makes_its : Makes reports (layout_of locks) demo (task_at demo number) (making (seen_of has.before) other.crew) (making (seen_of has.after) maker.crew) has.did
+          makes_its : Makes (record { reports = reports; layout = layout_of locks }) demo (task_at demo number) (making (seen_of has.before) other.crew) (making (seen_of has.after) maker.crew) has.did
           makes_its =
-              subst (λ (task : Task). Makes reports (layout_of locks) demo task (making (seen_of has.before) other.crew) (making (seen_of has.after) maker.crew) has.did) task_is
-              (subst (λ (one_demo : Demo). Makes reports (layout_of locks) one_demo other.task (making (seen_of has.before) other.crew) (making (seen_of has.after) maker.crew) has.did) demo_is
-              (subst (λ (ones : Locks). Makes reports (layout_of ones) other.demo other.task (making (seen_of has.before) other.crew) (making (seen_of has.after) maker.crew) has.did) over
+              subst (λ (task : Task). Makes (record { reports = reports; layout = layout_of locks }) demo task (making (seen_of has.before) other.crew) (making (seen_of has.after) maker.crew) has.did) task_is
+              (subst (λ (one_demo : Demo). Makes (record { reports = reports; layout = layout_of locks }) one_demo other.task (making (seen_of has.before) other.crew) (making (seen_of has.after) maker.crew) has.did) demo_is
+              (subst (λ (ones : Locks). Makes (record { reports = reports; layout = layout_of ones }) other.demo other.task (making (seen_of has.before) other.crew) (making (seen_of has.after) maker.crew) has.did) over
               has.made))
 
           one_run : IsRunOf number maker run
@@ -327,7 +327,8 @@ module _ {C H P L : Type 0} (reports : Reports C H P) (demo : Demo) (before afte
         after_each number maker one is = is.after_is
 
         runs_demo : (all : Seen) → IsOneStory (layout_of locks) (map seen_by new) all
-            → ((lock : ℕ) → all.own lock ≡ own_of_all (map seen_by new) lock) → RunsDemo reports demo before after (layout_of locks) runs all
+            → ((lock : ℕ) → all.own lock ≡ own_of_all (map seen_by new) lock)
+            → RunsDemo (record { reports = reports; layout = layout_of locks }) demo before after runs all
         unfolding runs all_runs
         runs_demo all story own =
             let same = same_map seen_by (λ (one : MakerRun C H P L). one.after) IsRunOf new runs all_runs.1 after_each in
@@ -346,7 +347,7 @@ module _ {C H P L : Type 0} (reports : Reports C H P) (demo : Demo) (before afte
 
         module _ (all : Seen) (story : IsOneStory (layout_of locks) (map seen_by new) all) (own : (lock : ℕ) → all.own lock ≡ own_of_all (map seen_by new) lock)
             (is_demo : IsDemo demo) (accepted : ℕ) (word : List ℕ) (told : IsTold new accepted word) (report : Report)
-            (is : IsReport (layout_of locks) all demo.count accepted word report) where
+            (is : IsReport (after_makers (layout_of locks) all) (tally demo.count accepted word) report) where
           counted : report.accepted ≡ total (λ (one : MakerRun C H P L). accepted_by one.did) runs
           unfolding runs all_runs
           counted =
@@ -390,7 +391,7 @@ module _ {C H P L : Type 0} (reports : Reports C H P) (demo : Demo) (before afte
         silent_of same = record { written = ap (λ (told : Told). told.written) same; write_faults = ap (λ (told : Told). told.faults) same }
 
         told_ends : (accepted : ℕ) (split : List ℕ) {status : ℕ} → MakesTold reports cores enlisted new accepted split
-            → TellsReport (layout_of locks) all demo.count accepted split (told_of before.written before.write_faults)
+            → TellsReport (after_makers (layout_of locks) all) (tally demo.count accepted split) (told_of before.written before.write_faults)
             (told_of after.written after.write_faults) status
             → EndsDemo reports demo before after status
         told_ends accepted split made (TellsReport.no_memory same) = memory_ends (omega (arith, count)) (silent_of same)
@@ -412,7 +413,7 @@ module _ {C H P L : Type 0} (reports : Reports C H P) (demo : Demo) (before afte
             }))
 
         pub ends : (outcome : Outcome) (status : ℕ) → MakesAll reports cores enlisted new outcome
-            → TellsOutcome (layout_of locks) all demo.count (told_of before.written before.write_faults)
+            → TellsOutcome (after_makers (layout_of locks) all) demo.count (told_of before.written before.write_faults)
             (told_of after.written after.write_faults) outcome status
             → EndsDemo reports demo before after status
         ends outcomes.HostFailed status fails (same, is) = subst (EndsDemo reports demo before after) (sym is) (host_ends fails (silent_of same))

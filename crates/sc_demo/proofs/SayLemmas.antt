@@ -59,7 +59,7 @@ each_or {A} P Q (x ∷ xs) each = by (each 0 x refl) (each_or (λ (i : ℕ). P (
   by (inr so) rest = inr so
 
 module _ {C H P L : Type 0} (reports : Reports C H P) (demo : Demo) (before after : Front C H P L) (is_demo : IsDemo demo) (layout : Layout)
-    (runs : List (MakerRun C H P L)) (all : Seen) (are : RunsDemo reports demo before after layout runs all) where
+    (runs : List (MakerRun C H P L)) (all : Seen) (are : RunsDemo (record { reports = reports; layout = layout }) demo before after runs all) where
   parts : List Seen
   parts = map (λ (run : MakerRun C H P L). run.after) runs
 
@@ -89,12 +89,12 @@ module _ {C H P L : Type 0} (reports : Reports C H P) (demo : Demo) (before afte
       test : nat_lt number demo.workers ≡ true
       test = grind (arith, nat_tests)
 
-      made : Makes reports layout demo (tasks.Write number) (making run.before run.began) (making run.after run.back) run.did
+      made : Makes (record { reports = reports; layout = layout }) demo (tasks.Write number) (making run.before run.began) (making run.after run.back) run.did
       made =
-          subst (λ (b : Bool). Makes reports layout demo (cond b (tasks.Write number) tasks.Split) (making run.before run.began) (making run.after run.back) run.did) test
+          subst (λ (b : Bool). Makes (record { reports = reports; layout = layout }) demo (cond b (tasks.Write number) tasks.Split) (making run.before run.began) (making run.after run.back) run.did) test
           (are.each number run at).made
 
-      by : (did : Made) → run.did ≡ did → Makes reports layout demo (tasks.Write number) (making run.before run.began) (making run.after run.back) did
+      by : (did : Made) → run.did ≡ did → Makes (record { reports = reports; layout = layout }) demo (tasks.Write number) (making run.before run.began) (making run.after run.back) did
           → IsWriting number run
       by (makes.Orders written) same is = record {
         written = written;
@@ -112,12 +112,12 @@ module _ {C H P L : Type 0} (reports : Reports C H P) (demo : Demo) (before afte
       test : nat_lt number demo.workers ≡ false
       test = grind (arith, nat_tests)
 
-      made : Makes reports layout demo tasks.Split (making run.before run.began) (making run.after run.back) run.did
+      made : Makes (record { reports = reports; layout = layout }) demo tasks.Split (making run.before run.began) (making run.after run.back) run.did
       made =
-          subst (λ (b : Bool). Makes reports layout demo (cond b (tasks.Write number) tasks.Split) (making run.before run.began) (making run.after run.back) run.did) test
+          subst (λ (b : Bool). Makes (record { reports = reports; layout = layout }) demo (cond b (tasks.Write number) tasks.Split) (making run.before run.began) (making run.after run.back) run.did) test
           (are.each number run at).made
 
-      by : (did : Made) → run.did ≡ did → Makes reports layout demo tasks.Split (making run.before run.began) (making run.after run.back) did → IsSplitting run
+      by : (did : Made) → run.did ≡ did → Makes (record { reports = reports; layout = layout }) demo tasks.Split (making run.before run.began) (making run.after run.back) did → IsSplitting run
       by (makes.Orders written) same is = absurd is
       by (makes.Split end) same is = record {
         end = end;

@@ -11,11 +11,11 @@ use Rattle.sc_demo.specs.Finding.{AreFound}
 use Rattle.sc_demo.specs.Lines.{lines}
 use Rattle.sc_demo.specs.Making.{TellsIn}
 use Rattle.sc_demo.specs.Makers.{TellsSplit}
-use Rattle.sc_demo.specs.Telling.{AreLines, CountsOn, IsReport, TellsReport}
+use Rattle.sc_demo.specs.Telling.{AreLines, CountsOn, IsReport, TellsReport, after_makers, tally}
 
 -- what is found is the same of equal layouts and of what was seen
 pub counted_at : {E : Type 0} (told layout : Layout) (before_told before after : Seen) (found : Result Found E) → told ≡ layout → before_told ≡ before
-    → IfOk found (AreFound told before_told after) → IfOk found (CountsOn layout before)
+    → IfOk found (AreFound told before_told after) → IfOk found (CountsOn (after_makers layout before))
 counted_at told layout before_told before after (Ok found) same_layout same_before are = record {
   last = after;
   are = subst (λ (l : Layout). AreFound l before after found) same_layout (subst (λ (s : Seen). AreFound told s after found) same_before are);
@@ -34,9 +34,9 @@ tells_split makers (Err e) maker some is tells = tells
 
 -- the text is that of a report
 pub lines_told : {E Z : Type 0} (layout : Layout) (seen : Seen) (orders accepted : ℕ) (split : List ℕ) (found : Found) (text : Result (String Z) E)
-    → CountsOn layout seen found
+    → CountsOn (after_makers layout seen) found
     → IfOk text (λ one. string_bytes one ≡ lines (record { orders = orders; accepted = accepted; split = split; found = found }))
-    → IfOk text (λ one. AreLines layout seen orders accepted split (string_bytes one))
+    → IfOk text (λ one. AreLines (after_makers layout seen) (tally orders accepted split) (string_bytes one))
 lines_told layout seen orders accepted split found (Ok text) counts is = record {
   report = record { orders = orders; accepted = accepted; split = split; found = found };
   is = record { found = found; is = refl; counts = counts };
@@ -45,20 +45,20 @@ lines_told layout seen orders accepted split found (Ok text) counts is = record 
 lines_told layout seen orders accepted split found (Err e) counts is = is
 
 module _ (layout : Layout) (seen : Seen) (orders accepted : ℕ) (split told piece text : List ℕ) (before after : Told) (same : told ≡ split)
-    (are : AreLines layout seen orders accepted told text) (is_piece : piece ≡ text) where
-  reported : IsReport layout seen orders accepted split are.report
-  reported = subst (λ (word : List ℕ). IsReport layout seen orders accepted word are.report) same are.is
+    (are : AreLines (after_makers layout seen) (tally orders accepted told) text) (is_piece : piece ≡ text) where
+  reported : IsReport (after_makers layout seen) (tally orders accepted split) are.report
+  reported = subst (λ (word : List ℕ). IsReport (after_makers layout seen) (tally orders accepted word) are.report) same are.is
 
   -- writing the lines failed after a prefix of them
   pub tells_fail : before.faults < after.faults → IfSome before.written (λ bytes. AddsPrefix bytes piece after.written)
-      → TellsReport layout seen orders accepted split before after 5
+      → TellsReport (after_makers layout seen) (tally orders accepted split) before after 5
   tells_fail fault part =
       TellsReport.lines_fail are.report reported fault
       (subst (λ (xs : List ℕ). IfSome before.written (λ bytes. AddsPrefix bytes xs after.written)) (is_piece ∙ are.text_is) part)
 
   -- they were written
   pub tells_whole : IfSome before.written (λ bytes. after.written ≡ Some (bytes ++ piece)) → after.faults ≡ before.faults
-      → TellsReport layout seen orders accepted split before after 0
+      → TellsReport (after_makers layout seen) (tally orders accepted split) before after 0
   tells_whole whole steady =
       TellsReport.tells are.report reported
       (subst (λ (xs : List ℕ). IfSome before.written (λ bytes. after.written ≡ Some (bytes ++ xs))) (is_piece ∙ are.text_is) whole) steady

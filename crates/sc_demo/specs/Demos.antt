@@ -13,7 +13,7 @@ use Rattle.sc_demo.specs.declared.task.Made.TheVariants as makes
 use Rattle.sc_demo.specs.Writing.{CameNearLimit}
 use Rattle.sc_demo.specs.Finding.{AreFound}
 use Rattle.sc_demo.specs.Lines.{Report, lines, split_word}
-use Rattle.sc_demo.specs.Making.{Reports, Makes, has_run_out, making, task_at}
+use Rattle.sc_demo.specs.Making.{Reports, MakerSetting, Makes, has_run_out, making, task_at}
 use Rattle.sc_demo.specs.Together.{AreWritten, OwnsDone, all_own_writes, own_of_all}
 
 -- What a report says of what all makers have seen and made together: it has the number of orders; it counts the writes that they made; it
@@ -39,38 +39,39 @@ pub record MakerRun (C H P L : Type 0) : Type 0 where
 abbrev pub makers_of : Demo → ℕ
 makers_of demo = demo.workers + 1
 
-module _ {C H P L : Type 0} (reports : Reports C H P) (demo : Demo) (before after : Front C H P L) where
+module _ {C H P L : Type 0} (at : MakerSetting C H P) (demo : Demo) (before after : Front C H P L) where
   -- A maker of this number worked over the collection, from the beginning on: the station gave its crew, where it reports that; it made what
   -- it was to make; and the station has its crew back. The first one's hosts had started the cores of the first map. Memory didn't run out.
-  pub record IsMakerRun (layout : Layout) (number : ℕ) (run : MakerRun C H P L) : Type 0 where
+  pub record IsMakerRun (number : ℕ) (run : MakerRun C H P L) : Type 0 where
     pub crew : IsGivenAndBack before after number run.given run.back
     pub first : number ≡ 0
-        → StartsFirst layout.nodes layout.first (reports.outside run.given.hosts run.given.pace) (reports.outside run.began.hosts run.began.pace)
+        → StartsFirst at.layout.nodes at.layout.first (at.reports.outside run.given.hosts run.given.pace) (at.reports.outside run.began.hosts run.began.pace)
     pub hosts : number ≢ 0 → run.began.hosts ≡ run.given.hosts
     pub rest : run.began ≡ record run.given { hosts = run.began.hosts }
     pub new : SeesNothing run.before
-    pub made : Makes reports layout demo (task_at demo number) (making run.before run.began) (making run.after run.back) run.did
+    pub made : Makes at demo (task_at demo number) (making run.before run.began) (making run.after run.back) run.did
     pub listener : run.back.listener ≡ run.began.listener
     pub memory : has_run_out run.did ≡ false
 
   -- All makers worked over one collection, in which nothing had happened: what they have seen of each journal are beginnings of what all of
   -- them have seen together, no two of them made the same entry, and theirs are those of all.
-  pub record RunsDemo (layout : Layout) (runs : List (MakerRun C H P L)) (all : Seen) : Type 0 where
-    pub shape : HasShape demo_shape layout
+  pub record RunsDemo (runs : List (MakerRun C H P L)) (all : Seen) : Type 0 where
+    pub shape : HasShape demo_shape at.layout
     pub count : length runs ≡ makers_of demo
-    pub each : (number : ℕ) (run : MakerRun C H P L) → slice_get runs number ≡ Some run → IsMakerRun layout number run
-    pub story : IsOneStory layout (map (λ (run : MakerRun C H P L). run.after) runs) all
+    pub each : (number : ℕ) (run : MakerRun C H P L) → slice_get runs number ≡ Some run → IsMakerRun number run
+    pub story : IsOneStory at.layout (map (λ (run : MakerRun C H P L). run.after) runs) all
     pub own : (lock : ℕ) → all.own lock ≡ own_of_all (map (λ (run : MakerRun C H P L). run.after) runs) lock
     pub crews : AreGivenAndBack before after (makers_of demo)
     pub open_faults : after.open_faults ≡ before.open_faults
 
+module _ {C H P L : Type 0} (reports : Reports C H P) (demo : Demo) (before after : Front C H P L) where
   -- All makers worked, then every bucket was committed and three searches were made, and this is what the lines tell. The last maker is
   -- the one that splits.
   pub record Demonstrates (report : Report) : Type 0 where
     pub layout : Layout
     pub runs : List (MakerRun C H P L)
     pub all : Seen
-    pub are : RunsDemo layout runs all
+    pub are : RunsDemo (record { reports = reports; layout = layout }) demo before after runs all
     pub says : SaysOf demo layout all report
     pub splitter : MakerRun C H P L
     pub last_run : slice_get runs demo.workers ≡ Some splitter

@@ -1,5 +1,5 @@
 -- What is asked of makers in their threads, and what they leave.
-use Rattle.std.specs.Prelude.{◌≡◌, ◌≢◌, ◌<◌, ◌≤◌, ◌+◌, ◌-◌, ℕ, Bool, false, List, [], ◌∷◌, length, slice_get, Option, Some, None, IfSome, All, ⊤}
+use Rattle.std.specs.Prelude.{◌≡◌, ◌≢◌, ◌<◌, ◌≤◌, ◌+◌, ◌-◌, ℕ, Bool, true, false, List, [], ◌∷◌, length, map, slice_get, Option, Some, None, IfSome, All, ⊤}
 use Rattle.std.specs.List.{list_any, sum_by}
 use Rattle.sc_io.specs.declared.hosts.Host.{Host}
 use Rattle.sc_seen.specs.Seen.{Seen}
@@ -12,16 +12,18 @@ use Rattle.sc_shared.specs.Passes.{seen_of}
 use Rattle.sc_shared.specs.Collections.{Locks, layout_of}
 use Rattle.sc_shared.specs.Sharing.{ArePasses}
 use Rattle.sc_arguments.specs.declared.asked.Demo.{Demo}
-use Rattle.sc_arguments.specs.Arguments.{most_orders, IsDemo, demo_shape}
-use Rattle.sc_server.specs.Crews.{seen_with}
+use Rattle.sc_arguments.specs.Arguments.{IsDemo, demo_shape}
+use Rattle.sc_server.specs.Crews.{StationState, SetsBelow, SetsReportedBelow, seen_with}
 use Rattle.sc_server.specs.Needs.{AreNew}
 use Rattle.sc_server.specs.Reports.{StartsCores}
+use Rattle.sc_server.specs.Serving.{IsOneStory}
 use Rattle.sc_demo.specs.declared.needs.Kit.{Kit}
 use Rattle.sc_demo.specs.declared.needs.Needs.{Needs}
 use Rattle.sc_demo.specs.declared.maker.Maker.{Maker}
 use Rattle.sc_demo.specs.declared.task.Made.{Made}
 use Rattle.sc_demo.specs.declared.task.Outcome.{Outcome}
 use Rattle.sc_demo.specs.declared.task.Outcome.TheVariants as outcomes
+use Rattle.sc_demo.specs.Together.{own_of_all}
 use Rattle.sc_demo.specs.Making.{Reports, Makes, IsTaskOf, TellsIn, accepted_by, accepted_in, making, ran_out_in, task_at}
 
 -- what one maker needs: new passes, and an empty trail
@@ -85,6 +87,27 @@ module _ {R C H P L : Type 0} where
   AreReportedBack makers old new =
       IfSome old (λ before. (after : ℕ → Option (Crew C H P L)) × (new ≡ Some after) × AreBack makers before after)
 
+  -- these makers were given their crews, by their numbers, and all else of the station is as it was
+  pub record HaveCrews (demo : Demo) (locks : Locks) (makers : List (Maker R C H P L)) (old new : StationState C H P L) : Type 0 where
+    pub enlisted : AreEnlisted demo locks old.crews makers
+    pub crews : SetsReportedBelow (length makers) None old.crews new.crews
+    pub out : SetsBelow (length makers) true old.out new.out
+    pub crews_back : new.crews_back ≡ old.crews_back
+    pub faults : new.faults ≡ old.faults
+
+  -- the crews of these makers are back, and all else of the station is as it was
+  pub record HaveGivenBack (makers : List (Maker R C H P L)) (old new : StationState C H P L) : Type 0 where
+    pub crews_back : AreReportedBack makers old.crews_back new.crews_back
+    pub out : SetsBelow (length makers) false old.out new.out
+    pub crews : new.crews ≡ old.crews
+    pub faults : new.faults ≡ old.faults
+
+  -- the passes have seen what all of these makers have, which is one story, and made what they made
+  pub record HaveJoined (collection : Locks) (makers : List (Maker R C H P L)) (passes : Passes) : Type 0 where
+    pub are : ArePasses collection passes
+    pub story : IsOneStory (layout_of collection) (map seen_by makers) (seen_of passes)
+    pub own : (lock : ℕ) → (seen_of passes).own lock ≡ own_of_all (map seen_by makers) lock
+
   -- the maker with these hosts in its crew
   abbrev pub with_hosts : H → Maker R C H P L → Maker R C H P L
   with_hosts hosts maker = record maker { crew = record maker.crew { hosts = hosts } }
@@ -124,8 +147,9 @@ module _ {R C H P L : Type 0} (reports : Reports C H P) where
     pub before_is : old.passes ≡ Some before
     pub after_is : new.passes ≡ Some after
     pub did_is : new.made ≡ Some did
-    pub made : Makes reports (layout_of old.collection.now) old.demo old.task (making (seen_of before) old.crew) (making (seen_of after) new.crew) did
-    pub few : accepted_by did ≤ most_orders
+    pub made : Makes (record { reports = reports; layout = layout_of old.collection.now }) old.demo old.task (making (seen_of before) old.crew)
+        (making (seen_of after) new.crew) did
+    pub few : accepted_by did ≤ 100000
     pub listener : new.crew.listener ≡ old.crew.listener
 
   -- each of the makers has worked

@@ -65,6 +65,11 @@ pub record Reports (C H P : Type 0) : Type 1 where
   pub gives : C → ℕ → C → Type 0
   pub outside : H → P → Outside
 
+-- what the makers of one demonstration work by: what their crews report, and how the collection is laid out
+pub record MakerSetting (C H P : Type 0) : Type 1 where
+  pub reports : Reports C H P
+  pub layout : Layout
+
 -- what stands beside a maker at one moment: what was seen of the collection, and its crew
 pub record MakingState (C H P : Type 0) : Type 0 where
   pub seen : Seen
@@ -76,10 +81,10 @@ pub record MakingState (C H P : Type 0) : Type 0 where
 abbrev pub making : {C H P L : Type 0} → Seen → Crew C H P L → MakingState C H P
 making seen crew = record { seen = seen; clock = crew.clock; hosts = crew.hosts; pace = crew.pace }
 
-module _ {C H P : Type 0} (reports : Reports C H P) (layout : Layout) where
+module _ {C H P : Type 0} (at : MakerSetting C H P) where
   -- a worker of this number made its orders by its clock
   pub record IsWriter (demo : Demo) (worker : ℕ) (old new : MakingState C H P) (written : Written) : Type 0 where
-    pub orders : MakesOrders reports.gives layout (writing old.seen old.clock) (writing new.seen new.clock)
+    pub orders : MakesOrders at.reports.gives at.layout (writing old.seen old.clock) (writing new.seen new.clock)
         (orders_of (workload_of demo) worker demo.workers) written
     pub few : written.accepted ≤ demo.count
     pub hosts : new.hosts ≡ old.hosts
@@ -87,7 +92,8 @@ module _ {C H P : Type 0} (reports : Reports C H P) (layout : Layout) where
 
   -- the one that splits split `shard1` by its hosts and its pace
   pub record IsSplitter (old new : MakingState C H P) (end : SplitEnd) : Type 0 where
-    pub split : SplitsFirst layout (situation old.seen (reports.outside old.hosts old.pace)) (situation new.seen (reports.outside new.hosts new.pace)) end
+    pub split : SplitsFirst at.layout (situation old.seen (at.reports.outside old.hosts old.pace))
+        (situation new.seen (at.reports.outside new.hosts new.pace)) end
     pub clock : new.clock ≡ old.clock
 
   -- who was to make this made it, and this came of it

@@ -14,6 +14,7 @@ use Rattle.sc_seen.specs.Seen.{Layout, Seen, Extends, FromNowOn}
 use Rattle.sc_seen.specs.Batches.{OrderAnswer, IsOrderAnswer, GivesTimestamps, WritesOnce, ack_of, order_stops, order_timestamps}
 use Rattle.sc_update.specs.declared.end.BatchFault.{BatchFault}
 use Rattle.sc_update.specs.declared.end.BatchFault.TheVariants as faults
+use Rattle.sc_workload.specs.Workload.{Workload}
 use Rattle.sc_workload.specs.Batches.{no_flags}
 use Rattle.sc_demo.specs.declared.made.Written.{Written}
 
@@ -37,6 +38,19 @@ pub record IsPlain (batch : Batch) : Type 0 where
 -- each of the batches
 abbrev pub ArePlain : List Batch → Type 0
 ArePlain batches = AllByRecursion IsPlain batches
+
+-- what one of several workers is to make of a workload: its number is one of theirs
+pub record Share : Type 0 where
+  pub workload : Workload
+  pub worker : ℕ
+  pub workers : ℕ
+
+-- the numbers of a share are in their ranges
+pub record IsShare (share : Share) : Type 0 where
+  pub least : 1 ≤ share.workload.count
+  pub most : share.workload.count ≤ 100000
+  pub worker : share.worker < share.workers
+  pub workers : share.workers ≤ 64
 
 -- what stands beside a worker at one moment: what was seen of the collection, and its clock
 pub record WritingState (C : Type 0) : Type 0 where

@@ -94,10 +94,13 @@ fn make<D: Desk, C: Clock, H: Hosts, P: Pace>(
     requires nothing_out { D.out desk.old ≡ nothing_out }
     ensures made { Makes
         (record {
-          gives = C.gives;
-          outside = λ hosts pace. outside_of (H.started hosts) (H.start_faults hosts) (H.stop_faults hosts) (P.stops pace);
+          reports = record {
+            gives = C.gives;
+            outside = λ hosts pace. outside_of (H.started hosts) (H.start_faults hosts) (H.stop_faults hosts) (P.stops pace);
+          };
+          layout = D.layout desk.old;
         })
-        (D.layout desk.old) demo.now task
+        demo.now task
         (record { seen = D.seen desk.old; clock = clock.old; hosts = hosts.old; pace = pace.old })
         (record { seen = D.seen desk.new; clock = clock.new; hosts = hosts.new; pace = pace.new })
         result }

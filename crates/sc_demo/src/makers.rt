@@ -1,16 +1,13 @@
 //! All makers: they get their crews, work beside each other, and give their crews back.
-ghost use Rattle.std.specs.Prelude.{◌≡◌, ◌≤◌, ◌<◌, ◌+◌, ◌^◌, ℕ, true, false, [], length, map, All, None, IfSome, IfOk, OnOk, vec_len, vec_capacity};
+ghost use Rattle.std.specs.Prelude.{◌≡◌, ◌≤◌, ◌<◌, ◌^◌, ℕ, true, [], length, All, IfSome, IfOk, OnOk, vec_len, vec_capacity};
 ghost use Rattle.std.specs.List.{list_any, sum_by};
 ghost use Rattle.sc_cores.specs.Cores.{outside_of};
 ghost use Rattle.sc_shared.specs.Passes.{seen_of};
-ghost use Rattle.sc_shared.specs.Collections.{Locks, layout_of, SeesBoth};
+ghost use Rattle.sc_shared.specs.Collections.{Locks, SeesBoth};
 ghost use Rattle.sc_shared.specs.Sharing.{ArePasses};
-ghost use Rattle.sc_arguments.specs.Arguments.{most_workers, most_orders};
-ghost use Rattle.sc_server.specs.Crews.{SetsBelow, SetsReportedBelow, seen_with};
-ghost use Rattle.sc_server.specs.Serving.{IsOneStory};
+ghost use Rattle.sc_server.specs.Crews.{seen_with};
 ghost use Rattle.sc_demo.specs.Making.{accepted_in, ran_out_in};
-ghost use Rattle.sc_demo.specs.Makers.{IsKit, AreEnlisted, IsHome, IsReady, IsReadyToMake, AreReportedBack, HasMade, HaveMade, MakesAll, IsOutcomeOf, TellsSplit, seen_by};
-ghost use Rattle.sc_demo.specs.Together.{own_of_all};
+ghost use Rattle.sc_demo.specs.Makers.{IsKit, HaveCrews, HaveGivenBack, HaveJoined, IsHome, IsReady, IsReadyToMake, HasMade, HaveMade, MakesAll, IsOutcomeOf, TellsSplit};
 
 use crate::maker::Maker;
 use crate::needs::Kit;
@@ -44,11 +41,19 @@ pub fn enlist<'a, R, T: Station>(
     requires room { vec_len kits ≤ vec_capacity makers.old }
     ensures all { OnOk result (length makers.new.items ≡ length kits.items) }
     ensures at_most { length makers.new.items ≤ length kits.items }
-    ensures enlisted { AreEnlisted demo.now collection.now (T.crews station.old) makers.new.items }
-    ensures crews { SetsReportedBelow (length makers.new.items) None (T.crews station.old) (T.crews station.new) }
-    ensures out { SetsBelow (length makers.new.items) true (T.out station.old) (T.out station.new) }
-    ensures crews_back { T.crews_back station.new ≡ T.crews_back station.old }
-    ensures faults { T.faults station.new ≡ T.faults station.old }
+    ensures have { HaveCrews demo.now collection.now makers.new.items
+        (record {
+          crews = T.crews station.old;
+          crews_back = T.crews_back station.old;
+          out = T.out station.old;
+          faults = T.faults station.old;
+        })
+        (record {
+          crews = T.crews station.new;
+          crews_back = T.crews_back station.new;
+          out = T.out station.new;
+          faults = T.faults station.new;
+        }) }
 {
     for kit in kits {
         let number = makers.len() as u32;
@@ -196,13 +201,20 @@ pub fn dismiss<'a, R, T: Station>(
     requires none { (lock : ℕ) → (seen_of passes.old).own lock ≡ [] }
     requires makers { All (IsHome collection.now) makers.items }
     requires out { (number : ℕ) → number < length makers.items → T.out station.old number ≡ true }
-    ensures passes { ArePasses collection.now passes.new }
-    ensures story { IsOneStory (layout_of collection.now) (map seen_by makers.entry.items) (seen_of passes.new) }
-    ensures own { (lock : ℕ) → (seen_of passes.new).own lock ≡ own_of_all (map seen_by makers.entry.items) lock }
-    ensures crews_back { AreReportedBack makers.entry.items (T.crews_back station.old) (T.crews_back station.new) }
-    ensures out { SetsBelow (length makers.entry.items) false (T.out station.old) (T.out station.new) }
-    ensures crews { T.crews station.new ≡ T.crews station.old }
-    ensures faults { T.faults station.new ≡ T.faults station.old }
+    ensures joined { HaveJoined collection.now makers.entry.items passes.new }
+    ensures back { HaveGivenBack makers.entry.items
+        (record {
+          crews = T.crews station.old;
+          crews_back = T.crews_back station.old;
+          out = T.out station.old;
+          faults = T.faults station.old;
+        })
+        (record {
+          crews = T.crews station.new;
+          crews_back = T.crews_back station.new;
+          out = T.out station.new;
+          faults = T.faults station.new;
+        }) }
 {
     while let Some(maker) = makers.pop() {
         let Maker {

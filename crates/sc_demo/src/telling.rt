@@ -3,7 +3,7 @@ ghost use Rattle.std.specs.Prelude.{◌≡◌, Some, IfOk, string_bytes};
 ghost use Rattle.sc_shared.specs.Passes.{seen_of};
 ghost use Rattle.sc_shared.specs.Collections.{layout_of};
 ghost use Rattle.sc_shared.specs.Sharing.{ArePasses};
-ghost use Rattle.sc_demo.specs.Telling.{AreLines, CountsOn, TellsOutcome};
+ghost use Rattle.sc_demo.specs.Telling.{AreLines, CountsOn, TellsOutcome, after_makers, tally};
 
 use crate::counting::{Found, count_on};
 use crate::lines::lines_of;
@@ -29,7 +29,7 @@ pub fn tell<R: Threads + Wait + Sync, W: Sink>(
     outcome: Outcome,
 ) -> u8
     requires { ArePasses collection.now passes }
-    ensures { TellsOutcome (layout_of collection.now) (seen_of passes) demo.now.count
+    ensures { TellsOutcome (after_makers (layout_of collection.now) (seen_of passes)) demo.now.count
         (record { written = W.written sink.old; faults = W.faults sink.old })
         (record { written = W.written sink.new; faults = W.faults sink.new })
         outcome result }
@@ -69,7 +69,8 @@ fn lines_on<R: Threads + Wait + Sync>(
     split: &str,
 ) -> Result<String, AllocError>
     requires { ArePasses collection.now passes }
-    ensures { IfOk result (λ text. AreLines (layout_of collection.now) (seen_of passes) orders accepted split.now (string_bytes text)) }
+    ensures { IfOk result (λ text. AreLines (after_makers (layout_of collection.now) (seen_of passes))
+        (tally orders accepted split.now) (string_bytes text)) }
 {
     let found = count_at::<Brand, R>(rt, alloc, collection, passes, trail)?;
     lines_of(alloc, orders, accepted, split, found)
@@ -85,7 +86,7 @@ fn count_at<N: Home, R: Threads + Wait + Sync>(
 ) -> Result<Found, AllocError>
     requires home { N.locks ≡ Some collection.now }
     requires passes { ArePasses collection.now passes }
-    ensures { IfOk result (CountsOn (layout_of collection.now) (seen_of passes)) }
+    ensures { IfOk result (CountsOn (after_makers (layout_of collection.now) (seen_of passes))) }
 {
     let mut desk = Shared::<R, N>::new(rt, collection, passes);
     let _ = desk.buckets(); // by it the proof knows how many there may be, and that what was seen is legal

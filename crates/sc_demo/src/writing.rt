@@ -5,8 +5,7 @@ ghost use Rattle.sc_collection.specs.Desks.{IsDeskAtRest};
 ghost use Rattle.sc_workload.specs.Batches.{IsSmall, contents};
 ghost use Rattle.sc_workload.specs.Workload.{orders_of};
 ghost use Rattle.sc_schema.specs.Documents.{content_of};
-ghost use Rattle.sc_arguments.specs.Arguments.{most_workers, most_orders};
-ghost use Rattle.sc_demo.specs.Writing.{MakesOrders, IsPlain, ArePlain, ran_out, writing};
+ghost use Rattle.sc_demo.specs.Writing.{IsShare, MakesOrders, IsPlain, ArePlain, ran_out, writing};
 
 use crate::made::Written;
 use sc_collection::{Desk, Trail};
@@ -27,11 +26,8 @@ pub fn write<D: Desk, C: Clock>(
     worker: u32,
     workers: u32,
 ) -> Written
-    requires least { 1 ≤ count }
-    requires most { count ≤ most_orders }
-    requires worker { worker < workers }
-    requires workers { workers ≤ most_workers }
-    requires buckets { (D.layout desk.old).buckets ≤ most_buckets }
+    requires share { IsShare (record { workload = record { seed = seed; count = count }; worker = worker; workers = workers }) }
+    requires buckets { (D.layout desk.old).buckets ≤ 256 }
     requires rest { IsDeskAtRest (D.layout desk.old) (D.out desk.old) (D.seen desk.old) }
     ensures made { MakesOrders C.gives (D.layout desk.old) (writing (D.seen desk.old) clock.old) (writing (D.seen desk.new) clock.new)
         (orders_of (record { seed = seed; count = count }) worker workers) result }

@@ -7,7 +7,7 @@ use Rattle.sc_shared.specs.Collections.{layout_of}
 use Rattle.sc_server.proofs.EndLemmas.{same_items, same_length, as_served, told_of}
 use Rattle.sc_demo.specs.declared.task.Outcome.{Outcome}
 use Rattle.sc_demo.specs.Makers.{IsHome, IsReady, IsReadyToMake, MakesAll}
-use Rattle.sc_demo.specs.Telling.{TellsOutcome}
+use Rattle.sc_demo.specs.Telling.{TellsOutcome, after_makers}
 use Rattle.sc_demo.proofs.NumberLemmas.{numbers}
 use Rattle.sc_demo.proofs.MakerLemmas.{all_home, ready_to_make}
 use Rattle.sc_demo.proofs.CrewLemmas.{all_ready}
@@ -30,7 +30,7 @@ make_all-outcome-requires-clause-ready g c κs within =
     let makers = c.enlist.new.makers.items in
     subst (All IsReadyToMake) (sym c.as_mut_slice.ensures.value)
     (All-weaker (IsReady locks) IsReadyToMake (ready_to_make locks) makers
-    (all_ready c.args.demo.now locks (g.T.Station.crews c.args.station.now) makers c.requires.demo c.enlist.ensures.enlisted))
+    (all_ready c.args.demo.now locks (g.T.Station.crews c.args.station.now) makers c.requires.demo c.enlist.ensures.have.enlisted))
 
 pub make_all-outcome-requires-clause-some : goal.make_all-outcome-requires-clause-some
 make_all-outcome-requires-clause-some g c κs within =
@@ -60,7 +60,7 @@ dismiss-requires-clause-few g c κs within =
 pub dismiss-requires-clause-makers : goal.dismiss-requires-clause-makers
 dismiss-requires-clause-makers g c κs within =
     let locks = c.in-Ok.needs.collection in
-    let each = all_ready c.args.demo.now locks (g.T.Station.crews c.args.station.now) c.enlist.new.makers.items c.requires.demo c.enlist.ensures.enlisted in
+    let each = all_ready c.args.demo.now locks (g.T.Station.crews c.args.station.now) c.enlist.new.makers.items c.requires.demo c.enlist.ensures.have.enlisted in
     elim c.match-enlist.branch [
       | in-Ok-enlist w ↦
           subst (All (IsHome locks))
@@ -79,10 +79,10 @@ dismiss-requires-clause-out g c κs within =
           w.make_all-outcome.ensures.count w.as_mut_slice.ensures.value c.enlist.new.makers.ok.0 in
           let long : length c.match-enlist.makers.items ≡ length w.make_all-outcome.new.makers = ap length made in
           let all : length w.as_mut_slice.result.now ≡ length c.enlist.new.makers.items = ap length w.as_mut_slice.ensures.value in
-          c.enlist.ensures.out.below number (omega (arith, below, long, all, w.make_all-outcome.ensures.count))
+          c.enlist.ensures.have.out.below number (omega (arith, below, long, all, w.make_all-outcome.ensures.count))
       | in-Err-enlist w ↦ λ number below.
           let long : length c.match-enlist.makers.items ≡ length c.enlist.new.makers.items = same_length c.match-enlist.makers c.enlist.new.makers w.makers-is in
-          c.enlist.ensures.out.below number (omega (arith, below, long))
+          c.enlist.ensures.have.out.below number (omega (arith, below, long))
     ]
 
 pub dismiss-requires-clause-none : goal.dismiss-requires-clause-none
@@ -102,22 +102,22 @@ returns g c =
             w.make_all-outcome.ensures.count w.as_mut_slice.ensures.value c.enlist.new.makers.ok.0 in
             let count = ap length made ∙ w.make_all-outcome.ensures.count ∙ ap length w.as_mut_slice.ensures.value in
             ends _ c.args.demo.now _ _ locks enlisted new
-            (leaves c.args.demo.now locks _ _ enlisted new _ _ (g.T.Station.out c.enlist.new.station) (g.T.Station.faults c.enlist.new.station) c.enlist.ensures.enlisted c.enlist.ensures.crews
-            c.enlist.ensures.out c.enlist.ensures.crews_back c.enlist.ensures.faults count c.dismiss.ensures.crews_back c.dismiss.ensures.out
-            c.dismiss.ensures.crews c.dismiss.ensures.faults)
+            (leaves c.args.demo.now locks _ _ enlisted new _ _ (g.T.Station.out c.enlist.new.station) (g.T.Station.faults c.enlist.new.station) c.enlist.ensures.have.enlisted c.enlist.ensures.have.crews
+            c.enlist.ensures.have.out c.enlist.ensures.have.crews_back c.enlist.ensures.have.faults count c.dismiss.ensures.back.crews_back c.dismiss.ensures.back.out
+            c.dismiss.ensures.back.crews c.dismiss.ensures.back.faults)
             (w.in-Ok-enlist.ensures.all ∙ c.in-Ok.ensures.count) w.as_slice.result.now (w.as_slice.ensures ∙ c.in-Ok.ensures.cores) c.in-Ok.ensures.shape
-            (seen_of c.dismiss.new.passes) c.dismiss.ensures.story c.dismiss.ensures.own c.requires.demo w.make_all-outcome.result _
+            (seen_of c.dismiss.new.passes) c.dismiss.ensures.joined.story c.dismiss.ensures.joined.own c.requires.demo w.make_all-outcome.result _
             (made_as _ w.as_slice.result.now w.as_mut_slice.result.now enlisted w.make_all-outcome.new.makers new w.make_all-outcome.result
             w.as_mut_slice.ensures.value made w.make_all-outcome.ensures.makes)
-            (subst (λ (outcome : Outcome). TellsOutcome (layout_of locks) (seen_of c.dismiss.new.passes) c.args.demo.now.count old_told new_told outcome c.tell.result) w.outcome-is
+            (subst (λ (outcome : Outcome). TellsOutcome (after_makers (layout_of locks) (seen_of c.dismiss.new.passes)) c.args.demo.now.count old_told new_told outcome c.tell.result) w.outcome-is
             c.tell.ensures)
         | in-Err-enlist w ↦
             early_ends _ c.args.demo.now _ _ locks enlisted new
-            (leaves c.args.demo.now locks _ _ enlisted new _ _ (g.T.Station.out c.enlist.new.station) (g.T.Station.faults c.enlist.new.station) c.enlist.ensures.enlisted c.enlist.ensures.crews
-            c.enlist.ensures.out c.enlist.ensures.crews_back c.enlist.ensures.faults (same_length c.match-enlist.makers c.enlist.new.makers w.makers-is)
-            c.dismiss.ensures.crews_back c.dismiss.ensures.out c.dismiss.ensures.crews c.dismiss.ensures.faults)
+            (leaves c.args.demo.now locks _ _ enlisted new _ _ (g.T.Station.out c.enlist.new.station) (g.T.Station.faults c.enlist.new.station) c.enlist.ensures.have.enlisted c.enlist.ensures.have.crews
+            c.enlist.ensures.have.out c.enlist.ensures.have.crews_back c.enlist.ensures.have.faults (same_length c.match-enlist.makers c.enlist.new.makers w.makers-is)
+            c.dismiss.ensures.back.crews_back c.dismiss.ensures.back.out c.dismiss.ensures.back.crews c.dismiss.ensures.back.faults)
             (seen_of c.dismiss.new.passes) _ (omega (arith, c.enlist.ensures.at_most, c.in-Ok.ensures.count))
-            (subst (λ (outcome : Outcome). TellsOutcome (layout_of locks) (seen_of c.dismiss.new.passes) c.args.demo.now.count old_told new_told outcome c.tell.result) w.outcome-is
+            (subst (λ (outcome : Outcome). TellsOutcome (after_makers (layout_of locks) (seen_of c.dismiss.new.passes)) c.args.demo.now.count old_told new_told outcome c.tell.result) w.outcome-is
             c.tell.ensures)
       ];
     }

@@ -55,15 +55,19 @@ returns g c =
     let locks = c.args.collection.now in
     let is = c.loop-maker.invariant.halfway in
     record {
-      passes = is.are;
-      own = own locks c.loop-maker.passes c.args.makers.items c.loop-maker.makers.items (g.T.Station.crews_back c.args.station.now)
-          (g.T.Station.crews_back c.loop-maker.station) (g.T.Station.out c.args.station.now) (g.T.Station.out c.loop-maker.station) is none;
-      story = story locks c.loop-maker.passes c.args.makers.items c.loop-maker.makers.items (g.T.Station.crews_back c.args.station.now)
-          (g.T.Station.crews_back c.loop-maker.station) (g.T.Station.out c.args.station.now) (g.T.Station.out c.loop-maker.station) is none;
-      crews_back = back locks c.loop-maker.passes c.args.makers.items c.loop-maker.makers.items (g.T.Station.crews_back c.args.station.now)
-          (g.T.Station.crews_back c.loop-maker.station) (g.T.Station.out c.args.station.now) (g.T.Station.out c.loop-maker.station) is none;
-      out = out locks c.loop-maker.passes c.args.makers.items c.loop-maker.makers.items (g.T.Station.crews_back c.args.station.now)
-          (g.T.Station.crews_back c.loop-maker.station) (g.T.Station.out c.args.station.now) (g.T.Station.out c.loop-maker.station) is none;
-      crews = c.loop-maker.invariant.crews;
-      faults = c.loop-maker.invariant.faults;
+      joined = record {
+        are = is.are;
+        own = own locks c.loop-maker.passes c.args.makers.items c.loop-maker.makers.items (g.T.Station.crews_back c.args.station.now)
+            (g.T.Station.crews_back c.loop-maker.station) (g.T.Station.out c.args.station.now) (g.T.Station.out c.loop-maker.station) is none;
+        story = story locks c.loop-maker.passes c.args.makers.items c.loop-maker.makers.items (g.T.Station.crews_back c.args.station.now)
+            (g.T.Station.crews_back c.loop-maker.station) (g.T.Station.out c.args.station.now) (g.T.Station.out c.loop-maker.station) is none;
+      };
+      back = record {
+        crews_back = back locks c.loop-maker.passes c.args.makers.items c.loop-maker.makers.items (g.T.Station.crews_back c.args.station.now)
+            (g.T.Station.crews_back c.loop-maker.station) (g.T.Station.out c.args.station.now) (g.T.Station.out c.loop-maker.station) is none;
+        out = out locks c.loop-maker.passes c.args.makers.items c.loop-maker.makers.items (g.T.Station.crews_back c.args.station.now)
+            (g.T.Station.crews_back c.loop-maker.station) (g.T.Station.out c.args.station.now) (g.T.Station.out c.loop-maker.station) is none;
+        crews = c.loop-maker.invariant.crews;
+        faults = c.loop-maker.invariant.faults;
+      };
     }

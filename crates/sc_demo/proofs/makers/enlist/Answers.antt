@@ -2,6 +2,7 @@
 use Rattle.std.proofs.Common.{◌≡◌, ◌∙◌, ℕ, ◌++◌, ◌∷◌, true, None, Some, IfSome, List, [], length, refl, sym, subst, ap, append_assoc}
 use Rattle.sc_demo.specs.declared.needs.Kit.{Kit}
 use Rattle.sc_session.specs.Stations.{SetsAt, SetsReported}
+use Rattle.sc_server.specs.Crews.{SetsReportedBelow}
 use Rattle.sc_demo.specs.Makers.{IsKit}
 use Rattle.sc_demo.specs.Making.{task_at}
 use Rattle.sc_server.proofs.CrewLemmas.{as_at_first}
@@ -59,3 +60,22 @@ loop-kit-preserved g c =
       crews_back = c.crew.ensures.crews_back ∙ i.crews_back;
       faults = c.crew.ensures.faults ∙ i.faults;
     }
+
+pub returns-in_err-crew-clause-have : goal.returns-in_err-crew-clause-have
+returns-in_err-crew-clause-have g c =
+    let i = c.loop-kit.invariant in
+    record {
+      enlisted = i.enlisted;
+      crews = subst (SetsReportedBelow (length c.loop-kit.makers.items) None (g.T.Station.crews c.args.station.now)) (sym c.in_err-crew.ensures.refused) i.crews;
+      out = record {
+        below = λ number below. c.in_err-crew.ensures.refused_out number ∙ i.out.below number below;
+        rest = λ number beyond. c.in_err-crew.ensures.refused_out number ∙ i.out.rest number beyond;
+      };
+      crews_back = c.crew.ensures.crews_back ∙ i.crews_back;
+      faults = c.crew.ensures.faults ∙ i.faults;
+    }
+
+pub returns-clause-have : goal.returns-clause-have
+returns-clause-have g c =
+    let i = c.loop-kit.invariant in
+    record { enlisted = i.enlisted; crews = i.crews; out = i.out; crews_back = i.crews_back; faults = i.faults }

@@ -22,7 +22,7 @@ pub write_batches-requires-clause-few : goal.write_batches-requires-clause-few
 write_batches-requires-clause-few g c =
     let same = ap (λ (batches : List Batch). length (contents batches)) c.as_slice.ensures in
     let few = orders_few (record { seed = c.args.seed; count = c.args.count }) c.args.worker c.args.workers c.in-Ok.batches c.in-Ok.ensures in
-    omega (arith, same, few, c.requires.most)
+    omega (arith, same, few, c.requires.share.most)
 
 pub returns-clause-few : goal.returns-clause-few
 returns-clause-few g c =

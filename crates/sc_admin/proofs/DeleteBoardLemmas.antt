@@ -19,11 +19,11 @@ use Rattle.sc_board.specs.Drops.{IsDropRefusal}
 use Rattle.sc_board.specs.declared.fault.DropFault.{DropFault}
 use Rattle.sc_collection.specs.Desks.{MayReplaceBoard, SeesBoardGiven, place_added}
 use Rattle.sc_admin.specs.Deletes.{kept, dropped}
-use Rattle.sc_admin.specs.Dropping.{KeepsBoard, DropsSlice, Deletes}
+use Rattle.sc_admin.specs.Dropping.{KeepsBoard, DropsSlice, Deletes, with_board}
 
 -- the board may be given back
 pub may_replace : (layout layout' : Layout) (shard : List ℕ) (old new seen : Seen) (held given : List BoardEntry)
-    (answer : Result (List Host) DropFault) → IfOk answer (DropsSlice layout shard old new held given) → OnErr answer (given ≡ held)
+    (answer : Result (List Host) DropFault) → IfOk answer (DropsSlice layout shard (with_board old held) (with_board new given)) → OnErr answer (given ≡ held)
     → MayReplaceBoard layout' seen held given
 may_replace layout layout' shard old new seen held given (Ok cores) drops same =
     inr (board.Dropped drops.slice.id, drops.noted, λ place found. absurd (none-some place (sym drops.idle ∙ found)))
@@ -76,7 +76,7 @@ module _ (layout out_layout new_layout : Layout) (shard : List ℕ) (start out b
       sees.own ∙ ap (λ (own : List ℕ). own ++ place_added held given) (own layout.buckets) ∙ ap (λ ps. start.own layout.buckets ++ ps) added
 
   -- the slice was dropped
-  pub deletes_slice : (cores : List Host) → DropsSlice out_layout shard out between held given cores
+  pub deletes_slice : (cores : List Host) → DropsSlice out_layout shard (with_board out held) (with_board between given) cores
       → stops' ≡ stops ++ record { lock = layout.buckets; place = length held; made = true } ∷ []
       → (slice : Slice) × (deletes : Deletes layout (dropped slice) (view_of start stops) (view_of final stops'))
       × IsOfNamed (board_map layout.first deletes.held) shard (λ one. one ≡ slice) × (cores ≡ cores_of_slice layout.nodes slice)
@@ -94,9 +94,9 @@ module _ (layout out_layout new_layout : Layout) (shard : List ℕ) (start out b
     drops.named,
     drops.cores_are,
   ) where
-    drops : DropsSlice layout shard start between held given cores
-    drops = subst (λ (l : Layout). DropsSlice l shard start between held given cores) same_out
-        (subst (λ (s : Seen). DropsSlice out_layout shard s between held given cores) same_seen drops')
+    drops : DropsSlice layout shard (with_board start held) (with_board between given) cores
+    drops = subst (λ (l : Layout). DropsSlice l shard (with_board start held) (with_board between given) cores) same_out
+        (subst (λ (s : Seen). DropsSlice out_layout shard (with_board s held) (with_board between given) cores) same_seen drops')
 
   -- nothing was
   pub deletes_none : (fault : DropFault) → IsDropRefusal (board_map out_layout.first held) shard fault → given ≡ held

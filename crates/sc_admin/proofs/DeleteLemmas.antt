@@ -21,7 +21,7 @@ use Rattle.sc_board.specs.Splits.{IsOfNamed}
 use Rattle.sc_board.specs.Drops.{IsDropRefusal}
 use Rattle.sc_board.specs.declared.fault.DropFault.{DropFault}
 use Rattle.sc_admin.specs.declared.deleting.DeleteEnd.{DeleteEnd}
-use Rattle.sc_admin.specs.Deletes.{DeleteCourse, kept, dropped, noted_by, LeavesBucket, StopsCores, IsDeleteAnswered, IsDelete, drop_refusal}
+use Rattle.sc_admin.specs.Deletes.{DeleteCourse, kept, dropped, noted_by, LeavesBucket, StopsCores, IsDeleteAnswered, IsDelete, delete_moment, drop_refusal}
 use Rattle.sc_admin.specs.Dropping.{Deletes, is_made}
 
 -- the stop of the board, which had these entries then
@@ -160,7 +160,7 @@ module _ (layout : Layout) (course : DeleteCourse) (old new : View) (it : Delete
         → FromNowOn new.seen (λ later. IsDeleteAnswered layout later shard first course end)
         → StopsCores layout.nodes course outside_old outside_new end → CountsGoUp outside_old outside_new
         → outside_new.start_faults ≡ outside_old.start_faults → outside_new.stops ≡ outside_old.stops
-        → IsDelete layout shard old new outside_old outside_new end
+        → IsDelete layout shard (delete_moment old outside_old) (delete_moment new outside_new) end
     is_delete shard outside_old outside_new end answered outside counts no_start no_pace = record {
       first = first;
       course = course;

@@ -23,8 +23,8 @@ use Rattle.sc_board.proofs.SoundLemmas.{sound_map, sound_stands}
 use Rattle.sc_board.proofs.NamedLemmas.{named_there, same_by_id}
 use Rattle.sc_keeper.specs.declared.part.CorePart.{CorePart}
 use Rattle.sc_keeper.specs.Conditions.{MayDrop}
-use Rattle.sc_collection.specs.Desks.{Keeping, IsAtRest, AreAtRest}
-use Rattle.sc_admin.specs.Dropping.{Known, OfBuckets, IsDroppedIn, DropsSlice}
+use Rattle.sc_collection.specs.Desks.{Keeping, IsAtRest, AreAtRest, changes_cores}
+use Rattle.sc_admin.specs.Dropping.{Known, OfBuckets, IsDroppedIn, DropsSlice, with_board}
 
 -- no split runs where a slice may be dropped
 pub idle_at_drop : {K : Type 0} (it : Board K) (slice : SliceId) → IsSoundBoard it → MayNote it.first it.journal.entries (board.Dropped slice)
@@ -69,7 +69,7 @@ pub drops_slice : {K : Type 0} (layout : Layout) (shard : List ℕ) (it : Board 
     → IsOfNamed it.map shard (λ slice. slice.id ≡ id) → MayNote it.first it.journal.entries (board.Dropped id)
     → Contains it.map found × (found.id ≡ id) → given ≡ it.journal.entries ++ board.Dropped id ∷ []
     → OfBuckets 0 layout.buckets (IsDroppedIn id old new) → nodes ≡ layout.nodes → cores ≡ cores_of_slice nodes found
-    → DropsSlice layout shard old.seen new.seen it.journal.entries given cores
+    → DropsSlice layout shard (with_board old.seen it.journal.entries) (with_board new.seen given) cores
 drops_slice layout shard it id found old new given nodes cores sound first named may there noted dropped same_nodes cores_are = record {
   slice = found;
   named = (

@@ -72,19 +72,28 @@ LeavesBucket kept old new lock = new.journals lock ≡ old.journals lock
 LeavesBucket (dropped slice) old new lock =
     (before : List Entry) × IsPrefix (old.journals lock) before × (new.journals lock ≡ before ++ entry.Dropped slice.id ∷ [])
 
+-- what stands at one moment of a deletion: what was looked at so far, and what is outside
+pub record DeleteMoment : Type 0 where
+  pub view : View
+  pub outside : Outside
+
+-- the moment at which these stand
+abbrev pub delete_moment : View → Outside → DeleteMoment
+delete_moment view outside = record { view = view; outside = outside }
+
 -- What a deletion leaves, and what it is answered: by its stop of the board, which is its only one.
-pub record IsDelete (layout : Layout) (shard : List ℕ) (old new : View) (outside_old outside_new : Outside) (end : DeleteEnd) : Type 0 where
+pub record IsDelete (layout : Layout) (shard : List ℕ) (old new : DeleteMoment) (end : DeleteEnd) : Type 0 where
   pub first : Stop
   pub course : DeleteCourse
   pub lock : first.lock ≡ layout.buckets
-  pub stops : new.stops ≡ old.stops ++ first ∷ []
-  pub extends : Extends layout old.seen new.seen (first ∷ [])
-  pub last : EndAtLast layout new.seen (first ∷ [])
-  pub answered : FromNowOn new.seen (λ later. IsDeleteAnswered layout later shard first course end)
-  pub board : new.seen.board ≡ take first.place new.seen.board ++ noted_by course
-  pub own : new.seen.own layout.buckets ≡ old.seen.own layout.buckets ++ range_with_len first.place (length (noted_by course))
-  pub buckets : (lock : ℕ) → lock < layout.buckets → LeavesBucket course old.seen new.seen lock
-  pub outside : StopsCores layout.nodes course outside_old outside_new end
-  pub counts : CountsGoUp outside_old outside_new
-  pub no_start : outside_new.start_faults ≡ outside_old.start_faults
-  pub no_pace : outside_new.stops ≡ outside_old.stops
+  pub stops : new.view.stops ≡ old.view.stops ++ first ∷ []
+  pub extends : Extends layout old.view.seen new.view.seen (first ∷ [])
+  pub last : EndAtLast layout new.view.seen (first ∷ [])
+  pub answered : FromNowOn new.view.seen (λ later. IsDeleteAnswered layout later shard first course end)
+  pub board : new.view.seen.board ≡ take first.place new.view.seen.board ++ noted_by course
+  pub own : new.view.seen.own layout.buckets ≡ old.view.seen.own layout.buckets ++ range_with_len first.place (length (noted_by course))
+  pub buckets : (lock : ℕ) → lock < layout.buckets → LeavesBucket course old.view.seen new.view.seen lock
+  pub outside : StopsCores layout.nodes course old.outside new.outside end
+  pub counts : CountsGoUp old.outside new.outside
+  pub no_start : new.outside.start_faults ≡ old.outside.start_faults
+  pub no_pace : new.outside.stops ≡ old.outside.stops

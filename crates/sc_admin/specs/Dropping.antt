@@ -49,14 +49,21 @@ pub record KeepsBoard (old new : Seen) : Type 0 where
   pub board : new.board ≡ old.board
   pub own : (lock : ℕ) → new.own lock ≡ old.own lock
 
--- The slice of this name was dropped from each bucket and from the board, which had these entries before and has those now. No split
--- ran. These are the slice's cores.
-pub record DropsSlice (layout : Layout) (shard : List ℕ) (old new : Seen) (held given : List BoardEntry) (cores : List Host) : Type 0 where
+-- what stands while the board is held: what was seen of the collection, and the board's entries
+pub record WithBoard : Type 0 where
+  pub seen : Seen
+  pub entries : List BoardEntry
+
+abbrev pub with_board : Seen → List BoardEntry → WithBoard
+with_board seen entries = record { seen = seen; entries = entries }
+
+-- The slice of this name was dropped from each bucket and from the board. No split ran. These are the slice's cores.
+pub record DropsSlice (layout : Layout) (shard : List ℕ) (old new : WithBoard) (cores : List Host) : Type 0 where
   pub slice : Slice
-  pub named : IsOfNamed (board_map layout.first held) shard (λ one. one ≡ slice)
-  pub idle : running_split held ≡ None
-  pub noted : given ≡ held ++ board.Dropped slice.id ∷ []
-  pub buckets : (lock : ℕ) → lock < layout.buckets → LeavesBucket (dropped slice) old new lock
+  pub named : IsOfNamed (board_map layout.first old.entries) shard (λ one. one ≡ slice)
+  pub idle : running_split old.entries ≡ None
+  pub noted : new.entries ≡ old.entries ++ board.Dropped slice.id ∷ []
+  pub buckets : (lock : ℕ) → lock < layout.buckets → LeavesBucket (dropped slice) old.seen new.seen lock
   pub cores_are : cores ≡ cores_of_slice layout.nodes slice
 
 -- whether a deletion that went so made an entry on the board

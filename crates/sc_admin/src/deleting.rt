@@ -9,7 +9,7 @@ ghost use Rattle.sc_board.specs.Drops.{IsDropRefusal};
 ghost use Rattle.sc_collection.specs.Desks.{IsDeskAtRest};
 ghost use Rattle.sc_collection.specs.Kept.{trail_room};
 ghost use Rattle.sc_cores.specs.Cores.{outside_of, cores_of_slice};
-ghost use Rattle.sc_admin.specs.Deletes.{IsDelete, StopsCores, drop_refusal, kept, dropped};
+ghost use Rattle.sc_admin.specs.Deletes.{IsDelete, StopsCores, delete_moment, drop_refusal, kept, dropped};
 ghost use Rattle.sc_admin.specs.Dropping.{Deletes};
 
 use crate::dropping::drop_slice;
@@ -51,9 +51,11 @@ pub fn delete<D: Desk, H: Hosts>(
     requires rest { IsDeskAtRest (D.layout desk.old) (D.out desk.old) (D.seen desk.old) }
     requires room { length trail.old.stops < trail_room }
     ensures delete { (stops : ℕ) → IsDelete (D.layout desk.old) shard.now
-        (view_of (D.seen desk.old) trail.old.stops) (view_of (D.seen desk.new) trail.new.stops)
-        (outside_of (H.started hosts.old) (H.start_faults hosts.old) (H.stop_faults hosts.old) stops)
-        (outside_of (H.started hosts.new) (H.start_faults hosts.new) (H.stop_faults hosts.new) stops) result }
+        (delete_moment (view_of (D.seen desk.old) trail.old.stops)
+        (outside_of (H.started hosts.old) (H.start_faults hosts.old) (H.stop_faults hosts.old) stops))
+        (delete_moment (view_of (D.seen desk.new) trail.new.stops)
+        (outside_of (H.started hosts.new) (H.start_faults hosts.new) (H.stop_faults hosts.new) stops))
+        result }
     ensures layout { D.layout desk.new ≡ D.layout desk.old }
     ensures rest { IsDeskAtRest (D.layout desk.new) (D.out desk.new) (D.seen desk.new) }
     ensures requests { trail.new.requests ≡ trail.old.requests }

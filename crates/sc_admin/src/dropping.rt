@@ -7,7 +7,7 @@ ghost use Rattle.sc_board.specs.Boards.{IsSoundBoard};
 ghost use Rattle.sc_board.specs.Drops.{IsDropRefusal};
 ghost use Rattle.sc_keeper.specs.Conditions.{MayDrop};
 ghost use Rattle.sc_collection.specs.Desks.{IsBoardOf, AreAtRest};
-ghost use Rattle.sc_admin.specs.Dropping.{known_of, OfBuckets, IsSameIn, IsDroppedIn, KeepsBoard, DropsSlice};
+ghost use Rattle.sc_admin.specs.Dropping.{known_of, OfBuckets, IsSameIn, IsDroppedIn, KeepsBoard, DropsSlice, with_board};
 
 use sc_board::{Board, DropFault};
 use sc_collection::Desk;
@@ -38,8 +38,8 @@ pub(crate) fn drop_slice<D: Desk>(
     ensures rest { (keepers : D.Keepers) → board.new.keepers ≡ Some keepers
         → D.fits desk.new keepers × AreAtRest (D.layout desk.new) board.new.journal.entries (D.keeping desk.new keepers) }
     ensures board { KeepsBoard (D.seen desk.old) (D.seen desk.new) }
-    ensures dropped { IfOk result (DropsSlice (D.layout desk.old) shard.now (D.seen desk.old) (D.seen desk.new)
-        board.old.journal.entries board.new.journal.entries) }
+    ensures dropped { IfOk result (DropsSlice (D.layout desk.old) shard.now
+        (with_board (D.seen desk.old) board.old.journal.entries) (with_board (D.seen desk.new) board.new.journal.entries)) }
     ensures refused { IfErr result (IsDropRefusal (board_map (D.layout desk.old).first board.old.journal.entries) shard.now) }
     ensures entries { OnErr result (board.new.journal.entries ≡ board.old.journal.entries) }
     ensures journals { OnErr result ((lock : ℕ) → (D.seen desk.new).journals lock ≡ (D.seen desk.old).journals lock) }

@@ -20,7 +20,7 @@ use Rattle.sc_split.specs.Splits.{SplitMoment, Course, refused, given_up, done, 
 use Rattle.sc_split.specs.declared.end.SplitEnd.{SplitEnd}
 use Rattle.sc_split.specs.declared.end.SplitEnd.TheVariants as splits
 use Rattle.sc_admin.specs.Commands.{pieces_of, split, status, delete}
-use Rattle.sc_admin.specs.Deletes.{IsDelete}
+use Rattle.sc_admin.specs.Deletes.{IsDelete, delete_moment}
 use Rattle.sc_admin.specs.declared.deleting.DeleteEnd.{DeleteEnd}
 use Rattle.sc_session.specs.Requests.{Asked, command}
 use Rattle.sc_session.specs.Commands.{CommandEnd, situation, moment_at, KeepsRest, LeavesSplit, LeavesDelete, Leaves}
@@ -190,7 +190,7 @@ split_answered gives layout shard cut old new clock end answer is told = record 
 
 -- a deletion was answered
 pub deletion_answered : {C : Type 0} (gives : C → ℕ → C → Type 0) (layout : Layout) (shard : List ℕ) (old new : View) (before after : Outside) (clock : C)
-    (end : DeleteEnd) (answer : Answer) → IsDelete layout shard old new before after end → IsAnswerOf (delete_answer end) answer
+    (end : DeleteEnd) (answer : Answer) → IsDelete layout shard (delete_moment old before) (delete_moment new after) end → IsAnswerOf (delete_answer end) answer
     → AnswersAsked gives layout (command (delete shard)) (world_at old clock before) (world_at new clock after) answer
 deletion_answered gives layout shard old new before after clock end answer is told = record {
   trace = trace;

@@ -8,7 +8,7 @@ use Rattle.sc_board.specs.Drops.{IsDropRefusal}
 use Rattle.sc_seen.specs.Board.{board_map}
 use Rattle.sc_collection.specs.Kept.{Kept}
 use Rattle.sc_collection.specs.Desks.{Out, AreAtRest}
-use Rattle.sc_admin.specs.Dropping.{DropsSlice}
+use Rattle.sc_admin.specs.Dropping.{DropsSlice, with_board}
 use Rattle.sc_admin.proofs.DeleteBoardLemmas.{may_replace, by_ok, by_err, at_err, stop_is, deletes_slice, deletes_none}
 use Rattle.sc_admin.proofs.deleting.drop_on_board.Goals as goal
 
@@ -37,7 +37,7 @@ returns-clause-dropped g c =
     let given = c.drop_slice-answer.new.board.journal.entries in
     let out = g.D.Desk.seen c.hold_board-board.new.self in
     let between = g.D.Desk.seen c.drop_slice-answer.new.desk in
-    by_ok c.drop_slice-answer.result (DropsSlice (g.D.Desk.layout c.hold_board-board.new.self) c.args.shard.now out between held given) _
+    by_ok c.drop_slice-answer.result (DropsSlice (g.D.Desk.layout c.hold_board-board.new.self) c.args.shard.now (with_board out held) (with_board between given)) _
     c.drop_slice-answer.ensures.dropped
     (λ cores is drops. deletes_slice layout (g.D.Desk.layout c.hold_board-board.new.self) (g.D.Desk.layout c.drop_slice-answer.new.desk)
     c.args.shard.now (g.D.Desk.seen c.args.desk.now) out between (g.D.Desk.seen c.give_board.new.self) c.args.trail.now.stops c.keep.new.self.stops

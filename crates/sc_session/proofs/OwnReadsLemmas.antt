@@ -11,7 +11,7 @@ use Rattle.sc_get.specs.Got.{live, ReadsAt, live_at, ReadsEach, live_writes}
 use Rattle.sc_session.specs.Requests.{Asked, asked, get, get_ids}
 use Rattle.sc_session.specs.Answers.{Answer, replied, Trace, IsAnswer, get_reply, ids_reply}
 use Rattle.sc_session.specs.Connection.{Exchange, IsExchange, exchanges_of}
-use Rattle.sc_session.specs.Laws.{IsLastSince, ShowsSince, ShowsAmongSince, GetsShowOwnWrites, GetsOfIdsShowOwnWrites, HoldsOfExchanges, HoldsOfConnections}
+use Rattle.sc_session.specs.Laws.{IsLastSince, ShowsSince, ShowsAmongSince, id_among, GetsShowOwnWrites, GetsOfIdsShowOwnWrites, HoldsOfExchanges, HoldsOfConnections}
 use Rattle.sc_session.proofs.OwnWritesLemmas.{IsMade, from_on, since_at, ReadsAfter, reads_after}
 
 -- Ids that were each read at a stop: the stops of those before one of them, its own, and those of the ids after it; and what is
@@ -90,7 +90,7 @@ module _ (layout : Layout) (id : List ℕ) (some_bucket : 0 < layout.buckets) wh
   -- a get of several ids shows of each of them what was made before it, or a later write
   shows_among : (writing reading : Exchange) (new : Seen) (prior further : List (List ℕ)) (version : ℤ) (reply : Reply) → AreLegal layout new
       → ReadsAfter layout new writing reading id version → asked reading.request ≡ get_ids (prior ++ id ∷ further) → reading.answer ≡ replied reply
-      → ShowsAmongSince layout new reading prior id further version
+      → ShowsAmongSince layout new reading (id_among prior id further) version
   shows_among writing reading new prior further version reply legal reads asks replies = record {
     before = split.before;
     stop = split.stop;

@@ -51,19 +51,29 @@ GetsShowOwnWrites layout seen exchanges =
     → AcceptsOrderFor writing id version → asked reading.request ≡ get id → reading.answer ≡ replied reply
     → ShowsSince layout seen reading id version
 
--- The exchange's get of several ids shows that version of the id that comes after the ids `prior`, or a later one. It has a stop
--- for each id; at the id's, which is at the journal of its bucket, the last write is that one or a later one. What is shown is what
--- is live of the ids before, then that write, unless it is a deletion, and then what is live of the ids `further`.
-pub record ShowsAmongSince (layout : Layout) (seen : Seen) (x : Exchange) (prior : List (List ℕ)) (id : List ℕ) (further : List (List ℕ)) (version : ℤ) : Type 0 where
+-- an id among those that a get asks for: the ones before it, itself, and the ones after it
+pub record IdAmong : Type 0 where
+  pub prior : List (List ℕ)
+  pub id : List ℕ
+  pub further : List (List ℕ)
+
+abbrev pub id_among : (prior : List (List ℕ)) → (id : List ℕ) → (further : List (List ℕ)) → IdAmong
+id_among prior id further = record { prior = prior; id = id; further = further }
+
+-- The exchange's get of several ids shows that version of this id, or a later one. It has a stop for each id; at the id's, which is at
+-- the journal of its bucket, the last write is that one or a later one. What is shown is what is live of the ids before, then that
+-- write, unless it is a deletion, and then what is live of the ids after.
+pub record ShowsAmongSince (layout : Layout) (seen : Seen) (x : Exchange) (one : IdAmong) (version : ℤ) : Type 0 where
   pub before : List Stop
   pub stop : Stop
   pub after : List Stop
   pub last : Write
   pub stops_are : x.trace.stops ≡ before ++ stop ∷ after
-  pub one_each : length before ≡ length prior
-  pub lock : stop.lock ≡ bucket_of id layout.buckets
-  pub since : IsLastSince (journal_at seen stop) id version last
-  pub answer_is : x.answer ≡ replied (ids_reply (live_writes seen prior before ++ option_to_list (live (Some last)) ++ live_writes seen further after))
+  pub one_each : length before ≡ length one.prior
+  pub lock : stop.lock ≡ bucket_of one.id layout.buckets
+  pub since : IsLastSince (journal_at seen stop) one.id version last
+  pub answer_is : x.answer
+      ≡ replied (ids_reply (live_writes seen one.prior before ++ option_to_list (live (Some last)) ++ live_writes seen one.further after))
 
 -- of these exchanges, a get of several ids after one that accepted an order for one of them shows that version or a later one of
 -- it, where it is replied
@@ -72,7 +82,7 @@ GetsOfIdsShowOwnWrites layout seen exchanges =
     (before between after : List Exchange) (writing reading : Exchange) (prior further : List (List ℕ)) (id : List ℕ) (version : ℤ) (reply : Reply)
     → exchanges ≡ before ++ writing ∷ between ++ reading ∷ after
     → AcceptsOrderFor writing id version → asked reading.request ≡ get_ids (prior ++ id ∷ further) → reading.answer ≡ replied reply
-    → ShowsAmongSince layout seen reading prior id further version
+    → ShowsAmongSince layout seen reading (id_among prior id further) version
 
 -- such a law holds of exchanges one after another, where the journals are legal
 abbrev pub HoldsOfExchanges : (Layout → Seen → List Exchange → Type 0) → Type 0

@@ -7,11 +7,21 @@ use Rattle.sc_bucket.specs.Pending.{is_within}
 use Rattle.sc_bucket.specs.declared.bucket.Bucket.{Bucket}
 use Rattle.sc_handover.specs.Events.{HasSameRest}
 
--- at these places of a bucket are a feed and the core that it feeds
-pub record IsFedAt (b : Bucket) (feed_at core_at : ℕ) (feed : FeedState) (core : Core) : Type 0 where
-  pub feed_found : slice_get b.feeds feed_at ≡ Some feed
-  pub core_found : slice_get b.replicas core_at ≡ Some core
-  pub core_is : core.core ≡ feed.core
+-- a feed and the core that it feeds, each with its place in a bucket
+pub record FedCore : Type 0 where
+  pub feed_at : ℕ
+  pub core_at : ℕ
+  pub feed : FeedState
+  pub core : Core
+
+abbrev pub fed_core : (feed_at core_at : ℕ) → FeedState → Core → FedCore
+fed_core feed_at core_at feed core = record { feed_at = feed_at; core_at = core_at; feed = feed; core = core }
+
+-- they are at these places of the bucket
+pub record IsFedAt (b : Bucket) (one : FedCore) : Type 0 where
+  pub feed_found : slice_get b.feeds one.feed_at ≡ Some one.feed
+  pub core_found : slice_get b.replicas one.core_at ≡ Some one.core
+  pub core_is : one.core.core ≡ one.feed.core
 
 -- of the next n rows of a feed those whose hash is in the core's range
 abbrev pub next_of : ℕ → FeedState → List Write
@@ -23,8 +33,7 @@ after_rows n feed = record feed { next = feed.next + n }
 
 -- the feed at its place looked at its next n rows, and the core at its place was fed those of them that are in its
 -- range
-pub record FeedsRows (old : Bucket) (feed_at core_at : ℕ) (feed : FeedState) (core : Core) (n : ℕ)
-    (new : Bucket) : Type 0 where
+pub record FeedsRows (old : Bucket) (one : FedCore) (n : ℕ) (new : Bucket) : Type 0 where
   pub rest : HasSameRest old new
-  pub cores : new.replicas ≡ slice_set old.replicas core_at (fed_all core (next_of n feed))
-  pub feeds_are : new.feeds ≡ slice_set old.feeds feed_at (after_rows n feed)
+  pub cores : new.replicas ≡ slice_set old.replicas one.core_at (fed_all one.core (next_of n one.feed))
+  pub feeds_are : new.feeds ≡ slice_set old.feeds one.feed_at (after_rows n one.feed)

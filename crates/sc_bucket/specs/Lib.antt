@@ -6,6 +6,7 @@ pub mod Searchers
 pub mod Flight
 pub mod Pending
 pub mod Sound
+pub mod New
 pub mod Room
 pub mod Events
 pub mod Accepting

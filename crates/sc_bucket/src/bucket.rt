@@ -45,15 +45,15 @@ pub struct Bucket {
 }
 
 impl Bucket {
-    ghost use Rattle.std.specs.Prelude.{◌≡◌, ◌<◌, ◌≤◌, ◌+◌, [], length, All, IfOk, IsSome, option_copied};
+    ghost use Rattle.std.specs.Prelude.{◌≡◌, ◌<◌, ◌≤◌, ◌+◌, length, IfOk, IsSome, option_copied};
     ghost use Rattle.std.specs.Option.{option_map};
     ghost use Rattle.std.specs.Arc.{arc_value};
     ghost use Rattle.sc_journal.specs.Journal.{last_write, write_at, is_settled};
     ghost use Rattle.sc_journal.specs.Limits.{least_journal, greatest_journal};
     ghost use Rattle.sc_journal.specs.Down.{all_followers};
-    ghost use Rattle.sc_bucket.specs.Cores.{IsLeaderAt, IsNewCore};
+    ghost use Rattle.sc_bucket.specs.Cores.{IsLeaderAt};
     ghost use Rattle.sc_bucket.specs.Sound.{AreActive, IsSound};
-    ghost use Rattle.sc_bucket.specs.declared.phase.Phase.TheVariants as phases;
+    ghost use Rattle.sc_bucket.specs.New.{IsNewBucket};
 
     /// A bucket with an empty journal, whose first map is this, with a core for each replica of a slice. Its journal may have `limit`
     /// entries, of which each follower is owed one. An error means out of memory.
@@ -61,14 +61,7 @@ impl Bucket {
         requires active { AreActive map.now }
         requires least { least_journal + length (all_followers map.now) ≤ limit }
         requires most { limit ≤ greatest_journal }
-        ensures sound { IfOk result IsSound }
-        ensures first { IfOk result (λ bucket. bucket.first ≡ map.now) }
-        ensures map_is { IfOk result (λ bucket. bucket.map ≡ map.now) }
-        ensures journal { IfOk result (λ bucket. bucket.journal.entries ≡ []) }
-        ensures limit { IfOk result (λ bucket. bucket.limit ≡ limit) }
-        ensures cores { IfOk result (λ bucket. All IsNewCore bucket.replicas) }
-        ensures phase { IfOk result (λ bucket. bucket.phase ≡ phases.Idle) }
-        ensures feeds { IfOk result (λ bucket. bucket.feeds ≡ []) }
+        ensures { IfOk result (IsNewBucket map.now limit) }
     {
         let replicas = Replicas::new(alloc, map)?;
         let searchers = first_searchers(alloc, map)?;

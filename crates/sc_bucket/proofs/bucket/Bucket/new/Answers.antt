@@ -1,7 +1,7 @@
--- A new bucket is sound.
+-- A new bucket is sound, and begins with the map.
 use Rattle.std.proofs.Common.{[], None, refl, sym, subst, arith}
 use Rattle.sc_cluster.specs.Map.{IsMap}
-use Rattle.sc_bucket.specs.Sound.{IsSound}
+use Rattle.sc_bucket.specs.New.{IsNewBucket}
 use Rattle.sc_bucket.specs.declared.bucket.Bucket.{Bucket}
 use Rattle.sc_bucket.specs.declared.phase.Phase.TheVariants as phases
 use Rattle.sc_bucket.proofs.CoreLemmas.{have_leaders}
@@ -9,8 +9,8 @@ use Rattle.sc_bucket.proofs.NewLemmas.{IsMade, has_room_for, IsSound-new}
 use Rattle.sc_bucket.proofs.SearcherLemmas.{AreLed-from_keys}
 use Rattle.sc_bucket.proofs.bucket.Bucket.new.Goals as goal
 
-pub returns-clause-sound : goal.returns-clause-sound
-returns-clause-sound c =
+pub returns : goal.returns
+returns c =
     let same = c.in_ok-first.ensures in
     let is_map : IsMap c.args.map.now = c.get.ensures.map in
     let b : Bucket = record {
@@ -46,5 +46,14 @@ returns-clause-sound c =
       feeds_are = refl;
       spares_are = refl;
     } in
-    subst IsSound (sym c.begun.ensures)
-    (IsSound-new b c.args.map.now c.args.limit is_map c.requires.active c.requires.least c.requires.most made)
+    let new : IsNewBucket c.args.map.now c.args.limit b = record {
+      sound = IsSound-new b c.args.map.now c.args.limit is_map c.requires.active c.requires.least c.requires.most made;
+      first = same;
+      map_is = c.in_ok-slices.ensures;
+      journal = c.in_ok-journal.ensures.entries;
+      limit = refl;
+      cores = c.in_ok-replicas.ensures.new;
+      phase = refl;
+      feeds = refl;
+    } in
+    subst (IsNewBucket c.args.map.now c.args.limit) (sym c.begun.ensures) new

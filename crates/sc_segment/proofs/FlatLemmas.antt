@@ -6,7 +6,7 @@ use Rattle.std.specs.Map.{keys_of}
 use Rattle.std.specs.List.{slice_range}
 use Rattle.std.specs.declared.cmp.Ordering.{Ordering}
 use Rattle.sc_segment.specs.Carrying.{HasEntryMore}
-use Rattle.sc_segment.specs.Flat.{FlatState, IsLaidOut, AreAllClosed, PutsKey, entries_from, last_end, AreEnds, rows_among}
+use Rattle.sc_segment.specs.Flat.{FlatState, IsLaidOut, AreAllClosed, PutsKey, entries_from, key_ends, last_end, AreEnds, rows_among}
 
 -- where the rows of the key at a place begin
 abbrev pub begin : ℕ → List ℕ → ℕ → ℕ
@@ -241,10 +241,10 @@ module _ {K : Type 0} where
           (AreEnds-more 0 ends (length rows) (length rows') (omega (arith, ap length longer, length-append rows more)) laid_out.are_ends);
     }
 
-    pub laid_out-put : PutsKey order key more (length rows') keys ends keys' ends' → IsLaidOut keys' ends' rows'
+    pub laid_out-put : PutsKey order key more (length rows') (key_ends keys ends) (key_ends keys' ends') → IsLaidOut keys' ends' rows'
     laid_out-put = by_rows more refl
       where
-        by_rows : (added : List ℕ) → more ≡ added → PutsKey order key added (length rows') keys ends keys' ends' → IsLaidOut keys' ends' rows'
+        by_rows : (added : List ℕ) → more ≡ added → PutsKey order key added (length rows') (key_ends keys ends) (key_ends keys' ends') → IsLaidOut keys' ends' rows'
         by_rows [] is puts = laid_out-rows puts.0 puts.1
         by_rows (r ∷ rs) is puts = record {
           as_long = ap length puts.2 ∙ length_push keys puts.0 ∙ ap (λ (n : ℕ). n + 1) laid_out.as_long ∙ sym (length_push ends (length rows')) ∙ sym (ap length puts.3);
@@ -252,14 +252,14 @@ module _ {K : Type 0} where
               (AreEnds-push 0 ends (length rows') (AreEnds-more 0 ends (length rows) (length rows') (omega (arith, ap length longer, length-append rows more)) laid_out.are_ends));
         }
 
-    pub closed-put : AreAllClosed ends rows → PutsKey order key more (length rows') keys ends keys' ends' → AreAllClosed ends' rows'
+    pub closed-put : AreAllClosed ends rows → PutsKey order key more (length rows') (key_ends keys ends) (key_ends keys' ends') → AreAllClosed ends' rows'
     closed-put closed = by_rows more refl
       where
-        by_rows : (added : List ℕ) → more ≡ added → PutsKey order key added (length rows') keys ends keys' ends' → AreAllClosed ends' rows'
+        by_rows : (added : List ℕ) → more ≡ added → PutsKey order key added (length rows') (key_ends keys ends) (key_ends keys' ends') → AreAllClosed ends' rows'
         by_rows [] is puts = ap (last_end 0) puts.1 ∙ closed ∙ sym (ap length longer ∙ ap (λ (rs : List ℕ). length (rows ++ rs)) is ∙ ap length (append-nil rows))
         by_rows (r ∷ rs) is puts = ap (last_end 0) puts.3 ∙ last_end-push 0 ends (length rows')
 
-    pub entry-put : AreAllClosed ends rows → PutsKey order key more (length rows') keys ends keys' ends' → HasEntryMore order key more (entries_from 0 keys ends rows) (entries_from 0 keys' ends' rows')
+    pub entry-put : AreAllClosed ends rows → PutsKey order key more (length rows') (key_ends keys ends) (key_ends keys' ends') → HasEntryMore order key more (entries_from 0 keys ends rows) (entries_from 0 keys' ends' rows')
     entry-put closed = by_rows more refl
       where
         now : entries_from 0 keys ends rows' ≡ entries_from 0 keys ends rows
@@ -273,7 +273,7 @@ module _ {K : Type 0} where
             ∙ drop-append-le (length rows) rows more (omega arith)
             ∙ ap (λ (rs : List ℕ). rs ++ more) (drop_all (length rows) rows (omega arith))
 
-        by_rows : (added : List ℕ) → more ≡ added → PutsKey order key added (length rows') keys ends keys' ends' → HasEntryMore order key added (entries_from 0 keys ends rows) (entries_from 0 keys' ends' rows')
+        by_rows : (added : List ℕ) → more ≡ added → PutsKey order key added (length rows') (key_ends keys ends) (key_ends keys' ends') → HasEntryMore order key added (entries_from 0 keys ends rows) (entries_from 0 keys' ends' rows')
         by_rows [] is puts =
             ([], ap (λ (ks : List K). entries_from 0 ks ends' rows') puts.0 ∙ ap (λ (es : List ℕ). entries_from 0 keys es rows') puts.1 ∙ now ∙ sym (append-nil (entries_from 0 keys ends rows)), refl)
         by_rows (r ∷ rs) is puts = (

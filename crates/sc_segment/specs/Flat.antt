@@ -38,7 +38,16 @@ pub record IsLaidOut {K : Type 0} (keys : List K) (ends rows : List ℕ) : Type 
 abbrev pub AreAllClosed : List ℕ → List ℕ → Type 0
 AreAllClosed ends rows = last_end 0 ends ≡ length rows
 
+-- the keys of a flat index, and where the rows of each end
+pub record KeyEnds (K : Type 0) : Type 0 where
+  pub keys : List K
+  pub ends : List ℕ
+
+abbrev pub key_ends : {K : Type 0} → List K → List ℕ → KeyEnds K
+key_ends keys ends = record { keys = keys; ends = ends }
+
 -- a key that compares equal was put at the end, and where its rows end; nothing, where it has no rows
-abbrev pub PutsKey : {K : Type 0} → (K → K → Ordering) → K → List ℕ → ℕ → List K → List ℕ → List K → List ℕ → Type 0
-PutsKey order key [] end keys ends keys' ends' = (keys' ≡ keys) × (ends' ≡ ends)
-PutsKey order key (row ∷ rows) end keys ends keys' ends' = (shared : _) × (order key shared ≡ Equal) × (keys' ≡ keys ++ shared ∷ []) × (ends' ≡ ends ++ end ∷ [])
+abbrev pub PutsKey : {K : Type 0} → (K → K → Ordering) → K → (rows : List ℕ) → (end : ℕ) → (old new : KeyEnds K) → Type 0
+PutsKey order key [] end old new = (new.keys ≡ old.keys) × (new.ends ≡ old.ends)
+PutsKey order key (row ∷ rows) end old new =
+    (shared : _) × (order key shared ≡ Equal) × (new.keys ≡ old.keys ++ shared ∷ []) × (new.ends ≡ old.ends ++ end ∷ [])

@@ -1,7 +1,7 @@
 ghost use Rattle.std.specs.Prelude.{◌≡◌, ℕ, ◌+◌, ◌<◌, ◌≤◌, ◌↔◌, IsTrue, List, [], ◌∷◌, ◌++◌, length, take, slice_get, slice_index, Some, IfOk, OnOk, OnErr, ◌-◌, vec_len, vec_capacity};
 ghost use Rattle.std.specs.Map.{keys_of};
 ghost use Rattle.sc_segment.specs.Carrying.{new_numbers, KeepsOrder, IsCarriedSoFar, AreBefore};
-ghost use Rattle.sc_segment.specs.Flat.{FlatState, IsLaidOut, AreAllClosed, PutsKey, entries_from, rows_among};
+ghost use Rattle.sc_segment.specs.Flat.{FlatState, IsLaidOut, AreAllClosed, PutsKey, entries_from, key_ends, rows_among};
 ghost use Rattle.sc_segment.specs.Index.{IsInOrder};
 
 use crate::key::Key;
@@ -235,7 +235,8 @@ fn carry_key<K: Key + Drop>(
     requires room_for_end { vec_len ends.old < vec_capacity ends.old }
     requires room_for_rows { vec_len rows.old + length of_key.now ≤ vec_capacity rows.old }
     ensures rows { rows.new.items ≡ rows.old.items ++ new_numbers moved.now of_key.now }
-    ensures ok { OnOk result (PutsKey K.order key.now (new_numbers moved.now of_key.now) (length rows.new.items) keys.old.items ends.old.items keys.new.items ends.new.items) }
+    ensures ok { OnOk result (PutsKey K.order key.now (new_numbers moved.now of_key.now) (length rows.new.items)
+        (key_ends keys.old.items ends.old.items) (key_ends keys.new.items ends.new.items)) }
     ensures err { OnErr result ((keys.new.items ≡ keys.old.items) × (ends.new.items ≡ ends.old.items)) }
     ensures key_room { (vec_capacity keys.new ≡ vec_capacity keys.old) × (vec_len keys.new ≤ vec_len keys.old + 1) }
     ensures end_room { (vec_capacity ends.new ≡ vec_capacity ends.old) × (vec_len ends.new ≤ vec_len ends.old + 1) }

@@ -7,7 +7,7 @@ ghost use Rattle.sc_cluster.specs.Plans.{sub_bounds, IsPlan};
 ghost use Rattle.sc_seen.specs.Board.{MayNote, BoardHasRoom};
 ghost use Rattle.sc_board.specs.Boards.{IsSoundBoard};
 ghost use Rattle.sc_board.specs.Splits.{IsCut, parts_of, ranges_of, basis_of, asked_for, Prevents, IsRefusal, IsPlanOf, IsCutCause, MaySplit, MayBeCut};
-ghost use Rattle.sc_board.specs.Events.{Notes, IsSameButRoom};
+ghost use Rattle.sc_board.specs.Events.{Notes, IsSameButRoom, BeginsSplit};
 ghost use Rattle.sc_board.specs.declared.fault.BoardFault.TheVariants as faults;
 ghost use Rattle.sc_board.specs.declared.cut.Cut.{Cut};
 ghost use Rattle.sc_board.specs.declared.fault.BoardFault.{BoardFault};
@@ -32,14 +32,7 @@ impl<K: Drop> Board<K> {
     ) -> Result<(SplitPlan, K), BoardFault>
         requires sound { IsSoundBoard self.old }
         requires cut { IsCut cut.now }
-        ensures sound { IsSoundBoard self.new }
-        ensures plan { IfOk result (λ begun. IsPlanOf self.old.first self.old.journal.entries (asked_for shard.now cut.now) begun.0) }
-        ensures begun { IfOk result (λ begun. Notes self.old (BoardEntry.Begun begun.0) self.new) }
-        ensures keepers { IfOk result (λ begun. self.old.keepers ≡ Some begun.1) }
-        ensures handed_out { OnOk result (self.new.keepers ≡ None) }
-        ensures allowed { OnOk result ((cause : BoardFault) → ¬ Prevents (basis_of self.old) self.old.journal.entries (asked_for shard.now cut.now) cause) }
-        ensures refused { IfErr result (IsRefusal self.old.first self.old.limit self.old.journal.entries (asked_for shard.now cut.now)) }
-        ensures same { OnErr result (IsSameButRoom self.old self.new) }
+        ensures { BeginsSplit (asked_for shard.now cut.now) self.old self.new result }
     {
         let plan = self.plan_of(alloc, shard, cut)?;
         let keepers = self.put_begun(alloc, &plan)?;

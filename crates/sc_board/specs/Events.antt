@@ -4,7 +4,7 @@ use Rattle.sc_cluster.specs.declared.plan.SplitPlan.{SplitPlan}
 use Rattle.sc_cluster.specs.Changes.{after}
 use Rattle.sc_seen.specs.Board.{board_change_of}
 use Rattle.sc_seen.specs.declared.board.BoardEntry.{BoardEntry}
-use Rattle.sc_seen.specs.declared.board.BoardEntry.TheVariants as entries
+use Rattle.sc_seen.specs.declared.board.BoardEntry.TheVariants as board
 use Rattle.sc_board.specs.declared.board.Board.{Board}
 use Rattle.sc_board.specs.declared.fault.BoardFault.{BoardFault}
 use Rattle.sc_board.specs.Boards.{IsSoundBoard}
@@ -31,7 +31,7 @@ pub record IsSameButRoom {K : Type 0} (old new : Board K) : Type 0 where
 pub record BeginsSplit {K : Type 0} (asked : Asked) (old new : Board K) (answer : Result (SplitPlan × K) BoardFault) : Type 0 where
   pub sound : IsSoundBoard new
   pub plan : IfOk answer (λ begun. IsPlanOf old.first old.journal.entries asked begun.0)
-  pub begun : IfOk answer (λ begun. Notes old (entries.Begun begun.0) new)
+  pub begun : IfOk answer (λ begun. Notes old (board.Begun begun.0) new)
   pub keepers : IfOk answer (λ begun. old.keepers ≡ Some begun.1)
   pub handed_out : OnOk answer (new.keepers ≡ None)
   pub allowed : OnOk answer ((cause : BoardFault) → ¬ Prevents (basis_of old) old.journal.entries asked cause)

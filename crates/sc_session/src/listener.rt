@@ -1,5 +1,5 @@
-ghost use Rattle.std.specs.Prelude.{◌≡◌, ◌↔◌, ◌<◌, ◌≤◌, ◌+◌, ◌-◌, ◌^◌, ℕ, List, [], ◌∷◌, ◌++◌, length, min, Option, Some, IsErr, IfOk, IfSome, OnOk, OnErr, Contains, vec_len, vec_capacity};
-ghost use Rattle.sc_session.specs.Listening.{GivesFirst, links_given, nothing_kept};
+ghost use Rattle.std.specs.Prelude.{◌≡◌, ◌<◌, ◌≤◌, ◌+◌, ◌-◌, ℕ, List, [], ◌∷◌, ◌++◌, length, Option, Some, IsErr, IfOk, IfSome, OnOk, OnErr, vec_len, vec_capacity};
+ghost use Rattle.sc_session.specs.Listening.{GivesFirst, CountsCall, links_given, nothing_kept};
 
 use sc_collection::Trail;
 use sc_io::{Failed, Faults, Sink, Source};
@@ -143,10 +143,8 @@ impl<S: Source + Send, W: Sink + Send> Listener for MemListener<S, W> {
         ensures out { vec_len self.new.spare - length self.new.links.items ≡ vec_len self.old.spare - length self.old.links.items + links_given result }
         ensures steady { OnOk result (self.new.faults ≡ self.old.faults) }
         ensures cause { OnErr result (self.new.faults ≡ self.old.faults + 1) }
-
-        ensures fails { IsErr result ↔ Contains self.old.fails self.old.calls }
-        ensures counted { self.new.calls ≡ min (self.old.calls + 1) (2 ^ 64 - 1) }
-        ensures kept_fails { self.new.fails ≡ self.old.fails }
+        ensures calls { CountsCall (IsErr result) (record { fails = self.old.fails; next = self.old.calls })
+            (record { fails = self.new.fails; next = self.new.calls }) }
     {
         let call = self.calls;
         self.calls = call.saturating_add(1);

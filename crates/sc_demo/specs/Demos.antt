@@ -39,27 +39,28 @@ pub record MakerRun (C H P L : Type 0) : Type 0 where
 abbrev pub makers_of : Demo → ℕ
 makers_of demo = demo.workers + 1
 
-module _ {C H P L : Type 0} (at : MakerSetting C H P) (demo : Demo) (before after : Front C H P L) where
+module _ {C H P L : Type 0} (common : MakerSetting C H P) (demo : Demo) (before after : Front C H P L) where
   -- A maker of this number worked over the collection, from the beginning on: the station gave its crew, where it reports that; it made what
   -- it was to make; and the station has its crew back. The first one's hosts had started the cores of the first map. Memory didn't run out.
   pub record IsMakerRun (number : ℕ) (run : MakerRun C H P L) : Type 0 where
     pub crew : IsGivenAndBack before after number run.given run.back
     pub first : number ≡ 0
-        → StartsFirst at.layout.nodes at.layout.first (at.reports.outside run.given.hosts run.given.pace) (at.reports.outside run.began.hosts run.began.pace)
+        → StartsFirst common.layout.nodes common.layout.first (common.reports.outside run.given.hosts run.given.pace)
+        (common.reports.outside run.began.hosts run.began.pace)
     pub hosts : number ≢ 0 → run.began.hosts ≡ run.given.hosts
     pub rest : run.began ≡ record run.given { hosts = run.began.hosts }
     pub new : SeesNothing run.before
-    pub made : Makes at demo (task_at demo number) (making run.before run.began) (making run.after run.back) run.did
+    pub made : Makes common demo (task_at demo number) (making run.before run.began) (making run.after run.back) run.did
     pub listener : run.back.listener ≡ run.began.listener
     pub memory : has_run_out run.did ≡ false
 
   -- All makers worked over one collection, in which nothing had happened: what they have seen of each journal are beginnings of what all of
   -- them have seen together, no two of them made the same entry, and theirs are those of all.
   pub record RunsDemo (runs : List (MakerRun C H P L)) (all : Seen) : Type 0 where
-    pub shape : HasShape demo_shape at.layout
+    pub shape : HasShape demo_shape common.layout
     pub count : length runs ≡ makers_of demo
     pub each : (number : ℕ) (run : MakerRun C H P L) → slice_get runs number ≡ Some run → IsMakerRun number run
-    pub story : IsOneStory at.layout (map (λ (run : MakerRun C H P L). run.after) runs) all
+    pub story : IsOneStory common.layout (map (λ (run : MakerRun C H P L). run.after) runs) all
     pub own : (lock : ℕ) → all.own lock ≡ own_of_all (map (λ (run : MakerRun C H P L). run.after) runs) lock
     pub crews : AreGivenAndBack before after (makers_of demo)
     pub open_faults : after.open_faults ≡ before.open_faults

@@ -65,7 +65,7 @@ pub record Reports (C H P : Type 0) : Type 1 where
   pub gives : C → ℕ → C → Type 0
   pub outside : H → P → Outside
 
--- what the makers of one demonstration work by: what their crews report, and how the collection is laid out
+-- what the makers of one demonstration have in common: what their crews report, and how the collection is laid out
 pub record MakerSetting (C H P : Type 0) : Type 1 where
   pub reports : Reports C H P
   pub layout : Layout
@@ -81,10 +81,10 @@ pub record MakingState (C H P : Type 0) : Type 0 where
 abbrev pub making : {C H P L : Type 0} → Seen → Crew C H P L → MakingState C H P
 making seen crew = record { seen = seen; clock = crew.clock; hosts = crew.hosts; pace = crew.pace }
 
-module _ {C H P : Type 0} (at : MakerSetting C H P) where
+module _ {C H P : Type 0} (common : MakerSetting C H P) where
   -- a worker of this number made its orders by its clock
   pub record IsWriter (demo : Demo) (worker : ℕ) (old new : MakingState C H P) (written : Written) : Type 0 where
-    pub orders : MakesOrders at.reports.gives at.layout (writing old.seen old.clock) (writing new.seen new.clock)
+    pub orders : MakesOrders common.reports.gives common.layout (writing old.seen old.clock) (writing new.seen new.clock)
         (orders_of (workload_of demo) worker demo.workers) written
     pub few : written.accepted ≤ demo.count
     pub hosts : new.hosts ≡ old.hosts
@@ -92,8 +92,8 @@ module _ {C H P : Type 0} (at : MakerSetting C H P) where
 
   -- the one that splits split `shard1` by its hosts and its pace
   pub record IsSplitter (old new : MakingState C H P) (end : SplitEnd) : Type 0 where
-    pub split : SplitsFirst at.layout (situation old.seen (at.reports.outside old.hosts old.pace))
-        (situation new.seen (at.reports.outside new.hosts new.pace)) end
+    pub split : SplitsFirst common.layout (situation old.seen (common.reports.outside old.hosts old.pace))
+        (situation new.seen (common.reports.outside new.hosts new.pace)) end
     pub clock : new.clock ≡ old.clock
 
   -- who was to make this made it, and this came of it

@@ -92,7 +92,7 @@ pub record WorkerRun (C H P L : Type 0) : Type 0 where
   pub after : Seen
   pub end : WorkEnd
 
--- what the workers of one server work by: what the parts of their crews report, and how the collection is laid out
+-- what the workers of one server have in common: what the parts of their crews report, and how the collection is laid out
 pub record WorkerSetting (C H P L S W : Type 0) : Type 1 where
   pub reports : Reports C H P L S W
   pub layout : Layout
@@ -101,18 +101,19 @@ pub record WorkerSetting (C H P L S W : Type 0) : Type 1 where
 abbrev pub status_of : {C H P L : Type 0} → List (WorkerRun C H P L) → ℕ
 status_of {C} {H} {P} {L} runs = if list_any (λ (run : WorkerRun C H P L). has_failed run.end) runs then 7 else 0
 
-module _ {C H P L S W : Type 0} (at : WorkerSetting C H P L S W) where
+module _ {C H P L S W : Type 0} (common : WorkerSetting C H P L S W) where
   -- A worker of this number worked over the collection, from the beginning on: the station gave its crew, where it reports that; it did
   -- what every worker promises; and the station has its crew back. The first one's hosts had started the cores of the first map.
   pub record IsWorkerRun (server : Server) (before after : Front C H P L) (number : ℕ) (run : WorkerRun C H P L) : Type 0 where
     pub crew : IsGivenAndBack before after number run.given (without_moment run.back)
     pub first : number ≡ 0
-        → StartsFirst at.layout.nodes at.layout.first (at.reports.outside run.given.hosts run.given.pace) (at.reports.outside run.began.hosts run.began.pace)
+        → StartsFirst common.layout.nodes common.layout.first (common.reports.outside run.given.hosts run.given.pace)
+        (common.reports.outside run.began.hosts run.began.pace)
     pub hosts : number ≢ 0 → run.began.hosts ≡ run.given.hosts
     pub rest : run.began ≡ record (with_moment server.clock run.given) { hosts = run.began.hosts }
     pub new : SeesNothing run.before
-    pub worked : IsWorked (clock_gives at.reports) (setting at.reports at.layout) server.max_connections (beside at.reports run.before run.began)
-        (beside at.reports run.after run.back) run.end
+    pub worked : IsWorked (clock_gives common.reports) (setting common.reports common.layout) server.max_connections
+        (beside common.reports run.before run.began) (beside common.reports run.after run.back) run.end
 
 module _ {C H P L S W : Type 0} (reports : Reports C H P L S W) where
   -- Starting one of the first cores failed, and nothing was written.

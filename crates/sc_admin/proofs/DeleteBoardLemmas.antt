@@ -18,8 +18,9 @@ use Rattle.sc_board.specs.Splits.{IsOfNamed}
 use Rattle.sc_board.specs.Drops.{IsDropRefusal}
 use Rattle.sc_board.specs.declared.fault.DropFault.{DropFault}
 use Rattle.sc_collection.specs.Desks.{MayReplaceBoard, SeesBoardGiven, place_added}
+use Rattle.sc_collection.specs.Known.{KeepsBoard}
 use Rattle.sc_admin.specs.Deletes.{kept, dropped}
-use Rattle.sc_admin.specs.Dropping.{KeepsBoard, DropsSlice, Deletes, with_board}
+use Rattle.sc_admin.specs.Dropping.{DropsSlice, Deletes, with_board}
 
 -- the board may be given back
 pub may_replace : (layout layout' : Layout) (shard : List ℕ) (old new seen : Seen) (held given : List BoardEntry)

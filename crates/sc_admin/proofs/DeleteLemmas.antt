@@ -21,7 +21,7 @@ use Rattle.sc_board.specs.Splits.{IsOfNamed}
 use Rattle.sc_board.specs.Drops.{IsDropRefusal}
 use Rattle.sc_board.specs.declared.fault.DropFault.{DropFault}
 use Rattle.sc_admin.specs.declared.deleting.DeleteEnd.{DeleteEnd}
-use Rattle.sc_admin.specs.Deletes.{DeleteCourse, kept, dropped, noted_by, LeavesBucket, StopsCores, IsDeleteAnswered, IsDelete, delete_moment, drop_refusal}
+use Rattle.sc_admin.specs.Deletes.{DeleteCourse, kept, dropped, noted_by_delete, LeavesBucket, StopsCores, IsDeleteAnswered, IsDelete, delete_moment, drop_refusal}
 use Rattle.sc_admin.specs.Dropping.{Deletes, is_made}
 
 -- the stop of the board, which had these entries then
@@ -33,7 +33,7 @@ same_nat n = grind (arith, nat_tests)
 
 -- the entries after it
 place_is : (layout : Layout) (held : List BoardEntry) (course : DeleteCourse)
-    → place_after (stop_of layout held course) ≡ length (held ++ noted_by course)
+    → place_after (stop_of layout held course) ≡ length (held ++ noted_by_delete course)
 place_is layout held kept = ap length (sym (append-nil held))
 place_is layout held (dropped slice) = sym (length-append held (board.Dropped slice.id ∷ []))
 
@@ -45,7 +45,7 @@ bucket_grows (dropped slice) old new lock (before, went_on, is) =
 
 -- the places of the entries that it made are one's own
 owns : (layout : Layout) (course : DeleteCourse) (old new : View) (it : Deletes layout course old new)
-    → new.seen.own layout.buckets ≡ old.seen.own layout.buckets ++ range_with_len (length it.held) (length (noted_by course))
+    → new.seen.own layout.buckets ≡ old.seen.own layout.buckets ++ range_with_len (length it.held) (length (noted_by_delete course))
 owns layout kept old new it = it.own
 owns layout (dropped slice) old new it = it.own
 
@@ -107,16 +107,16 @@ module _ (layout : Layout) (course : DeleteCourse) (old new : View) (it : Delete
   }
 
   -- the board at the stop is what it had then, in what is seen later too
-  later_is : (later : Seen) → SeesMore new.seen later → (more : List BoardEntry) × (later.board ≡ it.held ++ (noted_by course ++ more))
+  later_is : (later : Seen) → SeesMore new.seen later → (more : List BoardEntry) × (later.board ≡ it.held ++ (noted_by_delete course ++ more))
   later_is later more = (
     more.board.0,
-    sym more.board.1 ∙ ap (λ (es : List BoardEntry). es ++ more.board.0) it.board ∙ append_assoc it.held (noted_by course) more.board.0,
+    sym more.board.1 ∙ ap (λ (es : List BoardEntry). es ++ more.board.0) it.board ∙ append_assoc it.held (noted_by_delete course) more.board.0,
   )
 
   pub held_at : (later : Seen) → SeesMore new.seen later → take (length it.held) later.board ≡ it.held
   held_at later more =
       let is = later_is later more in
-      ap (take (length it.held)) is.1 ∙ take_at it.held (noted_by course ++ is.0) (length it.held) refl
+      ap (take (length it.held)) is.1 ∙ take_at it.held (noted_by_delete course ++ is.0) (length it.held) refl
 
   sees_itself : SeesMore new.seen new.seen
   sees_itself = record { journals = λ lock. IsPrefix-self (new.seen.journals lock); board = IsPrefix-self new.seen.board }
@@ -143,7 +143,7 @@ module _ (layout : Layout) (course : DeleteCourse) (old new : View) (it : Delete
     extends : Extends layout old.seen new.seen (first ∷ [])
     extends = record {
       seen = grows;
-      board = IsPrefix-then old.seen.board it.held new.seen.board it.went_on (noted_by course, sym it.board);
+      board = IsPrefix-then old.seen.board it.held new.seen.board it.went_on (noted_by_delete course, sym it.board);
       own = λ lock below.
           it.others_own lock (apart lock below) ∙ sym (append-nil (old.seen.own lock)) ∙ ap (λ (places : List ℕ). old.seen.own lock ++ places)
           (sym (ap (λ (stops : List Stop). map (λ (stop : Stop). stop.place) (filter (λ (stop : Stop). stop.made) stops))
@@ -169,7 +169,7 @@ module _ (layout : Layout) (course : DeleteCourse) (old new : View) (it : Delete
       extends = extends;
       last = ends;
       answered = answered;
-      board = it.board ∙ ap (λ (es : List BoardEntry). es ++ noted_by course) (sym (held_at new.seen sees_itself));
+      board = it.board ∙ ap (λ (es : List BoardEntry). es ++ noted_by_delete course) (sym (held_at new.seen sees_itself));
       own = owns layout course old new it;
       buckets = it.buckets;
       outside = outside;

@@ -23,8 +23,9 @@ use Rattle.sc_board.proofs.SoundLemmas.{sound_map, sound_stands}
 use Rattle.sc_board.proofs.NamedLemmas.{named_there, same_by_id}
 use Rattle.sc_keeper.specs.declared.part.CorePart.{CorePart}
 use Rattle.sc_keeper.specs.Conditions.{MayDrop}
-use Rattle.sc_collection.specs.Desks.{Keeping, IsAtRest, AreAtRest, changes_cores}
-use Rattle.sc_admin.specs.Dropping.{Known, OfBuckets, IsDroppedIn, DropsSlice, with_board}
+use Rattle.sc_collection.specs.Desks.{Keeping, IsAtRest, AreAtRest}
+use Rattle.sc_collection.specs.Known.{Known, OfBuckets}
+use Rattle.sc_admin.specs.Dropping.{IsDroppedIn, DropsSlice, with_board}
 
 -- no split runs where a slice may be dropped
 pub idle_at_drop : {K : Type 0} (it : Board K) (slice : SliceId) → IsSoundBoard it → MayNote it.first it.journal.entries (board.Dropped slice)

@@ -15,7 +15,8 @@ use Rattle.sc_keeper.specs.Events.{PartDrops}
 use Rattle.sc_keeper.proofs.ConditionLemmas.{drops_by_part}
 use Rattle.sc_keeper.proofs.EventLemmas.{drops_part}
 use Rattle.sc_collection.specs.Desks.{Held, Out, Keeping, KeepsOn, KeepsGiven, SeesKeeperGiven}
-use Rattle.sc_admin.specs.Dropping.{Known, known_of, IsSameIn, IsDroppedIn, KeepsBoard}
+use Rattle.sc_collection.specs.Known.{Known, known_of, IsSameIn, KeepsBoard}
+use Rattle.sc_admin.specs.Dropping.{IsDroppedIn}
 
 -- a slice may be dropped from a bucket, by the bucket's part
 pub can_drop : (bucket : Bucket) (part : Part) (slice : SliceId) → part_of bucket ≡ part → MayDrop part slice → CanDrop bucket slice

@@ -8,7 +8,8 @@ use Rattle.sc_seen.specs.Seen.{Seen}
 use Rattle.sc_keeper.specs.declared.part.Part.{Part}
 use Rattle.sc_keeper.specs.Events.{PartDrops}
 use Rattle.sc_keeper.specs.Conditions.{MayDrop}
-use Rattle.sc_admin.specs.Dropping.{Known, OfBuckets, IsSameIn, IsDroppedIn, KeepsBoard}
+use Rattle.sc_collection.specs.Known.{Known, OfBuckets, IsSameIn, KeepsBoard}
+use Rattle.sc_admin.specs.Dropping.{IsDroppedIn}
 
 -- the board stays over two steps
 pub board_then : (old now new : Seen) → KeepsBoard old now → KeepsBoard now new → KeepsBoard old new

@@ -22,13 +22,13 @@ pub data Pieces : Type 0 where
   ranges : List (ℤ × ℤ) → Pieces
 
 -- what is asked of the collection
-pub data Command : Type 0 where
+pub data AdminCommand : Type 0 where
   -- to split the shard of this name so
-  split : List ℕ → Pieces → Command
+  split : List ℕ → Pieces → AdminCommand
   -- to show its shards
-  status : Command
+  status : AdminCommand
   -- to delete the shard of this name
-  delete : List ℕ → Command
+  delete : List ℕ → AdminCommand
 
 -- the action of this name, in any ASCII case
 abbrev pub action_of : List ℕ → Option Action
@@ -39,8 +39,8 @@ action_of text =
     else None))
 
 -- the value of the first parameter of a name, which is empty where there is none
-abbrev pub value_of : List ℕ → List Param → List ℕ
-value_of name params = unwrap_or (parameter name params) []
+abbrev pub parameter_value : List ℕ → List Param → List ℕ
+parameter_value name params = unwrap_or (parameter name params) []
 
 -- the number of parts that a text of one digit asks for
 abbrev pub parts_asked : List ℕ → Option ℕ
@@ -73,8 +73,8 @@ abbrev pub has_other_method : List Param → Bool
 has_other_method params = is_other_than (codes "rewrite") (codes "splitMethod") params && is_other_than (codes "link") (codes "splitMethod") params
 
 -- the first parameter of a split at fault, after those that say how it cuts
-abbrev pub other_fault : List Param → Option (List ℕ)
-other_fault params =
+abbrev pub other_split_fault : List Param → Option (List ℕ)
+other_split_fault params =
     if has_other_method params then Some (codes "splitMethod")
     else (if is_some (parameter (codes "split.key") params) then Some (codes "split.key")
     else (if is_some (parameter (codes "splitFuzz") params) then Some (codes "splitFuzz")
@@ -83,35 +83,35 @@ other_fault params =
     else None))))
 
 -- a split, where no other parameter is at fault
-abbrev pub split_by : List ℕ → List Param → Result Pieces (List ℕ) → Result Command (List ℕ)
+abbrev pub split_by : List ℕ → List Param → Result Pieces (List ℕ) → Result AdminCommand (List ℕ)
 split_by shard params (Err name) = Err name
-split_by shard params (Ok pieces) = where_sound (split shard pieces) (other_fault params)
+split_by shard params (Ok pieces) = where_sound (split shard pieces) (other_split_fault params)
   where
-    where_sound : Command → Option (List ℕ) → Result Command (List ℕ)
+    where_sound : AdminCommand → Option (List ℕ) → Result AdminCommand (List ℕ)
     where_sound command (Some name) = Err name
     where_sound command None = Ok command
 
 -- what is asked of a shard
-abbrev pub asked_of_shard : Bool → List ℕ → List Param → Result Command (List ℕ)
+abbrev pub asked_of_shard : Bool → List ℕ → List Param → Result AdminCommand (List ℕ)
 asked_of_shard splits shard params =
     if length shard == 0 then Err (codes "shard")
     else (if splits then split_by shard params (asked_cut params) else Ok (delete shard))
 
 -- what an action asks for
-abbrev pub asked_by : Action → List Param → Result Command (List ℕ)
+abbrev pub asked_by : Action → List Param → Result AdminCommand (List ℕ)
 asked_by action params =
     if is_other_than (codes "docs") (codes "collection") params then Err (codes "collection") else of_action action params
   where
-    of_action : Action → List Param → Result Command (List ℕ)
+    of_action : Action → List Param → Result AdminCommand (List ℕ)
     of_action actions.Status params = Ok status
-    of_action actions.Split params = asked_of_shard true (value_of (codes "shard") params) params
-    of_action actions.Delete params = asked_of_shard false (value_of (codes "shard") params) params
+    of_action actions.Split params = asked_of_shard true (parameter_value (codes "shard") params) params
+    of_action actions.Delete params = asked_of_shard false (parameter_value (codes "shard") params) params
 
 -- what the parameters ask for, or the name of the first at fault
-abbrev pub asked_admin : List Param → Result Command (List ℕ)
-asked_admin params = by_action params (action_of (value_of (codes "action") params))
+abbrev pub asked_admin : List Param → Result AdminCommand (List ℕ)
+asked_admin params = by_action params (action_of (parameter_value (codes "action") params))
   where
-    by_action : List Param → Option Action → Result Command (List ℕ)
+    by_action : List Param → Option Action → Result AdminCommand (List ℕ)
     by_action params None = Err (codes "action")
     by_action params (Some action) = asked_by action params
 
@@ -121,10 +121,10 @@ pieces_of (cuts.Parts n) = parts n
 pieces_of (cuts.Ranges list) = ranges (map bounds list)
 
 -- the command that the program reads
-abbrev pub command_of : Admin → Command
-command_of (admins.Split shard cut) = split shard (pieces_of cut)
-command_of admins.Status = status
-command_of (admins.Delete shard) = delete shard
+abbrev pub admin_command : Admin → AdminCommand
+admin_command (admins.Split shard cut) = split shard (pieces_of cut)
+admin_command admins.Status = status
+admin_command (admins.Delete shard) = delete shard
 
 -- the fault names the parameter that was found at fault, or memory ran out before
 abbrev pub IsAdminFault : {T : Type 0} → Result T (List ℕ) → AdminFault → Type 0

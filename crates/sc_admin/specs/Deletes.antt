@@ -62,9 +62,9 @@ StopsCores nodes (dropped slice) old new (ends.HostFault core) =
 StopsCores nodes (dropped slice) old new end = ⊥
 
 -- the entries that a deletion notes on the board
-abbrev pub noted_by : DeleteCourse → List BoardEntry
-noted_by kept = []
-noted_by (dropped slice) = board.Dropped slice.id ∷ []
+abbrev pub noted_by_delete : DeleteCourse → List BoardEntry
+noted_by_delete kept = []
+noted_by_delete (dropped slice) = board.Dropped slice.id ∷ []
 
 -- what a deletion leaves of a bucket: where the slice was dropped, the journal ends with the entry that says so
 abbrev pub LeavesBucket : DeleteCourse → Seen → Seen → ℕ → Type 0
@@ -90,8 +90,8 @@ pub record IsDelete (layout : Layout) (shard : List ℕ) (old new : DeleteMoment
   pub extends : Extends layout old.view.seen new.view.seen (first ∷ [])
   pub last : EndAtLast layout new.view.seen (first ∷ [])
   pub answered : FromNowOn new.view.seen (λ later. IsDeleteAnswered layout later shard first course end)
-  pub board : new.view.seen.board ≡ take first.place new.view.seen.board ++ noted_by course
-  pub own : new.view.seen.own layout.buckets ≡ old.view.seen.own layout.buckets ++ range_with_len first.place (length (noted_by course))
+  pub board : new.view.seen.board ≡ take first.place new.view.seen.board ++ noted_by_delete course
+  pub own : new.view.seen.own layout.buckets ≡ old.view.seen.own layout.buckets ++ range_with_len first.place (length (noted_by_delete course))
   pub buckets : (lock : ℕ) → lock < layout.buckets → LeavesBucket course old.view.seen new.view.seen lock
   pub outside : StopsCores layout.nodes course old.outside new.outside end
   pub counts : CountsGoUp old.outside new.outside

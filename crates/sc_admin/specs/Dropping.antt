@@ -1,5 +1,5 @@
 -- What dropping a slice leaves of what is known of a collection, and of the board that is held meanwhile.
-use Rattle.std.specs.Prelude.{◌≡◌, ◌≢◌, ◌≤◌, ◌<◌, ℕ, Bool, true, false, List, [], ◌∷◌, ◌++◌, length, None, if◌then◌else◌}
+use Rattle.std.specs.Prelude.{◌≡◌, ◌≢◌, ◌<◌, ℕ, Bool, true, false, List, [], ◌∷◌, ◌++◌, length, None, if◌then◌else◌}
 use mathlib.Core.List.{IsPrefix}
 use Rattle.sc_record.specs.declared.slice.SliceId.{SliceId}
 use Rattle.sc_record.specs.declared.entry.Entry.{Entry}
@@ -14,27 +14,8 @@ use Rattle.sc_seen.specs.declared.board.BoardEntry.{BoardEntry}
 use Rattle.sc_seen.specs.declared.board.BoardEntry.TheVariants as board
 use Rattle.sc_board.specs.Splits.{IsOfNamed}
 use Rattle.sc_keeper.specs.Events.{PartDrops}
-use Rattle.sc_collection.specs.Desks.{Keeping}
-use Rattle.sc_admin.specs.Deletes.{DeleteCourse, kept, dropped, noted_by, LeavesBucket}
-
--- what is known of a collection: what was seen of it, and what the keepers of its buckets keep
-pub record Known : Type 0 where
-  pub seen : Seen
-  pub keeping : Keeping
-
--- what is known by what was seen and by what is kept
-abbrev pub known_of : Seen → Keeping → Known
-known_of seen keeping = record { seen = seen; keeping = keeping }
-
--- it is so of the buckets from one number on up to another
-abbrev pub OfBuckets : (from to : ℕ) → (ℕ → Type 0) → Type 0
-OfBuckets from to IsSo = (b : ℕ) → from ≤ b → b < to → IsSo b
-
--- of the bucket of this number the same was seen, and the same is kept
-pub record IsSameIn (old new : Known) (b : ℕ) : Type 0 where
-  pub journal : new.seen.journals b ≡ old.seen.journals b
-  pub part_is : new.keeping.part b ≡ old.keeping.part b
-  pub own : new.keeping.own b ≡ old.keeping.own b
+use Rattle.sc_collection.specs.Known.{Known}
+use Rattle.sc_admin.specs.Deletes.{DeleteCourse, kept, dropped, noted_by_delete, LeavesBucket}
 
 -- The slice was dropped from the bucket of this number: what was seen of its journal went on, and the entry that says so is the last.
 pub record IsDroppedIn (slice : SliceId) (old new : Known) (b : ℕ) : Type 0 where
@@ -43,11 +24,6 @@ pub record IsDroppedIn (slice : SliceId) (old new : Known) (b : ℕ) : Type 0 wh
   pub journal : new.seen.journals b ≡ before ++ entry.Dropped slice ∷ []
   pub own : new.keeping.own b ≡ old.keeping.own b ++ entry.Dropped slice ∷ []
   pub part : PartDrops (old.keeping.part b) slice (new.keeping.part b)
-
--- of the board the same was seen, and no entry more is one's own
-pub record KeepsBoard (old new : Seen) : Type 0 where
-  pub board : new.board ≡ old.board
-  pub own : (lock : ℕ) → new.own lock ≡ old.own lock
 
 -- what stands while the board is held: what was seen of the collection, and the board's entries
 pub record WithBoard : Type 0 where
@@ -76,7 +52,7 @@ is_made (dropped slice) = true
 pub record Deletes (layout : Layout) (course : DeleteCourse) (old new : View) : Type 0 where
   pub held : List BoardEntry
   pub went_on : IsPrefix old.seen.board held
-  pub board : new.seen.board ≡ held ++ noted_by course
+  pub board : new.seen.board ≡ held ++ noted_by_delete course
   pub own : new.seen.own layout.buckets ≡ old.seen.own layout.buckets ++ (if is_made course then length held ∷ [] else [])
   pub others_own : (lock : ℕ) → lock ≢ layout.buckets → new.seen.own lock ≡ old.seen.own lock
   pub buckets : (lock : ℕ) → lock < layout.buckets → LeavesBucket course old.seen new.seen lock

@@ -7,7 +7,8 @@ ghost use Rattle.sc_board.specs.Boards.{IsSoundBoard};
 ghost use Rattle.sc_board.specs.Drops.{IsDropRefusal};
 ghost use Rattle.sc_keeper.specs.Conditions.{MayDrop};
 ghost use Rattle.sc_collection.specs.Desks.{IsBoardOf, AreAtRest};
-ghost use Rattle.sc_admin.specs.Dropping.{known_of, OfBuckets, IsSameIn, IsDroppedIn, KeepsBoard, DropsSlice, with_board};
+ghost use Rattle.sc_collection.specs.Known.{known_of, OfBuckets, IsSameIn, KeepsBoard};
+ghost use Rattle.sc_admin.specs.Dropping.{IsDroppedIn, DropsSlice, with_board};
 
 use sc_board::{Board, DropFault};
 use sc_collection::Desk;

@@ -16,7 +16,7 @@ use std::alloc::{AllocError, Global};
 /// What the parameters ask for; the first of a name counts. Where one has no such value the first at fault is named, in the
 /// order action, collection, shard, numSubShards, ranges, splitMethod, split.key, splitFuzz, async, splitByPrefix.
 pub fn read_admin(alloc: Global, params: &List<Param>) -> Result<Admin, AdminFault>
-    ensures ok { IfOk result (λ admin. commands.asked_admin params.now ≡ Ok (commands.command_of admin)) }
+    ensures ok { IfOk result (λ admin. commands.asked_admin params.now ≡ Ok (commands.admin_command admin)) }
     ensures fault { IfErr result (commands.IsAdminFault (commands.asked_admin params.now)) }
     ensures cut { IfOk result IsCutIfAny }
 {
@@ -44,7 +44,7 @@ fn action_of(name: &str) -> Option<Action>
 
 /// The value of the first parameter of this name, which is empty where there is none.
 fn value_of<'a>(name: &str, params: &'a [Param]) -> &'a str
-    ensures { result.now ≡ commands.value_of name.now params.now }
+    ensures { result.now ≡ commands.parameter_value name.now params.now }
 {
     match parameter(name, params) {
         Some(value) => value.as_str(),
@@ -54,7 +54,7 @@ fn value_of<'a>(name: &str, params: &'a [Param]) -> &'a str
 
 /// What an action asks for.
 fn asked_by(alloc: Global, action: Action, params: &[Param]) -> Result<Admin, AdminFault>
-    ensures ok { IfOk result (λ admin. commands.asked_by action params.now ≡ Ok (commands.command_of admin)) }
+    ensures ok { IfOk result (λ admin. commands.asked_by action params.now ≡ Ok (commands.admin_command admin)) }
     ensures fault { IfErr result (commands.IsAdminFault (commands.asked_by action params.now)) }
     ensures cut { IfOk result IsCutIfAny }
 {
@@ -75,7 +75,7 @@ fn asked_of_shard(
     shard: &str,
     params: &[Param],
 ) -> Result<Admin, AdminFault>
-    ensures ok { IfOk result (λ admin. commands.asked_of_shard splits shard.now params.now ≡ Ok (commands.command_of admin)) }
+    ensures ok { IfOk result (λ admin. commands.asked_of_shard splits shard.now params.now ≡ Ok (commands.admin_command admin)) }
     ensures fault { IfErr result (commands.IsAdminFault (commands.asked_of_shard splits shard.now params.now)) }
     ensures cut { IfOk result IsCutIfAny }
 {
@@ -94,7 +94,7 @@ fn asked_of_shard(
 
 /// A split of the shard, where no parameter of it is at fault.
 fn split_by(alloc: Global, shard: Text, params: &[Param]) -> Result<Admin, AdminFault>
-    ensures ok { IfOk result (λ admin. commands.split_by shard params.now (commands.asked_cut params.now) ≡ Ok (commands.command_of admin)) }
+    ensures ok { IfOk result (λ admin. commands.split_by shard params.now (commands.asked_cut params.now) ≡ Ok (commands.admin_command admin)) }
     ensures fault { IfErr result (commands.IsAdminFault (commands.split_by shard params.now (commands.asked_cut params.now))) }
     ensures cut { IfOk result IsCutIfAny }
 {
@@ -173,7 +173,7 @@ fn in_ranges(alloc: Global, text: &str) -> Result<Cut, AdminFault>
 
 /// The first parameter of a split at fault, after those that say how it cuts.
 fn other_fault(params: &[Param]) -> Option<&'static str>
-    ensures { option_copied result ≡ commands.other_fault params.now }
+    ensures { option_copied result ≡ commands.other_split_fault params.now }
 {
     if has_other_method(params) {
         Some("splitMethod")

@@ -19,7 +19,7 @@ use Rattle.clap.specs.declared.error.kind.ErrorKind.TheVariants as kind
 use Rattle.std.proofs.lemmas.Slice.Eq.{bytes_eq-Decides}
 use Rattle.sc_arguments.specs.Options.{Setting, is_equals_sign, is_number, setting_of, settings, option_value, are_options}
 use Rattle.sc_arguments.specs.Laws.{IsOption, times, AreEachOnce}
-use Rattle.sc_arguments.specs.Found.{command_with, has_number, NumbersDecide, HaveValues, settings_found, option_name, setting_found, has_value}
+use Rattle.sc_arguments.specs.Found.{command_with, has_number, NumbersDecide, HaveValues, settings_found, option_name, setting_found, row_has_value}
 use Rattle.sc_arguments.proofs.OrderLemmas.{times_step, taken_once, value_absent, as_number}
 use Rattle.sc_arguments.proofs.RuleLemmas.{built_rule, rules_of, shape_with, built_is, none_built, same_text}
 use Rattle.sc_arguments.proofs.WordLemmas.{stop, dash_no_number, known_name, in_one_word, in_two_words}
@@ -146,15 +146,15 @@ pub found_settings : (more : List Setting) → map setting_found (map row_of_set
 found_settings [] = refl
 found_settings (setting ∷ more) = ap (λ (rest : List Setting). named setting ∷ rest) (found_settings more)
 
-pub found_values : (more : List Setting) → list_all has_value (map row_of_setting more) ≡ true
+pub found_values : (more : List Setting) → list_all row_has_value (map row_of_setting more) ≡ true
 found_values [] = refl
 found_values (setting ∷ more) = found_values more
 
 -- the first value of a name is that of its setting
-pub value_read : (rows : List Row) (name : Text) → list_all has_value rows ≡ true → first_of name rows ≡ option_value (option_name name) (map setting_found rows)
+pub value_read : (rows : List Row) (name : Text) → list_all row_has_value rows ≡ true → first_of name rows ≡ option_value (option_name name) (map setting_found rows)
 value_read [] name h = refl
-value_read (row ∷ rows) name h = by (bytes_eq row.id name) row.values refl (both (has_value row) (list_all has_value rows) h) (value_read rows name) where
-  by : (t : Bool) (values : List Text) → row.values ≡ values → (has_value row ≡ true) × (list_all has_value rows ≡ true) → (list_all has_value rows ≡ true → first_of name rows ≡ option_value (option_name name) (map setting_found rows))
+value_read (row ∷ rows) name h = by (bytes_eq row.id name) row.values refl (both (row_has_value row) (list_all row_has_value rows) h) (value_read rows name) where
+  by : (t : Bool) (values : List Text) → row.values ≡ values → (row_has_value row ≡ true) × (list_all row_has_value rows ≡ true) → (list_all row_has_value rows ≡ true → first_of name rows ≡ option_value (option_name name) (map setting_found rows))
       → option_and_then (λ (r : Row). slice_get r.values 0) (cond t (Some row) (find (λ (r : Row). bytes_eq r.id name) rows))
       ≡ option_map (λ (s : Setting). s.1) (cond t (Some (setting_found row)) (find (λ (s : Setting). bytes_eq s.0 (option_name name)) (map setting_found rows)))
   by true [] e has rest = absurd (true≢false (sym has.0 ∙ ap (λ (values : List Text). nat_lt 0 (length values)) e))
@@ -257,7 +257,7 @@ taken_by names words s found fault rows = elim (found_or_not names words s) [
   | inr good ↦ (
     numbers_decide names words good,
     ap (map setting_found) (rows ∙ good.left) ∙ (found_settings good.more ∙ sym good.given),
-    ap (list_all has_value) (rows ∙ good.left) ∙ found_values good.more,
+    ap (list_all row_has_value) (rows ∙ good.left) ∙ found_values good.more,
   )
 ]
 

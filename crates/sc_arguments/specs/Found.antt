@@ -35,12 +35,12 @@ abbrev pub settings_found : ArgMatches → List Setting
 settings_found found = map setting_found (rows_of (found_of found))
 
 -- it has a value
-abbrev pub has_value : Row → Bool
-has_value row = nat_lt 0 (length row.values)
+abbrev pub row_has_value : Row → Bool
+row_has_value row = nat_lt 0 (length row.values)
 
 -- each option that is found has a value
 abbrev pub HaveValues : ArgMatches → Type 0
-HaveValues found = list_all has_value (rows_of (found_of found)) ≡ true
+HaveValues found = list_all row_has_value (rows_of (found_of found)) ≡ true
 
 -- the value of an option is a number, where it is given
 abbrev pub has_number : List Setting → List ℕ → Bool

@@ -11,7 +11,7 @@ use Rattle.sc_cluster.specs.Slices.{forming}
 use Rattle.sc_cluster.proofs.SplitLemmas.{not_idle}
 use Rattle.sc_seen.specs.declared.board.BoardEntry.{BoardEntry}
 use Rattle.sc_seen.specs.Board.{board_map, BoardHasRoom, BoardIsFull}
-use Rattle.sc_board.specs.Splits.{Asked, BoardBasis, IsRunningOf, IsOfNamed, IsTooSmallFor, AreNotOf, MayBeCut, IsCutCause, MaySplit, slice_named, parts_of, Prevents, order_of, IsFirstCause, IsRefusalBy}
+use Rattle.sc_board.specs.Splits.{AskedSplit, BoardBasis, IsRunningOf, IsOfNamed, IsTooSmallFor, AreNotOf, MayBeCut, IsCutCause, MaySplit, slice_named, parts_of, Prevents, fault_order, IsFirstCause, IsRefusalBy}
 use Rattle.sc_board.specs.Drops.{PreventsDrop, drop_order_of, IsFirstDropCause}
 use Rattle.sc_board.specs.declared.cut.Cut.{Cut}
 use Rattle.sc_board.specs.declared.cut.Cut.TheVariants as cuts
@@ -32,7 +32,7 @@ of_this slices name slice P named (other, is, holds) = subst P (same_Some other 
 not_unknown : (slices : List Slice) (name : List ℕ) (slice : Slice) → slice_named slices name ≡ Some slice → slice_named slices name ≡ None → ⊥
 not_unknown slices name slice named none = none-some slice (sym none ∙ named)
 
-module _ (basis : BoardBasis) (entries : List BoardEntry) (asked : Asked) where
+module _ (basis : BoardBasis) (entries : List BoardEntry) (asked : AskedSplit) where
   -- ---- the first three causes
   pub unknown_first : slice_named (board_map basis.first entries) asked.shard ≡ None
       → IsFirstCause basis entries asked faults.UnknownShard
@@ -41,7 +41,7 @@ module _ (basis : BoardBasis) (entries : List BoardEntry) (asked : Asked) where
   pub running_first : (name : List ℕ) (slice : Slice) → slice_named (board_map basis.first entries) asked.shard ≡ Some slice
       → IsRunningOf (board_map basis.first entries) name → IsFirstCause basis entries asked (faults.Running name)
   running_first name slice named running = record { holds = running; first = earlier } where
-    earlier : (other : BoardFault) → order_of other < 1 → Prevents basis entries asked other → ⊥
+    earlier : (other : BoardFault) → fault_order other < 1 → Prevents basis entries asked other → ⊥
     earlier faults.UnknownShard before none = not_unknown (board_map basis.first entries) asked.shard slice named none
     earlier (faults.Running shard) before is = absurd (omega arith)
     earlier (faults.NotActive state) before is = absurd (omega arith)
@@ -55,7 +55,7 @@ module _ (basis : BoardBasis) (entries : List BoardEntry) (asked : Asked) where
       → forming (board_map basis.first entries) ≡ [] → slice.state ≡ state → state ≢ states.Active
       → IsFirstCause basis entries asked (faults.NotActive state)
   not_active_first state slice named idle is other_state = record { holds = (slice, named, (is, other_state)); first = earlier } where
-    earlier : (other : BoardFault) → order_of other < 2 → Prevents basis entries asked other → ⊥
+    earlier : (other : BoardFault) → fault_order other < 2 → Prevents basis entries asked other → ⊥
     earlier faults.UnknownShard before none = not_unknown (board_map basis.first entries) asked.shard slice named none
     earlier (faults.Running shard) before running = not_running (board_map basis.first entries) shard idle running
     earlier (faults.NotActive state) before is = absurd (omega arith)
@@ -68,7 +68,7 @@ module _ (basis : BoardBasis) (entries : List BoardEntry) (asked : Asked) where
   -- ---- the others, of a slice that may be split
   module _ (slice : Slice) (may : MaySplit (board_map basis.first entries) asked.shard slice) where
     -- none of the first three holds
-    not_slice : (other : BoardFault) → order_of other < 3 → Prevents basis entries asked other → ⊥
+    not_slice : (other : BoardFault) → fault_order other < 3 → Prevents basis entries asked other → ⊥
     not_slice faults.UnknownShard before none = not_unknown (board_map basis.first entries) asked.shard slice may.named none
     not_slice (faults.Running shard) before running = not_running (board_map basis.first entries) shard may.idle running
     not_slice (faults.NotActive state) before held =
@@ -89,7 +89,7 @@ module _ (basis : BoardBasis) (entries : List BoardEntry) (asked : Asked) where
     pub cut_first : (fault : BoardFault) → IsCutCause asked.cut slice fault → IsFirstCause basis entries asked fault
     cut_first faults.RangeTooSmall small = record { holds = (slice, may.named, small); first = not_slice }
     cut_first faults.BadRanges others = record { holds = (slice, may.named, others); first = earlier } where
-      earlier : (other : BoardFault) → order_of other < 4 → Prevents basis entries asked other → ⊥
+      earlier : (other : BoardFault) → fault_order other < 4 → Prevents basis entries asked other → ⊥
       earlier faults.UnknownShard before held = not_slice faults.UnknownShard (omega arith) held
       earlier (faults.Running shard) before held = not_slice (faults.Running shard) (omega arith) held
       earlier (faults.NotActive state) before held = not_slice (faults.NotActive state) (omega arith) held
@@ -118,7 +118,7 @@ module _ (basis : BoardBasis) (entries : List BoardEntry) (asked : Asked) where
 
     module _ (fits : MayBeCut asked.cut slice) where
       -- none of the first five holds
-      not_cut : (other : BoardFault) → order_of other < 5 → Prevents basis entries asked other → ⊥
+      not_cut : (other : BoardFault) → fault_order other < 5 → Prevents basis entries asked other → ⊥
       not_cut faults.UnknownShard before held = not_slice faults.UnknownShard (omega arith) held
       not_cut (faults.Running shard) before held = not_slice (faults.Running shard) (omega arith) held
       not_cut (faults.NotActive state) before held = not_slice (faults.NotActive state) (omega arith) held
@@ -135,7 +135,7 @@ module _ (basis : BoardBasis) (entries : List BoardEntry) (asked : Asked) where
       many_first many = record { holds = many; first = not_cut }
 
       module _ (few : length (board_map basis.first entries) + parts_of asked.cut ≤ most_slices) where
-        not_many : (other : BoardFault) → order_of other < 6 → Prevents basis entries asked other → ⊥
+        not_many : (other : BoardFault) → fault_order other < 6 → Prevents basis entries asked other → ⊥
         not_many faults.UnknownShard before held = not_cut faults.UnknownShard (omega arith) held
         not_many (faults.Running shard) before held = not_cut (faults.Running shard) (omega arith) held
         not_many (faults.NotActive state) before held = not_cut (faults.NotActive state) (omega arith) held

@@ -8,7 +8,7 @@ use Rattle.sc_record.specs.declared.slice.SliceId.{SliceId}
 use Rattle.sc_cluster.specs.declared.slice.Slice.{Slice}
 use Rattle.sc_cluster.specs.Cut.{part, first_parts}
 use Rattle.sc_cluster.specs.Map.{IsMap}
-use Rattle.sc_cluster.specs.Changes.{IsSplit}
+use Rattle.sc_cluster.specs.Changes.{IsBeingSplit}
 use Rattle.sc_cluster.proofs.IdLemmas.{id_of}
 use Rattle.sc_cluster.proofs.OrderLemmas.{same_from_rising_key}
 use Rattle.sc_board.specs.Splits.{slice_named, IsRunningOf}
@@ -56,7 +56,7 @@ parts_count min max n (suc k) =
     omega (arith, length-append (first_parts min max n k) (part min max n k ∷ []), parts_count min max n k)
 
 -- the name of the slice of this id, whose split is open
-pub named_running : (slices : List Slice) (id : SliceId) (slice : Slice) (name : List ℕ) → IsMap slices → IsSplit slices id
+pub named_running : (slices : List Slice) (id : SliceId) (slice : Slice) (name : List ℕ) → IsMap slices → IsBeingSplit slices id
     → Contains slices slice → slice.id ≡ id → slice.name ≡ name → IsRunningOf slices name
 named_running slices id slice name is_map (parent, named, splitting) there same is =
     let equal : parent ≡ slice = same_by_id slices parent slice is_map splitting.there there (named ∙ sym same) in

@@ -10,7 +10,7 @@ use Rattle.sc_cluster.specs.declared.slice.State.TheVariants as states
 use Rattle.sc_cluster.specs.declared.slice.Slice.{Slice}
 use Rattle.sc_cluster.specs.Slices.{is_forming_state, is_inactive_state, is_forming, forming, is_inactive, greatest_id}
 use Rattle.sc_cluster.specs.Map.{IsMap}
-use Rattle.sc_cluster.specs.Changes.{after, IsSplit}
+use Rattle.sc_cluster.specs.Changes.{after, IsBeingSplit}
 use Rattle.sc_cluster.proofs.ListLemmas.{filter-none}
 use Rattle.sc_cluster.proofs.CountLemmas.{count_by-none}
 use Rattle.std.proofs.lemmas.List.Elements.{All-weaker}
@@ -23,7 +23,7 @@ use Rattle.sc_seen.specs.Board.{board_change_of, board_map, running_split, owed_
 use Rattle.sc_seen.proofs.BoardLemmas.{board_map-push, running_split-push, owed_by_split-push, owed_by_split, MayNote_end, IsLegalBoard-none, IsLegalBoard-push, IsLegalBoard-prefix, may_go_on_begun, may_go_on_recovered, not_open, same_parent, Stands, rests_where_idle, running_where, owed_where_open, board_is_map, board_stands, board_ids, board_owed-begun, board_owed-recovering, board_owed-done, board_owed-failed, board_owed-dropped}
 use Rattle.sc_board.specs.Boards.{IsSoundBoard}
 use Rattle.sc_board.specs.Events.{Notes}
-use Rattle.sc_board.specs.Kept.{JournalState}
+use Rattle.sc_board.specs.Kept.{BoardJournalState}
 use Rattle.sc_board.specs.declared.board.Board.{Board}
 use Rattle.sc_board.specs.declared.running.Running.{Running}
 
@@ -69,11 +69,11 @@ sound_new it is_map active ids limit none same owed there = record {
 }
 
 -- ---- more room
-pub sound_roomier : {K : Type 0} (it : Board K) (journal : JournalState) (n : ℕ) → IsSoundBoard it
+pub sound_roomier : {K : Type 0} (it : Board K) (journal : BoardJournalState) (n : ℕ) → IsSoundBoard it
     → journal ≡ record it.journal { room = max it.journal.room n } → IsSoundBoard (record it { journal = journal })
 sound_roomier it journal n sound is =
-    let same : journal.entries ≡ it.journal.entries = ap (λ (j : JournalState). j.entries) is in
-    let room : journal.room ≡ max it.journal.room n = ap (λ (j : JournalState). j.room) is in
+    let same : journal.entries ≡ it.journal.entries = ap (λ (j : BoardJournalState). j.entries) is in
+    let room : journal.room ≡ max it.journal.room n = ap (λ (j : BoardJournalState). j.room) is in
     record {
       first_map = sound.first_map;
       first_idle = sound.first_idle;
@@ -204,21 +204,21 @@ owed_is_some old one sound less =
 -- it is the one that may go on
 pub running_is : {K : Type 0} (it : Board K) (found : Option Running) (parent : SliceId) → IsSoundBoard it
     → MatchOption found (running_split it.journal.entries ≡ None)
-    (λ running. IsSplit it.map running.parent × (running.owed ≡ fold owed_after 0 it.journal.entries))
-    → IsSplit (board_map it.first it.journal.entries) parent
+    (λ running. IsBeingSplit it.map running.parent × (running.owed ≡ fold owed_after 0 it.journal.entries))
+    → IsBeingSplit (board_map it.first it.journal.entries) parent
     → (running : Running) × (found ≡ Some running) × (running.parent ≡ parent) × (running.owed ≡ owed_by_split it.journal.entries)
 running_is it None parent sound none split =
-    absurd (not_open it.map parent (subst (λ s. IsSplit s parent) (sym sound.map_is) split) (sound_idle it sound none))
+    absurd (not_open it.map parent (subst (λ s. IsBeingSplit s parent) (sym sound.map_is) split) (sound_idle it sound none))
 running_is it (Some running) parent sound (opened, owed) split =
-    let here = subst (λ s. IsSplit s parent) (sym sound.map_is) split in
+    let here = subst (λ s. IsBeingSplit s parent) (sym sound.map_is) split in
     (running, refl, same_parent it.map running.parent parent (sound_map it sound) opened here, owed)
 
 -- ---- the notes of a split
 -- it is running, and it is this one
 pub parent_is : {K : Type 0} (it : Board K) (found : Option Running) (here : Running) (parent : SliceId) → IsSoundBoard it
     → MatchOption found (running_split it.journal.entries ≡ None)
-    (λ running. IsSplit it.map running.parent × (running.owed ≡ fold owed_after 0 it.journal.entries))
-    → IsSplit (board_map it.first it.journal.entries) parent → found ≡ Some here
+    (λ running. IsBeingSplit it.map running.parent × (running.owed ≡ fold owed_after 0 it.journal.entries))
+    → IsBeingSplit (board_map it.first it.journal.entries) parent → found ≡ Some here
     → (here.parent ≡ parent) × (here.owed ≡ owed_by_split it.journal.entries)
 parent_is it found here parent sound ends split is =
     let running = running_is it found parent sound ends split in
@@ -268,23 +268,23 @@ ends_with entries one last = by (last_of_cases entries) where
 
 pub begun_last : {K : Type 0} (it : Board K) (plan : SplitPlan) → IsSoundBoard it
     → last_of it.journal.entries ≡ Some (board.Begun plan)
-    → IsSplit it.map plan.parent × (3 ≡ fold owed_after 0 it.journal.entries)
+    → IsBeingSplit it.map plan.parent × (3 ≡ fold owed_after 0 it.journal.entries)
 begun_last it plan sound last =
     let ends = ends_with it.journal.entries (board.Begun plan) last in
     let init = ends.0 in
     let may = may_go_on_begun it.first init plan sound.first_map (subst (IsLegalBoard it.first) ends.1 sound.legal) in (
-      subst (λ s. IsSplit s plan.parent) (ap (board_map it.first) (sym ends.1) ∙ sym sound.map_is) may.0,
+      subst (λ s. IsBeingSplit s plan.parent) (ap (board_map it.first) (sym ends.1) ∙ sym sound.map_is) may.0,
       sym (ap owed_by_split ends.1 ∙ owed_by_split-push init (board.Begun plan)),
     )
 
 pub recovering_last : {K : Type 0} (it : Board K) (parent : SliceId) → IsSoundBoard it
     → last_of it.journal.entries ≡ Some (board.Recovering parent)
-    → IsSplit it.map parent × (2 ≡ fold owed_after 0 it.journal.entries)
+    → IsBeingSplit it.map parent × (2 ≡ fold owed_after 0 it.journal.entries)
 recovering_last it parent sound last =
     let ends = ends_with it.journal.entries (board.Recovering parent) last in
     let init = ends.0 in
     let may = may_go_on_recovered it.first init parent (subst (IsLegalBoard it.first) ends.1 sound.legal) in (
-      subst (λ s. IsSplit s parent) (ap (board_map it.first) (sym ends.1) ∙ sym sound.map_is) may.0,
+      subst (λ s. IsBeingSplit s parent) (ap (board_map it.first) (sym ends.1) ∙ sym sound.map_is) may.0,
       sym (ap owed_by_split ends.1 ∙ owed_by_split-push init (board.Recovering parent)),
     )
 

@@ -38,16 +38,16 @@ pub record IsCut (cut : Cut) : Type 0 where
   pub most : parts_of cut ≤ most_parts
 
 -- the ranges of a slice that is cut so, where its range can be
-abbrev pub ranges_of : Cut → Slice → List (ℤ × ℤ)
-ranges_of (cuts.Parts n) slice = cut slice.range.min slice.range.max n
-ranges_of (cuts.Ranges list) slice = map bounds list
+abbrev pub cut_ranges : Cut → Slice → List (ℤ × ℤ)
+cut_ranges (cuts.Parts n) slice = cut slice.range.min slice.range.max n
+cut_ranges (cuts.Ranges list) slice = map bounds list
 
 -- what is asked of a board: to split the slice of this name so
-pub record Asked : Type 0 where
+pub record AskedSplit : Type 0 where
   pub shard : List ℕ
   pub cut : Cut
 
-abbrev pub asked_for : List ℕ → Cut → Asked
+abbrev pub asked_for : List ℕ → Cut → AskedSplit
 asked_for shard cut = record { shard = shard; cut = cut }
 
 -- the slice of this name, the first of them
@@ -99,11 +99,11 @@ pub record BoardBasis : Type 0 where
   pub limit : ℕ
 
 -- that of a board
-abbrev pub basis_of : {K : Type 0} → Board K → BoardBasis
-basis_of board = record { first = board.first; limit = board.limit }
+abbrev pub board_basis : {K : Type 0} → Board K → BoardBasis
+board_basis board = record { first = board.first; limit = board.limit }
 
 -- why a split may not begin after these entries, each cause by itself; want of memory is none
-abbrev pub Prevents : BoardBasis → List BoardEntry → Asked → BoardFault → Type 0
+abbrev pub Prevents : BoardBasis → List BoardEntry → AskedSplit → BoardFault → Type 0
 Prevents basis entries asked faults.UnknownShard = slice_named (board_map basis.first entries) asked.shard ≡ None
 Prevents basis entries asked (faults.Running shard) = IsRunningOf (board_map basis.first entries) shard
 Prevents basis entries asked (faults.NotActive state) =
@@ -116,32 +116,32 @@ Prevents basis entries asked faults.LogFull = BoardIsFull 4 basis.limit basis.fi
 Prevents basis entries asked faults.Memory = ⊥
 
 -- the order of the causes
-abbrev pub order_of : BoardFault → ℕ
-order_of faults.UnknownShard = 0
-order_of (faults.Running shard) = 1
-order_of (faults.NotActive state) = 2
-order_of faults.RangeTooSmall = 3
-order_of faults.BadRanges = 4
-order_of faults.TooManySlices = 5
-order_of faults.LogFull = 6
-order_of faults.Memory = 7
+abbrev pub fault_order : BoardFault → ℕ
+fault_order faults.UnknownShard = 0
+fault_order (faults.Running shard) = 1
+fault_order (faults.NotActive state) = 2
+fault_order faults.RangeTooSmall = 3
+fault_order faults.BadRanges = 4
+fault_order faults.TooManySlices = 5
+fault_order faults.LogFull = 6
+fault_order faults.Memory = 7
 
 -- the cause is the first that holds
-pub record IsFirstCause (basis : BoardBasis) (entries : List BoardEntry) (asked : Asked) (cause : BoardFault) : Type 0 where
+pub record IsFirstCause (basis : BoardBasis) (entries : List BoardEntry) (asked : AskedSplit) (cause : BoardFault) : Type 0 where
   pub holds : Prevents basis entries asked cause
-  pub first : (other : BoardFault) → order_of other < order_of cause → ¬ Prevents basis entries asked other
+  pub first : (other : BoardFault) → fault_order other < fault_order cause → ¬ Prevents basis entries asked other
 
 -- what a refusal says: the first cause that holds, or that memory is wanting, which nothing else tells
-abbrev pub IsRefusalBy : BoardBasis → List BoardEntry → Asked → BoardFault → Type 0
+abbrev pub IsRefusalBy : BoardBasis → List BoardEntry → AskedSplit → BoardFault → Type 0
 IsRefusalBy basis entries asked faults.Memory = ⊤
 IsRefusalBy basis entries asked cause = IsFirstCause basis entries asked cause
 
 -- the same, where the first map and the limit are these
-abbrev pub IsRefusal : List Slice → ℕ → List BoardEntry → Asked → BoardFault → Type 0
+abbrev pub IsRefusal : List Slice → ℕ → List BoardEntry → AskedSplit → BoardFault → Type 0
 IsRefusal first limit entries asked fault = IsRefusalBy (record { first = first; limit = limit }) entries asked fault
 
 -- The plan is that of the split that is asked for, after these entries: of the slice of the name, cut so.
-pub record IsPlanOf (first : List Slice) (entries : List BoardEntry) (asked : Asked) (plan : SplitPlan) : Type 0 where
+pub record IsPlanOf (first : List Slice) (entries : List BoardEntry) (asked : AskedSplit) (plan : SplitPlan) : Type 0 where
   pub parent : IsOfNamed (board_map first entries) asked.shard
-      (λ slice. (plan.parent ≡ slice.id) × (map sub_bounds plan.subs ≡ ranges_of asked.cut slice))
+      (λ slice. (plan.parent ≡ slice.id) × (map sub_bounds plan.subs ≡ cut_ranges asked.cut slice))
   pub plan_is : IsPlan (board_map first entries) plan.parent plan.subs

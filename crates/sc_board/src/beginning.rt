@@ -6,8 +6,8 @@ ghost use Rattle.sc_cluster.specs.Limits.{most_slices};
 ghost use Rattle.sc_cluster.specs.Plans.{sub_bounds, IsPlan};
 ghost use Rattle.sc_seen.specs.Board.{MayNote, BoardHasRoom};
 ghost use Rattle.sc_board.specs.Boards.{IsSoundBoard};
-ghost use Rattle.sc_board.specs.Splits.{IsCut, parts_of, ranges_of, basis_of, asked_for, Prevents, IsRefusal, IsPlanOf, IsCutCause, MaySplit, MayBeCut};
-ghost use Rattle.sc_board.specs.Events.{Notes, IsSameButRoom, BeginsSplit};
+ghost use Rattle.sc_board.specs.Splits.{IsCut, parts_of, cut_ranges, board_basis, asked_for, Prevents, IsRefusal, IsPlanOf, IsCutCause, MaySplit, MayBeCut};
+ghost use Rattle.sc_board.specs.Events.{Notes, IsSameBoardButRoom, BeginsSplit};
 ghost use Rattle.sc_board.specs.declared.fault.BoardFault.TheVariants as faults;
 ghost use Rattle.sc_board.specs.declared.cut.Cut.{Cut};
 ghost use Rattle.sc_board.specs.declared.fault.BoardFault.{BoardFault};
@@ -44,7 +44,7 @@ impl<K: Drop> Board<K> {
         requires sound { IsSoundBoard self.now }
         requires cut { IsCut cut.now }
         ensures plan { IfOk result (IsPlanOf self.now.first self.now.journal.entries (asked_for shard.now cut.now)) }
-        ensures allowed { OnOk result ((cause : BoardFault) → ¬ Prevents (basis_of self.now) self.now.journal.entries (asked_for shard.now cut.now) cause) }
+        ensures allowed { OnOk result ((cause : BoardFault) → ¬ Prevents (board_basis self.now) self.now.journal.entries (asked_for shard.now cut.now) cause) }
         ensures refused { IfErr result (IsRefusal self.now.first self.now.limit self.now.journal.entries (asked_for shard.now cut.now)) }
     {
         let parent = self.parent_of(shard)?;
@@ -85,7 +85,7 @@ impl<K: Drop> Board<K> {
         requires few { length self.now.map + parts_of how.now ≤ most_slices }
         requires room { BoardHasRoom 4 self.now.limit self.now.first self.now.journal.entries }
         ensures parent { IfOk result (λ plan. plan.parent ≡ slice.now.id) }
-        ensures ranges { IfOk result (λ plan. map sub_bounds plan.subs ≡ ranges_of how.now slice.now) }
+        ensures ranges { IfOk result (λ plan. map sub_bounds plan.subs ≡ cut_ranges how.now slice.now) }
         ensures plan { IfOk result (λ plan. IsPlan self.now.map plan.parent plan.subs) }
         ensures memory { IfErr result (λ fault. fault ≡ faults.Memory) }
     {
@@ -108,7 +108,7 @@ impl<K: Drop> Board<K> {
         ensures begun { OnOk result (Notes self.old (BoardEntry.Begun plan.now) self.new) }
         ensures keepers { IfOk result (λ keepers. self.old.keepers ≡ Some keepers) }
         ensures handed_out { OnOk result (self.new.keepers ≡ None) }
-        ensures same { OnErr result (IsSameButRoom self.old self.new) }
+        ensures same { OnErr result (IsSameBoardButRoom self.old self.new) }
     {
         let noted = plan.clone_in(alloc)?;
         self.journal.reserve(self.owed as usize + 4)?;

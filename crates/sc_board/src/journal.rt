@@ -14,9 +14,9 @@ pub struct BoardJournal {
 
 impl Model for BoardJournal {
     ghost use Rattle.std.specs.Prelude.{◌+◌, ◌≤◌, vec_len, vec_capacity};
-    ghost use Rattle.sc_board.specs.Kept.{JournalState};
+    ghost use Rattle.sc_board.specs.Kept.{BoardJournalState};
 
-    ghost Value = { JournalState };
+    ghost Value = { BoardJournalState };
 
     ghost view = { λ a. record { entries = a.entries.items; room = a.room } };
 

@@ -2,7 +2,7 @@
 
 ghost use Rattle.std.specs.Prelude.{◌≡◌, [], None, fold, IfOk, MatchOption};
 ghost use Rattle.sc_cluster.specs.Slices.{forming};
-ghost use Rattle.sc_cluster.specs.Changes.{IsSplit};
+ghost use Rattle.sc_cluster.specs.Changes.{IsBeingSplit};
 ghost use Rattle.sc_seen.specs.Board.{running_split, owed_after};
 ghost use Rattle.sc_board.specs.Boards.{IsSoundBoard};
 ghost use Rattle.sc_board.specs.Splits.{IsRunningOf};
@@ -25,7 +25,7 @@ impl<K: Drop> Board<K> {
     pub(crate) fn running(&self) -> Option<Running>
         requires { IsSoundBoard self.now }
         ensures { MatchOption result (running_split self.now.journal.entries ≡ None)
-            (λ running. IsSplit self.now.map running.parent × (running.owed ≡ fold owed_after 0 self.now.journal.entries)) }
+            (λ running. IsBeingSplit self.now.map running.parent × (running.owed ≡ fold owed_after 0 self.now.journal.entries)) }
     {
         match self.journal.as_slice().last() {
             Some(BoardEntry::Begun { plan }) => Some(Running {

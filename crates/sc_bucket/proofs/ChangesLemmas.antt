@@ -25,7 +25,7 @@ use Rattle.sc_cluster.proofs.ListLemmas.{Contains-from_filter}
 use Rattle.sc_journal.specs.Journal.{last_of}
 use Rattle.sc_journal.proofs.ListLemmas.{last_of-append}
 use Rattle.sc_journal.proofs.JournalLemmas.{id_from_is_of}
-use Rattle.sc_bucket.specs.Pending.{is_within}
+use Rattle.sc_snapshot.specs.Rows.{is_within}
 use Rattle.sc_bucket.specs.Taking.{AreLastOf, LentCells, lent, lent_of, all_lent}
 use Rattle.sc_bucket.proofs.TakenLemmas.{Contains-slice_get}
 

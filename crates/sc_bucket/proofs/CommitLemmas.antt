@@ -32,7 +32,7 @@ use Rattle.sc_journal.proofs.SettledLemmas.{unsettled-push_other, is_settled-pus
 use Rattle.sc_journal.proofs.SplitLemmas.{map_after-left, open_split-left, owed-push_committed, LeavesSlices-committed}
 use Rattle.sc_journal.proofs.LegalLemmas.{IsLegal-push}
 use Rattle.sc_bucket.specs.Cores.{without_room}
-use Rattle.sc_bucket.specs.Searchers.{rows_of, ShowsCommitted, IsTaken, AreTaken, ArePrepared}
+use Rattle.sc_bucket.specs.Searchers.{standing_rows, ShowsCommitted, IsTaken, AreTaken, ArePrepared}
 use Rattle.sc_bucket.specs.Kept.{Sent, FeedState}
 use Rattle.sc_bucket.specs.Flight.{is_same_message}
 use Rattle.sc_bucket.specs.Sound.{AreActive, HasJournal, HasSearchers, AreWritten, Serves, IsSent, HasSpare, IsSound}
@@ -128,7 +128,7 @@ pub record TakesSearchers (old : Bucket) (one : Entry) (slices : List Slice) (se
 shows_written : (old : Bucket) (one : Entry) (slices : List Slice) (searchers : List Standing) (searcher : Standing)
     (slice : Slice) → IsSound old → TakesSearchers old one slices searchers
     → IsTaken old.map old.replicas (length old.journal.entries) searcher → Contains slices slice → slice.id ≡ searcher.slice
-    → (searcher.range ≡ slice.range) × ShowsCommitted (old.journal.entries ++ one ∷ []) slice (rows_of searcher)
+    → (searcher.range ≡ slice.range) × ShowsCommitted (old.journal.entries ++ one ∷ []) slice (standing_rows searcher)
 shows_written old one slices searchers searcher slice sound takes is there same =
     let entries : List Entry = old.journal.entries in
     let active : Contains (filter is_active old.map) is.slice =
@@ -138,7 +138,7 @@ shows_written old one slices searchers searcher slice sound takes is there same 
     (subst (λ (these : List Slice). Contains these is.slice) (sym takes.same_active) active)).0 in
     let alike : is.slice ≡ slice =
     same_from_id slices is.slice slice takes.is_map still there (sym is.slice_is ∙ sym same) in
-    let rows : rows_of searcher ≡ is.core.cells = ap (λ (snapshot : SnapshotState). snapshot.rows) is.snapshot_is in
+    let rows : standing_rows searcher ≡ is.core.cells = ap (λ (snapshot : SnapshotState). snapshot.rows) is.snapshot_is in
     let written =
     All-contains (AreWritten entries old.flight.messages old.feeds) old.replicas is.core sound.written is.core_there in
     let serves = All-contains (λ (core : Core). (s : Slice) → Contains old.map s → s.id ≡ core.core.slice → Serves entries s core)
@@ -161,7 +161,7 @@ HasSearchers-taken old new one sound entries takes = record {
   each_slice = takes.taken.each_slice ∙ ap (map (λ (slice : Slice). slice.id)) (sym takes.same_active);
   show = All-weaker (IsTaken old.map old.replicas (length old.journal.entries))
       (λ (searcher : Standing). (slice : Slice) → Contains new.map slice → slice.id ≡ searcher.slice
-      → (searcher.range ≡ slice.range) × ShowsCommitted new.journal.entries slice (rows_of searcher))
+      → (searcher.range ≡ slice.range) × ShowsCommitted new.journal.entries slice (standing_rows searcher))
       show new.searchers takes.taken.taken;
   place = subst (λ place. All (IsAt place) new.searchers)
       (sym (ap last_commit entries ∙ last_commit-push_commit old.journal.entries one takes.commits_all))
@@ -169,9 +169,9 @@ HasSearchers-taken old new one sound entries takes = record {
 } where
   show : (searcher : Standing) → IsTaken old.map old.replicas (length old.journal.entries) searcher
       → (slice : Slice) → Contains new.map slice → slice.id ≡ searcher.slice
-      → (searcher.range ≡ slice.range) × ShowsCommitted new.journal.entries slice (rows_of searcher)
+      → (searcher.range ≡ slice.range) × ShowsCommitted new.journal.entries slice (standing_rows searcher)
   show searcher is slice there same =
-      subst (λ (journal : List Entry). (searcher.range ≡ slice.range) × ShowsCommitted journal slice (rows_of searcher))
+      subst (λ (journal : List Entry). (searcher.range ≡ slice.range) × ShowsCommitted journal slice (standing_rows searcher))
       (sym entries)
       (shows_written old one new.map new.searchers searcher slice sound takes is there same)
 

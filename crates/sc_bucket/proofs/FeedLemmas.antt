@@ -15,7 +15,8 @@ use Rattle.sc_record.specs.declared.write.Write.{Write}
 use Rattle.sc_cluster.proofs.ListLemmas.{filter-none}
 use Rattle.sc_bucket.specs.Kept.{FeedState}
 use Rattle.sc_record.specs.Names.{is_core}
-use Rattle.sc_bucket.specs.Pending.{is_within, is_feed_of, left_of, to_feed}
+use Rattle.sc_snapshot.specs.Rows.{is_within}
+use Rattle.sc_bucket.specs.Pending.{is_feed_of, left_of, to_feed}
 use Rattle.sc_bucket.proofs.CoreLemmas.{is_core-Decides}
 
 -- the rows from one on

@@ -16,7 +16,7 @@ use Rattle.sc_record.specs.declared.write.Write.{Write}
 use Rattle.sc_record.specs.declared.entry.Entry.{Entry}
 use Rattle.sc_record.specs.Writes.{is_of, write_of, AscendById}
 use Rattle.sc_hash.specs.Bounds.{bounds, contains}
-use Rattle.sc_snapshot.specs.Rows.{SnapshotState, AreRows, AreChanged}
+use Rattle.sc_snapshot.specs.Rows.{SnapshotState, AreRows, AreChanged, is_within}
 use Rattle.sc_cluster.specs.declared.slice.State.TheVariants as states
 use Rattle.sc_cluster.specs.declared.slice.Slice.{Slice}
 use Rattle.sc_cluster.proofs.ListLemmas.{Contains-from_filter}
@@ -30,8 +30,7 @@ use Rattle.sc_journal.proofs.JournalLemmas.{id_from_is_of}
 use Rattle.sc_journal.proofs.LegalLemmas.{legal_hash}
 use Rattle.sc_bucket.specs.Entries.{uncommitted}
 use Rattle.sc_bucket.specs.Cores.{IsCoreWithoutRoom, IsLeaderOf}
-use Rattle.sc_bucket.specs.Pending.{is_within}
-use Rattle.sc_bucket.specs.Searchers.{rows_of, ShowsCommitted}
+use Rattle.sc_bucket.specs.Searchers.{standing_rows, ShowsCommitted}
 use Rattle.sc_bucket.specs.Taking.{AreChangesOf, AreCommittedOf, AreLastOf, IsLastOf, IsOfLeader}
 use Rattle.sc_bucket.specs.Sound.{IsInRange, HasLastWrites, Serves, AreWritten, AreInRange, IsSound}
 use Rattle.sc_bucket.specs.declared.bucket.Bucket.{Bucket}
@@ -197,15 +196,15 @@ its_leader b slice core sound there active core_there leads =
 -- ---- what was committed of a slice
 -- the rows of the slice's last searcher are writes of the journal, and show what was committed
 last_shows : (b : Bucket) (slice : Slice) (last : Standing) → IsSound b → IsLastOf b slice last
-    → ShowsCommitted b.journal.entries slice (rows_of last)
+    → ShowsCommitted b.journal.entries slice (standing_rows last)
 last_shows b slice last sound is =
     (All-contains (λ (searcher : Standing). (s : Slice) → Contains b.map s → s.id ≡ searcher.slice
-    → (searcher.range ≡ s.range) × ShowsCommitted b.journal.entries s (rows_of searcher))
+    → (searcher.range ≡ s.range) × ShowsCommitted b.journal.entries s (standing_rows searcher))
     b.searchers last sound.searchers.show is.kept slice is.there (sym is.of_slice)).1
 
 -- where their hashes are in the slice's range they are all that was committed of it
-pub AreCommittedOf-last : (b : Bucket) (slice : Slice) (last : Standing) → IsSound b → IsLastOf b slice last → All (IsInRange slice) (rows_of last)
-    → AreCommittedOf b slice (rows_of last)
+pub AreCommittedOf-last : (b : Bucket) (slice : Slice) (last : Standing) → IsSound b → IsLastOf b slice last → All (IsInRange slice) (standing_rows last)
+    → AreCommittedOf b slice (standing_rows last)
 AreCommittedOf-last b slice last sound is within = record {
   there = is.there;
   active = is.active;
@@ -227,10 +226,10 @@ find_implied {A} p q (x ∷ xs) implied =
 
 -- else those of them whose hashes are
 pub AreCommittedOf-within : (b : Bucket) (slice : Slice) (last : Standing) → IsSound b → IsLastOf b slice last
-    → AreCommittedOf b slice (filter (is_within slice.range) (rows_of last))
+    → AreCommittedOf b slice (filter (is_within slice.range) (standing_rows last))
 AreCommittedOf-within b slice last sound is =
     let entries : List Entry = b.journal.entries in
-    let rows : List Write = rows_of last in
+    let rows : List Write = standing_rows last in
     let test = is_within slice.range in
     let shows = last_shows b slice last sound is in
     record {

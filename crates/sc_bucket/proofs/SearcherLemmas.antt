@@ -14,7 +14,7 @@ use Rattle.sc_replica.specs.Core.{Core}
 use Rattle.sc_journal.specs.Journal.{writes, last_write}
 use Rattle.sc_journal.specs.Committed.{committed, last_commit}
 use Rattle.sc_bucket.specs.Cores.{core_key, IsNewCore}
-use Rattle.sc_bucket.specs.Searchers.{rows_of, AreOfEachSlice, ShowsCommitted, IsTaken, AreTaken, AreLed}
+use Rattle.sc_bucket.specs.Searchers.{standing_rows, AreOfEachSlice, ShowsCommitted, IsTaken, AreTaken, AreLed}
 use Rattle.sc_bucket.specs.Sound.{HasSearchers}
 use Rattle.sc_bucket.specs.declared.bucket.Bucket.{Bucket}
 use Rattle.sc_bucket.specs.declared.standing.Standing.{Standing}
@@ -35,7 +35,7 @@ ShowsCommitted-grown old new slice rows same kept shows = record {
 -- what is true of the searchers of each slice of a map
 abbrev Show : List Slice → List Entry → Standing → Type 0
 Show slices journal searcher = (slice : Slice) → Contains slices slice → slice.id ≡ searcher.slice
-    → (searcher.range ≡ slice.range) × ShowsCommitted journal slice (rows_of searcher)
+    → (searcher.range ≡ slice.range) × ShowsCommitted journal slice (standing_rows searcher)
 
 -- the searcher was taken at this place of the journal
 abbrev pub IsAt : ℕ → Standing → Type 0
@@ -65,7 +65,7 @@ HasSearchers-grown old new same_map same_searchers same_place same_committed kep
   still : (searcher : Standing) → Show old.map old.journal.entries searcher → Show old.map new.journal.entries searcher
   still searcher shows slice there same =
       let now = shows slice there same in
-      (now.0, ShowsCommitted-grown old.journal.entries new.journal.entries slice (rows_of searcher) same_committed kept now.1)
+      (now.0, ShowsCommitted-grown old.journal.entries new.journal.entries slice (standing_rows searcher) same_committed kept now.1)
 
 -- where the journal stays too
 pub HasSearchers-same : (old new : Bucket) → new.map ≡ old.map → new.searchers ≡ old.searchers
@@ -103,7 +103,7 @@ HasSearchers-new b first cores is_map same_map empty new taken = record {
       let alike : is.slice ≡ slice = same_from_id first is.slice slice is_map is.there there (sym is.slice_is ∙ sym same) in
       let (k, below, core_is) = is.core_there in
       let none : is.core.cells ≡ [] = (subst IsNewCore core_is (new k is.core below)).cells in
-      let rows : rows_of searcher ≡ [] = ap (λ (snapshot : SnapshotState). snapshot.rows) is.snapshot_is ∙ none in (
+      let rows : standing_rows searcher ≡ [] = ap (λ (snapshot : SnapshotState). snapshot.rows) is.snapshot_is ∙ none in (
         is.range_is ∙ ap (λ (s : Slice). s.range) alike,
         subst (ShowsCommitted [] slice) (sym rows) (record {
           written = All-nil (Contains (writes []));

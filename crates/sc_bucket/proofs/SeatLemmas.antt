@@ -20,7 +20,7 @@ use Rattle.sc_journal.specs.Seats.{seats}
 use Rattle.sc_journal.proofs.SeatLemmas.{seats_are_exchanged, seats_begin_in_order}
 use Rattle.sc_journal.proofs.SumLemmas.{All-joined}
 use Rattle.sc_bucket.specs.declared.bucket.Bucket.{Bucket}
-use Rattle.sc_bucket.specs.Cores.{core_key, core_keys, slice_keys, is_number, HasCore}
+use Rattle.sc_bucket.specs.Cores.{core_key, core_keys, slice_keys, is_numbered, HasCore}
 use Rattle.sc_bucket.specs.Sound.{HasJournal, IsMarked, IsSound}
 use Rattle.sc_bucket.proofs.DownLemmas.{slice_key}
 use Rattle.sc_bucket.proofs.AcceptLemmas.{bucket_has_map}
@@ -60,7 +60,7 @@ number_of b core id seat sound there of_slice in_seat =
 
 -- a core of the number is in this seat
 abbrev pub IsSeatOf : Bucket → SliceId → ℕ → ℕ → Type 0
-IsSeatOf b id number seat = (core : Core) × Contains b.replicas core × (core.core.replica ≡ seat) × (is_number id number core ≡ true)
+IsSeatOf b id number seat = (core : Core) × Contains b.replicas core × (core.core.replica ≡ seat) × (is_numbered id number core ≡ true)
 
 -- then it sits there by the journal too
 seat_is : (b : Bucket) (id : SliceId) (number seat : ℕ) → IsSound b → IsSeatOf b id number seat
@@ -83,7 +83,7 @@ first_idle b journal =
 
 -- of a slice that no split is making the core of each number is there
 number_there : (b : Bucket) (slice : Slice) (number : ℕ) → IsSound b → Contains b.map slice → is_forming slice ≡ false
-    → 0 < number → number ≤ slice.replicas → (core : Core) × Contains b.replicas core × (is_number slice.id number core ≡ true)
+    → 0 < number → number ≤ slice.replicas → (core : Core) × Contains b.replicas core × (is_numbered slice.id number core ≡ true)
 number_there b slice number sound inside settled low high =
     let numbers : List ℕ = range_with_len 1 slice.replicas in
     let core_in : ℕ → ℕ = seats b.journal.entries slice.id in
@@ -122,7 +122,7 @@ forming_seat b slice seat sound inside forms =
 
 -- so what is found by the number is its seat, and where none is found the core sits in the seat of its number
 pub seat_found : (b : Bucket) (id : SliceId) (number : ℕ) (found : Option ℕ) → IsSound b → HasCore b.map id number
-    → MatchOption found (All (λ (core : Core). is_number id number core ≡ false) b.replicas) (IsSeatOf b id number)
+    → MatchOption found (All (λ (core : Core). is_numbered id number core ≡ false) b.replicas) (IsSeatOf b id number)
     → HasCore b.map id (unwrap_or found number) × (seats b.journal.entries id (unwrap_or found number) ≡ number)
 seat_found b id number (Some seat) sound has is = seat_is b id number seat sound is
 seat_found b id number None sound (slice, inside, own, low, high) none = by (is_forming slice) refl where
@@ -133,9 +133,9 @@ seat_found b id number None sound (slice, inside, own, low, high) none = by (is_
   )
   by false settled =
       let (core, there, is) = number_there b slice number sound inside settled low high in
-      let no : is_number id number core ≡ false =
-      All-contains (λ (other : Core). is_number id number other ≡ false) b.replicas core none there in
-      absurd (false≢true (sym no ∙ subst (λ (one : SliceId). is_number one number core ≡ true) own is))
+      let no : is_numbered id number core ≡ false =
+      All-contains (λ (other : Core). is_numbered id number other ≡ false) b.replicas core none there in
+      absurd (false≢true (sym no ∙ subst (λ (one : SliceId). is_numbered one number core ≡ true) own is))
 
 -- a slice of the map has the cores of these numbers
 pub has_core : (slices : List Slice) (slice : Slice) (id : SliceId) (number : ℕ) → IsMap slices → Contains slices slice → slice.id ≡ id

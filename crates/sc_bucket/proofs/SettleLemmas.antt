@@ -24,7 +24,7 @@ use Rattle.sc_bucket.specs.Cores.{without_room}
 use Rattle.sc_bucket.specs.Kept.{Sent, FlightState}
 use Rattle.sc_bucket.specs.Flight.{is_of_write, is_same_message}
 use Rattle.sc_bucket.specs.Sound.{AreActive, HasJournal, IsSent, HasSpare, IsSound}
-use Rattle.sc_bucket.specs.Events.{DeliversFirst, Settles, Notes}
+use Rattle.sc_bucket.specs.Events.{DeliversFirst, Settles, NotesSettled}
 use Rattle.sc_bucket.specs.declared.bucket.Bucket.{Bucket}
 use Rattle.sc_bucket.proofs.SearcherLemmas.{HasSearchers-grown}
 use Rattle.sc_bucket.proofs.SoundLemmas.{SaysSame, SaysSame-push, IsSent-left, ArePrepared-same, IsSound-left}
@@ -66,7 +66,7 @@ apart_places one other apart = by (nat_eq one other) refl where
 
 -- its journal is as it has to be
 pub HasJournal-settled : (old : Bucket) (place : ℕ) (new : Bucket) → HasJournal old → IsSome (write_at old.journal.entries place)
-    → is_settled old.journal.entries place ≡ false → Notes old place new → SettlesParts old place new → HasJournal new
+    → is_settled old.journal.entries place ≡ false → NotesSettled old place new → SettlesParts old place new → HasJournal new
 HasJournal-settled old place new journal written still settled parts =
     let one : Entry = entry.Settled place in
     let legal : IsLegal old.first (old.journal.entries ++ one ∷ []) =
@@ -95,13 +95,13 @@ HasJournal-settled old place new journal written still settled parts =
     }
 
 -- nothing is said of any core
-says-settled : (old : Bucket) (place : ℕ) (new : Bucket) → Notes old place new → SaysSame old.journal.entries new.journal.entries
+says-settled : (old : Bucket) (place : ℕ) (new : Bucket) → NotesSettled old place new → SaysSame old.journal.entries new.journal.entries
 says-settled old place new noted =
     SaysSame-push old.journal.entries new.journal.entries (entry.Settled place) noted.entries (LeavesCores-settled place)
     (λ slice core_in. refl)
 
 -- a message of another write is of a write that is not settled still
-sent_still : (old : Bucket) (place : ℕ) (new : Bucket) (message : Sent) → Notes old place new → message.place ≢ place → IsSent old message
+sent_still : (old : Bucket) (place : ℕ) (new : Bucket) (message : Sent) → NotesSettled old place new → message.place ≢ place → IsSent old message
     → IsSent new message
 sent_still old place new message noted other sent =
     let written : IsSome (write_at old.journal.entries message.place) = subst IsSome (sym sent.write) refl in
@@ -118,7 +118,7 @@ sent_still old place new message noted other sent =
 -- and so the bucket is sound, where no message of the write is in flight
 pub IsSound-settled : (old : Bucket) (place : ℕ) (new : Bucket) → IsSound old → IsSome (write_at old.journal.entries place)
     → is_settled old.journal.entries place ≡ false → All (λ (message : Sent). message.place ≢ place) old.flight.messages
-    → Notes old place new → SettlesParts old place new → IsSound new
+    → NotesSettled old place new → SettlesParts old place new → IsSound new
 IsSound-settled old place new sound written still delivered noted parts =
     let one : Entry = entry.Settled place in
     let messages : new.flight.messages ≡ old.flight.messages = ap (λ (flight : FlightState). flight.messages) noted.flight_is in
@@ -160,7 +160,7 @@ DeliversAll-of_write old place core mid new first rest =
 
 -- once all are delivered and the entry is there, the write is settled
 pub Settles-noted : (old : Bucket) (place : ℕ) (mid new : Bucket) → DeliversAll old (is_of_write place) mid
-    → Notes mid place new → Settles old place new
+    → NotesSettled mid place new → Settles old place new
 Settles-noted old place mid new all noted = record {
   name = record { first = noted.name.first ∙ all.name.first; limit = noted.name.limit ∙ all.name.limit };
   split = record { phase = noted.split.phase ∙ all.split.phase; feeds = noted.split.feeds ∙ all.split.feeds };

@@ -16,7 +16,7 @@ use Rattle.sc_record.specs.declared.entry.Entry.{Entry}
 use Rattle.sc_cluster.specs.declared.slice.State.TheVariants as states
 use Rattle.sc_cluster.specs.declared.slice.Slice.{Slice}
 use Rattle.sc_cluster.specs.Slices.{is_active, is_forming, forming}
-use Rattle.sc_cluster.specs.Changes.{IsSplit}
+use Rattle.sc_cluster.specs.Changes.{IsBeingSplit}
 use Rattle.sc_cluster.proofs.ListLemmas.{map-map_kept, Contains-map}
 use Rattle.sc_cluster.proofs.PairLemmas.{Contains-from_map}
 use Rattle.sc_ulog.specs.declared.mode.Mode.{Mode}
@@ -34,7 +34,7 @@ use Rattle.sc_bucket.specs.Cores.{core_key, core_keys, slice_keys, is_attached, 
 use Rattle.sc_bucket.specs.Searchers.{ArePrepared}
 use Rattle.sc_bucket.specs.Flight.{is_same_message}
 use Rattle.sc_bucket.specs.Pending.{pending}
-use Rattle.sc_bucket.specs.Sound.{HasJournal, OfEachCore, HasLastWrites, Serves, AreInRange, IsSent, AreSent, HasSpare, HasSearchers, IsMarked, is_idle, may_catch_up, HasCores, IsFeed, AreFeeds, IsIdle, IsOpen, IsInPhase, IsSound}
+use Rattle.sc_bucket.specs.Sound.{HasJournal, OfEachCore, HasLastWrites, Serves, AreInRange, IsSent, AreSent, HasSpare, HasSearchers, IsMarked, is_idle, may_catch_up, HasCores, IsFeed, AreFeeds, IsIdle, IsSplitOpen, IsInPhase, IsSound}
 use Rattle.sc_bucket.specs.Events.{AreSameCores, HasSameSplit}
 use Rattle.sc_bucket.specs.declared.bucket.Bucket.{Bucket}
 use Rattle.sc_bucket.specs.declared.phase.Phase.{Phase}
@@ -298,10 +298,10 @@ IsIdle-same old new same_split same_map is = record {
 }
 
 pub IsOpen-same : (old new : Bucket) (parent : SliceId)
-    → open_split new.journal.entries ≡ open_split old.journal.entries → new.map ≡ old.map → IsOpen old parent → IsOpen new parent
+    → open_split new.journal.entries ≡ open_split old.journal.entries → new.map ≡ old.map → IsSplitOpen old parent → IsSplitOpen new parent
 IsOpen-same old new parent same_split same_map is = record {
   begun = same_split ∙ is.begun;
-  split = subst (λ slices. IsSplit slices parent) (sym same_map) is.split;
+  split = subst (λ slices. IsBeingSplit slices parent) (sym same_map) is.split;
   constructed = subst (λ (slices : List Slice). All (λ (slice : Slice). slice.state ≡ states.Construction) (forming slices))
       (sym same_map) is.constructed;
   last = subst (λ (slices : List Slice). slices ≡ filter (λ (slice : Slice). not (is_forming slice)) slices ++ forming slices)

@@ -12,7 +12,7 @@ use Rattle.sc_cluster.specs.declared.slice.State.{State}
 use Rattle.sc_cluster.specs.declared.slice.State.TheVariants as states
 use Rattle.sc_cluster.specs.declared.slice.Slice.{Slice}
 use Rattle.sc_cluster.specs.Slices.{is_active_state, is_active}
-use Rattle.sc_cluster.specs.Changes.{IsSplit}
+use Rattle.sc_cluster.specs.Changes.{IsBeingSplit}
 use Rattle.sc_cluster.proofs.ListLemmas.{Contains-map, Contains-filter}
 use Rattle.sc_replica.specs.Core.{Core}
 use Rattle.sc_bucket.specs.Cores.{IsLeaderOf}
@@ -151,7 +151,7 @@ has_searcher slices searchers slice each there active =
 pub IsSearched-in_phase : (b : Bucket) (phase : Phase) (searchers : List Standing) → IsInPhase b phase
     → AreOfEachSlice b.map searchers → HasParentSearcher phase searchers
 IsSearched-in_phase b phase searchers in_phase each = by phase in_phase where
-  of_parent : (parent : SliceId) → IsSplit b.map parent → Contains (map slice_of searchers) parent
+  of_parent : (parent : SliceId) → IsBeingSplit b.map parent → Contains (map slice_of searchers) parent
   of_parent parent (slice, same, splitting) =
       subst (Contains (map slice_of searchers)) same
       (has_searcher b.map searchers slice each splitting.there splitting.active)

@@ -91,8 +91,8 @@ abbrev pub seated : CoreId → Bool → Core → Core
 seated seat down core = record core { core = seat; down = down }
 
 -- the core is the slice's core of this number
-abbrev pub is_number : SliceId → ℕ → Core → Bool
-is_number slice number core = nat_eq slice.0 core.core.slice.0 && nat_eq number core.number
+abbrev pub is_numbered : SliceId → ℕ → Core → Bool
+is_numbered slice number core = nat_eq slice.0 core.core.slice.0 && nat_eq number core.number
 
 -- the slice is there, and has a core of this number
 abbrev pub HasCore : List Slice → SliceId → ℕ → Type 0

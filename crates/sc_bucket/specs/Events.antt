@@ -128,7 +128,7 @@ pub record Detaches (old : Bucket) (name : CoreId) (new : Bucket) : Type 0 where
   pub searchers_are : new.searchers ≡ old.searchers
 
 -- the entry that settles the write at the place comes to the end of the journal
-pub record Notes (old : Bucket) (place : ℕ) (new : Bucket) : Type 0 where
+pub record NotesSettled (old : Bucket) (place : ℕ) (new : Bucket) : Type 0 where
   pub name : HasSameFirstAndLimit old new
   pub split : HasSameSplit old new
   pub map_is : new.map ≡ old.map

@@ -2,18 +2,13 @@
 use Rattle.std.specs.Prelude.{Bool, List, ◌++◌, filter, drop}
 use Rattle.std.specs.List.{flat_map}
 use Rattle.sc_hash.specs.declared.range.Range.{Range}
-use Rattle.sc_hash.specs.Bounds.{bounds, contains}
 use Rattle.sc_record.specs.declared.slice.CoreId.{CoreId}
 use Rattle.sc_record.specs.declared.write.Write.{Write}
-use Rattle.sc_snapshot.specs.Rows.{SnapshotState}
+use Rattle.sc_snapshot.specs.Rows.{SnapshotState, is_within}
 use Rattle.sc_replica.specs.Core.{Core}
 use Rattle.sc_bucket.specs.Kept.{Sent, FeedState}
 use Rattle.sc_record.specs.Names.{is_core}
 use Rattle.sc_bucket.specs.Flight.{in_flight}
-
--- the write's hash is in the range
-abbrev pub is_within : Range → Write → Bool
-is_within range write = contains write.hash (bounds range)
 
 -- a feed of the core, whose range this is, from the first row of the snapshot on
 abbrev pub new_feed : CoreId → Range → SnapshotState → FeedState

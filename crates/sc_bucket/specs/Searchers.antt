@@ -22,8 +22,8 @@ use Rattle.sc_bucket.specs.declared.standing.Standing.{Standing}
 use Rattle.sc_bucket.specs.declared.standing.Searcher.{Searcher}
 
 -- the rows that a searcher looks at
-abbrev pub rows_of : Standing → List Write
-rows_of searcher = (arc_value searcher.snapshot).rows
+abbrev pub standing_rows : Standing → List Write
+standing_rows searcher = (arc_value searcher.snapshot).rows
 
 -- each active slice has a searcher, in the order of the map, and no other slice has one
 abbrev pub AreOfEachSlice : List Slice → List Standing → Type 0

@@ -13,7 +13,7 @@ use Rattle.sc_cluster.specs.declared.slice.State.TheVariants as states
 use Rattle.sc_cluster.specs.declared.slice.Slice.{Slice}
 use Rattle.sc_cluster.specs.Map.{IsMap}
 use Rattle.sc_cluster.specs.Slices.{is_active, is_forming, forming}
-use Rattle.sc_cluster.specs.Changes.{IsSplit}
+use Rattle.sc_cluster.specs.Changes.{IsBeingSplit}
 use Rattle.sc_ulog.specs.declared.mode.Mode.TheVariants.{Active, Buffering}
 use Rattle.sc_replica.specs.Core.{Core}
 use Rattle.sc_journal.specs.Journal.{writes, write_at, last_write, is_settled, unsettled}
@@ -27,7 +27,7 @@ use Rattle.sc_journal.specs.Committed.{last_commit}
 use Rattle.sc_bucket.specs.Kept.{Sent, FeedState}
 use Rattle.sc_record.specs.Names.{is_core, key_of_core}
 use Rattle.sc_bucket.specs.Cores.{core_key, core_keys, slice_keys, is_attached, CoresAscend, IsCounted, IsCoreWithoutRoom}
-use Rattle.sc_bucket.specs.Searchers.{rows_of, AreOfEachSlice, ShowsCommitted, ArePrepared}
+use Rattle.sc_bucket.specs.Searchers.{standing_rows, AreOfEachSlice, ShowsCommitted, ArePrepared}
 use Rattle.sc_bucket.specs.Flight.{in_flight, is_same_message}
 use Rattle.sc_bucket.specs.Pending.{pending}
 use Rattle.sc_bucket.specs.declared.bucket.Bucket.{Bucket}
@@ -92,7 +92,7 @@ AreInRange messages feeds slice core = All (IsInRange slice) core.cells × All (
 pub record HasSearchers (b : Bucket) : Type 0 where
   pub each_slice : AreOfEachSlice b.map b.searchers
   pub show : All (λ (searcher : Standing). (slice : Slice) → Contains b.map slice → slice.id ≡ searcher.slice
-      → (searcher.range ≡ slice.range) × ShowsCommitted b.journal.entries slice (rows_of searcher)) b.searchers
+      → (searcher.range ≡ slice.range) × ShowsCommitted b.journal.entries slice (standing_rows searcher)) b.searchers
   pub place : All (λ (searcher : Standing). (arc_value searcher.snapshot).place ≡ last_commit b.journal.entries) b.searchers
 
 -- a message in flight is of a write of the journal that is not settled, and to a core that is there and not down
@@ -163,9 +163,9 @@ pub record IsIdle (b : Bucket) : Type 0 where
   pub whole : forming b.map ≡ []
 
 -- A split of the parent is open. Its subs are in construction, and come after all other slices.
-pub record IsOpen (b : Bucket) (parent : SliceId) : Type 0 where
+pub record IsSplitOpen (b : Bucket) (parent : SliceId) : Type 0 where
   pub begun : open_split b.journal.entries ≡ Some parent
-  pub split : IsSplit b.map parent
+  pub split : IsBeingSplit b.map parent
   pub constructed : All (λ (slice : Slice). slice.state ≡ states.Construction) (forming b.map)
   pub last : b.map ≡ filter (λ (slice : Slice). not (is_forming slice)) b.map ++ forming b.map
 
@@ -176,8 +176,8 @@ AreLedActively b = OfEachCore b (λ (slice : Slice) (core : Core). is_forming sl
 -- the bucket is in this phase
 abbrev pub IsInPhase : Bucket → Phase → Type 0
 IsInPhase b phases.Idle = IsIdle b
-IsInPhase b (phases.Building parent) = IsOpen b parent
-IsInPhase b (phases.Recovering parent) = IsOpen b parent × AreLedActively b
+IsInPhase b (phases.Building parent) = IsSplitOpen b parent
+IsInPhase b (phases.Recovering parent) = IsSplitOpen b parent × AreLedActively b
 
 -- What is true of a bucket. Each part is kept by every event.
 pub record IsSound (b : Bucket) : Type 0 where

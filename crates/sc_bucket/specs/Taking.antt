@@ -10,14 +10,13 @@ use Rattle.std.specs.declared.sync.Arc.{Arc}
 use Rattle.sc_record.specs.Writes.{is_of, write_of, AscendById}
 use Rattle.sc_record.specs.declared.entry.Entry.{Entry}
 use Rattle.sc_record.specs.declared.write.Write.{Write}
-use Rattle.sc_snapshot.specs.Rows.{SnapshotState}
+use Rattle.sc_snapshot.specs.Rows.{SnapshotState, is_within}
 use Rattle.sc_cluster.specs.declared.slice.State.TheVariants as states
 use Rattle.sc_cluster.specs.declared.slice.Slice.{Slice}
 use Rattle.sc_replica.specs.Core.{Core}
 use Rattle.sc_journal.specs.Journal.{last_of}
 use Rattle.sc_bucket.specs.Cores.{IsLeaderOf}
 use Rattle.sc_bucket.specs.Entries.{uncommitted}
-use Rattle.sc_bucket.specs.Pending.{is_within}
 use Rattle.sc_bucket.specs.Searchers.{ShowsCommitted}
 use Rattle.sc_bucket.specs.Sound.{IsInRange}
 use Rattle.sc_bucket.specs.declared.bucket.Bucket.{Bucket}

@@ -2,7 +2,7 @@ ghost use Rattle.std.specs.Prelude.{◌≡◌, ◌<◌, ◌≤◌, ◌+◌, ◌<
 ghost use Rattle.std.specs.List.{AllZip, IsDistinct};
 ghost use Rattle.std.specs.Option.{option_map};
 ghost use Rattle.std.specs.Arc.{arc_value};
-ghost use Rattle.sc_record.specs.Orders.{IsChange};
+ghost use Rattle.sc_record.specs.Orders.{IsChangeOfOrder};
 ghost use Rattle.sc_record.specs.Versions.{version_after};
 ghost use Rattle.sc_cluster.specs.Slices.{is_inactive};
 ghost use Rattle.sc_router.specs.Route.{route_hash};
@@ -318,7 +318,7 @@ fn document_after(
     last: Option<&Cell>,
     change: &Change,
 ) -> Result<Option<Doc>, PartialFault>
-    requires { IsChange change.now }
+    requires { IsChangeOfOrder change.now }
     ensures made { IfOk result (Makes (option_map arc_value (option_copied last.entry)) change.now) }
     ensures taken { OnOk result (refused (option_map arc_value (option_copied last.entry)) change.now ≡ None) }
     ensures refused { IfErr result (IsRefusalOf (refused (option_map arc_value (option_copied last.entry)) change.now)) }

@@ -5,7 +5,7 @@ ghost use Rattle.std.specs.Cmp.Lexicographic.{slice_cmp};
 ghost use Rattle.std.specs.Ordering.{nat_cmp};
 ghost use Rattle.sc_record.specs.Writes.{is_of, AscendById};
 ghost use Rattle.sc_journal.specs.Journal.{last_of};
-ghost use Rattle.sc_bucket.specs.Pending.{is_within};
+ghost use Rattle.sc_snapshot.specs.Rows.{is_within};
 ghost use Rattle.sc_bucket.specs.Taking.{AreLastOf, lent_of, all_lent};
 
 use crate::feed::is_within;

@@ -2,7 +2,8 @@ ghost use Rattle.std.specs.Prelude.{◌≡◌, ◌<◌, ◌≤◌, ◌+◌, ◌-
 ghost use Rattle.std.specs.Option.{option_map};
 ghost use Rattle.std.specs.Arc.{arc_value};
 ghost use Rattle.sc_record.specs.declared.write.Write.{Write};
-ghost use Rattle.sc_bucket.specs.Pending.{is_within, left_of, new_feed};
+ghost use Rattle.sc_snapshot.specs.Rows.{is_within};
+ghost use Rattle.sc_bucket.specs.Pending.{left_of, new_feed};
 
 use sc_hash::Range;
 use sc_record::{Cell, CoreId};
@@ -28,9 +29,8 @@ pub struct Feed {
 impl Model for Feed {
     ghost use Rattle.std.specs.Prelude.{◌≡◌, ◌≤◌, length, map, filter, drop};
     ghost use Rattle.std.specs.Arc.{arc_value};
-    ghost use Rattle.sc_snapshot.specs.Rows.{AreRows};
+    ghost use Rattle.sc_snapshot.specs.Rows.{AreRows, is_within};
     ghost use Rattle.sc_bucket.specs.Kept.{FeedState};
-    ghost use Rattle.sc_bucket.specs.Pending.{is_within};
 
     ghost Value = { FeedState };
 

@@ -5,7 +5,8 @@ ghost use Rattle.std.specs.Arc.{arc_value};
 ghost use Rattle.sc_record.specs.declared.write.Write.{Write};
 ghost use Rattle.sc_bucket.specs.Kept.{FeedState};
 ghost use Rattle.sc_record.specs.Names.{is_core};
-ghost use Rattle.sc_bucket.specs.Pending.{is_within, is_feed_of, to_feed};
+ghost use Rattle.sc_snapshot.specs.Rows.{is_within};
+ghost use Rattle.sc_bucket.specs.Pending.{is_feed_of, to_feed};
 
 use crate::feed::Feed;
 use sc_record::{Cell, CoreId};

@@ -4,7 +4,7 @@ ghost use Rattle.std.specs.List.{insert};
 ghost use Rattle.sc_replica.specs.Core.{Core, led, received, fed, replayed};
 ghost use Rattle.sc_replica.specs.Deliveries.{replaying};
 ghost use Rattle.sc_record.specs.Names.{is_core};
-ghost use Rattle.sc_bucket.specs.Cores.{core_key, core_keys, slice_keys, core_number, put_by_name, is_of_one, IsCounted, IsNewCore, is_number, seated, with_room};
+ghost use Rattle.sc_bucket.specs.Cores.{core_key, core_keys, slice_keys, core_number, put_by_name, is_of_one, IsCounted, IsNewCore, is_numbered, seated, with_room};
 
 use sc_cluster::{ClusterMap, Slice};
 use sc_record::{Cell, CoreId, SliceId};
@@ -134,8 +134,8 @@ impl Replicas {
 
     /// The seat of the slice's core of this number; None where it is not there.
     pub fn seat_of(&self, slice: SliceId, number: u8) -> Option<u8>
-        ensures { MatchOption result (All (λ (core : Core). is_number slice number core ≡ false) self.now)
-            (λ seat. (core : Core) × Contains self.now core × (core.core.replica ≡ seat) × (is_number slice number core ≡ true)) }
+        ensures { MatchOption result (All (λ (core : Core). is_numbered slice number core ≡ false) self.now)
+            (λ seat. (core : Core) × Contains self.now core × (core.core.replica ≡ seat) × (is_numbered slice number core ≡ true)) }
     {
         let replica = self.replicas.iter().find(|replica| replica.core().slice == slice
             && replica.number() == number)?;

@@ -2,7 +2,7 @@ ghost use Rattle.std.specs.Prelude.{◌≡◌, ◌≢◌, IsSome, false, All};
 ghost use Rattle.sc_journal.specs.Journal.{write_at, is_settled};
 ghost use Rattle.sc_bucket.specs.Sound.{IsSound};
 ghost use Rattle.sc_bucket.specs.Kept.{Sent};
-ghost use Rattle.sc_bucket.specs.Events.{Settles, Notes};
+ghost use Rattle.sc_bucket.specs.Events.{Settles, NotesSettled};
 
 use crate::bucket::Bucket;
 use sc_record::Entry;
@@ -28,7 +28,7 @@ impl Bucket {
         requires unsettled { is_settled self.old.journal.entries place ≡ false }
         requires delivered { All (λ (message : Sent). message.place ≢ place) self.old.flight.messages }
         ensures sound { IsSound self.new }
-        ensures noted { Notes self.old place self.new }
+        ensures noted { NotesSettled self.old place self.new }
     {
         self.journal.append(Entry::Settled { place });
         self.unsettled.remove(place);

@@ -3,7 +3,7 @@ use Rattle.std.proofs.Common.{◌≡◌, ◌≢◌, ℕ, ◌+◌, ◌-◌, ◌<�
 use Rattle.std.proofs.lemmas.List.{take_more}
 use Rattle.std.proofs.Math.Seq.{take-add}
 use Rattle.sc_chunks.specs.Coding.{coding_limit}
-use Rattle.sc_chunks.specs.Progress.{ReachesPlace, InChunk, IsStepOf, IsAdvanceOf, IsRefused, NeedsByte}
+use Rattle.sc_chunks.specs.Progress.{ReachesPlace, InChunk, IsStepOf, IsAdvanceOf, IsRefusedCoding, NeedsByte}
 use Rattle.sc_chunks.specs.declared.error.DecodeError.{DecodeError}
 use Rattle.sc_chunks.specs.declared.place.Place.{Place}
 use Rattle.sc_chunks.specs.declared.place.Place.TheVariants as places
@@ -18,7 +18,7 @@ byte_taken coded bytes content at place inside step = subst (λ (xs : List ℕ).
 
 pub byte_refused : (coded bytes content : List ℕ) (at : ℕ) (place : Place) (error : DecodeError) → at < length bytes
     → IsStepOf (coded ++ take at bytes) (get_or bytes at 0) content (Err error) → IsAdvanceOf coded bytes content place (Err error)
-byte_refused coded bytes content at place error inside step = (at + 1, subst (λ (xs : List ℕ). IsRefused error xs) (one_more coded bytes at inside) step)
+byte_refused coded bytes content at place error inside step = (at + 1, subst (λ (xs : List ℕ). IsRefusedCoding error xs) (one_more coded bytes at inside) step)
 
 pub room_before : (coded bytes : List ℕ) (at : ℕ) → length coded + length bytes ≤ coding_limit → at < length bytes → length (coded ++ take at bytes) < coding_limit
 room_before coded bytes at fits inside =

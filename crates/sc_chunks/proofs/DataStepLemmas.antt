@@ -5,8 +5,8 @@ use Rattle.std.proofs.lemmas.List.Elements.{All-append, All-cons, All-nil}
 use Rattle.httparse.specs.Ascii.{crlf_bytes}
 use Rattle.httparse.specs.Grammar.{print_chunk_line, chunk_size}
 use Rattle.sc_chunks.specs.Coding.{data_limit, Chunk, print_chunk, IsChunk, print_chunks, data_of}
-use Rattle.sc_chunks.specs.Endings.{HasNoCoding, StatesTooMuch, NeverBeginsLineEnd, PassesTrailers, MayBecomeCoding, IsOpen}
-use Rattle.sc_chunks.specs.Progress.{AtLine, InDigits, BeforeReturn, InChunk, IsRefused}
+use Rattle.sc_chunks.specs.Endings.{HasNoCoding, StatesTooMuch, NeverBeginsLineEnd, PassesTrailers, MayBecomeCoding, IsOpenCoding}
+use Rattle.sc_chunks.specs.Progress.{AtLine, InDigits, BeforeReturn, InChunk, IsRefusedCoding}
 use Rattle.sc_chunks.specs.declared.error.DecodeError.TheVariants as errors
 use Rattle.sc_chunks.proofs.ChunkLemmas.{same_split}
 use Rattle.sc_chunks.proofs.CodingLemmas.{Only, NoData, only_line}
@@ -35,7 +35,7 @@ no_data_of_few coded content left c x few text after some long same =
     omega (arith, a, b, ap length same, long, c.size, few)
 
 in_chunk_open : (coded content : List ℕ) (left : ℕ) (c : InChunk coded content left) (x : List ℕ) → NoData c.line (c.part ++ x)
-    → MayBecomeCoding ((print_chunks c.chunks ++ (print_chunk_line c.line ++ c.part)) ++ x) → IsOpen (coded ++ x)
+    → MayBecomeCoding ((print_chunks c.chunks ++ (print_chunk_line c.line ++ c.part)) ++ x) → IsOpenCoding (coded ++ x)
 in_chunk_open coded content left c x none may =
     let whole = in_chunk_then coded content left c x in
     let only = in_chunk_only coded content left c x none in
@@ -47,14 +47,14 @@ in_chunk_open coded content left c x none may =
       few = subst (λ xs. ¬ (PassesTrailers xs)) (sym whole) (only_few c.chunks c.line tail (c.part ++ x) c.all c.some only);
     }
 
-pub data_open : (coded content : List ℕ) (left : ℕ) → InChunk coded content left → IsOpen coded
+pub data_open : (coded content : List ℕ) (left : ℕ) → InChunk coded content left → IsOpenCoding coded
 data_open coded content left c =
-    subst IsOpen (append-nil coded) (in_chunk_open coded content left c [] (no_data_of_few coded content left c [] (omega arith))
+    subst IsOpenCoding (append-nil coded) (in_chunk_open coded content left c [] (no_data_of_few coded content left c [] (omega arith))
     (may_with_part c.chunks c.line c.part [] left c.all c.is_line c.some c.size (omega arith)))
 
-pub data_return_open : (coded content : List ℕ) → BeforeReturn (λ earlier. InChunk earlier content 0) coded → IsOpen coded
+pub data_return_open : (coded content : List ℕ) → BeforeReturn (λ earlier. InChunk earlier content 0) coded → IsOpenCoding coded
 data_return_open coded content (earlier, c, same) =
-    subst IsOpen (sym same) (in_chunk_open earlier content 0 c (13 ∷ []) (no_data_of_few earlier content 0 c (13 ∷ []) (omega arith))
+    subst IsOpenCoding (sym same) (in_chunk_open earlier content 0 c (13 ∷ []) (no_data_of_few earlier content 0 c (13 ∷ []) (omega arith))
     (may_with_end c.chunks c.line c.part (13 ∷ []) (10 ∷ []) c.all c.is_line c.some c.size refl))
 
 pub data_taken : (coded content taken : List ℕ) (left : ℕ) → InChunk coded content left → length taken ≤ left
@@ -94,7 +94,7 @@ data_ended coded content b (earlier, c, same) feed =
     } in
     nothing_of_line (coded ++ b ∷ []) content at
 
-end_is_bad : (coded content bytes : List ℕ) → InChunk coded content 0 → NeverBeginsLineEnd bytes → IsRefused errors.Malformed (coded ++ bytes)
+end_is_bad : (coded content bytes : List ℕ) → InChunk coded content 0 → NeverBeginsLineEnd bytes → IsRefusedCoding errors.Malformed (coded ++ bytes)
 end_is_bad coded content bytes c never =
     let little = only_little c.chunks c.line _ (c.part ++ bytes) c.all (in_chunk_little coded content 0 c)
     (in_chunk_only coded content 0 c bytes (subst (λ xs. NoData c.line (c.part ++ xs)) (append-nil bytes) (stuck []))) in (
@@ -108,16 +108,16 @@ end_is_bad coded content bytes c never =
         let split = same_split c.part text (bytes ++ more) (crlf_bytes ++ after) (omega (arith, long, c.size)) same in
         never more (after, sym split.1)
 
-pub no_return_after_data : (coded content : List ℕ) (b : ℕ) → InChunk coded content 0 → b ≢ 13 → IsRefused errors.Malformed (coded ++ b ∷ [])
+pub no_return_after_data : (coded content : List ℕ) (b : ℕ) → InChunk coded content 0 → b ≢ 13 → IsRefusedCoding errors.Malformed (coded ++ b ∷ [])
 no_return_after_data coded content b c other = end_is_bad coded content (b ∷ []) c never
   where
     never : NeverBeginsLineEnd (b ∷ [])
     never more (rest, begins) = let e : b ≡ 13 = cc in other e
 
 pub no_feed_after_data : (coded content : List ℕ) (b : ℕ) → BeforeReturn (λ earlier. InChunk earlier content 0) coded → b ≢ 10
-    → IsRefused errors.Malformed (coded ++ b ∷ [])
+    → IsRefusedCoding errors.Malformed (coded ++ b ∷ [])
 no_feed_after_data coded content b (earlier, c, same) other =
-    subst (λ xs. IsRefused errors.Malformed xs) (sym (ap (λ xs. xs ++ b ∷ []) same ∙ append_assoc earlier (13 ∷ []) (b ∷ []))) (end_is_bad earlier content (13 ∷ b ∷ []) c never)
+    subst (λ xs. IsRefusedCoding errors.Malformed xs) (sym (ap (λ xs. xs ++ b ∷ []) same ∙ append_assoc earlier (13 ∷ []) (b ∷ []))) (end_is_bad earlier content (13 ∷ b ∷ []) c never)
   where
     never : NeverBeginsLineEnd (13 ∷ b ∷ [])
     never more (rest, begins) = let e : b ≡ 10 = cc in other e

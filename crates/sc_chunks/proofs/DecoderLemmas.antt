@@ -6,7 +6,7 @@ use Rattle.std.proofs.Math.Seq.{take-append-add}
 use Rattle.std.specs.Prelude.{IfErr}
 use Rattle.std.specs.Result.{IsErrAnd}
 use Rattle.sc_chunks.specs.Coding.{coding_limit}
-use Rattle.sc_chunks.specs.Endings.{IsOpen, StatesTooMuch, coding_window, partial, too_large, EndsCoding}
+use Rattle.sc_chunks.specs.Endings.{IsOpenCoding, StatesTooMuch, coding_window, partial, too_large, EndsCoding}
 use Rattle.sc_chunks.specs.Progress.{ReachesPlace, Reaches, IsWhole, EndsBy, IsAdvanceOf}
 use Rattle.sc_chunks.specs.declared.decoder.Decoder.{Decoder}
 use Rattle.sc_chunks.specs.declared.error.DecodeError.{DecodeError}
@@ -19,7 +19,7 @@ use Rattle.sc_chunks.proofs.DataStepLemmas.{data_open, data_return_open}
 use Rattle.sc_chunks.proofs.TrailerStepLemmas.{trailer_open}
 
 -- before the end of a coding its bytes are open
-pub place_open : (coded content : List ℕ) (place : Place) → ReachesPlace coded content place → place ≢ places.End → IsOpen coded
+pub place_open : (coded content : List ℕ) (place : Place) → ReachesPlace coded content place → place ≢ places.End → IsOpenCoding coded
 place_open coded content (places.Digits size count) reached going = digits_open coded content size count reached
 place_open coded content (places.Pad size) reached going = line_open coded content size reached.0
 place_open coded content (places.Extension size) reached going = line_open coded content size reached.0
@@ -95,7 +95,7 @@ past_limit coded bytes content room n count place limit least short all reached 
       | inl whole ↦ take_all count (take n bytes) (omega (arith, whole))
       | inr end ↦ absurd (going end)
     ] in
-    inr (omega (arith, parts, limit, more), subst IsOpen (sym (window ∙ ap (λ xs. coded ++ xs) (sym taken))) (place_open (coded ++ take count (take n bytes)) content place reached going))
+    inr (omega (arith, parts, limit, more), subst IsOpenCoding (sym (window ∙ ap (λ xs. coded ++ xs) (sym taken))) (place_open (coded ++ take count (take n bytes)) content place reached going))
 
 -- what `?` hands on
 pub handed_on : (result : Result ℕ DecodeError) (error : DecodeError) (bytes : List ℕ) → IsErrAnd result (λ found. found ≡ error) → EndsBy error bytes

@@ -8,7 +8,7 @@ use Rattle.std.proofs.Math.Seq.{take-append-add}
 use Rattle.httparse.specs.Ascii.{crlf_bytes}
 use Rattle.httparse.specs.Grammar.{print_chunk_line, chunk_size}
 use Rattle.sc_chunks.specs.Coding.{coding_limit, data_limit, trailer_limit, print_chunks, data_of, IsTrailer, print_lines, Coding, print_coding, ReadsCoding, HasCoding}
-use Rattle.sc_chunks.specs.Endings.{NeverHasCoding, MayBecomeCoding, HasLine, StatesTooMuch, PassesTrailers, IsOpen, partial, malformed, too_large, coding_window, HasMalformedCoding, HasTooLargeCoding}
+use Rattle.sc_chunks.specs.Endings.{NeverHasCoding, MayBecomeCoding, HasLine, StatesTooMuch, PassesTrailers, IsOpenCoding, partial, malformed, too_large, coding_window, HasMalformedCoding, HasTooLargeCoding}
 use Rattle.sc_chunks.specs.Laws.{NoEndOfCoding, OneCodingEnd, CodingStays, MalformedStays, TooLargeStays}
 use Rattle.sc_chunks.proofs.LineLemmas.{empty_line_after}
 use Rattle.sc_chunks.proofs.ChunkLemmas.{peel}
@@ -139,7 +139,7 @@ no_end_of_coding bytes too_large coding rest ends has = too_large_has_none bytes
 -- ---- one end
 
 -- bytes that a prefix decides are not open
-open_undecided : (prefix more : List ℕ) → IsOpen (prefix ++ more) → ¬ (NeverHasCoding prefix ⊎ PassesTrailers prefix)
+open_undecided : (prefix more : List ℕ) → IsOpenCoding (prefix ++ more) → ¬ (NeverHasCoding prefix ⊎ PassesTrailers prefix)
 open_undecided prefix more is (inl never) = may_never prefix more never is.open_
 open_undecided prefix more is (inr passes) = is.few (passes_stays prefix more passes)
 
@@ -177,10 +177,10 @@ decided_states prefix more (inr passes) states =
           (only_line passes.last tail has.is_line (no_data_of_last passes.last tail passes.ends)) (subst StatesTooMuch has.whole states))
     ]
 
-partial_not_malformed : (bytes : List ℕ) → IsOpen bytes → ¬ (HasMalformedCoding bytes)
-partial_not_malformed bytes is bad = open_undecided bad.prefix bad.begins.0 (subst IsOpen (sym bad.begins.1) is) bad.decides
+partial_not_malformed : (bytes : List ℕ) → IsOpenCoding bytes → ¬ (HasMalformedCoding bytes)
+partial_not_malformed bytes is bad = open_undecided bad.prefix bad.begins.0 (subst IsOpenCoding (sym bad.begins.1) is) bad.decides
 
-partial_not_too_large : (bytes : List ℕ) → length bytes ≤ coding_limit → IsOpen bytes → ¬ (HasTooLargeCoding bytes)
+partial_not_too_large : (bytes : List ℕ) → length bytes ≤ coding_limit → IsOpenCoding bytes → ¬ (HasTooLargeCoding bytes)
 partial_not_too_large bytes within is (inl states) = is.little (states_in_window bytes states)
 partial_not_too_large bytes within is (inr long) = omega (arith, within, long.0)
 
@@ -194,7 +194,7 @@ malformed_not_too_large : (bytes : List ℕ) → HasMalformedCoding bytes → ¬
 malformed_not_too_large bytes bad (inl states) =
     bad.little (decided_states bad.prefix bad.begins.0 bad.decides (subst StatesTooMuch (sym bad.begins.1) (states_in_window bytes states)))
 malformed_not_too_large bytes bad (inr long) =
-    open_undecided bad.prefix _ (subst IsOpen (prefix_in_window bad.prefix bad.begins.0 bytes bad.within bad.begins.1) long.1) bad.decides
+    open_undecided bad.prefix _ (subst IsOpenCoding (prefix_in_window bad.prefix bad.begins.0 bytes bad.within bad.begins.1) long.1) bad.decides
 
 pub one_coding_end : OneCodingEnd
 one_coding_end bytes partial partial ends also = refl
@@ -230,4 +230,4 @@ pub too_large_stays : TooLargeStays
 too_large_stays bytes more (inl states) = inl (subst StatesTooMuch (sym (window_then bytes more)) (states_stays (coding_window bytes) _ states))
 too_large_stays bytes more (inr long) =
     let parts = length-append bytes more in
-    inr (omega (arith, long.0, parts), subst IsOpen (sym (take-append-le coding_limit bytes more (omega (arith, long.0)))) long.1)
+    inr (omega (arith, long.0, parts), subst IsOpenCoding (sym (take-append-le coding_limit bytes more (omega (arith, long.0)))) long.1)

@@ -8,8 +8,8 @@ use Rattle.httparse.specs.Ascii.{crlf_bytes}
 use Rattle.httparse.specs.Grammar.{is_ows, is_extension_byte, AllPass, print_extension, ChunkLine, print_chunk_line, IsExtension, IsChunkLine, NeverHasChunkLine, HasNoChunkLine}
 use Rattle.httparse.proofs.ChunkLemmas.{digits_value_after_push}
 use Rattle.sc_chunks.specs.Coding.{data_limit, print_chunks, data_of, IsTrailer}
-use Rattle.sc_chunks.specs.Endings.{HasNoCoding, StatesTooMuch, IsOpen}
-use Rattle.sc_chunks.specs.Progress.{AtLine, IsSizeSoFar, InDigits, line_text, InLine, InPad, InExtension, BeforeReturn, InChunk, InTrailers, InTrailer, IsRefused}
+use Rattle.sc_chunks.specs.Endings.{HasNoCoding, StatesTooMuch, IsOpenCoding}
+use Rattle.sc_chunks.specs.Progress.{AtLine, IsSizeSoFar, InDigits, line_text, InLine, InPad, InExtension, BeforeReturn, InChunk, InTrailers, InTrailer, IsRefusedCoding}
 use Rattle.sc_chunks.specs.declared.error.DecodeError.TheVariants as errors
 use Rattle.sc_chunks.proofs.LineLemmas.{no_end_in_nothing}
 use Rattle.sc_chunks.proofs.StuckLemmas.{no_line, line_none, line_little, line_few}
@@ -19,17 +19,17 @@ use Rattle.sc_chunks.proofs.ChunkLineLemmas.{line_whole, part_has_none, never_wi
 -- ---- a part of a chunk line is open
 
 part_open : (coded content before part more : List ℕ) (line : ChunkLine) → AtLine before content → coded ≡ before ++ part → IsChunkLine line
-    → part ++ more ≡ print_chunk_line line → 0 < length more → IsOpen coded
+    → part ++ more ≡ print_chunk_line line → 0 < length more → IsOpenCoding coded
 part_open coded content before part more line at whole is same some =
     let little : length (data_of at.chunks) ≤ data_limit = omega (arith, at.within, ap length at.carried) in
     let none = no_line part (part_has_none part more line is same some) in
-    let here : IsOpen (print_chunks at.chunks ++ part) = record {
+    let here : IsOpenCoding (print_chunks at.chunks ++ part) = record {
       none = line_none at.chunks part at.all none;
       open_ = may_with_line at.chunks line part more at.all is same;
       little = line_little at.chunks part at.all none little;
       few = line_few at.chunks part at.all none;
     } in
-    subst IsOpen (sym (whole ∙ ap (λ xs. xs ++ part) at.whole)) here
+    subst IsOpenCoding (sym (whole ∙ ap (λ xs. xs ++ part) at.whole)) here
 
 -- the line of some digits alone
 abbrev pub line_of : List ℕ → ChunkLine
@@ -38,20 +38,20 @@ line_of digits = record { digits = digits; pad = []; extension = None }
 pub is_line_of : (digits : List ℕ) → AllPass is_ascii_hexdigit digits → 0 < length digits → length digits ≤ 16 → IsChunkLine (line_of digits)
 is_line_of digits all some few = record { digits = (some, few, all); pad = All-nil (λ b. is_ows b ≡ true); extension = tt }
 
-pub digits_open : (coded content : List ℕ) (size count : ℕ) → InDigits coded content size count → IsOpen coded
+pub digits_open : (coded content : List ℕ) (size count : ℕ) → InDigits coded content size count → IsOpenCoding coded
 digits_open coded content size count d = by_digits d.digits refl
   where
-    by_digits : (digits : List ℕ) → d.digits ≡ digits → IsOpen coded
+    by_digits : (digits : List ℕ) → d.digits ≡ digits → IsOpenCoding coded
     by_digits [] same = part_open coded content d.before [] (48 ∷ crlf_bytes) last_zero d.at (d.whole ∙ ap (λ xs. d.before ++ xs) same) zero_is_line (sym (line_whole last_zero)) (omega arith)
     by_digits (b ∷ digits) same =
         let some : 0 < length d.digits = omega (arith, ap length same) in
         part_open coded content d.before d.digits crlf_bytes (line_of d.digits) d.at d.whole (is_line_of d.digits d.all some (omega (arith, d.count_is, d.few)))
         (sym (line_whole (line_of d.digits) ∙ ap (λ xs. xs ++ crlf_bytes) (append-nil d.digits))) (omega arith)
 
-pub line_open : (coded content : List ℕ) (size : ℕ) → InLine coded content size → IsOpen coded
+pub line_open : (coded content : List ℕ) (size : ℕ) → InLine coded content size → IsOpenCoding coded
 line_open coded content size l = part_open coded content l.before (line_text l.line) crlf_bytes l.line l.at l.whole l.is_line (sym (line_whole l.line)) (omega arith)
 
-pub return_open : (coded content : List ℕ) (size : ℕ) → BeforeReturn (λ earlier. InLine earlier content size) coded → IsOpen coded
+pub return_open : (coded content : List ℕ) (size : ℕ) → BeforeReturn (λ earlier. InLine earlier content size) coded → IsOpenCoding coded
 return_open coded content size (earlier, l, same) =
     part_open coded content l.before (line_text l.line ++ 13 ∷ []) (10 ∷ []) l.line l.at
     (same ∙ ap (λ xs. xs ++ 13 ∷ []) l.whole ∙ append_assoc l.before (line_text l.line) (13 ∷ []))
@@ -60,7 +60,7 @@ return_open coded content size (earlier, l, same) =
 -- ---- a byte that belongs to no chunk line
 
 byte_is_bad : (coded content before part : List ℕ) (b : ℕ) → AtLine before content → coded ≡ before ++ part → NeverHasChunkLine (part ++ b ∷ [])
-    → IsRefused errors.Malformed (coded ++ b ∷ [])
+    → IsRefusedCoding errors.Malformed (coded ++ b ∷ [])
 byte_is_bad coded content before part b at whole never =
     let bytes = part ++ b ∷ [] in
     let all : coded ++ b ∷ [] ≡ print_chunks at.chunks ++ bytes = ap (λ xs. xs ++ b ∷ []) (whole ∙ ap (λ xs. xs ++ part) at.whole) ∙ append_assoc (print_chunks at.chunks) part (b ∷ []) in
@@ -72,30 +72,30 @@ byte_is_bad coded content before part b at whole never =
     )
 
 pub digit_too_many : (coded content : List ℕ) (size count b : ℕ) → InDigits coded content size count → 16 ≤ count → is_ascii_hexdigit b ≡ true
-    → IsRefused errors.Malformed (coded ++ b ∷ [])
+    → IsRefusedCoding errors.Malformed (coded ++ b ∷ [])
 digit_too_many coded content size count b d many digit =
     byte_is_bad coded content d.before d.digits b d.at d.whole (never_with_more_digits d.digits b d.all (omega (arith, many, d.count_is)) digit)
 
 pub no_digit_at_all : (coded content : List ℕ) (size count b : ℕ) → InDigits coded content size count → count ≡ 0 → is_ascii_hexdigit b ≡ false
-    → IsRefused errors.Malformed (coded ++ b ∷ [])
+    → IsRefusedCoding errors.Malformed (coded ++ b ∷ [])
 no_digit_at_all coded content size count b d none no_digit = by_digits d.digits refl
   where
-    by_digits : (digits : List ℕ) → d.digits ≡ digits → IsRefused errors.Malformed (coded ++ b ∷ [])
+    by_digits : (digits : List ℕ) → d.digits ≡ digits → IsRefusedCoding errors.Malformed (coded ++ b ∷ [])
     by_digits [] same = byte_is_bad coded content d.before [] b d.at (d.whole ∙ ap (λ xs. d.before ++ xs) same) (never_without_digit b no_digit)
     by_digits (c ∷ digits) same = absurd (omega (arith, ap length same, d.count_is, none))
 
 pub bad_after_size : (coded content : List ℕ) (size b : ℕ) (l : InLine coded content size) → l.line.extension ≡ None
-    → (is_ascii_hexdigit b ≡ false) ⊎ (0 < length l.line.pad) → is_ows b ≡ false → b ≢ 59 → b ≢ 13 → IsRefused errors.Malformed (coded ++ b ∷ [])
+    → (is_ascii_hexdigit b ≡ false) ⊎ (0 < length l.line.pad) → is_ows b ≡ false → b ≢ 59 → b ≢ 13 → IsRefusedCoding errors.Malformed (coded ++ b ∷ [])
 bad_after_size coded content size b l none stops no_space no_semicolon no_return =
     byte_is_bad coded content l.before (line_text l.line) b l.at l.whole (never_after_size l.line b l.is_line none stops no_space no_semicolon no_return)
 
-pub feed_in_extension : (coded content : List ℕ) (size b : ℕ) → InExtension coded content size → b ≡ 10 → IsRefused errors.Malformed (coded ++ b ∷ [])
+pub feed_in_extension : (coded content : List ℕ) (size b : ℕ) → InExtension coded content size → b ≡ 10 → IsRefusedCoding errors.Malformed (coded ++ b ∷ [])
 feed_in_extension coded content size b (l, text, some) feed =
-    subst (λ c. IsRefused errors.Malformed (coded ++ c ∷ [])) (sym feed)
+    subst (λ c. IsRefusedCoding errors.Malformed (coded ++ c ∷ [])) (sym feed)
     (byte_is_bad coded content l.before (line_text l.line) 10 l.at l.whole (never_in_extension l.line text l.is_line some))
 
 pub no_feed_after_return : (coded content : List ℕ) (size b : ℕ) → BeforeReturn (λ earlier. InLine earlier content size) coded → b ≢ 10
-    → IsRefused errors.Malformed (coded ++ b ∷ [])
+    → IsRefusedCoding errors.Malformed (coded ++ b ∷ [])
 no_feed_after_return coded content size b (earlier, l, same) no_feed =
     byte_is_bad coded content l.before (line_text l.line ++ 13 ∷ []) b l.at
     (same ∙ ap (λ xs. xs ++ 13 ∷ []) l.whole ∙ append_assoc l.before (line_text l.line) (13 ∷ [])) (never_after_return l.line b l.is_line no_feed)

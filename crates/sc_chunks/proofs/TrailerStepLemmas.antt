@@ -9,8 +9,8 @@ use Rattle.std.proofs.lemmas.List.Elements.{All-append, All-cons, All-nil}
 use Rattle.httparse.specs.Ascii.{crlf_bytes}
 use Rattle.httparse.specs.Grammar.{print_chunk_line}
 use Rattle.sc_chunks.specs.Coding.{coding_limit, trailer_limit, print_chunks, HasNoLineEnd, has_name, IsTrailer, print_lines, print_coding}
-use Rattle.sc_chunks.specs.Endings.{HasNoCoding, StatesTooMuch, NeverBeginsLineEnd, PassesTrailers, MayBecomeCoding, IsOpen}
-use Rattle.sc_chunks.specs.Progress.{InTrailers, EndsInReturn, InTrailer, IsCodingOf, IsRefused}
+use Rattle.sc_chunks.specs.Endings.{HasNoCoding, StatesTooMuch, NeverBeginsLineEnd, PassesTrailers, MayBecomeCoding, IsOpenCoding}
+use Rattle.sc_chunks.specs.Progress.{InTrailers, EndsInReturn, InTrailer, IsCodingOf, IsRefusedCoding}
 use Rattle.sc_chunks.specs.declared.error.DecodeError.TheVariants as errors
 use Rattle.sc_chunks.proofs.LineLemmas.{no_end_in_nothing, no_end_in_tail, same_line, no_end_before}
 use Rattle.sc_chunks.proofs.CodingLemmas.{Only, only_line, no_data_of_last}
@@ -38,19 +38,19 @@ in_trailers_none coded content size t x none =
     subst HasNoCoding (sym (in_trailers_then coded content size t x))
     (last_none t.chunks t.last t.lines _ x t.all t.trailers (in_trailers_only coded content size t x) none)
 
-pub trailer_open : (coded content : List ℕ) (size count : ℕ) (named returned : Bool) → InTrailer coded content size count named returned → IsOpen coded
+pub trailer_open : (coded content : List ℕ) (size count : ℕ) (named returned : Bool) → InTrailer coded content size count named returned → IsOpenCoding coded
 trailer_open coded content size count named returned r =
     let t = r.at in
     let only = in_trailers_only r.before content size t r.part in
     let few : FewLeft size r.part = elim r.few [ inl short ↦ inl (omega (arith, short, r.count_is)) | inr may ↦ inr may ] in
-    let here : IsOpen (r.before ++ r.part) = record {
+    let here : IsOpenCoding (r.before ++ r.part) = record {
       none = in_trailers_none r.before content size t r.part (no_empty_line r.part r.one_line);
       open_ = subst MayBecomeCoding (ap (λ xs. xs ++ r.part) (sym t.whole)) (may_with_trailer t.chunks t.last t.lines r.part t.all t.is_line t.ends t.trailers r.one_line);
       little = in_trailers_little r.before content size t r.part;
       few = subst (λ xs. ¬ (PassesTrailers xs)) (sym (in_trailers_then r.before content size t r.part))
           (last_few t.chunks t.last t.lines _ r.part t.all t.trailers only r.one_line (omega (arith, t.few, t.size_is)) (subst (λ n. FewLeft n r.part) t.size_is few));
     } in
-    subst IsOpen (sym r.whole) here
+    subst IsOpenCoding (sym r.whole) here
 
 -- ---- a line that ends
 
@@ -138,7 +138,7 @@ coding_ends coded content size count named r room one =
 
 -- a trailer line that has no name, or is too much
 bad_line : (before content text : List ℕ) (size : ℕ) → InTrailers before content size → HasNoLineEnd text → 0 < length text → (IsTrailer text → ⊥)
-    → IsRefused errors.Malformed (before ++ (text ++ crlf_bytes))
+    → IsRefusedCoding errors.Malformed (before ++ (text ++ crlf_bytes))
 bad_line before content text size t none some bad = (
   inl (λ more. subst HasNoCoding (sym (append_assoc before (text ++ crlf_bytes) more))
       (in_trailers_none before content size t ((text ++ crlf_bytes) ++ more)
@@ -147,7 +147,7 @@ bad_line before content text size t none some bad = (
 )
 
 long_part : (before content text part : List ℕ) (size : ℕ) → InTrailers before content size → HasNoLineEnd text → (more : List ℕ) → part ++ more ≡ text ++ crlf_bytes
-    → NeverBeginsLineEnd part → trailer_limit < size + length part → IsRefused errors.Malformed (before ++ part)
+    → NeverBeginsLineEnd part → trailer_limit < size + length part → IsRefusedCoding errors.Malformed (before ++ part)
 long_part before content text part size t none more of not_empty many = (
   inr record {
     chunks = t.chunks;
@@ -195,7 +195,7 @@ line_ends coded content size count named r some short is_named =
     nothing_of_trailer (coded ++ 10 ∷ []) content (size + count + 1) at
 
 pub line_has_no_name : (coded content : List ℕ) (size count : ℕ) (named : Bool) → InTrailer coded content size count named true → count ≢ 1 → named ≡ false
-    → IsRefused errors.Malformed (coded ++ 10 ∷ [])
+    → IsRefusedCoding errors.Malformed (coded ++ 10 ∷ [])
 line_has_no_name coded content size count named r some unnamed =
     let start = r.returned_is.yes refl in
     let text = start.0 in
@@ -203,11 +203,11 @@ line_has_no_name coded content size count named r some unnamed =
     let long : 0 < length text = omega (arith, parts, ap length start.1, r.count_is, some) in
     let none = no_end_before_return text (subst HasNoLineEnd start.1 r.one_line) in
     let name : has_name text ≡ false = sym (name_with_return text long) ∙ ap has_name (sym start.1) ∙ sym r.named_is ∙ unnamed in
-    subst (λ xs. IsRefused errors.Malformed xs) (sym (ended coded content size count named r text start.1))
+    subst (λ xs. IsRefusedCoding errors.Malformed xs) (sym (ended coded content size count named r text start.1))
     (bad_line r.before content text size r.at none long (λ is. false≢true (sym name ∙ is.named)))
 
 pub line_is_long : (coded content : List ℕ) (size count : ℕ) (named : Bool) → InTrailer coded content size count named true → count ≢ 1 → trailer_limit ≤ size + count
-    → IsRefused errors.Malformed (coded ++ 10 ∷ [])
+    → IsRefusedCoding errors.Malformed (coded ++ 10 ∷ [])
 line_is_long coded content size count named r some much =
     let start = r.returned_is.yes refl in
     let text = start.0 in
@@ -215,7 +215,7 @@ line_is_long coded content size count named r some much =
     let long : count ≡ length text + 1 = omega (arith, parts, ap length start.1, r.count_is) in
     let ends = length-append text crlf_bytes in
     let none = no_end_before_return text (subst HasNoLineEnd start.1 r.one_line) in
-    subst (λ xs. IsRefused errors.Malformed xs) (sym (ended coded content size count named r text start.1))
+    subst (λ xs. IsRefusedCoding errors.Malformed xs) (sym (ended coded content size count named r text start.1))
     (long_part r.before content text (text ++ crlf_bytes) size r.at none [] (append-nil (text ++ crlf_bytes)) (never_empty text none (omega (arith, long, some))) (omega (arith, much, long, ends)))
 
 -- ---- a line that goes on
@@ -304,12 +304,12 @@ text_goes_on coded content size count b named returned next r other short name =
     }
 
 pub text_is_long : (coded content : List ℕ) (size count b : ℕ) (named returned : Bool) → InTrailer coded content size count named returned
-    → ¬ ((returned ≡ true) × (b ≡ 10)) → trailer_limit ≤ size + count → (0 < count) ⊎ (b ≢ 13) → IsRefused errors.Malformed (coded ++ b ∷ [])
+    → ¬ ((returned ≡ true) × (b ≡ 10)) → trailer_limit ≤ size + count → (0 < count) ⊎ (b ≢ 13) → IsRefusedCoding errors.Malformed (coded ++ b ∷ [])
 text_is_long coded content size count b named returned r other much what =
     let part = r.part ++ b ∷ [] in
     let parts = length-append r.part (b ∷ []) in
     let none = no_end_more r.part b returned r.one_line r.returned_is other in
-    subst (λ xs. IsRefused errors.Malformed xs) (sym (more_whole coded content size count b named returned r))
+    subst (λ xs. IsRefusedCoding errors.Malformed xs) (sym (more_whole coded content size count b named returned r))
     (long_part r.before content part part size r.at none crlf_bytes refl (never r.part refl) (omega (arith, much, parts, r.count_is)))
   where
     none_here : HasNoLineEnd (r.part ++ b ∷ [])

@@ -53,7 +53,7 @@ pub record PassesTrailers (bytes : List ℕ) : Type 0 where
   pub many : trailer_limit < length (print_lines lines) + length part
 
 -- the bytes end before a coding is whole, which more bytes could make whole, and no limit of data or trailers is passed
-pub record IsOpen (bytes : List ℕ) : Type 0 where
+pub record IsOpenCoding (bytes : List ℕ) : Type 0 where
   pub none : HasNoCoding bytes
   pub open_ : MayBecomeCoding bytes
   pub little : ¬ (StatesTooMuch bytes)
@@ -78,10 +78,10 @@ pub record HasMalformedCoding (bytes : List ℕ) : Type 0 where
 
 -- a chunk line within the limit of a coding states too much, or the bytes go on past that limit and the coding is not whole there
 abbrev pub HasTooLargeCoding : List ℕ → Type 0
-HasTooLargeCoding bytes = StatesTooMuch (coding_window bytes) ⊎ ((coding_limit < length bytes) × IsOpen (coding_window bytes))
+HasTooLargeCoding bytes = StatesTooMuch (coding_window bytes) ⊎ ((coding_limit < length bytes) × IsOpenCoding (coding_window bytes))
 
 -- the bytes begin with no whole coding within its limits, and this is why
 abbrev pub EndsCoding : List ℕ → CodingEnd → Type 0
-EndsCoding bytes partial = (length bytes ≤ coding_limit) × IsOpen bytes
+EndsCoding bytes partial = (length bytes ≤ coding_limit) × IsOpenCoding bytes
 EndsCoding bytes malformed = HasMalformedCoding bytes
 EndsCoding bytes too_large = HasTooLargeCoding bytes

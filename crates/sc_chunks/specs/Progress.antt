@@ -140,10 +140,10 @@ EndsBy errors.TooLarge bytes = EndsCoding bytes too_large
 EndsBy errors.Memory bytes = ⊤
 
 -- the bytes begin with no coding, and this is why
-abbrev pub IsRefused : DecodeError → List ℕ → Type 0
-IsRefused errors.Malformed bytes = (NeverHasCoding bytes ⊎ PassesTrailers bytes) × ¬ (StatesTooMuch bytes)
-IsRefused errors.TooLarge bytes = StatesTooMuch bytes
-IsRefused errors.Memory bytes = ⊤
+abbrev pub IsRefusedCoding : DecodeError → List ℕ → Type 0
+IsRefusedCoding errors.Malformed bytes = (NeverHasCoding bytes ⊎ PassesTrailers bytes) × ¬ (StatesTooMuch bytes)
+IsRefusedCoding errors.TooLarge bytes = StatesTooMuch bytes
+IsRefusedCoding errors.Memory bytes = ⊤
 
 -- the byte that comes next is no data
 abbrev pub NeedsByte : Place → Type 0
@@ -154,9 +154,9 @@ NeedsByte place = ⊤
 -- One byte more after these coded bytes: it leads to a place, with the same content, or the bytes begin with no coding.
 abbrev pub IsStepOf : List ℕ → ℕ → List ℕ → Result Place DecodeError → Type 0
 IsStepOf coded byte content (Ok place) = ReachesPlace (coded ++ byte ∷ []) content place
-IsStepOf coded byte content (Err error) = IsRefused error (coded ++ byte ∷ [])
+IsStepOf coded byte content (Err error) = IsRefusedCoding error (coded ++ byte ∷ [])
 
 -- Bytes more after these coded bytes: as many as were taken lead to a place, with this content, or some of them lead to none.
 abbrev pub IsAdvanceOf : List ℕ → List ℕ → List ℕ → Place → Result ℕ DecodeError → Type 0
 IsAdvanceOf coded bytes content place (Ok count) = ReachesPlace (coded ++ take count bytes) content place
-IsAdvanceOf coded bytes content place (Err error) = (count : ℕ) × IsRefused error (coded ++ take count bytes)
+IsAdvanceOf coded bytes content place (Err error) = (count : ℕ) × IsRefusedCoding error (coded ++ take count bytes)

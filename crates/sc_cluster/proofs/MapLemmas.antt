@@ -11,7 +11,7 @@ use Rattle.sc_cluster.specs.Limits.{most_slices}
 use Rattle.sc_cluster.specs.Slices.{is_forming, forming, greatest_id}
 use Rattle.sc_cluster.specs.Map.{IsSubOf, IsSplitting, IsMap, AreFirst}
 use Rattle.sc_cluster.specs.Plans.{sub_bounds, MayCut, IsPlanned, IsPlan}
-use Rattle.sc_cluster.specs.Changes.{Change, begun_slice, recovering_slice, switched_slice, after, MayChange, IsSplit}
+use Rattle.sc_cluster.specs.Changes.{Change, begun_slice, recovering_slice, switched_slice, after, MayChange, IsBeingSplit}
 use Rattle.sc_cluster.proofs.ListLemmas.{filter-none, none_from_filter, Contains-map}
 use Rattle.sc_cluster.proofs.IdLemmas.{id_of, greatest_id-bounds}
 use Rattle.sc_cluster.proofs.StateLemmas.{is_settled, is_other, active_settled, is_forming-switched, recovering-active, forming-begun, forming-recovering}
@@ -54,7 +54,7 @@ planned_is_plan slices parent subs slice is_map idle may_cut planned few = recor
 
 -- a split is open once it has begun
 pub begun_is_split : (slices : List Slice) (parent : SliceId) (subs : List SubSlice) → IsMap slices
-    → MayChange slices (Change.Begun parent subs) → IsSplit (after slices (Change.Begun parent subs)) parent
+    → MayChange slices (Change.Begun parent subs) → IsBeingSplit (after slices (Change.Begun parent subs)) parent
 begun_is_split slices parent subs is_map may =
     let slice = may.cut.0 in
     let may_cut = may.cut.1 in
@@ -73,8 +73,8 @@ begun_is_split slices parent subs is_map may =
     )
 
 -- it is open in recovery
-pub recovering_is_split : (slices : List Slice) (parent : SliceId) → IsSplit slices parent
-    → IsSplit (after slices (Change.Recovering parent)) parent
+pub recovering_is_split : (slices : List Slice) (parent : SliceId) → IsBeingSplit slices parent
+    → IsBeingSplit (after slices (Change.Recovering parent)) parent
 recovering_is_split slices parent (slice, named, splitting) =
     let formed = sym (forming-recovering slices) in
     let same = recovering-active slice splitting.active in

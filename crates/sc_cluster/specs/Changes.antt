@@ -54,8 +54,8 @@ after slices (Change.Failed parent) = filter (λ slice. not (is_forming slice)) 
 after slices (Change.Dropped dropped) = filter (λ (slice : Slice). not (slice.id.0 == dropped.0)) slices
 
 -- a split of the slice with this id is open
-abbrev pub IsSplit : List Slice → SliceId → Type 0
-IsSplit slices parent = (slice : Slice) × (slice.id ≡ parent) × IsSplitting slices slice
+abbrev pub IsBeingSplit : List Slice → SliceId → Type 0
+IsBeingSplit slices parent = (slice : Slice) × (slice.id ≡ parent) × IsSplitting slices slice
 
 -- the slice with this id is inactive
 abbrev pub IsInactive : List Slice → SliceId → Type 0
@@ -65,7 +65,7 @@ IsInactive slices dropped = (slice : Slice) × Contains slices slice × (slice.i
 abbrev pub MayChange : List Slice → Change → Type 0
 MayChange slices (Change.Begun parent subs) = IsPlan slices parent subs
 MayChange slices (Change.Recovering parent) =
-    IsSplit slices parent × All (λ (slice : Slice). slice.state ≡ states.Construction) (forming slices)
-MayChange slices (Change.Switched parent) = IsSplit slices parent
-MayChange slices (Change.Failed parent) = IsSplit slices parent
+    IsBeingSplit slices parent × All (λ (slice : Slice). slice.state ≡ states.Construction) (forming slices)
+MayChange slices (Change.Switched parent) = IsBeingSplit slices parent
+MayChange slices (Change.Failed parent) = IsBeingSplit slices parent
 MayChange slices (Change.Dropped dropped) = (forming slices ≡ []) × IsInactive slices dropped

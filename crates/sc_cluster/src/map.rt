@@ -41,7 +41,7 @@ impl ClusterMap {
     ghost use Rattle.sc_cluster.specs.Slices.{forming, greatest_id};
     ghost use Rattle.sc_cluster.specs.Map.{IsMap, Leads, AreFirst};
     ghost use Rattle.sc_cluster.specs.Plans.{sub_bounds, MayCut, IsPlan};
-    ghost use Rattle.sc_cluster.specs.Changes.{Change, after, MayChange, IsSplit};
+    ghost use Rattle.sc_cluster.specs.Changes.{Change, after, MayChange, IsBeingSplit};
 
     /// The map of a new collection: `shard1`, `shard2` and so on, which share out all hashes evenly and are active.
     /// Each slice's first replica is on the node after that of the last replica of the slice before it.
@@ -163,7 +163,7 @@ impl ClusterMap {
     pub fn recovering(&mut self, parent: SliceId)
         requires { MayChange self.old (Change.Recovering parent) }
         ensures change { self.new ≡ after self.old (Change.Recovering parent) }
-        ensures split { IsSplit self.new parent }
+        ensures split { IsBeingSplit self.new parent }
         ensures map { IsMap self.new }
     {
         start_recovery(&mut self.slices);

@@ -9,7 +9,7 @@ use Rattle.sc_seen.specs.Seen.{Seen, AreLegal}
 use Rattle.sc_board.specs.declared.board.Board.{Board}
 use Rattle.sc_board.specs.Boards.{IsSoundBoard}
 use Rattle.sc_collection.specs.Desks.{Held, Keeping, KeepsOn, StillFit, IsBoardOf, MayReplaceBoard, SeesBoardGiven, AreAtRest, place_added}
-use Rattle.sc_collection.specs.Alone.{AloneState, desk_of, layout_of, out_of, board_out_of, journal_of, entries_in, entries_of, places, pass_places, seen_of, keeping_of, KeepersAreOut, IsHome, IsDesk}
+use Rattle.sc_collection.specs.Alone.{AloneState, desk_of, layout_alone, out_alone, board_out_of, journal_of, entries_in, entries_alone, places, pass_places, seen_alone, keeping_alone, KeepersAreOut, IsHome, IsDesk}
 use Rattle.sc_collection.specs.declared.alone.Alone.TheInside.{Inside}
 use Rattle.sc_collection.proofs.PlaceLemmas.{places_added}
 use Rattle.sc_collection.proofs.DeskLemmas.{desk_is_legal, own_of_board, out_of_desk}
@@ -42,10 +42,10 @@ module _ (desk : AloneState) (is : IsDesk desk) (board : Board (Unit {0})) (ther
   home : IsHome desk board
   home = is.home board there
 
-  pub board_entries_are : entries_of desk ≡ board.journal.entries
+  pub board_entries_are : entries_alone desk ≡ board.journal.entries
   board_entries_are = ap (λ (one : Option (Board (Unit {0}))). entries_in one desk.board_out) there
 
-  pub without_board_seen : seen_of (without_board desk board.journal.entries) ≡ seen_of desk
+  pub without_board_seen : seen_alone (without_board desk board.journal.entries) ≡ seen_alone desk
   without_board_seen = ap seen_by (sym board_entries_are) where
     seen_by : List BoardEntry → Seen
     seen_by entries = record {
@@ -72,13 +72,13 @@ module _ (desk : AloneState) (is : IsDesk desk) (board : Board (Unit {0})) (ther
 -- the board is taken back
 module _ (desk : AloneState) (is : IsDesk desk) (entries : List BoardEntry) (out : desk.board_out ≡ Some entries) (board : Board (Unit {0}))
   where
-    entries_were : entries_of desk ≡ entries
+    entries_were : entries_alone desk ≡ entries
     entries_were =
         ap (λ (one : Option (Board (Unit {0}))). entries_in one desk.board_out) (board_is_away desk is entries out)
         ∙ ap (entries_in None) out
 
     pub with_board_is_desk : IsSoundBoard board → IsBoardOf desk.layout board.first board.limit
-        → (board.keepers ≡ Some tt → AreAtRest desk.layout board.journal.entries (keeping_of desk)) → IsDesk (with_board desk board)
+        → (board.keepers ≡ Some tt → AreAtRest desk.layout board.journal.entries (keeping_alone desk)) → IsDesk (with_board desk board)
     with_board_is_desk sound is_of rest = record {
       count = is.count;
       buckets = is.buckets;
@@ -93,8 +93,8 @@ module _ (desk : AloneState) (is : IsDesk desk) (entries : List BoardEntry) (out
       same : {one : Board (Unit {0})} → Some board ≡ Some one → board ≡ one
       same at = cc
 
-    pub with_board_sees : MayReplaceBoard desk.layout (seen_of desk) entries board.journal.entries
-        → SeesBoardGiven desk.layout entries board.journal.entries (seen_of desk) (seen_of (with_board desk board))
+    pub with_board_sees : MayReplaceBoard desk.layout (seen_alone desk) entries board.journal.entries
+        → SeesBoardGiven desk.layout entries board.journal.entries (seen_alone desk) (seen_alone (with_board desk board))
     with_board_sees may = record {
       board = refl;
       journals = λ lock. refl;
@@ -104,29 +104,29 @@ module _ (desk : AloneState) (is : IsDesk desk) (entries : List BoardEntry) (out
           (ap places (sym entries_were) ∙ sym (own_of_board desk));
       others_own = λ lock other. others lock other;
     } where
-      adds : MayReplaceBoard desk.layout (seen_of desk) entries board.journal.entries
+      adds : MayReplaceBoard desk.layout (seen_alone desk) entries board.journal.entries
           → (board.journal.entries ≡ entries) ⊎ ((one : BoardEntry) × (board.journal.entries ≡ entries ++ one ∷ []))
       adds (inl same) = inl same
       adds (inr (one, is_one, own)) = inr (one, is_one)
 
-      others : (lock : ℕ) → lock ≢ desk.layout.buckets → (seen_of (with_board desk board)).own lock ≡ (seen_of desk).own lock
+      others : (lock : ℕ) → lock ≢ desk.layout.buckets → (seen_alone (with_board desk board)).own lock ≡ (seen_alone desk).own lock
       others lock other =
           let no : (lock == desk.layout.buckets) ≡ false = grind (arith, nat_tests) in
           ap (λ b. cond b (places board.journal.entries) (pass_places (journal_of desk lock))) no
-          ∙ sym (ap (λ b. cond b (places (entries_of desk)) (pass_places (journal_of desk lock))) no)
+          ∙ sym (ap (λ b. cond b (places (entries_alone desk)) (pass_places (journal_of desk lock))) no)
 
 -- what a hold of the board leaves
 pub record IsBoardHold (desk new : AloneState) (board : Board (Unit {0})) : Type 0 where
   pub is : IsDesk new
   pub sound : IsSoundBoard board
   pub is_of : IsBoardOf desk.layout board.first board.limit
-  pub same : board.journal.entries ≡ (seen_of desk).board
-  pub rest : board.keepers ≡ Some tt → KeepersAreOut new × AreAtRest desk.layout board.journal.entries (keeping_of new)
+  pub same : board.journal.entries ≡ (seen_alone desk).board
+  pub rest : board.keepers ≡ Some tt → KeepersAreOut new × AreAtRest desk.layout board.journal.entries (keeping_alone new)
   pub out : out_of_desk new ≡ record (out_of_desk desk) { board = Some board.journal.entries }
-  pub seen : seen_of new ≡ seen_of desk
-  pub legal : AreLegal new.layout (seen_of new)
+  pub seen : seen_alone new ≡ seen_alone desk
+  pub legal : AreLegal new.layout (seen_alone new)
   pub layout : new.layout ≡ desk.layout
-  pub keepers : StillFit (KeepersAreOut new) (keeping_of desk) (keeping_of new)
+  pub keepers : StillFit (KeepersAreOut new) (keeping_alone desk) (keeping_alone new)
 
 -- where there is no board, somebody else has the keepers
 none_has_keepers : (desk : AloneState) → desk.board ≡ None → KeepersAreOut desk
@@ -149,7 +149,7 @@ board_is_held desk new board is there after = subst (λ (one : AloneState). IsBo
   seen = without_board_seen desk is board there;
   legal = desk_is_legal without (without_board_is_desk desk is board there);
   layout = refl;
-  keepers = (out, keeps_on (keeping_of desk));
+  keepers = (out, keeps_on (keeping_alone desk));
 }) where
   without : AloneState
   without = without_board desk board.journal.entries
@@ -169,28 +169,28 @@ one_board_is_out desk entries other there is_other = let both : Some entries ≡
 pub record IsBoardGive (desk new : AloneState) (board : Board (Unit {0})) : Type 0 where
   pub is : IsDesk new
   pub sees : (other : List BoardEntry) → desk.board_out ≡ Some other
-      → SeesBoardGiven desk.layout other board.journal.entries (seen_of desk) (seen_of new)
+      → SeesBoardGiven desk.layout other board.journal.entries (seen_alone desk) (seen_alone new)
   pub out : out_of_desk new ≡ record (out_of_desk desk) { board = None }
-  pub legal : AreLegal new.layout (seen_of new)
+  pub legal : AreLegal new.layout (seen_alone new)
   pub layout : new.layout ≡ desk.layout
-  pub keepers : board.keepers ≡ None → StillFit (KeepersAreOut new) (keeping_of desk) (keeping_of new)
+  pub keepers : board.keepers ≡ None → StillFit (KeepersAreOut new) (keeping_alone desk) (keeping_alone new)
 
 -- the board is put back where its entries are out
 pub board_is_given : (desk new : AloneState) (entries : List BoardEntry) (board : Board (Unit {0})) → IsDesk desk
     → desk.board_out ≡ Some entries → IsSoundBoard board → IsBoardOf desk.layout board.first board.limit
-    → MayReplaceBoard desk.layout (seen_of desk) entries board.journal.entries
-    → (board.keepers ≡ Some tt → AreAtRest desk.layout board.journal.entries (keeping_of desk))
+    → MayReplaceBoard desk.layout (seen_alone desk) entries board.journal.entries
+    → (board.keepers ≡ Some tt → AreAtRest desk.layout board.journal.entries (keeping_alone desk))
     → new ≡ with_board desk board → IsBoardGive desk new board
 board_is_given desk new entries board is out sound is_of may rest after =
     subst (λ (one : AloneState). IsBoardGive desk one board) (sym after) (record {
       is = back;
       sees = λ other there. subst
-          (λ (were : List BoardEntry). SeesBoardGiven desk.layout were board.journal.entries (seen_of desk) (seen_of (with_board desk board)))
+          (λ (were : List BoardEntry). SeesBoardGiven desk.layout were board.journal.entries (seen_alone desk) (seen_alone (with_board desk board)))
           (one_board_is_out desk entries other out there) (with_board_sees desk is entries out board may);
       out = refl;
       legal = desk_is_legal (with_board desk board) back;
       layout = refl;
-      keepers = λ none. (λ one there. fits none there, keeps_on (keeping_of desk));
+      keepers = λ none. (λ one there. fits none there, keeps_on (keeping_alone desk));
     })
   where
     back : IsDesk (with_board desk board)
@@ -203,17 +203,17 @@ board_is_given desk new entries board is out sound is_of may rest after =
 pub given_of_fields : (fields : Inside) (more : List (Unit {0} × Board (Unit {0}))) (desk : AloneState) (entries : List BoardEntry)
     (board : Board (Unit {0}))
     → value_of fields ≡ desk → IsDesk (value_of fields) → desk.board_out ≡ Some entries → IsSoundBoard board
-    → IsBoardOf desk.layout board.first board.limit → MayReplaceBoard desk.layout (seen_of desk) entries board.journal.entries
-    → (board.keepers ≡ Some tt → AreAtRest desk.layout board.journal.entries (keeping_of desk)) → more ≡ []
-    → IsBoardGive desk (desk_of (layout_of fields.slots.items fields.nodes fields.first fields.limit) fields.slots.items
-    (out_of fields.out.items) (Some board) (board_out_of more)) board
+    → IsBoardOf desk.layout board.first board.limit → MayReplaceBoard desk.layout (seen_alone desk) entries board.journal.entries
+    → (board.keepers ≡ Some tt → AreAtRest desk.layout board.journal.entries (keeping_alone desk)) → more ≡ []
+    → IsBoardGive desk (desk_of (layout_alone fields.slots.items fields.nodes fields.first fields.limit) fields.slots.items
+    (out_alone fields.out.items) (Some board) (board_out_of more)) board
 given_of_fields fields more desk entries board view is out sound is_of may rest history =
     board_is_given desk (after more) entries board (subst IsDesk view is) out sound is_of may rest
     (ap after history ∙ ap (λ (old : AloneState). with_board old board) view)
   where
     after : List (Unit {0} × Board (Unit {0})) → AloneState
-    after items = desk_of (layout_of fields.slots.items fields.nodes fields.first fields.limit) fields.slots.items
-        (out_of fields.out.items) (Some board) (board_out_of items)
+    after items = desk_of (layout_alone fields.slots.items fields.nodes fields.first fields.limit) fields.slots.items
+        (out_alone fields.out.items) (Some board) (board_out_of items)
 
 -- the board is there, by the fields of the desk
 pub there_by_fields : (fields : Inside) (desk : AloneState) → value_of fields ≡ desk → IsDesk (value_of fields) → desk.board_out ≡ None
@@ -225,13 +225,13 @@ there_by_fields fields desk view is none =
 pub held_of_fields : (fields : Inside) (more : List (Unit {0} × Board (Unit {0}))) (left : Option (Board (Unit {0}))) (desk : AloneState)
     (board : Board (Unit {0}))
     → value_of fields ≡ desk → IsDesk (value_of fields) → fields.board ≡ Some board → left ≡ None → more ≡ (tt, board) ∷ []
-    → IsBoardHold desk (desk_of (layout_of fields.slots.items fields.nodes fields.first fields.limit) fields.slots.items
-    (out_of fields.out.items) left (board_out_of more)) board
+    → IsBoardHold desk (desk_of (layout_alone fields.slots.items fields.nodes fields.first fields.limit) fields.slots.items
+    (out_alone fields.out.items) left (board_out_of more)) board
 held_of_fields fields more left desk board view is there none history =
     board_is_held desk (after left more) board (subst IsDesk view is) (ap (λ (d : AloneState). d.board) (sym view) ∙ there)
     (ap (λ (one : Option (Board (Unit {0}))). after one more) none ∙ ap (after None) history
     ∙ ap (λ (old : AloneState). without_board old board.journal.entries) view)
   where
     after : Option (Board (Unit {0})) → List (Unit {0} × Board (Unit {0})) → AloneState
-    after one items = desk_of (layout_of fields.slots.items fields.nodes fields.first fields.limit) fields.slots.items
-        (out_of fields.out.items) one (board_out_of items)
+    after one items = desk_of (layout_alone fields.slots.items fields.nodes fields.first fields.limit) fields.slots.items
+        (out_alone fields.out.items) one (board_out_of items)

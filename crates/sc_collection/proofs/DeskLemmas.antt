@@ -14,7 +14,7 @@ use Rattle.sc_bucket.specs.declared.bucket.Bucket.{Bucket}
 use Rattle.sc_keeper.specs.declared.part.Part.{Part}
 use Rattle.sc_board.specs.declared.board.Board.{Board}
 use Rattle.sc_collection.specs.Desks.{Out, Held, Keeping, KeepsOn, IsAtRest, AreAtRest}
-use Rattle.sc_collection.specs.Alone.{AloneState, bucket_in, bucket_at, journal_in, journal_of, entries_in, entries_of, pass_places, places, seen_of, keeping_of, KeepersAreOut, IsKept, IsDesk}
+use Rattle.sc_collection.specs.Alone.{AloneState, bucket_in, bucket_at, journal_in, journal_of, entries_in, entries_alone, pass_places, places, seen_alone, keeping_alone, KeepersAreOut, IsKept, IsDesk}
 
 -- two numbers are equal, or they are not
 pub same_or_other : (a b : ℕ) → (a ≡ b) ⊎ (a ≢ b)
@@ -50,7 +50,7 @@ journals_legal desk is lock = by (slice_get desk.slots lock) refl where
       (kept_legal desk.layout held.number held.bucket (is.is_out held empty.1).kept)
 
 -- and so is the board's
-board_legal : (desk : AloneState) → IsDesk desk → IsLegalBoard desk.layout.first (entries_of desk)
+board_legal : (desk : AloneState) → IsDesk desk → IsLegalBoard desk.layout.first (entries_alone desk)
 board_legal desk is = by desk.board refl where
   by : (board : Option (Board (Unit {0}))) → desk.board ≡ board → IsLegalBoard desk.layout.first (entries_in board desk.board_out)
   by (Some board) at =
@@ -61,7 +61,7 @@ board_legal desk is = by desk.board refl where
       subst (λ (out : Option (List BoardEntry)). IsLegalBoard desk.layout.first (entries_in None out)) (sym away.1) away.2
 
 -- what was seen is legal
-pub desk_is_legal : (desk : AloneState) → IsDesk desk → AreLegal desk.layout (seen_of desk)
+pub desk_is_legal : (desk : AloneState) → IsDesk desk → AreLegal desk.layout (seen_alone desk)
 desk_is_legal desk is = record {
   buckets = λ lock inside. journals_legal desk is lock;
   board = board_legal desk is;
@@ -72,16 +72,16 @@ desk_is_legal desk is = record {
 
 -- of a bucket the places of its passes' entries are one's own
 pub own_of_bucket : (desk : AloneState) (lock : ℕ) → lock < desk.layout.buckets
-    → (seen_of desk).own lock ≡ pass_places (journal_of desk lock)
+    → (seen_alone desk).own lock ≡ pass_places (journal_of desk lock)
 own_of_bucket desk lock below =
     let other : (lock == desk.layout.buckets) ≡ false = grind (arith, nat_tests) in
-    ap (λ b. cond b (places (entries_of desk)) (pass_places (journal_of desk lock))) other
+    ap (λ b. cond b (places (entries_alone desk)) (pass_places (journal_of desk lock))) other
 
 -- and of the board all are
-pub own_of_board : (desk : AloneState) → (seen_of desk).own desk.layout.buckets ≡ places (entries_of desk)
+pub own_of_board : (desk : AloneState) → (seen_alone desk).own desk.layout.buckets ≡ places (entries_alone desk)
 own_of_board desk =
     let same : (desk.layout.buckets == desk.layout.buckets) ≡ true = grind (arith, nat_tests) in
-    ap (λ b. cond b (places (entries_of desk)) (pass_places (journal_of desk desk.layout.buckets))) same
+    ap (λ b. cond b (places (entries_alone desk)) (pass_places (journal_of desk desk.layout.buckets))) same
 
 -- buckets are at rest as long as what is kept of them stays
 pub AreAtRest-kept : (layout : Layout) (entries : List BoardEntry) (old new : Keeping) → KeepsOn old new

@@ -11,7 +11,7 @@ use Rattle.sc_keeper.specs.Part.{part_of, keeper_entries}
 use Rattle.sc_keeper.proofs.PassLemmas.{part-step, step_adds_no_keeper_entry, keeper_adds_no_pass_entry}
 use Rattle.sc_board.specs.declared.board.Board.{Board}
 use Rattle.sc_collection.specs.Desks.{Held, KeepsOn, StillFit, KeepsGiven, MayReplace, KeeperMayReplace, SeesGiven, SeesKeeperGiven, AreAtRest, place_added}
-use Rattle.sc_collection.specs.Alone.{AloneState, desk_of, layout_of, out_of, board_out_of, bucket_in, bucket_at, journal_in, journal_of, part_in, entries_of, places, pass_places, seen_of, keeping_of, KeepersAreOut, IsKept, IsHome, IsDesk, MayStand, taken_back}
+use Rattle.sc_collection.specs.Alone.{AloneState, desk_of, layout_alone, out_alone, board_out_of, bucket_in, bucket_at, journal_in, journal_of, part_of_slot, entries_alone, places, pass_places, seen_alone, keeping_alone, KeepersAreOut, IsKept, IsHome, IsDesk, MayStand, taken_back}
 use Rattle.sc_collection.specs.declared.alone.Alone.TheInside.{Inside}
 use Rattle.sc_collection.proofs.PlaceLemmas.{step_places, keeper_places, keeper_adds_own}
 use Rattle.sc_collection.proofs.SlotLemmas.{slice_get-set_same, slice_get-set_other}
@@ -63,19 +63,19 @@ module _ (desk : AloneState) (is : IsDesk desk) (held : Held) (bucket : Bucket) 
   below : held.number < desk.layout.buckets
   below = out_within desk is held there
 
-  own_other : (lock : ℕ) → lock ≢ held.number → (seen_of (taken_back desk held.number bucket)).own lock ≡ (seen_of desk).own lock
+  own_other : (lock : ℕ) → lock ≢ held.number → (seen_alone (taken_back desk held.number bucket)).own lock ≡ (seen_alone desk).own lock
   own_other lock other =
-      ap (λ (journal : List Entry). cond (lock == desk.layout.buckets) (places (entries_of desk)) (pass_places journal))
+      ap (λ (journal : List Entry). cond (lock == desk.layout.buckets) (places (entries_alone desk)) (pass_places journal))
       (journal_other lock other)
 
-  own_back : (seen_of (taken_back desk held.number bucket)).own held.number ≡ pass_places bucket.journal.entries
+  own_back : (seen_alone (taken_back desk held.number bucket)).own held.number ≡ pass_places bucket.journal.entries
   own_back = own_of_bucket (taken_back desk held.number bucket) held.number below ∙ ap pass_places journal_back
 
-  own_was : (seen_of desk).own held.number ≡ pass_places held.bucket.journal.entries
+  own_was : (seen_alone desk).own held.number ≡ pass_places held.bucket.journal.entries
   own_was = own_of_bucket desk held.number below ∙ ap pass_places journal_was
 
   pub taken_back_sees : MayReplace desk.layout held bucket
-      → SeesGiven held bucket (seen_of desk) (seen_of (taken_back desk held.number bucket))
+      → SeesGiven held bucket (seen_alone desk) (seen_alone (taken_back desk held.number bucket))
   taken_back_sees may = record {
     journal = journal_back;
     others = journal_other;
@@ -88,7 +88,7 @@ module _ (desk : AloneState) (is : IsDesk desk) (held : Held) (bucket : Bucket) 
   }
 
   pub taken_back_sees_keeper : KeeperMayReplace desk.layout held bucket
-      → SeesKeeperGiven held bucket (seen_of desk) (seen_of (taken_back desk held.number bucket))
+      → SeesKeeperGiven held bucket (seen_alone desk) (seen_alone (taken_back desk held.number bucket))
   taken_back_sees_keeper may = record {
     journal = journal_back;
     others = journal_other;
@@ -96,28 +96,28 @@ module _ (desk : AloneState) (is : IsDesk desk) (held : Held) (bucket : Bucket) 
     own = λ lock. own lock (same_or_other lock held.number);
   } where
     own : (lock : ℕ) → (lock ≡ held.number) ⊎ (lock ≢ held.number)
-        → (seen_of (taken_back desk held.number bucket)).own lock ≡ (seen_of desk).own lock
+        → (seen_alone (taken_back desk held.number bucket)).own lock ≡ (seen_alone desk).own lock
     own lock (inl same) =
-        subst (λ (n : ℕ). (seen_of (taken_back desk held.number bucket)).own n ≡ (seen_of desk).own n) (sym same)
+        subst (λ (n : ℕ). (seen_alone (taken_back desk held.number bucket)).own n ≡ (seen_alone desk).own n) (sym same)
         (own_back
         ∙ keeper_places held.bucket.journal.entries bucket.journal.entries (keeper_adds_no_pass_entry held.bucket bucket may.event)
         ∙ sym own_was)
     own lock (inr other) = own_other lock other
 
   -- where its part is as it was, so is all that keepers keep
-  pub taken_back_keeps : part_of bucket ≡ part_of held.bucket → KeepsOn (keeping_of desk) (keeping_of (taken_back desk held.number bucket))
+  pub taken_back_keeps : part_of bucket ≡ part_of held.bucket → KeepsOn (keeping_alone desk) (keeping_alone (taken_back desk held.number bucket))
   taken_back_keeps same = record { part = λ lock. part lock (same_or_other lock held.number); own = λ lock. own lock (same_or_other lock held.number) } where
-    part_at : part_in (bucket_at (taken_back desk held.number bucket) held.number) ≡ part_in (bucket_at desk held.number)
-    part_at = ap part_in back_at ∙ same ∙ ap part_in (sym was_at)
+    part_at : part_of_slot (bucket_at (taken_back desk held.number bucket) held.number) ≡ part_of_slot (bucket_at desk held.number)
+    part_at = ap part_of_slot back_at ∙ same ∙ ap part_of_slot (sym was_at)
 
     own_at : keeper_entries (journal_of (taken_back desk held.number bucket) held.number) ≡ keeper_entries (journal_of desk held.number)
     own_at = ap keeper_entries journal_back ∙ ap (λ (one : Part). one.entries) same ∙ ap keeper_entries (sym journal_was)
 
     part : (lock : ℕ) → (lock ≡ held.number) ⊎ (lock ≢ held.number)
-        → part_in (bucket_at (taken_back desk held.number bucket) lock) ≡ part_in (bucket_at desk lock)
+        → part_of_slot (bucket_at (taken_back desk held.number bucket) lock) ≡ part_of_slot (bucket_at desk lock)
     part lock (inl is_it) =
-        subst (λ (n : ℕ). part_in (bucket_at (taken_back desk held.number bucket) n) ≡ part_in (bucket_at desk n)) (sym is_it) part_at
-    part lock (inr other) = ap part_in (back_at_other lock other)
+        subst (λ (n : ℕ). part_of_slot (bucket_at (taken_back desk held.number bucket) n) ≡ part_of_slot (bucket_at desk n)) (sym is_it) part_at
+    part lock (inr other) = ap part_of_slot (back_at_other lock other)
 
     own : (lock : ℕ) → (lock ≡ held.number) ⊎ (lock ≢ held.number)
         → keeper_entries (journal_of (taken_back desk held.number bucket) lock) ≡ keeper_entries (journal_of desk lock)
@@ -127,12 +127,12 @@ module _ (desk : AloneState) (is : IsDesk desk) (held : Held) (bucket : Bucket) 
 
   -- what they keep once a keeper gave it back
   pub taken_back_keeps_given : KeeperMayReplace desk.layout held bucket
-      → KeepsGiven held bucket (keeping_of desk) (keeping_of (taken_back desk held.number bucket))
+      → KeepsGiven held bucket (keeping_alone desk) (keeping_alone (taken_back desk held.number bucket))
   taken_back_keeps_given may =
       let adds = keeper_adds_own held.bucket.journal.entries bucket.journal.entries (keeper_adds_no_pass_entry held.bucket bucket may.event) in
       record {
-        part = ap part_in back_at;
-        others = λ lock other. ap part_in (back_at_other lock other);
+        part = ap part_of_slot back_at;
+        others = λ lock other. ap part_of_slot (back_at_other lock other);
         made = adds.0;
         added = adds.1;
         own = ap keeper_entries journal_back ∙ adds.2 ∙ ap (λ (before : List Entry). keeper_entries before ++ adds.0) (sym journal_was);
@@ -176,10 +176,10 @@ module _ (desk : AloneState) (is : IsDesk desk) (held : Held) (bucket : Bucket) 
       none_out = was.none_out;
     } where
       by : board.keepers ≡ Some tt → KeepersAreOut desk ⊎ (part_of bucket ≡ part_of held.bucket)
-          → AreAtRest desk.layout board.journal.entries (keeping_of (taken_back desk held.number bucket))
+          → AreAtRest desk.layout board.journal.entries (keeping_alone (taken_back desk held.number bucket))
       by has (inl out) = let none : None ≡ Some tt = sym (out board at) ∙ has in absurd (cc)
       by has (inr same) =
-          AreAtRest-kept desk.layout board.journal.entries (keeping_of desk) (keeping_of (taken_back desk held.number bucket))
+          AreAtRest-kept desk.layout board.journal.entries (keeping_alone desk) (keeping_alone (taken_back desk held.number bucket))
           (taken_back_keeps same) (was.rest has)
 
 -- a bucket may stand where a holder may give it back
@@ -215,8 +215,8 @@ out_has_slot fields desk number held view is there same =
 pub put_back_of_fields : (fields : Inside) (more : List ((ℕ × Bool) × Bucket)) (desk : AloneState) (number : ℕ) (bucket : Bucket) (held : Held)
     → value_of fields ≡ desk → IsDesk (value_of fields) → desk.out ≡ Some held → held.number ≡ number → (IsDesk desk → MayStand desk held bucket)
     → more ≡ []
-    → IsPutBack desk (desk_of (layout_of (set fields.slots.items number (Some bucket)) fields.nodes fields.first fields.limit)
-    (set fields.slots.items number (Some bucket)) (out_of more) fields.board (board_out_of fields.board_out.items)) number bucket
+    → IsPutBack desk (desk_of (layout_alone (set fields.slots.items number (Some bucket)) fields.nodes fields.first fields.limit)
+    (set fields.slots.items number (Some bucket)) (out_alone more) fields.board (board_out_of fields.board_out.items)) number bucket
 put_back_of_fields fields more desk number bucket held view is there same may history = record {
   is = is_desk;
   within = subst (λ n. n < desk.layout.buckets) same (out_within desk is_desk held there);
@@ -228,27 +228,27 @@ put_back_of_fields fields more desk number bucket held view is there same may hi
   slots = fields.slots.items
 
   with_layout : Layout → List (Option Bucket) → List ((ℕ × Bool) × Bucket) → AloneState
-  with_layout layout now items = desk_of layout now (out_of items) fields.board (board_out_of fields.board_out.items)
+  with_layout layout now items = desk_of layout now (out_alone items) fields.board (board_out_of fields.board_out.items)
 
   is_desk : IsDesk desk
   is_desk = subst IsDesk view is
 
-  by_fields : with_layout (layout_of (set slots number (Some bucket)) fields.nodes fields.first fields.limit) (set slots number (Some bucket)) more
+  by_fields : with_layout (layout_alone (set slots number (Some bucket)) fields.nodes fields.first fields.limit) (set slots number (Some bucket)) more
       ≡ taken_back desk number bucket
   by_fields =
-      ap (with_layout (layout_of (set slots number (Some bucket)) fields.nodes fields.first fields.limit) (set slots number (Some bucket))) history
+      ap (with_layout (layout_alone (set slots number (Some bucket)) fields.nodes fields.first fields.limit) (set slots number (Some bucket))) history
       ∙ ap (λ (n : ℕ). with_layout (record { buckets = n; nodes = fields.nodes; first = fields.first; limit = fields.limit })
       (set slots number (Some bucket)) []) (length-set slots number (Some bucket))
       ∙ ap (λ (old : AloneState). taken_back old number bucket) view
 
 -- what a give leaves
 pub record IsGive (desk new : AloneState) (held : Held) (bucket : Bucket) : Type 0 where
-  pub sees : SeesGiven held bucket (seen_of desk) (seen_of new)
+  pub sees : SeesGiven held bucket (seen_alone desk) (seen_alone new)
   pub out : new.out ≡ None
   pub board_out : new.board_out ≡ desk.board_out
-  pub legal : AreLegal new.layout (seen_of new)
+  pub legal : AreLegal new.layout (seen_alone new)
   pub layout : new.layout ≡ desk.layout
-  pub keepers : KeepersAreOut desk → StillFit (KeepersAreOut new) (keeping_of desk) (keeping_of new)
+  pub keepers : KeepersAreOut desk → StillFit (KeepersAreOut new) (keeping_alone desk) (keeping_alone new)
 
 -- a bucket that was put back is given
 pub put_is_give : (desk new : AloneState) (held : Held) (number : ℕ) (bucket : Bucket) → IsDesk desk → desk.out ≡ Some held
@@ -265,12 +265,12 @@ put_is_give desk new held number bucket is there same may after =
 
 -- what a keeper's give leaves
 pub record IsKeeperGive (desk new : AloneState) (held : Held) (bucket : Bucket) : Type 0 where
-  pub sees : SeesKeeperGiven held bucket (seen_of desk) (seen_of new)
-  pub keeping : KeepsGiven held bucket (keeping_of desk) (keeping_of new)
+  pub sees : SeesKeeperGiven held bucket (seen_alone desk) (seen_alone new)
+  pub keeping : KeepsGiven held bucket (keeping_alone desk) (keeping_alone new)
   pub fits : KeepersAreOut new
   pub out : new.out ≡ None
   pub board_out : new.board_out ≡ desk.board_out
-  pub legal : AreLegal new.layout (seen_of new)
+  pub legal : AreLegal new.layout (seen_alone new)
   pub layout : new.layout ≡ desk.layout
 
 -- so is one that its keeper put back

@@ -10,7 +10,7 @@ use Rattle.sc_bucket.specs.declared.bucket.Bucket.{Bucket}
 use Rattle.sc_keeper.specs.Part.{part_of, keeper_entries}
 use Rattle.sc_board.specs.declared.board.Board.{Board}
 use Rattle.sc_collection.specs.Desks.{Held, KeepsOn, StillFit}
-use Rattle.sc_collection.specs.Alone.{AloneState, desk_of, layout_of, out_of, board_out_of, bucket_in, bucket_at, journal_in, journal_of, part_in, entries_of, places, pass_places, seen_of, keeping_of, KeepersAreOut, IsKept, IsOut, IsHome, IsDesk, handed_out}
+use Rattle.sc_collection.specs.Alone.{AloneState, desk_of, layout_alone, out_alone, board_out_of, bucket_in, bucket_at, journal_in, journal_of, part_of_slot, entries_alone, places, pass_places, seen_alone, keeping_alone, KeepersAreOut, IsKept, IsOut, IsHome, IsDesk, handed_out}
 use Rattle.sc_collection.specs.declared.alone.Alone.TheInside.{Inside}
 use Rattle.sc_collection.proofs.SlotLemmas.{slice_get-set_same, slice_get-set_other}
 use Rattle.sc_collection.proofs.DeskLemmas.{same_or_other, desk_is_legal, AreAtRest-kept}
@@ -46,19 +46,19 @@ module _ (desk : AloneState) (is : IsDesk desk) (held : Held)
         ap (bucket_at (handed_out desk held)) same ∙ ap (bucket_in (Some held)) slot ∙ sym held_was_at ∙ ap (bucket_at desk) (sym same)
     by (inr other) = ap (bucket_in (Some held)) (other_slot lock other) ∙ out (slice_get desk.slots lock) refl
 
-  pub handed_out_keeps : KeepsOn (keeping_of desk) (keeping_of (handed_out desk held))
+  pub handed_out_keeps : KeepsOn (keeping_alone desk) (keeping_alone (handed_out desk held))
   handed_out_keeps = record {
-    part = λ lock. ap part_in (handed_out_at lock);
+    part = λ lock. ap part_of_slot (handed_out_at lock);
     own = λ lock. ap (λ (one : Option Bucket). keeper_entries (journal_in one)) (handed_out_at lock);
   }
 
-  pub handed_out_seen : seen_of (handed_out desk held) ≡ seen_of desk
+  pub handed_out_seen : seen_alone (handed_out desk held) ≡ seen_alone desk
   handed_out_seen = ap seen_by (fun_ext handed_out_at) where
     seen_by : (ℕ → Option Bucket) → Seen
     seen_by buckets = record {
       journals = λ lock. journal_in (buckets lock);
-      board = entries_of desk;
-      own = λ lock. if lock == desk.layout.buckets then places (entries_of desk) else pass_places (journal_in (buckets lock));
+      board = entries_alone desk;
+      own = λ lock. if lock == desk.layout.buckets then places (entries_alone desk) else pass_places (journal_in (buckets lock));
     }
 
   pub handed_out_is_desk : IsDesk (handed_out desk held)
@@ -98,14 +98,14 @@ module _ (desk : AloneState) (is : IsDesk desk) (held : Held)
     home board was = record {
       sound = was.sound;
       is_of = was.is_of;
-      rest = λ there. AreAtRest-kept desk.layout board.journal.entries (keeping_of desk) (keeping_of (handed_out desk held))
+      rest = λ there. AreAtRest-kept desk.layout board.journal.entries (keeping_alone desk) (keeping_alone (handed_out desk held))
           handed_out_keeps (was.rest there);
       none_out = was.none_out;
     }
 
 -- the value of a desk's fields
 abbrev pub value_of : Inside → AloneState
-value_of fields = desk_of (layout_of fields.slots.items fields.nodes fields.first fields.limit) fields.slots.items (out_of fields.out.items)
+value_of fields = desk_of (layout_alone fields.slots.items fields.nodes fields.first fields.limit) fields.slots.items (out_alone fields.out.items)
     fields.board (board_out_of fields.board_out.items)
 
 -- what taking a bucket out leaves
@@ -121,8 +121,8 @@ pub taken_of_fields : (fields : Inside) (more : List ((ℕ × Bool) × Bucket)) 
     → value_of fields ≡ desk → IsDesk (value_of fields) → desk.out ≡ None → held.number < desk.layout.buckets
     → read ≡ get_or fields.slots.items held.number read → taken ≡ read → taken ≡ Some held.bucket → slot ≡ None
     → more ≡ ((held.number, held.by_keeper), held.bucket) ∷ []
-    → IsTaken desk (desk_of (layout_of (set fields.slots.items held.number slot) fields.nodes fields.first fields.limit)
-    (set fields.slots.items held.number slot) (out_of more) fields.board (board_out_of fields.board_out.items)) held
+    → IsTaken desk (desk_of (layout_alone (set fields.slots.items held.number slot) fields.nodes fields.first fields.limit)
+    (set fields.slots.items held.number slot) (out_alone more) fields.board (board_out_of fields.board_out.items)) held
 taken_of_fields fields more desk held read taken slot view is none within at same some empty history = record {
   is = is_desk;
   there = there;
@@ -133,10 +133,10 @@ taken_of_fields fields more desk held read taken slot view is none within at sam
   slots = fields.slots.items
 
   with_layout : Layout → List (Option Bucket) → List ((ℕ × Bool) × Bucket) → AloneState
-  with_layout layout now items = desk_of layout now (out_of items) fields.board (board_out_of fields.board_out.items)
+  with_layout layout now items = desk_of layout now (out_alone items) fields.board (board_out_of fields.board_out.items)
 
   after : List (Option Bucket) → List ((ℕ × Bool) × Bucket) → AloneState
-  after now items = with_layout (layout_of now fields.nodes fields.first fields.limit) now items
+  after now items = with_layout (layout_alone now fields.nodes fields.first fields.limit) now items
 
   is_desk : IsDesk desk
   is_desk = subst IsDesk view is
@@ -161,13 +161,13 @@ taken_of_fields fields more desk held read taken slot view is none within at sam
 pub record IsHold (desk new : AloneState) (held : Held) : Type 0 where
   pub kept : IsKept desk.layout held.number held.bucket
   pub extends : IsPrefix (journal_of desk held.number) held.bucket.journal.entries
-  pub part : part_of held.bucket ≡ (keeping_of desk).part held.number
+  pub part : part_of held.bucket ≡ (keeping_alone desk).part held.number
   pub out : new.out ≡ Some held
   pub board_out : new.board_out ≡ desk.board_out
-  pub seen : seen_of new ≡ seen_of desk
-  pub legal : AreLegal new.layout (seen_of new)
+  pub seen : seen_alone new ≡ seen_alone desk
+  pub legal : AreLegal new.layout (seen_alone new)
   pub layout : new.layout ≡ desk.layout
-  pub keepers : KeepersAreOut desk → StillFit (KeepersAreOut new) (keeping_of desk) (keeping_of new)
+  pub keepers : KeepersAreOut desk → StillFit (KeepersAreOut new) (keeping_alone desk) (keeping_alone new)
 
 -- a bucket that was taken out is held
 pub taken_is_hold : (desk new : AloneState) (held : Held) → IsDesk desk → desk.out ≡ None
@@ -175,7 +175,7 @@ pub taken_is_hold : (desk new : AloneState) (held : Held) → IsDesk desk → de
 taken_is_hold desk new held is none there after = subst (λ (one : AloneState). IsHold desk one held) (sym after) (record {
   kept = held_is_kept desk is held none there;
   extends = ([], append-nil (journal_of desk held.number) ∙ ap journal_in (held_was_at desk is held none there));
-  part = ap part_in (sym (held_was_at desk is held none there));
+  part = ap part_of_slot (sym (held_was_at desk is held none there));
   out = refl;
   board_out = refl;
   seen = handed_out_seen desk is held none there;

@@ -22,7 +22,7 @@ use Rattle.sc_keeper.specs.Part.{part_of, part_of_core, part_of_feed, keeper_ent
 use Rattle.sc_board.specs.declared.board.Board.{Board}
 use Rattle.sc_board.specs.Boards.{IsSoundBoard}
 use Rattle.sc_collection.specs.Desks.{IsAtRest}
-use Rattle.sc_collection.specs.Alone.{AloneState, desk_of, layout_of, out_of, board_out_of, bucket_in, journal_in, part_in, places, pass_places, seen_of, IsKept, IsHome, IsDesk, IsNewSlot, AreNew}
+use Rattle.sc_collection.specs.Alone.{AloneState, desk_of, layout_alone, out_alone, board_out_of, bucket_in, journal_in, part_of_slot, places, pass_places, seen_alone, IsKept, IsHome, IsDesk, IsNewSlot, AreNewSlots}
 use Rattle.sc_collection.specs.Shapes.{SeesNothing}
 
 -- a bucket on which nothing happened is at rest where the board has no entry
@@ -47,19 +47,19 @@ pub record IsNewBoard (layout : Layout) (board : Board (Unit {0})) : Type 0 wher
   pub empty : board.journal.entries ≡ []
 
 module _ (slots : List (Option Bucket)) (nodes : ℕ) (first : List Slice) (limit : ℕ) (board : Board (Unit {0}))
-    (new : AreNew first limit slots) where
+    (new : AreNewSlots first limit slots) where
   no_empty : (number : ℕ) → slice_get slots number ≡ Some None → ⊥
   no_empty number at =
       let slot = new number None at in
       let none : None ≡ Some slot.bucket = slot.there in
       absurd (cc)
 
-  kept : (number : ℕ) (bucket : Bucket) → slice_get slots number ≡ Some (Some bucket) → IsKept (layout_of slots nodes first limit) number bucket
+  kept : (number : ℕ) (bucket : Bucket) → slice_get slots number ≡ Some (Some bucket) → IsKept (layout_alone slots nodes first limit) number bucket
   kept number bucket at =
       let slot = new number (Some bucket) at in
       let both : Some bucket ≡ Some slot.bucket = slot.there in
       let same : slot.bucket ≡ bucket = cc in
-      subst (IsKept (layout_of slots nodes first limit) number) same (record {
+      subst (IsKept (layout_alone slots nodes first limit) number) same (record {
         sound = slot.sound;
         is_of = record { first = slot.begins; limit = slot.limited; ids = subst (AreOf number) (sym slot.empty) tt };
       })
@@ -69,17 +69,17 @@ module _ (slots : List (Option Bucket)) (nodes : ℕ) (first : List Slice) (limi
 
   -- its buckets are at rest
   at_rest : (number : ℕ) → number < length slots
-      → IsAtRest [] first (part_in (bucket_in None (slice_get slots number))) (keeper_entries (journal_in (bucket_in None (slice_get slots number))))
+      → IsAtRest [] first (part_of_slot (bucket_in None (slice_get slots number))) (keeper_entries (journal_in (bucket_in None (slice_get slots number))))
   at_rest number inside = by (slice_get slots number) refl where
     by : (slot : Option (Option Bucket)) → slice_get slots number ≡ slot
-        → IsAtRest [] first (part_in (bucket_in None slot)) (keeper_entries (journal_in (bucket_in None slot)))
+        → IsAtRest [] first (part_of_slot (bucket_in None slot)) (keeper_entries (journal_in (bucket_in None slot)))
     by None at = absurd (let both : None ≡ Some (get_or slots number None) = sym at ∙ slice_get-get_or slots number None inside in cc)
     by (Some None) at = absurd (no_empty number at)
     by (Some (Some bucket)) at = new_at_rest first limit bucket (new number (Some bucket) at)
 
   -- a desk where each slot has a new bucket, and the board is new: nothing is out
-  pub new_is_desk : IsBucketCount (length slots) → 1 ≤ nodes → IsNewBoard (layout_of slots nodes first limit) board
-      → IsDesk (desk_of (layout_of slots nodes first limit) slots None (Some board) None)
+  pub new_is_desk : IsBucketCount (length slots) → 1 ≤ nodes → IsNewBoard (layout_alone slots nodes first limit) board
+      → IsDesk (desk_of (layout_alone slots nodes first limit) slots None (Some board) None)
   new_is_desk buckets from is = record {
     count = refl;
     buckets = buckets;
@@ -87,10 +87,10 @@ module _ (slots : List (Option Bucket)) (nodes : ℕ) (first : List Slice) (limi
     kept = kept;
     empty = λ number at. absurd (no_empty number at);
     is_out = λ held there. absurd (cc);
-    home = λ one at. subst (IsHome (desk_of (layout_of slots nodes first limit) slots None (Some board) None)) (same at) (record {
+    home = λ one at. subst (IsHome (desk_of (layout_alone slots nodes first limit) slots None (Some board) None)) (same at) (record {
       sound = is.sound;
       is_of = record { first_is = is.first; limit_is = is.limit };
-      rest = λ has number inside. subst (λ (entries : List BoardEntry). IsAtRest entries (board_map first entries) (part_in (bucket_in None (slice_get slots number))) (keeper_entries (journal_in (bucket_in None (slice_get slots number)))))
+      rest = λ has number inside. subst (λ (entries : List BoardEntry). IsAtRest entries (board_map first entries) (part_of_slot (bucket_in None (slice_get slots number))) (keeper_entries (journal_in (bucket_in None (slice_get slots number)))))
           (sym is.empty) (at_rest number inside);
       none_out = refl;
     });
@@ -101,7 +101,7 @@ module _ (slots : List (Option Bucket)) (nodes : ℕ) (first : List Slice) (limi
 
   -- and nothing is seen of it
   pub new_sees_nothing : board.journal.entries ≡ []
-      → SeesNothing (seen_of (desk_of (layout_of slots nodes first limit) slots None (Some board) None))
+      → SeesNothing (seen_alone (desk_of (layout_alone slots nodes first limit) slots None (Some board) None))
   new_sees_nothing none = record {
     journals = empty;
     board = none;
@@ -122,14 +122,14 @@ module _ (slots : List (Option Bucket)) (nodes : ℕ) (first : List Slice) (limi
 -- what a new desk is
 pub record IsNewDesk (desk : AloneState) : Type 0 where
   pub is : IsDesk desk
-  pub sees : SeesNothing (seen_of desk)
+  pub sees : SeesNothing (seen_alone desk)
 
 -- a new desk, by its fields
 pub new_by_fields : (slots : List (Option Bucket)) (nodes : ℕ) (first : List Slice) (limit : ℕ) (board : Board (Unit {0}))
     (items : List ((ℕ × Bool) × Bucket)) (boards : List (Unit {0} × Board (Unit {0})))
-    → AreNew first limit slots → IsBucketCount (length slots) → 1 ≤ nodes → IsNewBoard (layout_of slots nodes first limit) board
+    → AreNewSlots first limit slots → IsBucketCount (length slots) → 1 ≤ nodes → IsNewBoard (layout_alone slots nodes first limit) board
     → items ≡ [] → boards ≡ []
-    → IsNewDesk (desk_of (layout_of slots nodes first limit) slots (out_of items) (Some board) (board_out_of boards))
+    → IsNewDesk (desk_of (layout_alone slots nodes first limit) slots (out_alone items) (Some board) (board_out_of boards))
 new_by_fields slots nodes first limit board items boards new buckets from is history of_board =
     subst IsNewDesk (ap (λ one. by one []) (sym history) ∙ ap (by items) (sym of_board)) (record {
       is = new_is_desk slots nodes first limit board new buckets from is;
@@ -137,4 +137,4 @@ new_by_fields slots nodes first limit board items boards new buckets from is his
     })
   where
     by : List ((ℕ × Bool) × Bucket) → List (Unit {0} × Board (Unit {0})) → AloneState
-    by now of = desk_of (layout_of slots nodes first limit) slots (out_of now) (Some board) (board_out_of of)
+    by now of = desk_of (layout_alone slots nodes first limit) slots (out_alone now) (Some board) (board_out_of of)

@@ -27,13 +27,13 @@ pub record AloneState : Type 0 where
   pub board_out : Option (List BoardEntry)
 
 -- how a desk is laid out, by its slots, its number of nodes, the map with which each bucket began, and its limit
-abbrev pub layout_of : List (Option Bucket) → ℕ → List Slice → ℕ → Layout
-layout_of slots nodes first limit = record { buckets = length slots; nodes = nodes; first = first; limit = limit }
+abbrev pub layout_alone : List (Option Bucket) → ℕ → List Slice → ℕ → Layout
+layout_alone slots nodes first limit = record { buckets = length slots; nodes = nodes; first = first; limit = limit }
 
 -- the bucket that is out, by a history that has nothing else
-abbrev pub out_of : List ((ℕ × Bool) × Bucket) → Option Held
-out_of [] = None
-out_of (one ∷ items) = Some (record { number = one.0.0; bucket = one.1; by_keeper = one.0.1 })
+abbrev pub out_alone : List ((ℕ × Bool) × Bucket) → Option Held
+out_alone [] = None
+out_alone (one ∷ items) = Some (record { number = one.0.0; bucket = one.1; by_keeper = one.0.1 })
 
 -- the entries of the board that is out, by a history that has nothing else
 abbrev pub board_out_of : List (Unit {0} × Board (Unit {0})) → Option (List BoardEntry)
@@ -61,9 +61,9 @@ journal_in None = []
 journal_in (Some bucket) = bucket.journal.entries
 
 -- a bucket's part; that of none has nothing
-abbrev pub part_in : Option Bucket → Part
-part_in None = record { map = []; phase = phases.Idle; cores = []; feeds = []; entries = [] }
-part_in (Some bucket) = part_of bucket
+abbrev pub part_of_slot : Option Bucket → Part
+part_of_slot None = record { map = []; phase = phases.Idle; cores = []; feeds = []; entries = [] }
+part_of_slot (Some bucket) = part_of bucket
 
 -- the entries of the board, or of that which is out where there is none
 abbrev pub entries_in : Option (Board (Unit {0})) → Option (List BoardEntry) → List BoardEntry
@@ -76,8 +76,8 @@ abbrev pub journal_of : AloneState → ℕ → List Entry
 journal_of desk number = journal_in (bucket_at desk number)
 
 -- the board's entries, of the board as it is or as it was when it was handed out
-abbrev pub entries_of : AloneState → List BoardEntry
-entries_of desk = entries_in desk.board desk.board_out
+abbrev pub entries_alone : AloneState → List BoardEntry
+entries_alone desk = entries_in desk.board desk.board_out
 
 -- the places of entries, from 0 on
 abbrev pub places : {A : Type 0} → List A → List ℕ
@@ -88,17 +88,17 @@ abbrev pub pass_places : List Entry → List ℕ
 pass_places journal = map (λ (one : ℕ × Entry). one.0) (filter (λ (one : ℕ × Entry). not (is_of_keeper one.1)) (enumerate_from 0 journal))
 
 -- what is seen of a desk for one thread: all that happened. All entries are one's own but those of the keepers.
-abbrev pub seen_of : AloneState → Seen
-seen_of desk = record {
+abbrev pub seen_alone : AloneState → Seen
+seen_alone desk = record {
   journals = λ lock. journal_of desk lock;
-  board = entries_of desk;
-  own = λ lock. if lock == desk.layout.buckets then places (entries_of desk) else pass_places (journal_of desk lock);
+  board = entries_alone desk;
+  own = λ lock. if lock == desk.layout.buckets then places (entries_alone desk) else pass_places (journal_of desk lock);
 }
 
 -- what the keepers of its buckets keep: the part of each bucket as it is, or as it was when it was handed out, and the entries of it
 -- that its keeper made
-abbrev pub keeping_of : AloneState → Keeping
-keeping_of desk = record { part = λ number. part_in (bucket_at desk number); own = λ number. keeper_entries (journal_of desk number) }
+abbrev pub keeping_alone : AloneState → Keeping
+keeping_alone desk = record { part = λ number. part_of_slot (bucket_at desk number); own = λ number. keeper_entries (journal_of desk number) }
 
 -- somebody else has the keepers: the board is out, or it has not got them
 abbrev pub KeepersAreOut : AloneState → Type 0
@@ -123,8 +123,8 @@ pub record IsNewSlot (first : List Slice) (limit : ℕ) (slot : Option Bucket) :
   pub cores : All IsNewCore bucket.replicas
 
 -- so has each slot
-abbrev pub AreNew : List Slice → ℕ → List (Option Bucket) → Type 0
-AreNew first limit slots =
+abbrev pub AreNewSlots : List Slice → ℕ → List (Option Bucket) → Type 0
+AreNewSlots first limit slots =
     (number : ℕ) (slot : Option Bucket) → slice_get slots number ≡ Some slot → IsNewSlot first limit slot
 
 -- what is out is the bucket of the empty slot
@@ -136,7 +136,7 @@ pub record IsOut (desk : AloneState) (held : Held) : Type 0 where
 pub record IsHome (desk : AloneState) (board : Board (Unit {0})) : Type 0 where
   pub sound : IsSoundBoard board
   pub is_of : IsBoardOf desk.layout board.first board.limit
-  pub rest : board.keepers ≡ Some tt → AreAtRest desk.layout board.journal.entries (keeping_of desk)
+  pub rest : board.keepers ≡ Some tt → AreAtRest desk.layout board.journal.entries (keeping_alone desk)
   pub none_out : desk.board_out ≡ None
 
 -- What is true of a desk: each slot has its bucket but that of what is out, and the board is there, or its entries are what is out.

@@ -16,10 +16,10 @@ commit_outcome (Some commit_faults.LogFull) = commit_full
 commit_outcome (Some commit_faults.Memory) = commit_out_of_memory
 
 -- what the commits came to together, as it is told
-abbrev pub committed : CommitOutcome → Commits
-committed committed_now = commits.All
-committed commit_full = commits.LogFull
-committed commit_out_of_memory = commits.Memory
+abbrev pub commits_told : CommitOutcome → Commits
+commits_told committed_now = commits.All
+commits_told commit_full = commits.LogFull
+commits_told commit_out_of_memory = commits.Memory
 
 -- The first buckets, so many of them, were committed in turn, and the worst that came of it is this.
 pub record CommitsAll (layout : Layout) (count : ℕ) (old new : View) (fault : Option CommitFault) : Type 0 where

@@ -3,5 +3,6 @@ pub mod Kept
 pub mod Packed
 pub mod Shapes
 pub mod Desks
+pub mod Known
 pub mod Committing
 pub mod Alone

@@ -3,7 +3,7 @@ ghost use Rattle.sc_cluster.specs.Map.{AreFirst};
 ghost use Rattle.sc_journal.specs.Limits.{least_journal, greatest_journal};
 ghost use Rattle.sc_journal.specs.Down.{all_followers};
 ghost use Rattle.sc_bucket.specs.Sound.{AreActive};
-ghost use Rattle.sc_collection.specs.Alone.{AreNew, seen_of, entries_of, keeping_of, KeepersAreOut, IsDesk, MayStand, handed_out, taken_back};
+ghost use Rattle.sc_collection.specs.Alone.{AreNewSlots, seen_alone, entries_alone, keeping_alone, KeepersAreOut, IsDesk, MayStand, handed_out, taken_back};
 ghost use Rattle.sc_seen.specs.declared.board.BoardEntry.{BoardEntry};
 ghost use Rattle.sc_seen.specs.Board.{running_split};
 ghost use Rattle.sc_seen.specs.Seen.{AreLegal};
@@ -43,13 +43,13 @@ pub struct Alone {
 }
 
 impl Model for Alone {
-    ghost use Rattle.sc_collection.specs.Alone.{AloneState, layout_of, out_of, board_out_of, desk_of, IsDesk};
+    ghost use Rattle.sc_collection.specs.Alone.{AloneState, layout_alone, out_alone, board_out_of, desk_of, IsDesk};
 
     ghost Value = { AloneState };
 
-    ghost view = { λ a. desk_of (layout_of a.slots.items a.nodes a.first a.limit) a.slots.items (out_of a.out.items) a.board (board_out_of a.board_out.items) };
+    ghost view = { λ a. desk_of (layout_alone a.slots.items a.nodes a.first a.limit) a.slots.items (out_alone a.out.items) a.board (board_out_of a.board_out.items) };
 
-    ghost invariant = { λ a. IsDesk (desk_of (layout_of a.slots.items a.nodes a.first a.limit) a.slots.items (out_of a.out.items) a.board (board_out_of a.board_out.items)) };
+    ghost invariant = { λ a. IsDesk (desk_of (layout_alone a.slots.items a.nodes a.first a.limit) a.slots.items (out_alone a.out.items) a.board (board_out_of a.board_out.items)) };
 }
 
 // A bucket in each of so many slots, each with an empty journal.
@@ -63,7 +63,7 @@ fn new_slots(
     requires least { least_journal + length (all_followers first.now) ≤ limit }
     requires most { limit ≤ greatest_journal }
     ensures count { IfOk result (λ slots. length slots.items ≡ buckets) }
-    ensures each { IfOk result (λ slots. AreNew first.now limit slots.items) }
+    ensures each { IfOk result (λ slots. AreNewSlots first.now limit slots.items) }
 {
     let mut slots = Vec::with_capacity(alloc, buckets as usize)?;
     for _b in 0..buckets {
@@ -77,7 +77,7 @@ impl Alone {
     pub fn new(alloc: Global, shape: &Shape) -> Result<Alone, AllocError>
         requires { IsShape shape.now }
         ensures layout { IfOk result (λ desk. HasShape shape.now desk.layout) }
-        ensures seen { IfOk result (λ desk. SeesNothing (seen_of desk)) }
+        ensures seen { IfOk result (λ desk. SeesNothing (seen_alone desk)) }
         ensures out { IfOk result (λ desk. desk.out ≡ None) }
         ensures board_out { IfOk result (λ desk. desk.board_out ≡ None) }
     {
@@ -105,7 +105,7 @@ impl Alone {
     /// each bucket is as the board says.
     pub fn leave(self)
         requires home { self.board_out ≡ None }
-        ensures rest { running_split (entries_of self) ≡ None → AreAtRest self.layout (entries_of self) (keeping_of self) }
+        ensures rest { running_split (entries_alone self) ≡ None → AreAtRest self.layout (entries_alone self) (keeping_alone self) }
     {
         forget(self);
     }
@@ -139,13 +139,13 @@ impl Desk for Alone {
 
     ghost layout = { λ desk. desk.layout };
 
-    ghost seen = { seen_of };
+    ghost seen = { seen_alone };
 
     ghost out = { λ desk. record { bucket = desk.out; board = desk.board_out } };
 
     ghost fits = { λ desk keepers. KeepersAreOut desk };
 
-    ghost keeping = { λ desk keepers. keeping_of desk };
+    ghost keeping = { λ desk keepers. keeping_alone desk };
 
     fn buckets(&self) -> u32 {
         self.slots.len() as u32
@@ -181,18 +181,18 @@ impl Desk for Alone {
         requires sound { IsSoundBoard board }
         requires is_of { IsBoardOf self.old.layout board.first board.limit }
         requires is_out { (entries : List BoardEntry) × (self.old.board_out ≡ Some entries)
-            × MayReplaceBoard self.old.layout (seen_of self.old) entries board.journal.entries }
+            × MayReplaceBoard self.old.layout (seen_alone self.old) entries board.journal.entries }
         requires no_bucket { self.old.out ≡ None }
         requires rest { (keepers : Unit {0}) → board.keepers ≡ Some keepers
-            → KeepersAreOut self.old × AreAtRest self.old.layout board.journal.entries (keeping_of self.old) }
+            → KeepersAreOut self.old × AreAtRest self.old.layout board.journal.entries (keeping_alone self.old) }
         ensures seen { (entries : List BoardEntry) → self.old.board_out ≡ Some entries
-            → SeesBoardGiven self.old.layout entries board.journal.entries (seen_of self.old) (seen_of self.new) }
+            → SeesBoardGiven self.old.layout entries board.journal.entries (seen_alone self.old) (seen_alone self.new) }
         ensures out { let out : Out = record { bucket = self.new.out; board = self.new.board_out } in
             out ≡ record { bucket = self.old.out; board = None } }
-        ensures legal { AreLegal self.new.layout (seen_of self.new) }
+        ensures legal { AreLegal self.new.layout (seen_alone self.new) }
         ensures layout { self.new.layout ≡ self.old.layout }
         ensures keepers { board.keepers ≡ None → (keepers : Unit {0}) → KeepersAreOut self.old
-            → StillFit (KeepersAreOut self.new) (keeping_of self.old) (keeping_of self.new) }
+            → StillFit (KeepersAreOut self.new) (keeping_alone self.old) (keeping_alone self.new) }
     {
         self.board = Some(board);
         self.board_out = Log::new();

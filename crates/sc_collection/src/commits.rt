@@ -24,9 +24,9 @@ pub enum Commits {
 
 impl From<Option<CommitFault>> for Commits {
     ghost use Rattle.std.specs.Prelude.{◌≡◌};
-    ghost use Rattle.sc_collection.specs.Committing.{commit_outcome, committed};
+    ghost use Rattle.sc_collection.specs.Committing.{commit_outcome, commits_told};
 
-    ghost from_gives = { λ fault commits. commits ≡ committed (commit_outcome fault) };
+    ghost from_gives = { λ fault commits. commits ≡ commits_told (commit_outcome fault) };
 
     fn from(fault: Option<CommitFault>) -> Commits {
         match fault {

@@ -18,7 +18,7 @@ const MAX_STOPS: usize = 65_536;
 const STOPS_OF_REQUEST: usize = 2 * MAX_ORDERS + MOST_BUCKETS;
 
 /// How many stops a trail has room for: those after which a connection takes no further request, and those of one request more.
-const ROOM: usize = MAX_STOPS + STOPS_OF_REQUEST;
+const TRAIL_ROOM: usize = MAX_STOPS + STOPS_OF_REQUEST;
 
 /// The stops of a connection, in order, and how many requests it has answered. All its memory is taken when it is made.
 #[derive(Debug, Drop)]
@@ -45,7 +45,7 @@ impl Trail {
         ensures { IfOk result (λ trail. trail ≡ record { stops = []; requests = 0 }) }
     {
         Ok(Trail {
-            stops: Vec::with_capacity(alloc, ROOM)?,
+            stops: Vec::with_capacity(alloc, TRAIL_ROOM)?,
             requests: 0,
         })
     }

@@ -12,7 +12,7 @@ use Rattle.sc_json.specs.Flat.{doc_fields, first_doc, docs_in, docs_of}
 use Rattle.sc_json.specs.RawDocs.{raw_fields_of}
 use Rattle.sc_commands.specs.Commands.{add, one, followed_by, each, added, asks_commit, reading}
 use Rattle.sc_commands.specs.Listed.{added_docs}
-use Rattle.sc_commands.specs.Updates.{asked_by, with_commit, read_commands, read_value}
+use Rattle.sc_commands.specs.Updates.{asked_by_update, with_commit, read_commands, read_value}
 use Rattle.sc_commands.specs.declared.batch.Flags.{Flags}
 use Rattle.sc_commands.specs.declared.fault.CommandFault.TheVariants as faults
 
@@ -76,7 +76,7 @@ read_found flags found docs e = read_fields flags found (map doc_fields docs) e 
 
 -- a body that is an array of these documents asks to add them
 pub asks_for_docs : (flags : Flags) (body : List ℕ) (docs : List RawDoc) → 0 < length body → option_and_then docs_of (json_of body) ≡ Some (map doc_fields docs)
-    → asked_by flags body ≡ read_commands flags (Ok (added_docs docs))
+    → asked_by_update flags body ≡ read_commands flags (Ok (added_docs docs))
 asks_for_docs flags [] docs some e = absurd (omega arith)
 asks_for_docs flags (byte ∷ body) docs some e = read_found flags (json_of (byte ∷ body)) docs e
 

@@ -56,9 +56,9 @@ read_value flags (Some value) = read_commands (with_commit flags value) (reading
 
 -- what an update asks for, or the first cause why it is refused: no JSON, then a form that is none, then too many orders, then the
 -- first fault of a document. A body of no bytes asks for nothing
-abbrev pub asked_by : Flags → List ℕ → Result Update CommandFault
-asked_by flags [] = Ok (record { orders = []; flags = flags })
-asked_by flags (byte ∷ body) = read_value flags (json_of (byte ∷ body))
+abbrev pub asked_by_update : Flags → List ℕ → Result Update CommandFault
+asked_by_update flags [] = Ok (record { orders = []; flags = flags })
+asked_by_update flags (byte ∷ body) = read_value flags (json_of (byte ∷ body))
 
 -- the fault is the one that is found, or memory ran out before one was
 abbrev pub IsCommandFault : {T : Type 0} → Result T CommandFault → CommandFault → Type 0

@@ -25,8 +25,8 @@ const MANY_BYTES: usize = 3 * MAX_ORDERS;
 /// order. A body of no bytes asks for nothing.
 pub fn read_update(alloc: Global, body: &[u8], flags: &Flags) -> Result<Batch, CommandFault>
     ensures ok { IfOk result
-        (λ batch. updates.asked_by flags.now body.now ≡ Ok (updates.update_of batch)) }
-    ensures fault { IfErr result (updates.IsCommandFault (updates.asked_by flags.now body.now)) }
+        (λ batch. updates.asked_by_update flags.now body.now ≡ Ok (updates.update_of batch)) }
+    ensures fault { IfErr result (updates.IsCommandFault (updates.asked_by_update flags.now body.now)) }
     ensures few { IfOk result (λ batch. length batch.orders ≤ order_limit) }
 {
     if body.is_empty() {

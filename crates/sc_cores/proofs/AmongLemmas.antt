@@ -18,7 +18,7 @@ use Rattle.sc_cluster.proofs.DigitLemmas.{underscore, HasNoUnderscore, decimal-H
 use Rattle.sc_cluster.proofs.ListLemmas.{Contains-map, Contains-filter, Contains-from_filter}
 use Rattle.sc_cluster.proofs.PairLemmas.{Contains-from_map}
 use Rattle.sc_io.specs.declared.hosts.Host.{Host}
-use Rattle.sc_io.specs.Hosts.{is_core, with_core, without_core}
+use Rattle.sc_io.specs.Hosts.{is_core_on, with_core, without_core}
 use Rattle.sc_cores.specs.Cores.{core_at, cores_of_slice, with_cores, without_cores, IsNew}
 
 -- ---- elements of lists
@@ -72,7 +72,7 @@ range_has from n k least below =
 
 -- ---- a core more, and a core less
 -- the test for a core finds it, and no other
-pub core_itself : (core : Host) → is_core core.node core.core core ≡ true
+pub core_itself : (core : Host) → is_core_on core.node core.core core ≡ true
 core_itself core =
     let number : (core.node == core.node) ≡ true = grind (arith, nat_tests) in
     ap (λ b. b && bytes_eq core.core core.core) number ∙ nat_list_eq_equiv.refl core.core
@@ -80,7 +80,7 @@ core_itself core =
 abbrev host_of : ℕ → List ℕ → Host
 host_of node core = record { node = node; core = core }
 
-found_core : (core host : Host) → is_core core.node core.core host ≡ true → host ≡ core
+found_core : (core host : Host) → is_core_on core.node core.core host ≡ true → host ≡ core
 found_core core host found =
     let parts = and_parts (host.node == core.node) (bytes_eq host.core core.core) found in
     let nodes : host.node ≡ core.node = eqb-true host.node core.node parts.0 in
@@ -89,39 +89,39 @@ found_core core host found =
 
 -- with a core there are those from before and it
 with_one : (core : Host) (cores : List Host) (x : Host) → Contains (with_core core.node core.core cores) x → Contains cores x ⊎ (core ≡ x)
-with_one core cores x = by (list_any (is_core core.node core.core) cores) where
+with_one core cores x = by (list_any (is_core_on core.node core.core) cores) where
   by : (b : Bool) → Contains (cond b cores (cores ++ core ∷ [])) x → Contains cores x ⊎ (core ≡ x)
   by true there = inl there
   by false there = Contains-push_cases cores core x there
 
 before_with_one : (core : Host) (cores : List Host) (x : Host) → Contains cores x → Contains (with_core core.node core.core cores) x
-before_with_one core cores x there = by (list_any (is_core core.node core.core) cores) where
+before_with_one core cores x there = by (list_any (is_core_on core.node core.core) cores) where
   by : (b : Bool) → Contains (cond b cores (cores ++ core ∷ [])) x
   by true = there
   by false = Contains-append_left cores (core ∷ []) x there
 
 one_with_one : (core : Host) (cores : List Host) → Contains (with_core core.node core.core cores) core
-one_with_one core cores = by (list_any (is_core core.node core.core) cores) refl where
-  by : (b : Bool) → list_any (is_core core.node core.core) cores ≡ b → Contains (cond b cores (cores ++ core ∷ [])) core
+one_with_one core cores = by (list_any (is_core_on core.node core.core) cores) refl where
+  by : (b : Bool) → list_any (is_core_on core.node core.core) cores ≡ b → Contains (cond b cores (cores ++ core ∷ [])) core
   by true found =
-      Contains-from_any {eq = λ (one host : Host). is_core one.node one.core host} (λ one host is. sym (found_core one host is)) core cores found
+      Contains-from_any {eq = λ (one host : Host). is_core_on one.node one.core host} (λ one host is. sym (found_core one host is)) core cores found
   by false none = Contains-push cores core
 
 -- without it there are those from before but it
 without_one : (core : Host) (all : List Host) (x : Host) → Contains (without_core core.node core.core all) x → Contains all x × (core ≢ x)
 without_one core all x left =
-    let parts = Contains-from_filter (λ (host : Host). not (is_core core.node core.core host)) all x left in
-    let other : is_core core.node core.core x ≡ false = not-true (is_core core.node core.core x) parts.1 in (
+    let parts = Contains-from_filter (λ (host : Host). not (is_core_on core.node core.core host)) all x left in
+    let other : is_core_on core.node core.core x ≡ false = not-true (is_core_on core.node core.core x) parts.1 in (
       parts.0,
-      λ same. both_ways (is_core core.node core.core x) other
-          (subst (λ (host : Host). is_core core.node core.core host ≡ true) same (core_itself core)),
+      λ same. both_ways (is_core_on core.node core.core x) other
+          (subst (λ (host : Host). is_core_on core.node core.core host ≡ true) same (core_itself core)),
     )
 
 stays_without_one : (core : Host) (all : List Host) (x : Host) → Contains all x → core ≢ x → Contains (without_core core.node core.core all) x
 stays_without_one core all x there differs =
-    let other : is_core core.node core.core x ≡ false =
-    false_from_ne_true (is_core core.node core.core x) (λ found. differs (sym (found_core core x found))) in
-    Contains-filter (λ (host : Host). not (is_core core.node core.core host)) all x there (not_from_false (is_core core.node core.core x) other)
+    let other : is_core_on core.node core.core x ≡ false =
+    false_from_ne_true (is_core_on core.node core.core x) (λ found. differs (sym (found_core core x found))) in
+    Contains-filter (λ (host : Host). not (is_core_on core.node core.core host)) all x there (not_from_false (is_core_on core.node core.core x) other)
 
 -- ---- cores more, and cores less
 -- with cores there are those from before and they
@@ -176,7 +176,7 @@ stays_without (core ∷ cores) all x there none =
 -- a core that is not among cores is new to them
 pub is_new : (cores : List Host) (core : Host) → ¬ Contains cores core → IsNew cores core
 is_new cores core none k d below =
-    false_from_ne_true (is_core core.node core.core (get_or cores k d))
+    false_from_ne_true (is_core_on core.node core.core (get_or cores k d))
     (λ found. none (subst (Contains cores) (found_core core (get_or cores k d) found) (Contains-get_or cores k d below)))
 
 -- ---- names

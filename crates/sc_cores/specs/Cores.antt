@@ -4,7 +4,7 @@ use Rattle.std.specs.List.{flat_map, range_with_len, items_where_true, position}
 use Rattle.sc_cluster.specs.declared.slice.Slice.{Slice}
 use Rattle.sc_cluster.specs.Slices.{core_name, node_of}
 use Rattle.sc_io.specs.declared.hosts.Host.{Host}
-use Rattle.sc_io.specs.Hosts.{is_core, with_core, without_core}
+use Rattle.sc_io.specs.Hosts.{is_core_on, with_core, without_core}
 
 -- replica k, from 1, of a slice of this name, whose replica 1 is on this node, among so many nodes
 abbrev pub core_at : (nodes : ℕ) → (name : List ℕ) → (node k : ℕ) → Host
@@ -41,7 +41,7 @@ pub record StopsEach (cores : List Host) (before now : Option (List Host)) (faul
 
 -- the core is not among these
 abbrev pub IsNew : List Host → Host → Type 0
-IsNew cores core = All (λ host. is_core core.node core.core host ≡ false) cores
+IsNew cores core = All (λ host. is_core_on core.node core.core host ≡ false) cores
 
 -- what stands outside of a collection: the cores that are started, where the hosts tell them, how often starting and stopping one
 -- has failed, and how often the pace has said stop
@@ -61,3 +61,14 @@ pub record CountsGoUp (old new : Outside) : Type 0 where
   pub starting : old.start_faults ≤ new.start_faults
   pub stopping : old.stop_faults ≤ new.stop_faults
   pub pace : old.stops ≤ new.stops
+
+-- each of these cores was started, in order, no call failed, and none was stopped
+pub record StartsCores (cores : List Host) (old new : Outside) : Type 0 where
+  pub started : IfSome old.started (λ before. new.started ≡ Some (with_cores cores before))
+  pub start_faults : new.start_faults ≡ old.start_faults
+  pub stop_faults : new.stop_faults ≡ old.stop_faults
+  pub stops : new.stops ≡ old.stops
+
+-- Each core of the first map was started, slice by slice, and no call failed.
+abbrev pub StartsFirst : (nodes : ℕ) → List Slice → (old new : Outside) → Type 0
+StartsFirst nodes first = StartsCores (cores_of_map nodes first)

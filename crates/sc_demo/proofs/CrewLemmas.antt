@@ -5,7 +5,7 @@ use Rattle.std.proofs.lemmas.Bool.{cases_eq}
 use Rattle.std.proofs.lemmas.List.{append-nil, length_push}
 use Rattle.std.proofs.lemmas.Option.{same_Some, slice_get_within, slice_get-get_or}
 use Rattle.sc_journal.proofs.ListLemmas.{slice_get-append_end, slice_get-append_left}
-use Rattle.sc_lock.specs.Journal.{merged}
+use Rattle.sc_lock.specs.Journal.{merged_places}
 use Rattle.sc_seen.specs.Seen.{Seen}
 use Rattle.sc_session.specs.declared.station.Crew.{Crew}
 use Rattle.sc_session.specs.Stations.{SetsAt, SetsReported}
@@ -24,13 +24,13 @@ use Rattle.sc_arguments.specs.Arguments.{IsDemo}
 use Rattle.sc_demo.specs.declared.task.Task.{Task}
 use Rattle.sc_demo.specs.Making.{IsTaskOf, task_at}
 use Rattle.sc_demo.proofs.NumberLemmas.{task_fits}
-use Rattle.sc_demo.specs.Makers.{IsEnlisted, AreEnlisted, IsHome, IsReady, AreBack, AreReportedBack, seen_by}
+use Rattle.sc_demo.specs.Makers.{IsMakerEnlisted, AreMakersEnlisted, IsMakerHome, IsMakerReady, AreMakersBack, AreMakersReportedBack, seen_by_maker}
 use Rattle.sc_demo.specs.Together.{own_of_all}
 
 module _ {R C H P L : Type 0} where
   -- ---- one maker after another gets its crew
   pub none_enlisted : (demo : Demo) (locks : Locks) (crews : Option (ℕ → Option (Crew C H P L))) (makers : List (Maker R C H P L))
-      → makers ≡ [] → AreEnlisted demo locks crews makers
+      → makers ≡ [] → AreMakersEnlisted demo locks crews makers
   none_enlisted demo locks crews makers none number maker at =
       let within = slice_get_within makers number maker at in
       let long : length makers ≡ 0 = ap length none in
@@ -77,17 +77,17 @@ module _ {R C H P L : Type 0} where
 
   -- one maker more is enlisted
   pub one_more_enlisted : (demo : Demo) (locks : Locks) (crews : Option (ℕ → Option (Crew C H P L))) (makers new : List (Maker R C H P L))
-      (maker : Maker R C H P L) → new ≡ makers ++ maker ∷ [] → AreEnlisted demo locks crews makers
-      → IsEnlisted demo locks crews (length makers) maker → AreEnlisted demo locks crews new
+      (maker : Maker R C H P L) → new ≡ makers ++ maker ∷ [] → AreMakersEnlisted demo locks crews makers
+      → IsMakerEnlisted demo locks crews (length makers) maker → AreMakersEnlisted demo locks crews new
   one_more_enlisted demo locks crews makers new maker ends are is number one at = by (cases_eq number (length makers)) where
     there : slice_get (makers ++ maker ∷ []) number ≡ Some one
     there = ap (λ (ones : List (Maker R C H P L)). slice_get ones number) (sym ends) ∙ at
 
-    by : (number ≡ length makers) ⊎ (number ≢ length makers) → IsEnlisted demo locks crews number one
+    by : (number ≡ length makers) ⊎ (number ≢ length makers) → IsMakerEnlisted demo locks crews number one
     by (inl here) =
         let same : maker ≡ one =
         same_Some maker one (sym (slice_get-append_end makers maker []) ∙ ap (slice_get (makers ++ maker ∷ [])) (sym here) ∙ there) in
-        subst (λ (n : ℕ). IsEnlisted demo locks crews n one) (sym here) (subst (IsEnlisted demo locks crews (length makers)) same is)
+        subst (λ (n : ℕ). IsMakerEnlisted demo locks crews n one) (sym here) (subst (IsMakerEnlisted demo locks crews (length makers)) same is)
     by (inr other) =
         let within = slice_get_within (makers ++ maker ∷ []) number one there in
         let below : number < length makers = omega (arith, within, other, length_push makers maker) in
@@ -99,8 +99,8 @@ module _ {R C H P L : Type 0} where
 
   -- makers that are enlisted are ready
   pub all_ready : (demo : Demo) (locks : Locks) (crews : Option (ℕ → Option (Crew C H P L))) (makers : List (Maker R C H P L))
-      → IsDemo demo → AreEnlisted demo locks crews makers → All (IsReady locks) makers
-  all_ready demo locks crews makers is_demo are = all_from_places (IsReady locks) makers (λ number maker at.
+      → IsDemo demo → AreMakersEnlisted demo locks crews makers → All (IsMakerReady locks) makers
+  all_ready demo locks crews makers is_demo are = all_from_places (IsMakerReady locks) makers (λ number maker at.
       let is = are number maker at in
       record {
         home = record { passes = is.passes; there = is.there; are = is.new.are; of_collection = is.over };
@@ -110,7 +110,7 @@ module _ {R C H P L : Type 0} where
       })
 
   -- the passes of one that is at home are of the collection
-  pub home_passes : (locks : Locks) (maker : Maker R C H P L) → IsHome locks maker → IfSome maker.passes (ArePasses locks)
+  pub home_passes : (locks : Locks) (maker : Maker R C H P L) → IsMakerHome locks maker → IfSome maker.passes (ArePasses locks)
   home_passes locks maker is = subst (λ one. IfSome one (ArePasses locks)) (sym is.there) is.are
 
   -- ---- one maker after another gives its crew back
@@ -155,14 +155,14 @@ module _ {R C H P L : Type 0} where
       let next = subst (λ (one : Option (ℕ → Option (Crew C H P L))). SetsReported first (Some maker.crew) one new) now_is is in
       (next.0, next.1, one_more_back first maker done before between next.0 are next.2)
 
-  all_back : (makers : List (Maker R C H P L)) (old new : ℕ → Option (Crew C H P L)) → AreBackFrom 0 makers old new → AreBack makers old new
+  all_back : (makers : List (Maker R C H P L)) (old new : ℕ → Option (Crew C H P L)) → AreBackFrom 0 makers old new → AreMakersBack makers old new
   all_back makers old new are = record {
     each = λ number maker at. are.each number number maker at (omega arith);
     rest = λ number from. are.beyond number (omega (arith, from));
   }
 
   all_back_reported : (makers : List (Maker R C H P L)) (old new : Option (ℕ → Option (Crew C H P L)))
-      → AreReportedBackFrom 0 makers old new → AreReportedBack makers old new
+      → AreReportedBackFrom 0 makers old new → AreMakersReportedBack makers old new
   all_back_reported makers None new are = tt
   all_back_reported makers (Some before) new (after, new_is, are) = (after, new_is, all_back makers before after are)
 
@@ -179,8 +179,8 @@ module _ {R C H P L : Type 0} where
     pub done : List (Maker R C H P L)
     pub split : all ≡ left ++ done
     pub are : ArePasses locks passes
-    pub joined : AreJoined (map seen_by done) (seen_of passes)
-    pub own : (lock : ℕ) → (seen_of passes).own lock ≡ own_of_all (map seen_by done) lock
+    pub joined : AreJoined (map seen_by_maker done) (seen_of passes)
+    pub own : (lock : ℕ) → (seen_of passes).own lock ≡ own_of_all (map seen_by_maker done) lock
     pub back : AreReportedBackFrom (length left) done back_old back_now
     pub out : SetsBetween (length left) (length all) false out_old out_now
 
@@ -213,22 +213,22 @@ module _ {R C H P L : Type 0} where
       still_out out = is.out.before (length rest) (omega (arith, long)) ∙ out (length rest) inside
 
       -- the last one that is left is at home
-      pub still_home : All (IsHome locks) all → IsHome locks maker
+      pub still_home : All (IsMakerHome locks) all → IsMakerHome locks maker
       still_home each =
-          element_of (IsHome locks) all rest maker is.done each
+          element_of (IsMakerHome locks) all rest maker is.done each
           (is.split ∙ ap (λ (xs : List (Maker R C H P L)). xs ++ is.done) ends ∙ append_assoc rest (maker ∷ []) is.done)
 
       -- it is done too
       pub one_more_done : (next : Passes) (back_next : Option (ℕ → Option (Crew C H P L))) (out_next : ℕ → Bool) → ArePasses locks next
-          → SeesBoth (seen_of passes) (seen_by maker) (seen_of next)
+          → SeesBoth (seen_of passes) (seen_by_maker maker) (seen_of next)
           → SetsReported (length rest) (Some maker.crew) back_now back_next → SetsAt (length rest) false out_now out_next
           → IsHalfway locks next all rest back_old back_next out_old out_next
       one_more_done next back_next out_next are both back out = record {
         done = maker ∷ is.done;
         split = is.split ∙ ap (λ (xs : List (Maker R C H P L)). xs ++ is.done) ends ∙ append_assoc rest (maker ∷ []) is.done;
         are = are;
-        joined = one_more_joined (seen_by maker) (map seen_by is.done) (seen_of passes) (seen_of next) is.joined both;
-        own = λ lock. both.own lock ∙ ap (λ (places : List ℕ). merged places ((seen_by maker).own lock)) (is.own lock);
+        joined = one_more_joined (seen_by_maker maker) (map seen_by_maker is.done) (seen_of passes) (seen_of next) is.joined both;
+        own = λ lock. both.own lock ∙ ap (λ (places : List ℕ). merged_places places ((seen_by_maker maker).own lock)) (is.own lock);
         back = one_more_back_reported (length rest) maker is.done back_old back_now back_next
             (subst (λ (n : ℕ). AreReportedBackFrom n is.done back_old back_now) long is.back) back;
         out = one_more_between (length rest) (length all) false out_old out_now out_next inside
@@ -239,15 +239,15 @@ module _ {R C H P L : Type 0} where
       done_is : is.done ≡ all
       done_is = ap (λ (xs : List (Maker R C H P L)). xs ++ is.done) (sym none) ∙ sym is.split
 
-      pub story : IsOneStory (layout_of locks) (map seen_by all) (seen_of passes)
+      pub story : IsOneStory (layout_of locks) (map seen_by_maker all) (seen_of passes)
       story =
-          subst (λ (xs : List (Maker R C H P L)). IsOneStory (layout_of locks) (map seen_by xs) (seen_of passes)) done_is
-          (all_joined (layout_of locks) (map seen_by is.done) (seen_of passes) is.are.of_locks.legal is.joined)
+          subst (λ (xs : List (Maker R C H P L)). IsOneStory (layout_of locks) (map seen_by_maker xs) (seen_of passes)) done_is
+          (all_joined (layout_of locks) (map seen_by_maker is.done) (seen_of passes) is.are.of_locks.legal is.joined)
 
-      pub own : (lock : ℕ) → (seen_of passes).own lock ≡ own_of_all (map seen_by all) lock
-      own lock = is.own lock ∙ ap (λ (xs : List (Maker R C H P L)). own_of_all (map seen_by xs) lock) done_is
+      pub own : (lock : ℕ) → (seen_of passes).own lock ≡ own_of_all (map seen_by_maker all) lock
+      own lock = is.own lock ∙ ap (λ (xs : List (Maker R C H P L)). own_of_all (map seen_by_maker xs) lock) done_is
 
-      pub back : AreReportedBack all back_old back_now
+      pub back : AreMakersReportedBack all back_old back_now
       back =
           all_back_reported all back_old back_now
           (subst (λ (xs : List (Maker R C H P L)). AreReportedBackFrom 0 xs back_old back_now) done_is

@@ -4,7 +4,7 @@ use Rattle.std.specs.List.{list_any, sum_by}
 use Rattle.std.proofs.lemmas.Bool.{cases_eq}
 use Rattle.std.proofs.lemmas.List.Sums.{sum_by-cons}
 use Rattle.std.proofs.lemmas.Option.{same_Some, slice_get_within}
-use Rattle.sc_cores.specs.Cores.{cores_of_map}
+use Rattle.sc_cores.specs.Cores.{cores_of_map, StartsCores, StartsFirst}
 use Rattle.sc_io.specs.declared.hosts.Host.{Host}
 use Rattle.sc_io.specs.Pieces.{AddsPrefix}
 use Rattle.sc_seen.specs.Seen.{Seen}
@@ -18,8 +18,7 @@ use Rattle.sc_shared.specs.Collections.{Locks, layout_of}
 use Rattle.sc_arguments.specs.declared.asked.Demo.{Demo}
 use Rattle.sc_arguments.specs.Arguments.{IsDemo, demo_shape}
 use Rattle.sc_server.specs.Crews.{SetsBelow, SetsReportedBelow, seen_with}
-use Rattle.sc_server.specs.Reports.{StartsCores}
-use Rattle.sc_server.specs.Serving.{Front, IsGivenAndBack, AreGivenAndBack, AreUnused, IsOneStory, StartsFirst, WritesNothing}
+use Rattle.sc_server.specs.Serving.{Front, IsGivenAndBack, AreGivenAndBack, AreUnused, IsOneStory, WritesNothing}
 use Rattle.sc_server.specs.Working.{Told}
 use Rattle.sc_server.proofs.EndLemmas.{told_of}
 use Rattle.sc_server.proofs.FrontLemmas.{OthersStay, none_given_and_back}
@@ -30,13 +29,13 @@ use Rattle.sc_demo.specs.declared.task.Made.TheVariants as makes
 use Rattle.sc_demo.specs.declared.task.Task.{Task}
 use Rattle.sc_demo.specs.declared.task.Outcome.{Outcome}
 use Rattle.sc_demo.specs.declared.task.Outcome.TheVariants as outcomes
-use Rattle.sc_demo.specs.Finding.{AreFound}
+use Rattle.sc_demo.specs.Finding.{CommitsAndFinds}
 use Rattle.sc_demo.specs.Lines.{Report, lines, split_word}
-use Rattle.sc_demo.specs.Making.{Reports, Makes, accepted_by, accepted_in, has_run_out, making, ran_out_in, task_at, TellsIn}
-use Rattle.sc_demo.specs.Makers.{IsEnlisted, AreEnlisted, AreReportedBack, HasFirstHosts, HasMade, HaveMade, FirstFails, FirstStarts, IsTold, MakesTold, MakesAll, seen_by, with_hosts}
+use Rattle.sc_demo.specs.Making.{MakerReports, MakesTask, accepted_by, accepted_in, has_run_out, making, ran_out_in, task_at, TellsIn}
+use Rattle.sc_demo.specs.Makers.{IsMakerEnlisted, AreMakersEnlisted, AreMakersReportedBack, HasFirstMakerHosts, HasMade, HaveMade, FirstMakerFails, FirstMakerStarts, IsTold, MakesTold, MakesAll, seen_by_maker, maker_with_hosts}
 use Rattle.sc_demo.specs.Telling.{IsReport, TellsReport, TellsOutcome, after_makers, tally}
 use Rattle.sc_demo.specs.Together.{own_of_all}
-use Rattle.sc_demo.specs.Demos.{MakerRun, makers_of, IsMakerRun, RunsDemo, SaysOf, Demonstrates, RunsOut, FailsToStart, FailsToWrite, Tells, IsEnd, EndsDemo}
+use Rattle.sc_demo.specs.Demos.{MakerRun, makers_of, IsMakerRun, RunsDemo, SaysOf, Demonstrates, DemoRunsOut, DemoFailsToStart, DemoFailsToWrite, Tells, IsDemoEnd, EndsDemo}
 use Rattle.sc_demo.proofs.MergeLemmas.{total}
 use Rattle.sc_demo.proofs.SayLemmas.{says}
 
@@ -69,35 +68,35 @@ totalled f (x ∷ xs) = let rest = totalled f xs in omega (arith, rest)
 module _ {R C H P L : Type 0} where
   -- the crew of a maker is back
   one_back : (makers : List (Maker R C H P L)) (old new : Option (ℕ → Option (Crew C H P L))) (number : ℕ) (maker : Maker R C H P L)
-      → AreReportedBack makers old new → slice_get makers number ≡ Some maker
+      → AreMakersReportedBack makers old new → slice_get makers number ≡ Some maker
       → IfSome old (λ none. (crews : ℕ → Option (Crew C H P L)) × (new ≡ Some crews) × (crews number ≡ Some maker.crew))
   one_back makers None new number maker back at = tt
   one_back makers (Some before) new number maker (after, is, are) at = (after, is, are.each number maker at)
 
   others_stay : (makers : List (Maker R C H P L)) (old new : Option (ℕ → Option (Crew C H P L))) (count : ℕ) → length makers ≡ count
-      → AreReportedBack makers old new → OthersStay count old new
+      → AreMakersReportedBack makers old new → OthersStay count old new
   others_stay makers None new count same back = tt
   others_stay makers (Some before) new count same (after, is, are) =
       (after, is, λ number beyond. are.rest number (omega (arith, same, beyond)))
 
   -- the maker of each number after its hosts may have changed is the one before with its hosts
   hosts_alone : (hosts : H) (first : Maker R C H P L) (old new : List (Maker R C H P L)) (number : ℕ) (one other : Maker R C H P L)
-      → HasFirstHosts hosts first old new → slice_get old number ≡ Some one → slice_get new number ≡ Some other
-      → other ≡ with_hosts other.crew.hosts one
+      → HasFirstMakerHosts hosts first old new → slice_get old number ≡ Some one → slice_get new number ≡ Some other
+      → other ≡ maker_with_hosts other.crew.hosts one
   hosts_alone hosts first old new number one other is at at_other = by (cases_eq number 0) where
-    by : (number ≡ 0) ⊎ (number ≢ 0) → other ≡ with_hosts other.crew.hosts one
+    by : (number ≡ 0) ⊎ (number ≢ 0) → other ≡ maker_with_hosts other.crew.hosts one
     by (inl here) =
         let one_is : first ≡ one = same_Some first one (sym is.old_is ∙ ap (slice_get old) (sym here) ∙ at) in
-        let other_is : with_hosts hosts one ≡ other =
-        same_Some (with_hosts hosts one) other
-        (ap (λ (m : Maker R C H P L). Some (with_hosts hosts m)) (sym one_is) ∙ sym is.new_is ∙ ap (slice_get new) (sym here) ∙ at_other) in
-        sym other_is ∙ ap (λ (m : Maker R C H P L). with_hosts m.crew.hosts one) other_is
+        let other_is : maker_with_hosts hosts one ≡ other =
+        same_Some (maker_with_hosts hosts one) other
+        (ap (λ (m : Maker R C H P L). Some (maker_with_hosts hosts m)) (sym one_is) ∙ sym is.new_is ∙ ap (slice_get new) (sym here) ∙ at_other) in
+        sym other_is ∙ ap (λ (m : Maker R C H P L). maker_with_hosts m.crew.hosts one) other_is
     by (inr different) =
         let same : one ≡ other = same_Some one other (sym at ∙ sym (is.rest number different) ∙ at_other) in
-        sym same ∙ ap (λ (m : Maker R C H P L). with_hosts m.crew.hosts one) same
+        sym same ∙ ap (λ (m : Maker R C H P L). maker_with_hosts m.crew.hosts one) same
 
 -- what came of makers is the same of equal makers
-pub made_as : {R C H P L : Type 0} (reports : Reports C H P) (cores : List Host) (as_old old as_new new : List (Maker R C H P L)) (outcome : Outcome)
+pub made_as : {R C H P L : Type 0} (reports : MakerReports C H P) (cores : List Host) (as_old old as_new new : List (Maker R C H P L)) (outcome : Outcome)
     → as_old ≡ old → new ≡ as_new → MakesAll reports cores as_old as_new outcome → MakesAll reports cores old new outcome
 made_as {R} {C} {H} {P} {L} reports cores as_old old as_new new outcome old_is new_is made =
     subst (λ (ones : List (Maker R C H P L)). MakesAll reports cores old ones outcome) (sym new_is)
@@ -106,8 +105,8 @@ made_as {R} {C} {H} {P} {L} reports cores as_old old as_new new outcome old_is n
 -- ---- what the station, the sink and the makers were, and are
 -- what was left of the crews of makers that were enlisted
 pub record Leaves {R C H P L : Type 0} (demo : Demo) (locks : Locks) (before after : Front C H P L) (enlisted new : List (Maker R C H P L)) : Type 0 where
-  pub are : AreEnlisted demo locks before.crews enlisted
-  pub back : AreReportedBack new before.crews_back after.crews_back
+  pub are : AreMakersEnlisted demo locks before.crews enlisted
+  pub back : AreMakersReportedBack new before.crews_back after.crews_back
   pub count : length new ≡ length enlisted
   pub crews : AreGivenAndBack before after (length enlisted)
   pub open_faults : after.open_faults ≡ before.open_faults
@@ -115,14 +114,14 @@ pub record Leaves {R C H P L : Type 0} (demo : Demo) (locks : Locks) (before aft
 -- by what enlisting and dismissing them say
 pub leaves : {R C H P L : Type 0} (demo : Demo) (locks : Locks) (before after : Front C H P L) (enlisted new : List (Maker R C H P L))
     (crews_now back_now : Option (ℕ → Option (Crew C H P L))) (out_now : ℕ → Bool) (faults_now : ℕ)
-    → AreEnlisted demo locks before.crews enlisted → SetsReportedBelow (length enlisted) None before.crews crews_now
+    → AreMakersEnlisted demo locks before.crews enlisted → SetsReportedBelow (length enlisted) None before.crews crews_now
     → SetsBelow (length enlisted) true before.out out_now → back_now ≡ before.crews_back → faults_now ≡ before.open_faults
     → length new ≡ length enlisted
-    → AreReportedBack new back_now after.crews_back → SetsBelow (length new) false out_now after.out → after.crews ≡ crews_now
+    → AreMakersReportedBack new back_now after.crews_back → SetsBelow (length new) false out_now after.out → after.crews ≡ crews_now
     → after.open_faults ≡ faults_now → Leaves demo locks before after enlisted new
 leaves {R} {C} {H} {P} {L} demo locks before after enlisted new crews_now back_now out_now faults_now are given out back_same faults_same count back out_back crews_same after_faults =
-    let back_is : AreReportedBack new before.crews_back after.crews_back =
-    subst (λ (old : Option (ℕ → Option (Crew C H P L))). AreReportedBack new old after.crews_back) back_same back in
+    let back_is : AreMakersReportedBack new before.crews_back after.crews_back =
+    subst (λ (old : Option (ℕ → Option (Crew C H P L))). AreMakersReportedBack new old after.crews_back) back_same back in
     let out_is : SetsBelow (length enlisted) false out_now after.out = subst (λ (n : ℕ). SetsBelow n false out_now after.out) count out_back in
     record {
       are = are;
@@ -136,26 +135,26 @@ leaves {R} {C} {H} {P} {L} demo locks before after enlisted new crews_now back_n
       open_faults = after_faults ∙ faults_same;
     }
 
-module _ {C H P L : Type 0} (reports : Reports C H P) (demo : Demo) (before after : Front C H P L) where
+module _ {C H P L : Type 0} (reports : MakerReports C H P) (demo : Demo) (before after : Front C H P L) where
   -- each status has its cause
-  pub with_causes : {status : ℕ} → IsEnd reports demo before after status → EndsDemo reports demo before after status
-  with_causes (IsEnd.no_memory out) = record {
-    end = IsEnd.no_memory out;
+  pub with_causes : {status : ℕ} → IsDemoEnd reports demo before after status → EndsDemo reports demo before after status
+  with_causes (IsDemoEnd.no_memory out) = record {
+    end = IsDemoEnd.no_memory out;
     write_fault = (λ is. absurd (omega (arith, is)), λ rose. absurd (omega (arith, rose, out.silent.write_faults)));
     host_fault = λ is. absurd (omega (arith, is));
   }
-  with_causes (IsEnd.host_fails fails) = record {
-    end = IsEnd.host_fails fails;
+  with_causes (IsDemoEnd.host_fails fails) = record {
+    end = IsDemoEnd.host_fails fails;
     write_fault = (λ is. absurd (omega (arith, is)), λ rose. absurd (omega (arith, rose, fails.silent.write_faults)));
     host_fault = λ is. fails;
   }
-  with_causes (IsEnd.lines_fail fails) = record {
-    end = IsEnd.lines_fail fails;
+  with_causes (IsDemoEnd.lines_fail fails) = record {
+    end = IsDemoEnd.lines_fail fails;
     write_fault = (λ is. fails.fault, λ rose. refl);
     host_fault = λ is. absurd (omega (arith, is));
   }
-  with_causes (IsEnd.tells told) = record {
-    end = IsEnd.tells told;
+  with_causes (IsDemoEnd.tells told) = record {
+    end = IsDemoEnd.tells told;
     write_fault = (λ is. absurd (omega (arith, is)), λ rose. absurd (omega (arith, rose, told.write_faults)));
     host_fault = λ is. absurd (omega (arith, is));
   }
@@ -163,7 +162,7 @@ module _ {C H P L : Type 0} (reports : Reports C H P) (demo : Demo) (before afte
   -- memory ran out before any crew was given
   pub none_given : after.crews ≡ before.crews → after.crews_back ≡ before.crews_back → AreAsBefore before.out after.out
       → after.open_faults ≡ before.open_faults → WritesNothing before after → EndsDemo reports demo before after 6
-  none_given crews back out faults silent = with_causes (IsEnd.no_memory (record {
+  none_given crews back out faults silent = with_causes (IsDemoEnd.no_memory (record {
     count = 0;
     at_most = omega arith;
     crews = none_given_and_back before after crews back out;
@@ -174,7 +173,7 @@ module _ {C H P L : Type 0} (reports : Reports C H P) (demo : Demo) (before afte
   module _ {R : Type 0} (locks : Locks) (enlisted new : List (Maker R C H P L)) (left : Leaves demo locks before after enlisted new) where
     -- memory ran out for the crew of a maker, or after that
     pub memory_ends : length enlisted ≤ makers_of demo → WritesNothing before after → EndsDemo reports demo before after 6
-    memory_ends at_most silent = with_causes (IsEnd.no_memory (record {
+    memory_ends at_most silent = with_causes (IsDemoEnd.no_memory (record {
       count = length enlisted;
       at_most = at_most;
       crews = left.crews;
@@ -196,14 +195,14 @@ module _ {C H P L : Type 0} (reports : Reports C H P) (demo : Demo) (before afte
       all_crews = subst (AreGivenAndBack before after) count left.crews
 
       -- a core was not started by the first one's hosts
-      fails_to_start : FirstFails reports enlisted new → WritesNothing before after → FailsToStart reports demo before after
+      fails_to_start : FirstMakerFails reports enlisted new → WritesNothing before after → DemoFailsToStart reports demo before after
       fails_to_start fails silent = record {
         given = fails.first.crew;
-        back = (with_hosts fails.hosts fails.first).crew;
+        back = (maker_with_hosts fails.hosts fails.first).crew;
         crews = all_crews;
         first = record {
           given_is = (left.are 0 fails.first fails.is.old_is).given_is;
-          back_is = one_back new before.crews_back after.crews_back 0 (with_hosts fails.hosts fails.first) left.back fails.is.new_is;
+          back_is = one_back new before.crews_back after.crews_back 0 (maker_with_hosts fails.hosts fails.first) left.back fails.is.new_is;
         };
         first_is = refl;
         unused = λ number from below.
@@ -220,26 +219,26 @@ module _ {C H P L : Type 0} (reports : Reports C H P) (demo : Demo) (before afte
         silent = silent;
       }
 
-      pub host_ends : FirstFails reports enlisted new → WritesNothing before after → EndsDemo reports demo before after 8
-      host_ends fails silent = with_causes (IsEnd.host_fails (fails_to_start fails silent))
+      pub host_ends : FirstMakerFails reports enlisted new → WritesNothing before after → EndsDemo reports demo before after 8
+      host_ends fails silent = with_causes (IsDemoEnd.host_fails (fails_to_start fails silent))
 
-      module _ (began : List (Maker R C H P L)) (starts : FirstStarts reports (cores_of_map demo_shape.nodes (layout_of locks).first) enlisted began)
+      module _ (began : List (Maker R C H P L)) (starts : FirstMakerStarts reports (cores_of_map demo_shape.nodes (layout_of locks).first) enlisted began)
           (have : HaveMade reports began new) (shape : HasShape demo_shape (layout_of locks)) (memory : list_any (λ (maker : Maker R C H P L). ran_out_in maker.made) new ≡ false) where
         -- it is a run of this maker
         record IsRunOf (number : ℕ) (maker : Maker R C H P L) (run : MakerRun C H P L) : Type 0 where
           is : IsMakerRun (record { reports = reports; layout = layout_of locks }) demo before after number run
-          after_is : seen_by maker ≡ run.after
+          after_is : seen_by_maker maker ≡ run.after
           did_is : maker.made ≡ Some run.did
 
         module _ (number : ℕ) (one other maker : Maker R C H P L) (at : slice_get enlisted number ≡ Some one) (at_other : slice_get began number ≡ Some other)
             (at_maker : slice_get new number ≡ Some maker) where
-          is_enlisted : IsEnlisted demo locks before.crews number one
+          is_enlisted : IsMakerEnlisted demo locks before.crews number one
           is_enlisted = left.are number one at
 
           has : HasMade reports other maker
           has = have.each number other maker at_other at_maker
 
-          begins : other ≡ with_hosts other.crew.hosts one
+          begins : other ≡ maker_with_hosts other.crew.hosts one
           begins = hosts_alone starts.hosts starts.first enlisted began number one other starts.is at at_other
 
           passes_are : is_enlisted.passes ≡ has.before
@@ -269,8 +268,8 @@ module _ {C H P L : Type 0} (reports : Reports C H P) (demo : Demo) (before afte
               (reports.outside one.crew.hosts one.crew.pace) (reports.outside other.crew.hosts other.crew.pace)
           starts_first here =
               let one_is : starts.first ≡ one = same_Some starts.first one (sym starts.is.old_is ∙ ap (slice_get enlisted) (sym here) ∙ at) in
-              let other_is : with_hosts starts.hosts starts.first ≡ other =
-              same_Some (with_hosts starts.hosts starts.first) other (sym starts.is.new_is ∙ ap (slice_get began) (sym here) ∙ at_other) in
+              let other_is : maker_with_hosts starts.hosts starts.first ≡ other =
+              same_Some (maker_with_hosts starts.hosts starts.first) other (sym starts.is.new_is ∙ ap (slice_get began) (sym here) ∙ at_other) in
               subst (λ (nodes : ℕ). StartsCores (cores_of_map nodes (layout_of locks).first)
               (reports.outside one.crew.hosts one.crew.pace) (reports.outside other.crew.hosts other.crew.pace)) (sym shape.nodes)
               (subst (λ (m : Maker R C H P L). StartsCores (cores_of_map demo_shape.nodes (layout_of locks).first)
@@ -283,11 +282,11 @@ module _ {C H P L : Type 0} (reports : Reports C H P) (demo : Demo) (before afte
               let same : other ≡ one = same_Some other one (sym at_other ∙ starts.is.rest number different ∙ at) in
               ap (λ (m : Maker R C H P L). m.crew.hosts) same
 
-          makes_its : Makes (record { reports = reports; layout = layout_of locks }) demo (task_at demo number) (making (seen_of has.before) other.crew) (making (seen_of has.after) maker.crew) has.did
+          makes_its : MakesTask (record { reports = reports; layout = layout_of locks }) demo (task_at demo number) (making (seen_of has.before) other.crew) (making (seen_of has.after) maker.crew) has.did
           makes_its =
-              subst (λ (task : Task). Makes (record { reports = reports; layout = layout_of locks }) demo task (making (seen_of has.before) other.crew) (making (seen_of has.after) maker.crew) has.did) task_is
-              (subst (λ (one_demo : Demo). Makes (record { reports = reports; layout = layout_of locks }) one_demo other.task (making (seen_of has.before) other.crew) (making (seen_of has.after) maker.crew) has.did) demo_is
-              (subst (λ (ones : Locks). Makes (record { reports = reports; layout = layout_of ones }) other.demo other.task (making (seen_of has.before) other.crew) (making (seen_of has.after) maker.crew) has.did) over
+              subst (λ (task : Task). MakesTask (record { reports = reports; layout = layout_of locks }) demo task (making (seen_of has.before) other.crew) (making (seen_of has.after) maker.crew) has.did) task_is
+              (subst (λ (one_demo : Demo). MakesTask (record { reports = reports; layout = layout_of locks }) one_demo other.task (making (seen_of has.before) other.crew) (making (seen_of has.after) maker.crew) has.did) demo_is
+              (subst (λ (ones : Locks). MakesTask (record { reports = reports; layout = layout_of ones }) other.demo other.task (making (seen_of has.before) other.crew) (making (seen_of has.after) maker.crew) has.did) over
               has.made))
 
           one_run : IsRunOf number maker run
@@ -323,15 +322,15 @@ module _ {C H P L : Type 0} (reports : Reports C H P) (demo : Demo) (before afte
         runs : List (MakerRun C H P L)
         runs = all_runs.0
 
-        after_each : (number : ℕ) (maker : Maker R C H P L) (one : MakerRun C H P L) → IsRunOf number maker one → seen_by maker ≡ one.after
+        after_each : (number : ℕ) (maker : Maker R C H P L) (one : MakerRun C H P L) → IsRunOf number maker one → seen_by_maker maker ≡ one.after
         after_each number maker one is = is.after_is
 
-        runs_demo : (all : Seen) → IsOneStory (layout_of locks) (map seen_by new) all
-            → ((lock : ℕ) → all.own lock ≡ own_of_all (map seen_by new) lock)
+        runs_demo : (all : Seen) → IsOneStory (layout_of locks) (map seen_by_maker new) all
+            → ((lock : ℕ) → all.own lock ≡ own_of_all (map seen_by_maker new) lock)
             → RunsDemo (record { reports = reports; layout = layout_of locks }) demo before after runs all
         unfolding runs all_runs
         runs_demo all story own =
-            let same = same_map seen_by (λ (one : MakerRun C H P L). one.after) IsRunOf new runs all_runs.1 after_each in
+            let same = same_map seen_by_maker (λ (one : MakerRun C H P L). one.after) IsRunOf new runs all_runs.1 after_each in
             record {
               shape = shape;
               count = all_runs.1.count ∙ have.count ∙ starts.is.count ∙ count;
@@ -345,7 +344,7 @@ module _ {C H P L : Type 0} (reports : Reports C H P) (demo : Demo) (before afte
               open_faults = left.open_faults;
             }
 
-        module _ (all : Seen) (story : IsOneStory (layout_of locks) (map seen_by new) all) (own : (lock : ℕ) → all.own lock ≡ own_of_all (map seen_by new) lock)
+        module _ (all : Seen) (story : IsOneStory (layout_of locks) (map seen_by_maker new) all) (own : (lock : ℕ) → all.own lock ≡ own_of_all (map seen_by_maker new) lock)
             (is_demo : IsDemo demo) (accepted : ℕ) (word : List ℕ) (told : IsTold new accepted word) (report : Report)
             (is : IsReport (after_makers (layout_of locks) all) (tally demo.count accepted word) report) where
           counted : report.accepted ≡ total (λ (one : MakerRun C H P L). accepted_by one.did) runs
@@ -380,12 +379,12 @@ module _ {C H P L : Type 0} (reports : Reports C H P) (demo : Demo) (before afte
                 did = did;
                 word = word_is;
                 last = is.counts.last;
-                found = subst (λ found. AreFound (layout_of locks) all is.counts.last found) (ap (λ (r : Report). r.found) (sym is.is)) is.counts.are;
+                found = subst (λ found. CommitsAndFinds (layout_of locks) all is.counts.last found) (ap (λ (r : Report). r.found) (sym is.is)) is.counts.are;
               }
 
       -- how it ended, by what its makers made and by what was told
       module _ (cores : List Host) (cores_are : cores ≡ cores_of_map demo_shape.nodes (layout_of locks).first) (shape : HasShape demo_shape (layout_of locks))
-          (all : Seen) (story : IsOneStory (layout_of locks) (map seen_by new) all) (own : (lock : ℕ) → all.own lock ≡ own_of_all (map seen_by new) lock)
+          (all : Seen) (story : IsOneStory (layout_of locks) (map seen_by_maker new) all) (own : (lock : ℕ) → all.own lock ≡ own_of_all (map seen_by_maker new) lock)
           (is_demo : IsDemo demo) where
         silent_of : told_of after.written after.write_faults ≡ told_of before.written before.write_faults → WritesNothing before after
         silent_of same = record { written = ap (λ (told : Told). told.written) same; write_faults = ap (λ (told : Told). told.faults) same }
@@ -396,17 +395,17 @@ module _ {C H P L : Type 0} (reports : Reports C H P) (demo : Demo) (before afte
             → EndsDemo reports demo before after status
         told_ends accepted split made (TellsReport.no_memory same) = memory_ends (omega (arith, count)) (silent_of same)
         told_ends accepted split made (TellsReport.lines_fail report is fault part) =
-            with_causes (IsEnd.lines_fail (record {
+            with_causes (IsDemoEnd.lines_fail (record {
               report = report;
-              is = demonstrates made.began (subst (λ (ones : List Host). FirstStarts reports ones enlisted made.began) cores_are made.starts) made.have shape made.told.memory
+              is = demonstrates made.began (subst (λ (ones : List Host). FirstMakerStarts reports ones enlisted made.began) cores_are made.starts) made.have shape made.told.memory
                   all story own is_demo accepted split made.told report is;
               fault = fault;
               part = part;
             }))
         told_ends accepted split made (TellsReport.tells report is whole same) =
-            with_causes (IsEnd.tells (record {
+            with_causes (IsDemoEnd.tells (record {
               report = report;
-              is = demonstrates made.began (subst (λ (ones : List Host). FirstStarts reports ones enlisted made.began) cores_are made.starts) made.have shape made.told.memory
+              is = demonstrates made.began (subst (λ (ones : List Host). FirstMakerStarts reports ones enlisted made.began) cores_are made.starts) made.have shape made.told.memory
                   all story own is_demo accepted split made.told report is;
               told = whole;
               write_faults = same;

@@ -4,7 +4,7 @@ use Rattle.std.specs.Prelude.{filter_map}
 use Rattle.std.specs.List.{AllByRecursion, cons_option}
 use Rattle.std.proofs.lemmas.Bool.Decides.{nat_tests}
 use Rattle.std.proofs.lemmas.Option.{same_Some}
-use Rattle.sc_lock.specs.Journal.{inserted, merged}
+use Rattle.sc_lock.specs.Journal.{inserted, merged_places}
 use Rattle.sc_seen.specs.Seen.{Seen}
 use Rattle.sc_demo.specs.Together.{own_of_all}
 
@@ -50,11 +50,11 @@ module _ {B : Type 0} (g : ℕ → Option B) where
         let four = length_cons (g p) (filter_map g xs) in
         omega (arith, one, two, three, four, rest)
 
-  pub merged_count : (xs ys : List ℕ) → length (filter_map g (merged xs ys)) ≡ length (filter_map g xs) + length (filter_map g ys)
+  pub merged_count : (xs ys : List ℕ) → length (filter_map g (merged_places xs ys)) ≡ length (filter_map g xs) + length (filter_map g ys)
   merged_count xs [] = omega arith
   merged_count xs (y ∷ ys) =
-      let first = inserted_count (merged xs ys) y in
-      let one = length_cons (g y) (filter_map g (merged xs ys)) in
+      let first = inserted_count (merged_places xs ys) y in
+      let one = length_cons (g y) (filter_map g (merged_places xs ys)) in
       let two = length_cons (g y) (filter_map g ys) in
       let rest = merged_count xs ys in
       omega (arith, first, one, two, rest)
@@ -89,11 +89,11 @@ module _ {B : Type 0} (g : ℕ → Option B) where
     by (Some b) same none = absurd (cc)
 
   -- places at which nothing is found add nothing
-  pub merged_none : (xs ys : List ℕ) → filter_map g ys ≡ [] → filter_map g (merged xs ys) ≡ filter_map g xs
+  pub merged_none : (xs ys : List ℕ) → filter_map g ys ≡ [] → filter_map g (merged_places xs ys) ≡ filter_map g xs
   merged_none xs [] none = refl
   merged_none xs (y ∷ ys) none =
       let parts = none_first y ys none in
-      inserted_none (merged xs ys) y parts.0 ∙ merged_none xs ys parts.1
+      inserted_none (merged_places xs ys) y parts.0 ∙ merged_none xs ys parts.1
 
   all_none : (xs : List ℕ) → filter_map g xs ≡ [] → AllByRecursion (λ x. g x ≡ None) xs
   all_none [] none = tt
@@ -106,18 +106,18 @@ module _ {B : Type 0} (g : ℕ → Option B) where
     by true more = (is, all)
     by false more = (all.0, more)
 
-  all_merged : (P : ℕ → Type 0) (xs ys : List ℕ) → AllByRecursion P xs → AllByRecursion P ys → AllByRecursion P (merged xs ys)
+  all_merged : (P : ℕ → Type 0) (xs ys : List ℕ) → AllByRecursion P xs → AllByRecursion P ys → AllByRecursion P (merged_places xs ys)
   all_merged P xs [] all more = all
-  all_merged P xs (y ∷ ys) all more = all_inserted P (merged xs ys) y (all_merged P xs ys all more.1) more.0
+  all_merged P xs (y ∷ ys) all more = all_inserted P (merged_places xs ys) y (all_merged P xs ys all more.1) more.0
 
   -- and where nothing is found at the others, what is found at places that ascend is found in their order
-  pub merged_ascending : (xs ys : List ℕ) → filter_map g xs ≡ [] → Ascends ys → filter_map g (merged xs ys) ≡ filter_map g ys
+  pub merged_ascending : (xs ys : List ℕ) → filter_map g xs ≡ [] → Ascends ys → filter_map g (merged_places xs ys) ≡ filter_map g ys
   merged_ascending xs [] none ascend = none
   merged_ascending xs (y ∷ ys) none ascend =
       let past = all_merged (IsPast y) xs ys
       (all_weaker (λ x. g x ≡ None) (IsPast y) (λ x is. inl is) xs (all_none xs none))
       (all_weaker (λ z. y < z) (IsPast y) (λ z less. inr less) ys ascend.0) in
-      inserted_first (merged xs ys) y past ∙ ap (cons_option (g y)) (merged_ascending xs ys none ascend.1)
+      inserted_first (merged_places xs ys) y past ∙ ap (cons_option (g y)) (merged_ascending xs ys none ascend.1)
 
   -- ---- of several
   pub count_of_all : (parts : List Seen) (lock : ℕ)

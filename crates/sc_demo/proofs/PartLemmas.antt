@@ -21,12 +21,12 @@ use Rattle.sc_session.specs.Commands.{situation}
 use Rattle.sc_split.specs.declared.end.SplitEnd.{SplitEnd}
 use Rattle.sc_split.specs.declared.end.SplitEnd.TheVariants as splits
 use Rattle.sc_split.specs.Splits.{Course, refused, given_up, done, IsAnswered, IsCause, HasCause, SplitMoment, noted_by, refusal, split_moment, split_stops}
-use Rattle.sc_workload.specs.Workload.{Workload, orders_of, is_made_by, places}
+use Rattle.sc_workload.specs.Workload.{Workload, worker_orders, is_made_by, order_places}
 use Rattle.sc_demo.specs.declared.made.Written.{Written}
 use Rattle.sc_demo.specs.Writing.{AreAllAccepted, CameNearLimit, IsAccepted, MakesOrders, writing}
 use Rattle.sc_demo.specs.Lines.{split_word}
 use Rattle.sc_demo.specs.Splitting.{SplitsFirst, first_shard}
-use Rattle.sc_demo.specs.Together.{is_done}
+use Rattle.sc_demo.specs.Together.{is_done_entry}
 use Rattle.sc_demo.proofs.WritingLemmas.{IsPlainContent, near_later, plain_places}
 use Rattle.sc_demo.proofs.AnswerLemmas.{HasWritten, contents_of, has_written}
 use Rattle.sc_demo.proofs.TogetherLemmas.{IsQuiet, commits_quiet}
@@ -54,7 +54,7 @@ all_written layout all (answer ∷ answers) plain are accepted =
     (has_written layout all answer plain.0.change are.0 accepted.0, all_written layout all answers plain.1 are.1 accepted.1)
 
 module _ {C : Type 0} (gives : C → ℕ → C → Type 0) (layout : Layout) (old new all : Seen) (clock next : C) (workload : Workload) (worker workers : ℕ)
-    (written : Written) (makes : MakesOrders gives layout (writing old clock) (writing new next) (orders_of workload worker workers) written)
+    (written : Written) (makes : MakesOrders gives layout (writing old clock) (writing new next) (worker_orders workload worker workers) written)
     (nothing : SeesNothing old) (more : SeesMore new all) where
   pub adds_writes : AddsWrites layout all new written makes.answers
   adds_writes = record {
@@ -66,13 +66,13 @@ module _ {C : Type 0} (gives : C → ℕ → C → Type 0) (layout : Layout) (ol
     count = makes.accepted_are;
   }
 
-  pub adds_all : written.memory ≡ false → AddsAll layout all (orders_of workload worker workers) makes.answers ⊎ CameNearLimit layout all
+  pub adds_all : written.memory ≡ false → AddsAll layout all (worker_orders workload worker workers) makes.answers ⊎ CameNearLimit layout all
   adds_all enough = by makes.all where
-    by : AreAllAccepted (orders_of workload worker workers) makes.answers ⊎ (written.memory ≡ true) ⊎ CameNearLimit layout new
-        → AddsAll layout all (orders_of workload worker workers) makes.answers ⊎ CameNearLimit layout all
+    by : AreAllAccepted (worker_orders workload worker workers) makes.answers ⊎ (written.memory ≡ true) ⊎ CameNearLimit layout new
+        → AddsAll layout all (worker_orders workload worker workers) makes.answers ⊎ CameNearLimit layout all
     by (inl accepted) = inl (record {
       each = all_written layout all makes.answers
-          (subst (AllByRecursion IsPlainContent) (sym accepted.in_turn) (plain_places workload (filter (is_made_by workload worker workers) (places workload))))
+          (subst (AllByRecursion IsPlainContent) (sym accepted.in_turn) (plain_places workload (filter (is_made_by workload worker workers) (order_places workload))))
           (makes.answered all more) accepted.each;
       contents = accepted.in_turn;
     })
@@ -95,7 +95,7 @@ pub record AddsNotes (layout : Layout) (all part : Seen) (end : SplitEnd) : Type
   pub noted : List BoardEntry
   pub row : part.own layout.buckets ≡ range_with_len (length before) (length noted)
   pub begins : IsPrefix (before ++ noted) all.board
-  pub done : list_any is_done noted ≡ is_done_end end
+  pub done : list_any is_done_entry noted ≡ is_done_end end
 
 stops_quiet : (layout : Layout) (all : Seen) (first : Stop) (course : Course) (end : SplitEnd) → IsAnswered layout all first_shard first course end
     → AllByRecursion (IsQuiet layout all) (split_stops first course)
@@ -127,7 +127,7 @@ cause_not_done layout plan old new splits.Stopped cause = refl
 cause_not_done layout plan old new splits.Memory cause = refl
 
 notes_done : (layout : Layout) (all : Seen) (first : Stop) (course : Course) (old new : SplitMoment) (end : SplitEnd)
-    → IsAnswered layout all first_shard first course end → HasCause layout course old new end → list_any is_done (noted_by course) ≡ is_done_end end
+    → IsAnswered layout all first_shard first course end → HasCause layout course old new end → list_any is_done_entry (noted_by course) ≡ is_done_end end
 notes_done layout all first refused old new end is cause = sym (ap is_done_end is.end_is ∙ refusal_not_done is.fault)
 notes_done layout all first (given_up plan true) old new end is cause = sym (cause_not_done layout plan old new end cause)
 notes_done layout all first (given_up plan false) old new end is cause = sym (cause_not_done layout plan old new end cause)

@@ -11,7 +11,7 @@ use Rattle.sc_schema.specs.Documents.{OrderContent}
 use Rattle.sc_seen.specs.Seen.{Layout, Seen, SeesMore}
 use Rattle.sc_seen.specs.Batches.{OrderAnswer}
 use Rattle.sc_split.specs.declared.end.SplitEnd.{SplitEnd}
-use Rattle.sc_workload.specs.Workload.{all_orders, orders_of}
+use Rattle.sc_workload.specs.Workload.{all_orders, worker_orders}
 use Rattle.sc_workload.specs.Laws.{on_document}
 use Rattle.sc_workload.proofs.LawLemmas.{lie_with_one}
 use Rattle.sc_arguments.specs.declared.asked.Demo.{Demo}
@@ -24,8 +24,8 @@ use Rattle.sc_demo.specs.declared.task.Made.{Made}
 use Rattle.sc_demo.specs.declared.task.Made.TheVariants as makes
 use Rattle.sc_demo.specs.Writing.{CameNearLimit}
 use Rattle.sc_demo.specs.Lines.{Report, split_word}
-use Rattle.sc_demo.specs.Making.{Reports, Makes, accepted_by, has_run_out, making, task_at}
-use Rattle.sc_demo.specs.Together.{AreWritten, IsWriteOfOrder, OwnsDone, all_own_writes, is_done, own_notes, own_of_all, workload_of, writes_on}
+use Rattle.sc_demo.specs.Making.{MakerReports, MakesTask, accepted_by, has_run_out, making, task_at}
+use Rattle.sc_demo.specs.Together.{OrdersAreWritten, IsWriteOfOrder, OwnsDone, all_own_writes, is_done_entry, own_notes, own_of_all, workload_of, writes_on}
 use Rattle.sc_demo.specs.Demos.{MakerRun, RunsDemo, SaysOf}
 use Rattle.sc_demo.proofs.NumberLemmas.{numbers}
 use Rattle.sc_demo.proofs.MergeLemmas.{total}
@@ -58,7 +58,7 @@ each_or {A} P Q (x ∷ xs) each = by (each 0 x refl) (each_or (λ (i : ℕ). P (
   by (inl first) (inr so) = inr so
   by (inr so) rest = inr so
 
-module _ {C H P L : Type 0} (reports : Reports C H P) (demo : Demo) (before after : Front C H P L) (is_demo : IsDemo demo) (layout : Layout)
+module _ {C H P L : Type 0} (reports : MakerReports C H P) (demo : Demo) (before after : Front C H P L) (is_demo : IsDemo demo) (layout : Layout)
     (runs : List (MakerRun C H P L)) (all : Seen) (are : RunsDemo (record { reports = reports; layout = layout }) demo before after runs all) where
   parts : List Seen
   parts = map (λ (run : MakerRun C H P L). run.after) runs
@@ -73,7 +73,7 @@ module _ {C H P L : Type 0} (reports : Reports C H P) (demo : Demo) (before afte
     did : run.did ≡ makes.Orders written
     answers : List OrderAnswer
     adds : AddsWrites layout all run.after written answers
-    how : AddsAll layout all (orders_of (workload_of demo) number demo.workers) answers ⊎ CameNearLimit layout all
+    how : AddsAll layout all (worker_orders (workload_of demo) number demo.workers) answers ⊎ CameNearLimit layout all
 
   record IsSplitting (run : MakerRun C H P L) : Type 0 where
     end : SplitEnd
@@ -89,12 +89,12 @@ module _ {C H P L : Type 0} (reports : Reports C H P) (demo : Demo) (before afte
       test : nat_lt number demo.workers ≡ true
       test = grind (arith, nat_tests)
 
-      made : Makes (record { reports = reports; layout = layout }) demo (tasks.Write number) (making run.before run.began) (making run.after run.back) run.did
+      made : MakesTask (record { reports = reports; layout = layout }) demo (tasks.Write number) (making run.before run.began) (making run.after run.back) run.did
       made =
-          subst (λ (b : Bool). Makes (record { reports = reports; layout = layout }) demo (cond b (tasks.Write number) tasks.Split) (making run.before run.began) (making run.after run.back) run.did) test
+          subst (λ (b : Bool). MakesTask (record { reports = reports; layout = layout }) demo (cond b (tasks.Write number) tasks.Split) (making run.before run.began) (making run.after run.back) run.did) test
           (are.each number run at).made
 
-      by : (did : Made) → run.did ≡ did → Makes (record { reports = reports; layout = layout }) demo (tasks.Write number) (making run.before run.began) (making run.after run.back) did
+      by : (did : Made) → run.did ≡ did → MakesTask (record { reports = reports; layout = layout }) demo (tasks.Write number) (making run.before run.began) (making run.after run.back) did
           → IsWriting number run
       by (makes.Orders written) same is = record {
         written = written;
@@ -112,12 +112,12 @@ module _ {C H P L : Type 0} (reports : Reports C H P) (demo : Demo) (before afte
       test : nat_lt number demo.workers ≡ false
       test = grind (arith, nat_tests)
 
-      made : Makes (record { reports = reports; layout = layout }) demo tasks.Split (making run.before run.began) (making run.after run.back) run.did
+      made : MakesTask (record { reports = reports; layout = layout }) demo tasks.Split (making run.before run.began) (making run.after run.back) run.did
       made =
-          subst (λ (b : Bool). Makes (record { reports = reports; layout = layout }) demo (cond b (tasks.Write number) tasks.Split) (making run.before run.began) (making run.after run.back) run.did) test
+          subst (λ (b : Bool). MakesTask (record { reports = reports; layout = layout }) demo (cond b (tasks.Write number) tasks.Split) (making run.before run.began) (making run.after run.back) run.did) test
           (are.each number run at).made
 
-      by : (did : Made) → run.did ≡ did → Makes (record { reports = reports; layout = layout }) demo tasks.Split (making run.before run.began) (making run.after run.back) did → IsSplitting run
+      by : (did : Made) → run.did ≡ did → MakesTask (record { reports = reports; layout = layout }) demo tasks.Split (making run.before run.began) (making run.after run.back) did → IsSplitting run
       by (makes.Orders written) same is = absurd is
       by (makes.Split end) same is = record {
         end = end;
@@ -160,7 +160,7 @@ module _ {C H P L : Type 0} (reports : Reports C H P) (demo : Demo) (before afte
       (λ i part different there.
       let one = mapped (λ (other : MakerRun C H P L). other.after) runs i part there in
       subst (λ (seen : Seen). seen.own layout.buckets ≡ []) one.2 (writing_run i one.0 one.1 (workers_here i one.0 one.1 different)).adds.board) in
-      let test : list_any is_done (own_notes layout all) ≡ is_done_end end = ap (list_any is_done) notes ∙ is.adds.done ∙ ap is_done_end same in
+      let test : list_any is_done_entry (own_notes layout all) ≡ is_done_end end = ap (list_any is_done_entry) notes ∙ is.adds.done ∙ ap is_done_end same in
       (λ owns. sym test ∙ owns, λ ends. test ∙ ends) where
         end_of : Made → SplitEnd
         end_of (makes.Orders written) = end
@@ -172,14 +172,14 @@ module _ {C H P L : Type 0} (reports : Reports C H P) (demo : Demo) (before afte
     written : Written
     answers : List OrderAnswer
     adds : AddsWrites layout all run.after written answers
-    orders : AddsAll layout all (orders_of (workload_of demo) number demo.workers) answers
+    orders : AddsAll layout all (worker_orders (workload_of demo) number demo.workers) answers
 
   abbrev WroteAllIfWorker : ℕ → MakerRun C H P L → Type 0
   WroteAllIfWorker number run = number < demo.workers → WroteAll number run
 
   one_wrote : (number : ℕ) (run : MakerRun C H P L) → slice_get runs number ≡ Some run → WroteAllIfWorker number run ⊎ CameNearLimit layout all
   one_wrote number run at = by (cases_lt number demo.workers) where
-    how : (is : IsWriting number run) → AddsAll layout all (orders_of (workload_of demo) number demo.workers) is.answers ⊎ CameNearLimit layout all
+    how : (is : IsWriting number run) → AddsAll layout all (worker_orders (workload_of demo) number demo.workers) is.answers ⊎ CameNearLimit layout all
         → WroteAllIfWorker number run ⊎ CameNearLimit layout all
     how is (inl orders) = inl (λ less. record { written = is.written; answers = is.answers; adds = is.adds; orders = orders })
     how is (inr near) = inr near
@@ -193,7 +193,7 @@ module _ {C H P L : Type 0} (reports : Reports C H P) (demo : Demo) (before afte
     its_bucket : bucket_of id layout.buckets < layout.buckets
     its_bucket = let most : bucket_of id layout.buckets ≤ layout.buckets - 1 = and_le_r _ _ in omega (arith, most, buckets)
 
-    nothing_else : (k : ℕ) → ((other : ℕ) → other ≢ k → on_document id (orders_of (workload_of demo) other demo.workers) ≡ [])
+    nothing_else : (k : ℕ) → ((other : ℕ) → other ≢ k → on_document id (worker_orders (workload_of demo) other demo.workers) ≡ [])
         → (i : ℕ) (run : MakerRun C H P L) → slice_get runs i ≡ Some run → i ≢ k → (lock : ℕ) → lock < layout.buckets
         → filter_map (write_on layout all id lock) (run.after.own lock) ≡ []
     nothing_else k others i run at different lock within = by (cases_lt i demo.workers) where
@@ -223,10 +223,10 @@ module _ {C H P L : Type 0} (reports : Reports C H P) (demo : Demo) (before afte
         (nothing_else lies.worker lies.others i one.0 one.1 different lock within))
         its_bucket)
 
-  pub all_written : layout.buckets ≡ 64 → AreWritten demo layout all ⊎ CameNearLimit layout all
+  pub all_written : layout.buckets ≡ 64 → OrdersAreWritten demo layout all ⊎ CameNearLimit layout all
   all_written buckets = by (each_or WroteAllIfWorker (CameNearLimit layout all) runs one_wrote) where
     by : ((number : ℕ) (run : MakerRun C H P L) → slice_get runs number ≡ Some run → WroteAllIfWorker number run) ⊎ CameNearLimit layout all
-        → AreWritten demo layout all ⊎ CameNearLimit layout all
+        → OrdersAreWritten demo layout all ⊎ CameNearLimit layout all
     by (inl wrote) = inl (λ id. document_written wrote id buckets)
     by (inr near) = inr near
 

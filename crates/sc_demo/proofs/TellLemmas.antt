@@ -7,7 +7,7 @@ use Rattle.sc_seen.specs.Seen.{Layout, Seen}
 use Rattle.sc_server.specs.Working.{Told}
 use Rattle.sc_demo.specs.declared.counting.Found.{Found}
 use Rattle.sc_demo.specs.declared.maker.Maker.{Maker}
-use Rattle.sc_demo.specs.Finding.{AreFound}
+use Rattle.sc_demo.specs.Finding.{CommitsAndFinds}
 use Rattle.sc_demo.specs.Lines.{lines}
 use Rattle.sc_demo.specs.Making.{TellsIn}
 use Rattle.sc_demo.specs.Makers.{TellsSplit}
@@ -15,10 +15,10 @@ use Rattle.sc_demo.specs.Telling.{AreLines, CountsOn, IsReport, TellsReport, aft
 
 -- what is found is the same of equal layouts and of what was seen
 pub counted_at : {E : Type 0} (told layout : Layout) (before_told before after : Seen) (found : Result Found E) → told ≡ layout → before_told ≡ before
-    → IfOk found (AreFound told before_told after) → IfOk found (CountsOn (after_makers layout before))
+    → IfOk found (CommitsAndFinds told before_told after) → IfOk found (CountsOn (after_makers layout before))
 counted_at told layout before_told before after (Ok found) same_layout same_before are = record {
   last = after;
-  are = subst (λ (l : Layout). AreFound l before after found) same_layout (subst (λ (s : Seen). AreFound told s after found) same_before are);
+  are = subst (λ (l : Layout). CommitsAndFinds l before after found) same_layout (subst (λ (s : Seen). CommitsAndFinds told s after found) same_before are);
 }
 counted_at told layout before_told before after (Err e) same_layout same_before are = are
 

@@ -7,7 +7,7 @@ use Rattle.std.proofs.lemmas.List.FromFn.{length-range_with_len}
 use Rattle.sc_record.specs.declared.order.Order.{Order}
 use Rattle.sc_record.specs.declared.order.Change.TheVariants as changes
 use Rattle.sc_commands.specs.declared.batch.Batch.{Batch}
-use Rattle.sc_workload.specs.Workload.{Workload, change_at, fields_at, is_made_by, order_at, places}
+use Rattle.sc_workload.specs.Workload.{Workload, change_at, fields_at, is_made_by, order_at, order_places}
 use Rattle.sc_workload.specs.Batches.{AreBatchesOf, AreSmall, IsSmall, contents}
 use Rattle.sc_workload.proofs.BatchLemmas.{contents-more}
 use Rattle.std.proofs.ByRecursion.{All-append}
@@ -176,7 +176,7 @@ plain_batches (batch ∷ batches) small plain =
 pub batches_plain : (workload : Workload) (worker workers : ℕ) (batches : List Batch) → AreBatchesOf workload worker workers batches → ArePlain batches
 batches_plain workload worker workers batches are =
     plain_batches batches are.small
-    (subst (AllByRecursion IsPlainContent) (sym are.orders) (plain_places workload (filter (is_made_by workload worker workers) (places workload))))
+    (subst (AllByRecursion IsPlainContent) (sym are.orders) (plain_places workload (filter (is_made_by workload worker workers) (order_places workload))))
 
 filter_within : (p : ℕ → Bool) (xs : List ℕ) → length (filter p xs) ≤ length xs
 filter_within p [] = omega arith
@@ -190,7 +190,7 @@ pub orders_few : (workload : Workload) (worker workers : ℕ) (batches : List Ba
     → length (contents batches) ≤ workload.count
 orders_few workload worker workers batches are =
     let all = ap length are.orders in
-    let made = length-map (filter (is_made_by workload worker workers) (places workload)) (order_at workload) in
-    let within = filter_within (is_made_by workload worker workers) (places workload) in
+    let made = length-map (filter (is_made_by workload worker workers) (order_places workload)) (order_at workload) in
+    let within = filter_within (is_made_by workload worker workers) (order_places workload) in
     let count = length-range_with_len 0 workload.count in
     omega (arith, all, made, within, count)

@@ -7,14 +7,15 @@ use Rattle.sc_collection.specs.Shapes.{HasShape, SeesNothing}
 use Rattle.sc_split.specs.declared.end.SplitEnd.{SplitEnd}
 use Rattle.sc_arguments.specs.declared.asked.Demo.{Demo}
 use Rattle.sc_arguments.specs.Arguments.{demo_shape}
-use Rattle.sc_server.specs.Serving.{Front, IsOneStory, StartsFirst, IsGivenAndBack, AreGivenAndBack, AreUnused, WritesNothing}
+use Rattle.sc_cores.specs.Cores.{StartsFirst}
+use Rattle.sc_server.specs.Serving.{Front, IsOneStory, IsGivenAndBack, AreGivenAndBack, AreUnused, WritesNothing}
 use Rattle.sc_demo.specs.declared.task.Made.{Made}
 use Rattle.sc_demo.specs.declared.task.Made.TheVariants as makes
 use Rattle.sc_demo.specs.Writing.{CameNearLimit}
-use Rattle.sc_demo.specs.Finding.{AreFound}
+use Rattle.sc_demo.specs.Finding.{CommitsAndFinds}
 use Rattle.sc_demo.specs.Lines.{Report, lines, split_word}
-use Rattle.sc_demo.specs.Making.{Reports, MakerSetting, Makes, has_run_out, making, task_at}
-use Rattle.sc_demo.specs.Together.{AreWritten, OwnsDone, all_own_writes, own_of_all}
+use Rattle.sc_demo.specs.Making.{MakerReports, MakerSetting, MakesTask, has_run_out, making, task_at}
+use Rattle.sc_demo.specs.Together.{OrdersAreWritten, OwnsDone, all_own_writes, own_of_all}
 
 -- What a report says of what all makers have seen and made together: it has the number of orders; it counts the writes that they made; it
 -- says `done` exactly where one of their entries of the board does; and each document's writes are those of its orders, in order, unless a
@@ -23,7 +24,7 @@ pub record SaysOf (demo : Demo) (layout : Layout) (all : Seen) (report : Report)
   pub orders : report.orders ≡ demo.count
   pub accepted : report.accepted ≡ length (all_own_writes layout all)
   pub done : (report.split ≡ codes "done") ↔ OwnsDone layout all
-  pub writes : AreWritten demo layout all ⊎ CameNearLimit layout all
+  pub writes : OrdersAreWritten demo layout all ⊎ CameNearLimit layout all
 
 -- a maker that has worked: its crew as the station gave it, as it began to work, and as it was given back; what its passes had seen before
 -- and after; and what it made
@@ -50,7 +51,7 @@ module _ {C H P L : Type 0} (common : MakerSetting C H P) (demo : Demo) (before 
     pub hosts : number ≢ 0 → run.began.hosts ≡ run.given.hosts
     pub rest : run.began ≡ record run.given { hosts = run.began.hosts }
     pub new : SeesNothing run.before
-    pub made : Makes common demo (task_at demo number) (making run.before run.began) (making run.after run.back) run.did
+    pub made : MakesTask common demo (task_at demo number) (making run.before run.began) (making run.after run.back) run.did
     pub listener : run.back.listener ≡ run.began.listener
     pub memory : has_run_out run.did ≡ false
 
@@ -65,7 +66,7 @@ module _ {C H P L : Type 0} (common : MakerSetting C H P) (demo : Demo) (before 
     pub crews : AreGivenAndBack before after (makers_of demo)
     pub open_faults : after.open_faults ≡ before.open_faults
 
-module _ {C H P L : Type 0} (reports : Reports C H P) (demo : Demo) (before after : Front C H P L) where
+module _ {C H P L : Type 0} (reports : MakerReports C H P) (demo : Demo) (before after : Front C H P L) where
   -- All makers worked, then every bucket was committed and three searches were made, and this is what the lines tell. The last maker is
   -- the one that splits.
   pub record Demonstrates (report : Report) : Type 0 where
@@ -80,10 +81,10 @@ module _ {C H P L : Type 0} (reports : Reports C H P) (demo : Demo) (before afte
     pub did : splitter.did ≡ makes.Split end
     pub word : split_word end ≡ Some report.split
     pub last : Seen
-    pub found : AreFound layout all last report.found
+    pub found : CommitsAndFinds layout all last report.found
 
   -- Memory ran out: each crew that was given is back, and nothing was written.
-  pub record RunsOut : Type 0 where
+  pub record DemoRunsOut : Type 0 where
     pub count : ℕ
     pub at_most : count ≤ makers_of demo
     pub crews : AreGivenAndBack before after count
@@ -92,7 +93,7 @@ module _ {C H P L : Type 0} (reports : Reports C H P) (demo : Demo) (before afte
 
   -- Starting one of the first cores failed by the hosts of crew 0: each crew is back, all but those hosts as it was given, and nothing was
   -- written.
-  pub record FailsToStart : Type 0 where
+  pub record DemoFailsToStart : Type 0 where
     pub given : Crew C H P L
     pub back : Crew C H P L
     pub crews : AreGivenAndBack before after (makers_of demo)
@@ -104,7 +105,7 @@ module _ {C H P L : Type 0} (reports : Reports C H P) (demo : Demo) (before afte
     pub silent : WritesNothing before after
 
   -- all was done but for the writing of the lines, of which a prefix was written
-  pub record FailsToWrite : Type 0 where
+  pub record DemoFailsToWrite : Type 0 where
     pub report : Report
     pub is : Demonstrates report
     pub fault : before.write_faults < after.write_faults
@@ -118,14 +119,14 @@ module _ {C H P L : Type 0} (reports : Reports C H P) (demo : Demo) (before afte
     pub write_faults : after.write_faults ≡ before.write_faults
 
   -- how a demonstration ended, with this status
-  pub data IsEnd : (status : ℕ) → Type 0 where
-    no_memory : RunsOut → IsEnd 6
-    host_fails : FailsToStart → IsEnd 8
-    lines_fail : FailsToWrite → IsEnd 5
-    tells : Tells → IsEnd 0
+  pub data IsDemoEnd : (status : ℕ) → Type 0 where
+    no_memory : DemoRunsOut → IsDemoEnd 6
+    host_fails : DemoFailsToStart → IsDemoEnd 8
+    lines_fail : DemoFailsToWrite → IsDemoEnd 5
+    tells : Tells → IsDemoEnd 0
 
   -- How a demonstration ended, and the cause of each status: 5 comes exactly where writing failed, and 8 only where starting a core did.
   pub record EndsDemo (status : ℕ) : Type 0 where
-    pub end : IsEnd status
+    pub end : IsDemoEnd status
     pub write_fault : (status ≡ 5) ↔ (before.write_faults < after.write_faults)
-    pub host_fault : status ≡ 8 → FailsToStart
+    pub host_fault : status ≡ 8 → DemoFailsToStart

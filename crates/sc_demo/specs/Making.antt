@@ -7,7 +7,7 @@ use Rattle.sc_session.specs.Commands.{situation}
 use Rattle.sc_split.specs.declared.end.SplitEnd.{SplitEnd}
 use Rattle.sc_split.specs.declared.end.SplitEnd.TheVariants as splits
 use Rattle.sc_arguments.specs.declared.asked.Demo.{Demo}
-use Rattle.sc_workload.specs.Workload.{orders_of}
+use Rattle.sc_workload.specs.Workload.{worker_orders}
 use Rattle.sc_demo.specs.declared.made.Written.{Written}
 use Rattle.sc_demo.specs.declared.task.Task.{Task}
 use Rattle.sc_demo.specs.declared.task.Task.TheVariants as tasks
@@ -61,13 +61,13 @@ TellsIn None word = ⊥
 TellsIn (Some made) word = TellsMade made word
 
 -- what a crew reports: its clock the timestamps that it gives, its hosts and its pace what is outside of the collection
-pub record Reports (C H P : Type 0) : Type 1 where
+pub record MakerReports (C H P : Type 0) : Type 1 where
   pub gives : C → ℕ → C → Type 0
   pub outside : H → P → Outside
 
 -- what the makers of one demonstration have in common: what their crews report, and how the collection is laid out
 pub record MakerSetting (C H P : Type 0) : Type 1 where
-  pub reports : Reports C H P
+  pub reports : MakerReports C H P
   pub layout : Layout
 
 -- what stands beside a maker at one moment: what was seen of the collection, and its crew
@@ -85,7 +85,7 @@ module _ {C H P : Type 0} (common : MakerSetting C H P) where
   -- a worker of this number made its orders by its clock
   pub record IsWriter (demo : Demo) (worker : ℕ) (old new : MakingState C H P) (written : Written) : Type 0 where
     pub orders : MakesOrders common.reports.gives common.layout (writing old.seen old.clock) (writing new.seen new.clock)
-        (orders_of (workload_of demo) worker demo.workers) written
+        (worker_orders (workload_of demo) worker demo.workers) written
     pub few : written.accepted ≤ demo.count
     pub hosts : new.hosts ≡ old.hosts
     pub pace : new.pace ≡ old.pace
@@ -97,8 +97,8 @@ module _ {C H P : Type 0} (common : MakerSetting C H P) where
     pub clock : new.clock ≡ old.clock
 
   -- who was to make this made it, and this came of it
-  abbrev pub Makes : Demo → Task → (old new : MakingState C H P) → Made → Type 0
-  Makes demo (tasks.Write worker) old new (makes.Orders written) = IsWriter demo worker old new written
-  Makes demo tasks.Split old new (makes.Split end) = IsSplitter old new end
-  Makes demo (tasks.Write worker) old new (makes.Split end) = ⊥
-  Makes demo tasks.Split old new (makes.Orders written) = ⊥
+  abbrev pub MakesTask : Demo → Task → (old new : MakingState C H P) → Made → Type 0
+  MakesTask demo (tasks.Write worker) old new (makes.Orders written) = IsWriter demo worker old new written
+  MakesTask demo tasks.Split old new (makes.Split end) = IsSplitter old new end
+  MakesTask demo (tasks.Write worker) old new (makes.Split end) = ⊥
+  MakesTask demo tasks.Split old new (makes.Orders written) = ⊥

@@ -6,7 +6,7 @@ use Rattle.sc_server.specs.Working.{Told}
 use Rattle.sc_demo.specs.declared.counting.Found.{Found}
 use Rattle.sc_demo.specs.declared.task.Outcome.{Outcome}
 use Rattle.sc_demo.specs.declared.task.Outcome.TheVariants as outcomes
-use Rattle.sc_demo.specs.Finding.{AreFound}
+use Rattle.sc_demo.specs.Finding.{CommitsAndFinds}
 use Rattle.sc_demo.specs.Lines.{Report, lines}
 
 -- the collection once its makers have worked: how it is laid out, and what all of them have seen of it
@@ -29,7 +29,7 @@ tally orders accepted split = record { orders = orders; accepted = accepted; spl
 -- every bucket was committed, and three searches found so many documents
 pub record CountsOn (collection : AfterMakers) (found : Found) : Type 0 where
   pub last : Seen
-  pub are : AreFound collection.layout collection.seen last found
+  pub are : CommitsAndFinds collection.layout collection.seen last found
 
 -- what is to be told: what was made, and what is found
 pub record IsReport (collection : AfterMakers) (made : Tally) (report : Report) : Type 0 where

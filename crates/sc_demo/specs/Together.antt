@@ -7,7 +7,7 @@ use Rattle.sc_record.specs.declared.order.Change.{Change}
 use Rattle.sc_record.specs.declared.order.Change.TheVariants as changes
 use Rattle.sc_record.specs.declared.write.Write.{Write}
 use Rattle.sc_schema.specs.Documents.{OrderContent}
-use Rattle.sc_lock.specs.Journal.{merged}
+use Rattle.sc_lock.specs.Journal.{merged_places}
 use Rattle.sc_journal.specs.Journal.{write_at}
 use Rattle.sc_seen.specs.Seen.{Layout, Seen}
 use Rattle.sc_seen.specs.declared.board.BoardEntry.{BoardEntry}
@@ -19,7 +19,7 @@ use Rattle.sc_workload.specs.Laws.{on_document}
 -- the places of the entries at a lock that are one of several's own, in order
 abbrev pub own_of_all : List Seen → (lock : ℕ) → List ℕ
 own_of_all [] lock = []
-own_of_all (part ∷ parts) lock = merged (own_of_all parts lock) (part.own lock)
+own_of_all (part ∷ parts) lock = merged_places (own_of_all parts lock) (part.own lock)
 
 -- ---- writes
 -- the writes among one's own entries of a bucket, in order
@@ -50,8 +50,8 @@ abbrev pub workload_of : Demo → Workload
 workload_of demo = record { seed = demo.seed; count = demo.count }
 
 -- of each document one's own writes are, in order, those of all orders of the workload that are on it
-abbrev pub AreWritten : Demo → Layout → Seen → Type 0
-AreWritten demo layout seen =
+abbrev pub OrdersAreWritten : Demo → Layout → Seen → Type 0
+OrdersAreWritten demo layout seen =
     (id : List ℕ) → AllZip IsWriteOfOrder (writes_on id (all_own_writes layout seen)) (on_document id (all_orders (workload_of demo)))
 
 -- ---- the board
@@ -60,10 +60,10 @@ abbrev pub own_notes : Layout → Seen → List BoardEntry
 own_notes layout seen = filter_map (slice_get seen.board) (seen.own layout.buckets)
 
 -- the entry says that a split is done
-abbrev pub is_done : BoardEntry → Bool
-is_done (board.Done slice) = true
-is_done _ = false
+abbrev pub is_done_entry : BoardEntry → Bool
+is_done_entry (board.Done slice) = true
+is_done_entry _ = false
 
 -- one of one's own entries of the board says that a split is done
 abbrev pub OwnsDone : Layout → Seen → Type 0
-OwnsDone layout seen = list_any is_done (own_notes layout seen) ≡ true
+OwnsDone layout seen = list_any is_done_entry (own_notes layout seen) ≡ true

@@ -16,6 +16,7 @@ use Rattle.sc_update.specs.declared.end.BatchFault.{BatchFault}
 use Rattle.sc_update.specs.declared.end.BatchFault.TheVariants as faults
 use Rattle.sc_workload.specs.Workload.{Workload}
 use Rattle.sc_workload.specs.Batches.{no_flags}
+use Rattle.sc_arguments.specs.Arguments.{most_orders, most_workers}
 use Rattle.sc_demo.specs.declared.made.Written.{Written}
 
 -- the change is a whole document or a deletion
@@ -40,17 +41,17 @@ abbrev pub ArePlain : List Batch → Type 0
 ArePlain batches = AllByRecursion IsPlain batches
 
 -- what one of several workers is to make of a workload: its number is one of theirs
-pub record Share : Type 0 where
+pub record WorkShare : Type 0 where
   pub workload : Workload
   pub worker : ℕ
   pub workers : ℕ
 
 -- the numbers of a share are in their ranges
-pub record IsShare (share : Share) : Type 0 where
+pub record IsShare (share : WorkShare) : Type 0 where
   pub least : 1 ≤ share.workload.count
-  pub most : share.workload.count ≤ 100000
+  pub most : share.workload.count ≤ most_orders
   pub worker : share.worker < share.workers
-  pub workers : share.workers ≤ 64
+  pub workers : share.workers ≤ most_workers
 
 -- what stands beside a worker at one moment: what was seen of the collection, and its clock
 pub record WritingState (C : Type 0) : Type 0 where

@@ -1,10 +1,10 @@
 //! What is found on the collection after its makers.
 ghost use Rattle.std.specs.Prelude.{◌≡◌, ◌≤◌, ◌∷◌, [], IfOk, OnOk};
-ghost use Rattle.sc_eval.specs.Conditions.{condition_of};
-ghost use Rattle.sc_session.specs.Queries.{HaveCondition};
+ghost use Rattle.sc_eval.specs.Criteria.{criterion_of};
+ghost use Rattle.sc_session.specs.Queries.{HaveCriterion};
 ghost use Rattle.sc_router.specs.Route.{most_buckets};
 ghost use Rattle.sc_collection.specs.Desks.{IsDeskAtRest};
-ghost use Rattle.sc_demo.specs.Finding.{AreCommitted, AreFound, FindsBy};
+ghost use Rattle.sc_demo.specs.Finding.{AreCommitted, CommitsAndFinds, FindsBy};
 
 use sc_bucket::CommitFault;
 use sc_collection::{Desk, Trail, commit_all};
@@ -31,7 +31,7 @@ pub fn count_on<R: Threads + Sync, D: Desk>(
 ) -> Result<Found, AllocError>
     requires buckets { (D.layout desk.old).buckets ≤ most_buckets }
     requires rest { IsDeskAtRest (D.layout desk.old) (D.out desk.old) (D.seen desk.old) }
-    ensures found { IfOk result (AreFound (D.layout desk.old) (D.seen desk.old) (D.seen desk.new)) }
+    ensures found { IfOk result (CommitsAndFinds (D.layout desk.old) (D.seen desk.old) (D.seen desk.new)) }
     ensures layout { D.layout desk.new ≡ D.layout desk.old }
     ensures rest { IsDeskAtRest (D.layout desk.new) (D.out desk.new) (D.seen desk.new) }
 {
@@ -83,9 +83,9 @@ fn found_by<R: Threads + Sync, D: Desk>(
     Ok(page.found)
 }
 
-/// The condition of a text. An error means out of memory, or that the text is no query.
+/// The criterion of a text. An error means out of memory, or that the text is no query.
 fn bound(alloc: Global, text: &str) -> Result<Bound, AllocError>
-    ensures { IfOk result (λ found. HaveCondition (text.now ∷ []) (condition_of found)) }
+    ensures { IfOk result (λ found. HaveCriterion (text.now ∷ []) (criterion_of found)) }
 {
     let query = match parse(alloc, text) {
         Ok(query) => query,

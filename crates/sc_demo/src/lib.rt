@@ -14,7 +14,7 @@
 //! are beginnings of one journal for each bucket and the board, and no two of them made the same entry. Of what they made together the lines then
 //! tell (`SaysOf`) how many writes that were, `done` exactly where one of their entries of the board says so, and each document's writes are
 //! those of all its orders, in order, unless a bucket's journal came near its limit. The three numbers are those of searches after every bucket
-//! was committed (`AreFound`), and what is told of a split that was refused is its answer (`SplitsFirst`).
+//! was committed (`CommitsAndFinds`), and what is told of a split that was refused is its answer (`SplitsFirst`).
 //!
 //! Tested alone: that the lines are the same for 1, 4 and 8 workers, and what two faults lead to (`sc_tests`).
 //!

@@ -3,8 +3,8 @@ ghost use Rattle.std.specs.Prelude.{◌≡◌, Some};
 ghost use Rattle.sc_cores.specs.Cores.{outside_of};
 ghost use Rattle.sc_arguments.specs.Arguments.{IsDemo};
 ghost use Rattle.sc_collection.specs.Desks.{nothing_out};
-ghost use Rattle.sc_demo.specs.Making.{IsTaskOf, Makes};
-ghost use Rattle.sc_demo.specs.Makers.{IsHome, IsReady, HasMade};
+ghost use Rattle.sc_demo.specs.Making.{IsTaskOf, MakesTask};
+ghost use Rattle.sc_demo.specs.Makers.{IsMakerHome, IsMakerReady, HasMade};
 
 use crate::splitting::split_first;
 use crate::task::{Made, Task};
@@ -37,8 +37,8 @@ pub struct Maker<'a, R, C, H, P, L> {
 impl<'a, R: Wait, C: Clock, H: Hosts, P: Pace, L> Maker<'a, R, C, H, P, L> {
     /// Makes what it is to make.
     pub fn run(&mut self)
-        requires ready { IsReady self.old.collection.now self.old }
-        ensures home { IsHome self.old.collection.now self.new }
+        requires ready { IsMakerReady self.old.collection.now self.old }
+        ensures home { IsMakerHome self.old.collection.now self.new }
         ensures made { HasMade
             (record {
               gives = C.gives;
@@ -53,8 +53,8 @@ impl<'a, R: Wait, C: Clock, H: Hosts, P: Pace, L> Maker<'a, R, C, H, P, L> {
 // Makes what it is to make, over the collection of its desk's home.
 fn run_at<N: Home, R: Wait, C: Clock, H: Hosts, P: Pace, L>(maker: &mut Maker<R, C, H, P, L>)
     requires home { N.locks ≡ Some maker.old.collection.now }
-    requires ready { IsReady maker.old.collection.now maker.old }
-    ensures home { IsHome maker.old.collection.now maker.new }
+    requires ready { IsMakerReady maker.old.collection.now maker.old }
+    ensures home { IsMakerHome maker.old.collection.now maker.new }
     ensures made { HasMade
         (record {
           gives = C.gives;
@@ -92,7 +92,7 @@ fn make<D: Desk, C: Clock, H: Hosts, P: Pace>(
     requires demo { IsDemo demo.now }
     requires task { IsTaskOf demo.now task }
     requires nothing_out { D.out desk.old ≡ nothing_out }
-    ensures made { Makes
+    ensures made { MakesTask
         (record {
           reports = record {
             gives = C.gives;

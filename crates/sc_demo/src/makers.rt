@@ -1,13 +1,14 @@
 //! All makers: they get their crews, work beside each other, and give their crews back.
-ghost use Rattle.std.specs.Prelude.{◌≡◌, ◌≤◌, ◌<◌, ◌^◌, ℕ, true, [], length, All, IfSome, IfOk, OnOk, vec_len, vec_capacity};
+ghost use Rattle.std.specs.Prelude.{◌≡◌, ◌≤◌, ◌<◌, ◌+◌, ◌^◌, ℕ, true, [], length, All, IfSome, IfOk, OnOk, vec_len, vec_capacity};
 ghost use Rattle.std.specs.List.{list_any, sum_by};
 ghost use Rattle.sc_cores.specs.Cores.{outside_of};
 ghost use Rattle.sc_shared.specs.Passes.{seen_of};
 ghost use Rattle.sc_shared.specs.Collections.{Locks, SeesBoth};
 ghost use Rattle.sc_shared.specs.Sharing.{ArePasses};
+ghost use Rattle.sc_arguments.specs.Arguments.{most_workers, most_orders};
 ghost use Rattle.sc_server.specs.Crews.{seen_with};
 ghost use Rattle.sc_demo.specs.Making.{accepted_in, ran_out_in};
-ghost use Rattle.sc_demo.specs.Makers.{IsKit, HaveCrews, HaveGivenBack, HaveJoined, IsHome, IsReady, IsReadyToMake, HasMade, HaveMade, MakesAll, IsOutcomeOf, TellsSplit};
+ghost use Rattle.sc_demo.specs.Makers.{IsMakerKit, MakersHaveCrews, MakersHaveGivenBack, MakersHaveJoined, IsMakerHome, IsMakerReady, IsReadyToMake, HasMade, HaveMade, MakesAll, IsOutcomeOf, TellsSplit};
 
 use crate::maker::Maker;
 use crate::needs::Kit;
@@ -35,13 +36,13 @@ pub fn enlist<'a, R, T: Station>(
     station: &mut T,
     makers: &mut Vec<Maker<'a, R, T::C, T::H, T::P, T::L>>,
 ) -> Result<(), AllocError>
-    requires kits { All (IsKit collection.now) kits.items }
+    requires kits { All (IsMakerKit collection.now) kits.items }
     requires few { length kits.items < 2 ^ 32 }
     requires none { makers.old.items ≡ [] }
     requires room { vec_len kits ≤ vec_capacity makers.old }
     ensures all { OnOk result (length makers.new.items ≡ length kits.items) }
     ensures at_most { length makers.new.items ≤ length kits.items }
-    ensures have { HaveCrews demo.now collection.now makers.new.items
+    ensures have { MakersHaveCrews demo.now collection.now makers.new.items
         (record {
           crews = T.crews station.old;
           crews_back = T.crews_back station.old;
@@ -92,7 +93,7 @@ pub fn make_all<
           outside = λ hosts pace. outside_of (H.started hosts) (H.start_faults hosts) (H.stop_faults hosts) (P.stops pace);
         })
         cores.now makers.old makers.new result }
-    ensures home { (collection : Locks) → All (IsReady collection) makers.old → All (IsHome collection) makers.new }
+    ensures home { (collection : Locks) → All (IsMakerReady collection) makers.old → All (IsMakerHome collection) makers.new }
     ensures count { length makers.new ≡ length makers.old }
 {
     if start_cores(&mut makers[0].crew.hosts, cores).is_err() {
@@ -119,7 +120,7 @@ fn work_all<
           outside = λ hosts pace. outside_of (H.started hosts) (H.start_faults hosts) (H.stop_faults hosts) (P.stops pace);
         })
         makers.old makers.new }
-    ensures home { (collection : Locks) → All (IsReady collection) makers.old → All (IsHome collection) makers.new }
+    ensures home { (collection : Locks) → All (IsMakerReady collection) makers.old → All (IsMakerHome collection) makers.new }
     ensures count { length makers.new ≡ length makers.old }
 {
     let count = makers.len();
@@ -129,7 +130,7 @@ fn work_all<
         count,
         &|_, maker: &mut Maker<R, C, H, P, L>|
             requires { IsReadyToMake maker.old }
-            ensures { IsHome maker.old.collection.now maker.new × HasMade
+            ensures { IsMakerHome maker.old.collection.now maker.new × HasMade
                 (record {
                   gives = C.gives;
                   outside = λ hosts pace. outside_of (H.started hosts) (H.start_faults hosts) (H.stop_faults hosts) (P.stops pace);
@@ -199,10 +200,10 @@ pub fn dismiss<'a, R, T: Station>(
     requires few { length makers.items < 2 ^ 32 }
     requires passes { ArePasses collection.now passes.old }
     requires none { (lock : ℕ) → (seen_of passes.old).own lock ≡ [] }
-    requires makers { All (IsHome collection.now) makers.items }
+    requires makers { All (IsMakerHome collection.now) makers.items }
     requires out { (number : ℕ) → number < length makers.items → T.out station.old number ≡ true }
-    ensures joined { HaveJoined collection.now makers.entry.items passes.new }
-    ensures back { HaveGivenBack makers.entry.items
+    ensures joined { MakersHaveJoined collection.now makers.entry.items passes.new }
+    ensures back { MakersHaveGivenBack makers.entry.items
         (record {
           crews = T.crews station.old;
           crews_back = T.crews_back station.old;

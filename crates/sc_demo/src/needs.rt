@@ -3,7 +3,7 @@ ghost use Rattle.std.specs.Prelude.{◌≡◌, length, All, IfOk, OnOk};
 ghost use Rattle.sc_arguments.specs.Arguments.{IsDemo};
 ghost use Rattle.sc_shared.specs.Passes.{CanSplit};
 ghost use Rattle.sc_server.specs.Needs.{AreNew};
-ghost use Rattle.sc_demo.specs.Makers.{IsKit, AreNeeds};
+ghost use Rattle.sc_demo.specs.Makers.{IsMakerKit, AreDemoNeeds};
 
 use sc_arguments::Demo;
 use sc_collection::{Shape, Trail};
@@ -38,7 +38,7 @@ pub struct Kit {
 /// means out of memory.
 pub fn needs_of(alloc: Global, demo: &Demo) -> Result<Needs, AllocError>
     requires { IsDemo demo.now }
-    ensures { IfOk result (AreNeeds demo.now) }
+    ensures { IfOk result (AreDemoNeeds demo.now) }
 {
     let shape = Shape {
         nodes: 1,
@@ -68,7 +68,7 @@ fn kits_of(
     requires splits { CanSplit makers passes.old }
     ensures new { OnOk result (AreNew collection.now passes.new) }
     ensures count { IfOk result (λ kits. length kits.items ≡ makers) }
-    ensures kits { IfOk result (λ kits. All (IsKit collection.now) kits.items) }
+    ensures kits { IfOk result (λ kits. All (IsMakerKit collection.now) kits.items) }
 {
     let mut kits = Vec::with_capacity(alloc, makers as usize)?;
     for _ in 0..makers {

@@ -3,7 +3,7 @@ ghost use Rattle.std.specs.Prelude.{◌≡◌, ◌≤◌, ◌<◌, ◌^◌, leng
 ghost use Rattle.sc_router.specs.Route.{most_buckets};
 ghost use Rattle.sc_collection.specs.Desks.{IsDeskAtRest};
 ghost use Rattle.sc_workload.specs.Batches.{IsSmall, contents};
-ghost use Rattle.sc_workload.specs.Workload.{orders_of};
+ghost use Rattle.sc_workload.specs.Workload.{worker_orders};
 ghost use Rattle.sc_schema.specs.Documents.{content_of};
 ghost use Rattle.sc_demo.specs.Writing.{IsShare, MakesOrders, IsPlain, ArePlain, ran_out, writing};
 
@@ -27,10 +27,10 @@ pub fn write<D: Desk, C: Clock>(
     workers: u32,
 ) -> Written
     requires share { IsShare (record { workload = record { seed = seed; count = count }; worker = worker; workers = workers }) }
-    requires buckets { (D.layout desk.old).buckets ≤ 256 }
+    requires buckets { (D.layout desk.old).buckets ≤ most_buckets }
     requires rest { IsDeskAtRest (D.layout desk.old) (D.out desk.old) (D.seen desk.old) }
     ensures made { MakesOrders C.gives (D.layout desk.old) (writing (D.seen desk.old) clock.old) (writing (D.seen desk.new) clock.new)
-        (orders_of (record { seed = seed; count = count }) worker workers) result }
+        (worker_orders (record { seed = seed; count = count }) worker workers) result }
     ensures few { result.accepted ≤ count }
     ensures layout { D.layout desk.new ≡ D.layout desk.old }
     ensures rest { IsDeskAtRest (D.layout desk.new) (D.out desk.new) (D.seen desk.new) }

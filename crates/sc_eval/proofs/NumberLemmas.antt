@@ -11,7 +11,7 @@ use Rattle.sc_record.specs.declared.write.Write.{Write}
 use Rattle.sc_segment.specs.Joining.{has_row}
 use Rattle.sc_segment.proofs.JoinLemmas.{AscendFrom, ascend_weaker, increasing_from_ascend, none_below}
 use Rattle.sc_segment.proofs.SameRowsLemmas.{same_rows}
-use Rattle.sc_eval.specs.Conditions.{Condition}
+use Rattle.sc_eval.specs.Criteria.{Criterion}
 use Rattle.sc_eval.specs.Matching.{matches, is_live, finds}
 use Rattle.sc_eval.specs.Numbers.{passes, is_match, finds_at, row_in, AreNumbersOf}
 
@@ -112,7 +112,7 @@ has_row-filter p (x ∷ xs) number = by (has_row-filter p xs number) (p x) refl 
         rw (is, at) (rest ∙ ap (λ b. has_row xs number && b) here ∙ failed (has_row xs number) ∙ sym here)
     by rest false is false at = rw (is, at) rest
 
-module _ (range : Range) (condition : Condition) (rows : List Write) where
+module _ (range : Range) (criterion : Criterion) (rows : List Write) where
   within : (live hash m : Bool) (row : Write) → ((live && m) && is_some (cond hash (Some row) None)) ≡ ((live && hash) && m)
   within false hash m row = refl
   within true true true row = refl
@@ -120,17 +120,17 @@ module _ (range : Range) (condition : Condition) (rows : List Write) where
   within true false true row = refl
   within true false false row = refl
 
-  found-row : (row : Option Write) → (passes (is_match condition) row && is_some (row_in range row)) ≡ finds_at range condition row
+  found-row : (row : Option Write) → (passes (is_match criterion) row && is_some (row_in range row)) ≡ finds_at range criterion row
   found-row None = refl
-  found-row (Some row) = within (is_live row) (contains row.hash (bounds range)) (matches condition row) row
+  found-row (Some row) = within (is_live row) (contains row.hash (bounds range)) (matches criterion row) row
 
   -- of the numbers of the rows that match those whose hashes are in the range are those of the rows that are found
-  pub numbers-in : (numbers found : List ℕ) → AreNumbersOf (is_match condition) rows numbers
+  pub numbers-in : (numbers found : List ℕ) → AreNumbersOf (is_match criterion) rows numbers
       → found ≡ filter (λ number. is_some (row_in range (slice_get rows number))) numbers
-      → AreNumbersOf (finds range condition) rows found
+      → AreNumbersOf (finds range criterion) rows found
   numbers-in numbers found are is =
       let keep : ℕ → Bool = λ number. is_some (row_in range (slice_get rows number)) in
-      subst (AreNumbersOf (finds range condition) rows) (sym is) (record {
+      subst (AreNumbersOf (finds range criterion) rows) (sym is) (record {
         members = λ number. has_row-filter keep numbers number
             ∙ ap (λ b. b && keep number) (are.members number) ∙ found-row (slice_get rows number);
         ascending = IsStrictlyIncreasing-filter keep numbers are.ascending;
@@ -142,16 +142,16 @@ module _ (range : Range) (condition : Condition) (rows : List Write) where
   inside true false m is = cc
 
   all-row : All (λ (row : Write). contains row.hash (bounds range) ≡ true) rows → (number : ℕ) (row : Option Write) → slice_get rows number ≡ row
-      → passes (is_match condition) row ≡ finds_at range condition row
+      → passes (is_match criterion) row ≡ finds_at range criterion row
   all-row all number None at = refl
   all-row all number (Some row) at =
-      inside (is_live row) (contains row.hash (bounds range)) (matches condition row)
+      inside (is_live row) (contains row.hash (bounds range)) (matches criterion row)
       (subst (λ (each : Write). contains each.hash (bounds range) ≡ true) (get_or_from_slice_get rows number row row at)
       (all number row (slice_get_within rows number row at)))
 
   -- and all of them are, where the range has all hashes
   pub numbers-all : (numbers : List ℕ) → All (λ (row : Write). contains row.hash (bounds range) ≡ true) rows
-      → AreNumbersOf (is_match condition) rows numbers → AreNumbersOf (finds range condition) rows numbers
+      → AreNumbersOf (is_match criterion) rows numbers → AreNumbersOf (finds range criterion) rows numbers
   numbers-all numbers all are = record {
     members = λ number. are.members number ∙ all-row all number (slice_get rows number) refl;
     ascending = are.ascending;
@@ -174,11 +174,11 @@ module _ (range : Range) (condition : Condition) (rows : List Write) where
       by true same = ap (λ (l : List Write). w ∷ l) same
       by false same = same
 
-  filter-found : (ws : List Write) → filter (λ (row : Write). contains row.hash (bounds range)) (filter (is_match condition) ws)
-      ≡ filter (finds range condition) ws
+  filter-found : (ws : List Write) → filter (λ (row : Write). contains row.hash (bounds range)) (filter (is_match criterion) ws)
+      ≡ filter (finds range criterion) ws
   filter-found [] = refl
-  filter-found (w ∷ ws) = by (is_live w) (matches condition w) (contains w.hash (bounds range)) refl (filter (is_match condition) ws)
-      (filter (finds range condition) ws) (filter-found ws)
+  filter-found (w ∷ ws) = by (is_live w) (matches criterion w) (contains w.hash (bounds range)) refl (filter (is_match criterion) ws)
+      (filter (finds range criterion) ws) (filter-found ws)
     where
       by : (live m hash : Bool) → contains w.hash (bounds range) ≡ hash → (matched found : List Write)
           → filter (λ (row : Write). contains row.hash (bounds range)) matched ≡ found
@@ -195,6 +195,6 @@ module _ (range : Range) (condition : Condition) (rows : List Write) where
       by true false false is matched found rest = rest
 
   -- the rows that are found, at the numbers of those that match
-  pub rows-in : (numbers : List ℕ) → AreNumbersOf (is_match condition) rows numbers
-      → flat_map (λ number. option_to_list (row_in range (slice_get rows number))) numbers ≡ filter (finds range condition) rows
-  rows-in numbers are = led-in numbers (filter (is_match condition) rows) (led (is_match condition) rows numbers are) ∙ filter-found rows
+  pub rows-in : (numbers : List ℕ) → AreNumbersOf (is_match criterion) rows numbers
+      → flat_map (λ number. option_to_list (row_in range (slice_get rows number))) numbers ≡ filter (finds range criterion) rows
+  rows-in numbers are = led-in numbers (filter (is_match criterion) rows) (led (is_match criterion) rows numbers are) ∙ filter-found rows

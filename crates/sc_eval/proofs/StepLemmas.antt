@@ -6,12 +6,12 @@ use Rattle.sc_record.specs.declared.write.Write.{Write}
 use Rattle.sc_segment.specs.Joining.{IsJoin}
 use Rattle.sc_segment.specs.declared.joining.Kept.{Kept}
 use Rattle.sc_snapshot.specs.Postings.{term_count}
-use Rattle.sc_eval.specs.Conditions.{Condition, condition_of}
-use Rattle.sc_eval.specs.Operands.{joined_by, condition_with}
+use Rattle.sc_eval.specs.Criteria.{Criterion, criterion_of}
+use Rattle.sc_eval.specs.Operands.{joined_by, criterion_with}
 use Rattle.sc_eval.specs.Numbers.{is_match, leaves, IsLookUp, AreNumbersOf, AreStepsOfLeaves, AreStepsOfSearch}
 use Rattle.sc_eval.specs.declared.operand.Right.{Right}
 use Rattle.sc_eval.proofs.NumberLemmas.{as-many}
-use Rattle.sc_eval.proofs.OperandLemmas.{size, condition_with-back, joined-leaves, with-leaves, right-smaller, joined-numbers}
+use Rattle.sc_eval.proofs.OperandLemmas.{size, criterion_with-back, joined-leaves, with-leaves, right-smaller, joined-numbers}
 
 module _ (rows : List Write) where
   -- one look-up takes no more comparisons than are enough
@@ -25,13 +25,13 @@ module _ (rows : List Write) where
             absurd (omega (arith, power, bound, enough))
       ]
 
-  pub fewer-leaves : (one other : Condition) (steps : ℕ) → leaves one ≤ leaves other → AreStepsOfLeaves one rows steps → AreStepsOfLeaves other rows steps
+  pub fewer-leaves : (one other : Criterion) (steps : ℕ) → leaves one ≤ leaves other → AreStepsOfLeaves one rows steps → AreStepsOfLeaves other rows steps
   fewer-leaves one other steps le are = λ most enough.
       let more = mul-le-mul_right most le in
       let here = are most enough in
       omega (arith, more, here)
 
-  both-leaves : (how : Kept) (left right : Condition) (one other both : ℕ) → both ≤ one + other
+  both-leaves : (how : Kept) (left right : Criterion) (one other both : ℕ) → both ≤ one + other
       → AreStepsOfLeaves left rows one → AreStepsOfLeaves right rows other → AreStepsOfLeaves (joined_by how left right) rows both
   both-leaves how left right one other both le ones others = λ most enough.
       let here = ones most enough in
@@ -40,25 +40,25 @@ module _ (rows : List Write) where
       omega (arith, here, there, product, le)
 
   -- what was found of the left of a query, and in how many steps, while the rest waits
-  pub record IsFoundSoFar (whole : Condition) (waiting : List Right) (numbers : List ℕ) (steps : ℕ) : Type 0 where
-    pub left : Condition
-    pub is_whole : whole ≡ condition_with waiting left
+  pub record IsFoundSoFar (whole : Criterion) (waiting : List Right) (numbers : List ℕ) (steps : ℕ) : Type 0 where
+    pub left : Criterion
+    pub is_whole : whole ≡ criterion_with waiting left
     pub found : AreNumbersOf (is_match left) rows numbers
     pub bound : AreStepsOfLeaves left rows steps
 
   -- steps of what stands leftmost are steps of the whole
-  pub first-steps : (whole left : Condition) (waiting : List Right) (steps : ℕ) → whole ≡ condition_with waiting left
+  pub first-steps : (whole left : Criterion) (waiting : List Right) (steps : ℕ) → whole ≡ criterion_with waiting left
       → AreStepsOfLeaves left rows steps → AreStepsOfLeaves whole rows steps
   first-steps whole left waiting steps is are =
       fewer-leaves left whole steps (let few = with-leaves waiting left in omega (arith, few, ap leaves is)) are
 
   -- nothing was taken
-  pub no-steps : (condition : Condition) (before after : ℕ) → after ≡ before → AreStepsOfLeaves condition rows (after - before)
-  no-steps condition before after same = λ most enough. omega (arith, same)
+  pub no-steps : (criterion : Criterion) (before after : ℕ) → after ≡ before → AreStepsOfLeaves criterion rows (after - before)
+  no-steps criterion before after same = λ most enough. omega (arith, same)
 
   -- the leftmost operand was looked up
-  pub first-found : (whole left : Condition) (waiting : List Right) (numbers found : List ℕ) (start middle after : ℕ)
-      → whole ≡ condition_with waiting left → AreNumbersOf (is_match left) rows numbers → found ≡ numbers
+  pub first-found : (whole left : Criterion) (waiting : List Right) (numbers found : List ℕ) (start middle after : ℕ)
+      → whole ≡ criterion_with waiting left → AreNumbersOf (is_match left) rows numbers → found ≡ numbers
       → AreStepsOfLeaves left rows (middle - start) → after ≡ middle → IsFoundSoFar whole waiting found (after - start)
   first-found whole left waiting numbers found start middle after is are found_is steps after_is = record {
     left = left;
@@ -67,40 +67,40 @@ module _ (rows : List Write) where
     bound = subst (λ n. AreStepsOfLeaves left rows (n - start)) (sym after_is) steps;
   }
 
-  module _ (whole : Condition) (waiting popped : List Right) (one : Right) (numbers : List ℕ) (start before after : ℕ)
+  module _ (whole : Criterion) (waiting popped : List Right) (one : Right) (numbers : List ℕ) (start before after : ℕ)
       (far : IsFoundSoFar whole waiting numbers (before - start)) (pops : waiting ≡ popped ++ one ∷ [])
       (rises : start ≤ before) (rises_again : before ≤ after)
-      (steps : AreStepsOfLeaves (condition_of one.operand.now) rows (after - before)) where
-    back : whole ≡ condition_with popped (joined_by one.how far.left (condition_of one.operand.now))
-    back = condition_with-back waiting popped one whole far.left pops far.is_whole
+      (steps : AreStepsOfLeaves (criterion_of one.operand.now) rows (after - before)) where
+    back : whole ≡ criterion_with popped (joined_by one.how far.left (criterion_of one.operand.now))
+    back = criterion_with-back waiting popped one whole far.left pops far.is_whole
 
-    joined-steps : AreStepsOfLeaves (joined_by one.how far.left (condition_of one.operand.now)) rows (after - start)
+    joined-steps : AreStepsOfLeaves (joined_by one.how far.left (criterion_of one.operand.now)) rows (after - start)
     joined-steps =
-        both-leaves one.how far.left (condition_of one.operand.now) (before - start) (after - before) (after - start)
+        both-leaves one.how far.left (criterion_of one.operand.now) (before - start) (after - before) (after - start)
         (omega (arith, rises, rises_again)) far.bound steps
 
     -- the steps of a right operand more are steps of the whole
     pub right-steps : AreStepsOfLeaves whole rows (after - start)
-    right-steps = first-steps whole (joined_by one.how far.left (condition_of one.operand.now)) popped (after - start) back joined-steps
+    right-steps = first-steps whole (joined_by one.how far.left (criterion_of one.operand.now)) popped (after - start) back joined-steps
 
     -- and what was found of it is joined to what was found
-    pub right-found : (others both : List ℕ) → AreNumbersOf (is_match (condition_of one.operand.now)) rows others
+    pub right-found : (others both : List ℕ) → AreNumbersOf (is_match (criterion_of one.operand.now)) rows others
         → IsJoin one.how numbers others both → IsFoundSoFar whole popped both (after - start)
     right-found others both are joined = record {
-      left = joined_by one.how far.left (condition_of one.operand.now);
+      left = joined_by one.how far.left (criterion_of one.operand.now);
       is_whole = back;
-      found = joined-numbers one.how far.left (condition_of one.operand.now) rows numbers others both far.found are joined;
+      found = joined-numbers one.how far.left (criterion_of one.operand.now) rows numbers others both far.found are joined;
       bound = joined-steps;
     }
 
-    pub right-less : size (condition_of one.operand.now) < size whole
+    pub right-less : size (criterion_of one.operand.now) < size whole
     right-less = right-smaller popped one whole far.left back
 
 -- the rows that match are read, each once
-pub search-steps : (condition : Condition) (rows : List Write) (numbers : List ℕ) (start between after : ℕ)
-    → AreNumbersOf (is_match condition) rows numbers → AreStepsOfLeaves condition rows (between - start)
-    → start ≤ between → after ≤ between + length numbers → AreStepsOfSearch condition rows (after - start)
-search-steps condition rows numbers start between after are steps rises few = λ most enough.
+pub search-steps : (criterion : Criterion) (rows : List Write) (numbers : List ℕ) (start between after : ℕ)
+    → AreNumbersOf (is_match criterion) rows numbers → AreStepsOfLeaves criterion rows (between - start)
+    → start ≤ between → after ≤ between + length numbers → AreStepsOfSearch criterion rows (after - start)
+search-steps criterion rows numbers start between after are steps rises few = λ most enough.
     let here = steps most enough in
-    let many = as-many (is_match condition) rows numbers are in
+    let many = as-many (is_match criterion) rows numbers are in
     omega (arith, here, many, few, rises)

@@ -1,10 +1,10 @@
--- Which fault of a query is named, and what conditions find by the rules of logic.
+-- Which fault of a query is named, and what criteria find by the rules of logic.
 use Rattle.std.specs.Prelude.{◌≡◌, ◌≤ℤ◌, ◌&&◌, ℕ, true, List, [], ◌∷◌, ◌++◌, is_some, if◌then◌else◌, MatchResult}
 use Rattle.sc_query.specs.Tree.{Tree}
 use Rattle.sc_eval.specs.Binding.{leaf_term, bound}
 use Rattle.sc_hash.specs.declared.range.Range.{Range}
 use Rattle.sc_record.specs.declared.write.Write.{Write}
-use Rattle.sc_eval.specs.Conditions.{Condition}
+use Rattle.sc_eval.specs.Criteria.{Criterion}
 use Rattle.sc_eval.specs.Matching.{is_live, finds}
 
 -- the places of the leaves at fault, from left to right
@@ -20,30 +20,30 @@ abbrev pub NamesTheFirstFault : Type 0
 NamesTheFirstFault = (t : Tree)
     → MatchResult (bound t) (λ _. faults t ≡ []) (λ at. (others : List ℕ) × (faults t ≡ at ∷ others))
 
--- two conditions find the same, in every range
-abbrev pub FindTheSame : Condition → Condition → Type 0
+-- two criteria find the same, in every range
+abbrev pub FindTheSame : Criterion → Criterion → Type 0
 FindTheSame one other = (range : Range) (write : Write) → finds range one write ≡ finds range other write
 
 -- what is not not asked is asked
 abbrev pub NotNotIsNothing : Type 0
-NotNotIsNothing = (one : Condition) → FindTheSame (Condition.Not (Condition.Not one)) one
+NotNotIsNothing = (one : Criterion) → FindTheSame (Criterion.Not (Criterion.Not one)) one
 
 -- not both is not the one or not the other, and not either is not the one and not the other
 abbrev pub NotTurnsAndToOr : Type 0
-NotTurnsAndToOr = (one other : Condition)
-    → FindTheSame (Condition.Not (Condition.And one other)) (Condition.Or (Condition.Not one) (Condition.Not other))
-    × FindTheSame (Condition.Not (Condition.Or one other)) (Condition.And (Condition.Not one) (Condition.Not other))
+NotTurnsAndToOr = (one other : Criterion)
+    → FindTheSame (Criterion.Not (Criterion.And one other)) (Criterion.Or (Criterion.Not one) (Criterion.Not other))
+    × FindTheSame (Criterion.Not (Criterion.Or one other)) (Criterion.And (Criterion.Not one) (Criterion.Not other))
 
 -- AND finds what both find
 abbrev pub AndFindsWhatBothFind : Type 0
-AndFindsWhatBothFind = (range : Range) (one other : Condition) (write : Write)
-    → finds range (Condition.And one other) write ≡ (finds range one write && finds range other write)
+AndFindsWhatBothFind = (range : Range) (one other : Criterion) (write : Write)
+    → finds range (Criterion.And one other) write ≡ (finds range one write && finds range other write)
 
 -- what is found in a part of a range is found in the range
 abbrev pub FindsMoreInMore : Type 0
-FindsMoreInMore = (whole part : Range) (one : Condition) (write : Write) → whole.min ≤ℤ part.min → part.max ≤ℤ whole.max
+FindsMoreInMore = (whole part : Range) (one : Criterion) (write : Write) → whole.min ≤ℤ part.min → part.max ≤ℤ whole.max
     → finds part one write ≡ true → finds whole one write ≡ true
 
 -- whatever is found is live
 abbrev pub FindsTheLive : Type 0
-FindsTheLive = (range : Range) (one : Condition) (write : Write) → finds range one write ≡ true → is_live write ≡ true
+FindsTheLive = (range : Range) (one : Criterion) (write : Write) → finds range one write ≡ true → is_live write ≡ true

@@ -1,5 +1,5 @@
 -- What the contracts of this crate cite, lowest first.
-pub mod Conditions
+pub mod Criteria
 pub mod Binding
 pub mod Spine
 pub mod Matching

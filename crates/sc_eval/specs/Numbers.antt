@@ -1,4 +1,4 @@
--- Which rows a condition finds, by their numbers, and in how many steps.
+-- Which rows a criterion finds, by their numbers, and in how many steps.
 use Rattle.std.specs.Prelude.{◌≡◌, ℕ, ◌+◌, ◌*◌, ◌^◌, ◌<◌, ◌≤◌, Bool, false, ◌&&◌, if◌then◌else◌, List, filter, length, Option, None, Some, slice_get}
 use Rattle.std.specs.List.Sorted.{IsStrictlyIncreasing}
 use Rattle.sc_hash.specs.Bounds.{bounds, contains}
@@ -6,7 +6,7 @@ use Rattle.sc_hash.specs.declared.range.Range.{Range}
 use Rattle.sc_record.specs.declared.write.Write.{Write}
 use Rattle.sc_segment.specs.Joining.{has_row}
 use Rattle.sc_snapshot.specs.Postings.{term_count}
-use Rattle.sc_eval.specs.Conditions.{Condition}
+use Rattle.sc_eval.specs.Criteria.{Criterion}
 use Rattle.sc_eval.specs.Matching.{matches, is_live, finds}
 use Rattle.sc_eval.specs.declared.numbers.Numbers.{Numbers}
 use Rattle.sc_eval.specs.declared.numbers.Numbers.TheVariants.{Lent, Made}
@@ -21,13 +21,13 @@ abbrev pub passes : (Write → Bool) → Option Write → Bool
 passes test None = false
 passes test (Some row) = test row
 
--- there is a row, and the condition finds it in the range
-abbrev pub finds_at : Range → Condition → Option Write → Bool
-finds_at range condition = passes (finds range condition)
+-- there is a row, and the criterion finds it in the range
+abbrev pub finds_at : Range → Criterion → Option Write → Bool
+finds_at range criterion = passes (finds range criterion)
 
--- the row is live and its document meets the condition, whatever its hash
-abbrev pub is_match : Condition → Write → Bool
-is_match condition row = is_live row && matches condition row
+-- the row is live and its document meets the criterion, whatever its hash
+abbrev pub is_match : Criterion → Write → Bool
+is_match criterion row = is_live row && matches criterion row
 
 -- the row, where there is one and its hash is in the range
 abbrev pub row_in : Range → Option Write → Option Write
@@ -39,23 +39,23 @@ pub record AreNumbersOf (test : Write → Bool) (rows : List Write) (numbers : L
   pub members : (number : ℕ) → has_row numbers number ≡ passes test (slice_get rows number)
   pub ascending : IsStrictlyIncreasing numbers
 
--- how many leaves a condition has
-abbrev pub leaves : Condition → ℕ
-leaves Condition.All = 0
-leaves (Condition.Leaf term) = 1
-leaves (Condition.Not operand) = leaves operand
-leaves (Condition.And left right) = leaves left + leaves right
-leaves (Condition.Or left right) = leaves left + leaves right
+-- how many leaves a criterion has
+abbrev pub leaves : Criterion → ℕ
+leaves Criterion.All = 0
+leaves (Criterion.Leaf term) = 1
+leaves (Criterion.Not operand) = leaves operand
+leaves (Criterion.And left right) = leaves left + leaves right
+leaves (Criterion.Or left right) = leaves left + leaves right
 
 -- to look a term up among those of these rows takes at most so many comparisons, where each halves what is left of them
 abbrev pub IsLookUp : List Write → ℕ → Type 0
 IsLookUp rows most = 2 * term_count rows + 1 < 2 ^ (most + 1)
 
--- these are no more steps than a look-up for each leaf of the condition
-abbrev pub AreStepsOfLeaves : Condition → List Write → ℕ → Type 0
-AreStepsOfLeaves condition rows steps = (most : ℕ) → IsLookUp rows most → steps ≤ leaves condition * most
+-- these are no more steps than a look-up for each leaf of the criterion
+abbrev pub AreStepsOfLeaves : Criterion → List Write → ℕ → Type 0
+AreStepsOfLeaves criterion rows steps = (most : ℕ) → IsLookUp rows most → steps ≤ leaves criterion * most
 
--- these are no more steps than a look-up for each leaf of the condition, and one for each live row that matches
-abbrev pub AreStepsOfSearch : Condition → List Write → ℕ → Type 0
-AreStepsOfSearch condition rows steps = (most : ℕ) → IsLookUp rows most
-    → steps ≤ leaves condition * most + length (filter (is_match condition) rows)
+-- these are no more steps than a look-up for each leaf of the criterion, and one for each live row that matches
+abbrev pub AreStepsOfSearch : Criterion → List Write → ℕ → Type 0
+AreStepsOfSearch criterion rows steps = (most : ℕ) → IsLookUp rows most
+    → steps ≤ leaves criterion * most + length (filter (is_match criterion) rows)

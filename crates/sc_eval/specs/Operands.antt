@@ -2,24 +2,24 @@
 use Rattle.std.specs.Prelude.{List, [], ◌∷◌}
 use Rattle.sc_segment.specs.declared.joining.Kept.{Kept}
 use Rattle.sc_segment.specs.declared.joining.Kept.TheVariants.{Both, Either, LeftAlone}
-use Rattle.sc_eval.specs.Conditions.{Condition, condition_of}
+use Rattle.sc_eval.specs.Criteria.{Criterion, criterion_of}
 use Rattle.sc_eval.specs.declared.operand.Right.{Right}
 use Rattle.sc_eval.specs.declared.operand.Operand.{Operand}
 use Rattle.sc_eval.specs.declared.operand.Operand.TheVariants as operands
 
--- the condition that finds what is kept of the rows that two conditions find
-abbrev pub joined_by : Kept → Condition → Condition → Condition
-joined_by Both left right = Condition.And left right
-joined_by Either left right = Condition.Or left right
-joined_by LeftAlone left right = Condition.And left (Condition.Not right)
+-- the criterion that finds what is kept of the rows that two criteria find
+abbrev pub joined_by : Kept → Criterion → Criterion → Criterion
+joined_by Both left right = Criterion.And left right
+joined_by Either left right = Criterion.Or left right
+joined_by LeftAlone left right = Criterion.And left (Criterion.Not right)
 
--- the condition that an operand is
-abbrev pub operand_condition : Operand → Condition
-operand_condition operands.All = Condition.All
-operand_condition (operands.Leaf term) = Condition.Leaf term.now
-operand_condition (operands.Not query) = Condition.Not (condition_of query.now)
+-- the criterion that an operand is
+abbrev pub operand_criterion : Operand → Criterion
+operand_criterion operands.All = Criterion.All
+operand_criterion (operands.Leaf term) = Criterion.Leaf term.now
+operand_criterion (operands.Not query) = Criterion.Not (criterion_of query.now)
 
--- the condition that the leftmost operand is with all that waits, the innermost last
-abbrev pub condition_with : List Right → Condition → Condition
-condition_with [] left = left
-condition_with (one ∷ waiting) left = joined_by one.how (condition_with waiting left) (condition_of one.operand.now)
+-- the criterion that the leftmost operand is with all that waits, the innermost last
+abbrev pub criterion_with : List Right → Criterion → Criterion
+criterion_with [] left = left
+criterion_with (one ∷ waiting) left = joined_by one.how (criterion_with waiting left) (criterion_of one.operand.now)

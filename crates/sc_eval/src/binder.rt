@@ -3,9 +3,9 @@
 
 ghost use Rattle.std.specs.Prelude.{◌≡◌, ℕ, ◌+◌, ◌≤◌, [], IfOk, Ok, Err, Some, None};
 ghost use Rattle.sc_query.specs.Tree.{tree_of};
-ghost use Rattle.sc_eval.specs.Conditions.{condition_of};
+ghost use Rattle.sc_eval.specs.Criteria.{criterion_of};
 ghost use Rattle.sc_eval.specs.Binding.{bound, leaf_term};
-ghost use Rattle.sc_eval.specs.Spine.{joined, operand_bound, bound_with, nodes, operand_nodes, waiting_nodes};
+ghost use Rattle.sc_eval.specs.Spine.{linked_by, operand_bound, bound_with, nodes, operand_nodes, waiting_nodes};
 ghost use Rattle.sc_eval.specs.declared.fault.BindFault.TheVariants.{At};
 
 use crate::bound::Bound;
@@ -46,7 +46,7 @@ pub(crate) enum Operand<'a> {
 ///
 /// A row of ANDs and ORs takes memory in proportion to its length, and no stack.
 pub fn bind(alloc: Global, query: &Query) -> Result<Bound, BindFault>
-    ensures bound { IfOk result (λ found. bound (tree_of query.now) ≡ Ok (condition_of found)) }
+    ensures bound { IfOk result (λ found. bound (tree_of query.now) ≡ Ok (criterion_of found)) }
     ensures fault { (at : ℕ) → result ≡ Err (At at) → bound (tree_of query.now) ≡ Err at }
 {
     let mut waiting = Vec::new(alloc);
@@ -127,7 +127,7 @@ fn term(alloc: Global, field: &Word, value: &Word, at: u32) -> Result<Term, Bind
 
 // The two queries, joined.
 fn joined(alloc: Global, link: Link, left: Bound, right: Bound) -> Result<Bound, AllocError>
-    ensures { IfOk result (λ found. condition_of found ≡ joined link (condition_of left) (condition_of right)) }
+    ensures { IfOk result (λ found. criterion_of found ≡ linked_by link (criterion_of left) (criterion_of right)) }
 {
     let left = Box::new(alloc, left)?;
     let right = Box::new(alloc, right)?;

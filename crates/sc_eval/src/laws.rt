@@ -1,9 +1,9 @@
-//! Laws of queries and conditions, above their definitions.
+//! Laws of queries and criteria, above their definitions.
 
 ghost use Rattle.sc_eval.specs.Laws.{NotNotIsNothing, NotTurnsAndToOr, AndFindsWhatBothFind, FindsMoreInMore, FindsTheLive};
 ghost use Rattle.sc_eval.specs.Laws.{NamesTheFirstFault};
 
-/// Whatever the conditions, the ranges and the writes.
+/// Whatever the criteria, the ranges and the writes.
 pub fn queries_find_as_logic_says()
     ensures not_not { NotNotIsNothing }
     ensures not_and { NotTurnsAndToOr }

@@ -4,11 +4,11 @@
 //! It depends on `sc_record` for documents and writes, on `sc_query` for the query's tree, on `sc_schema` for what a document is
 //! found by, on `sc_segment` for joining lists and for counting steps, on `sc_snapshot` for the rows and their posting lists, on
 //! `sc_journal` for what is true of their terms, on `sc_hash` for the range, and on `thiserror`. It does no input and no output.
-//! The layers above use the contract of `bind`, which says of each query which condition it is or where its fault is, and those of
+//! The layers above use the contract of `bind`, which says of each query which criterion it is or where its fault is, and those of
 //! `find`, which gives the numbers of the rows that are found, and of `evaluate`, which gives these rows as a filter of all.
 //!
-//! Proved: `bind` gives the conditions that a query's leaves ask for by their fields' kinds, or the place of the first leaf
-//! at fault (`specs/Conditions`); `find` and `evaluate` give exactly the live rows of a snapshot that match and whose hashes are
+//! Proved: `bind` gives the criteria that a query's leaves ask for by their fields' kinds, or the place of the first leaf
+//! at fault (`specs/Criteria`); `find` and `evaluate` give exactly the live rows of a snapshot that match and whose hashes are
 //! in a range, in order of their ids (`specs/Matching`), and look up each leaf once and read no row that does not match
 //! (`AreStepsOfSearch`). Laws in `specs/Laws`: NOT of NOT, De Morgan, AND, parts of a range.
 //!

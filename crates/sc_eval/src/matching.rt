@@ -5,7 +5,7 @@ ghost use Rattle.sc_record.specs.declared.write.Write.{Write};
 ghost use Rattle.sc_journal.specs.Legal.{HasTerms};
 ghost use Rattle.std.specs.List.Sorted.{IsStrictlyIncreasing};
 ghost use Rattle.sc_segment.specs.Joining.{IsJoin};
-ghost use Rattle.sc_eval.specs.Conditions.{Condition, condition_of};
+ghost use Rattle.sc_eval.specs.Criteria.{Criterion, criterion_of};
 ghost use Rattle.sc_eval.specs.Numbers.{numbers_of, is_match, AreNumbersOf, AreStepsOfLeaves};
 
 use crate::bound::Bound;
@@ -26,9 +26,9 @@ pub(crate) fn matching<'a, L: Ledger>(
     steps: &mut Steps<L>,
 ) -> Result<Numbers<'a>, AllocError>
     requires { All (λ (row : Write). HasTerms row.id row.doc row.terms) snapshot.now.rows }
-    ensures numbers { IfOk result (λ found. AreNumbersOf (is_match (condition_of query.now)) snapshot.now.rows (numbers_of found)) }
+    ensures numbers { IfOk result (λ found. AreNumbersOf (is_match (criterion_of query.now)) snapshot.now.rows (numbers_of found)) }
     ensures counted { steps.old ≤ steps.new }
-    ensures bound { AreStepsOfLeaves (condition_of query.now) snapshot.now.rows (steps.new - steps.old) }
+    ensures bound { AreStepsOfLeaves (criterion_of query.now) snapshot.now.rows (steps.new - steps.old) }
 {
     let mut waiting = Vec::new(alloc);
     let mut found = match first_operand(&mut waiting, query)? {
@@ -53,9 +53,9 @@ fn numbers_with<'a, L: Ledger>(
     steps: &mut Steps<L>,
 ) -> Result<Numbers<'a>, AllocError>
     requires { All (λ (row : Write). HasTerms row.id row.doc row.terms) snapshot.now.rows }
-    ensures numbers { IfOk result (λ found. AreNumbersOf (is_match (Condition.Leaf term.now)) snapshot.now.rows (numbers_of found)) }
+    ensures numbers { IfOk result (λ found. AreNumbersOf (is_match (Criterion.Leaf term.now)) snapshot.now.rows (numbers_of found)) }
     ensures counted { steps.old ≤ steps.new }
-    ensures bound { AreStepsOfLeaves (Condition.Leaf term.now) snapshot.now.rows (steps.new - steps.old) }
+    ensures bound { AreStepsOfLeaves (Criterion.Leaf term.now) snapshot.now.rows (steps.new - steps.old) }
 {
     let key = TermKey::of(term)?;
     Ok(Numbers::Lent(snapshot.postings(&key, steps)))
@@ -68,8 +68,8 @@ fn all_but<'a>(
     left_out: Numbers<'_>,
 ) -> Result<Numbers<'a>, AllocError>
     requires { IsStrictlyIncreasing (numbers_of left_out) }
-    ensures { IfOk result (λ found. (operand : Condition) → AreNumbersOf (is_match operand) snapshot.now.rows (numbers_of left_out.entry)
-        → AreNumbersOf (is_match (Condition.Not operand)) snapshot.now.rows (numbers_of found)) }
+    ensures { IfOk result (λ found. (operand : Criterion) → AreNumbersOf (is_match operand) snapshot.now.rows (numbers_of left_out.entry)
+        → AreNumbersOf (is_match (Criterion.Not operand)) snapshot.now.rows (numbers_of found)) }
 {
     let live = snapshot.live();
     let rest = join(alloc, Kept::LeftAlone, live, left_out.as_slice())?;

@@ -2,8 +2,8 @@
 //! stands in a vector, so that a long row of AND and OR takes no stack.
 
 ghost use Rattle.std.specs.Prelude.{◌≡◌, [], IfOk};
-ghost use Rattle.sc_eval.specs.Conditions.{Condition, condition_of};
-ghost use Rattle.sc_eval.specs.Operands.{condition_with, operand_condition, joined_by};
+ghost use Rattle.sc_eval.specs.Criteria.{Criterion, criterion_of};
+ghost use Rattle.sc_eval.specs.Operands.{criterion_with, operand_criterion, joined_by};
 
 use crate::bound::Bound;
 use sc_record::Term;
@@ -31,7 +31,7 @@ pub(crate) fn first_operand<'a>(
     query: &'a Bound,
 ) -> Result<Operand<'a>, AllocError>
     requires { waiting.old.items ≡ [] }
-    ensures { IfOk result (λ operand. condition_of query.now ≡ condition_with waiting.new.items (operand_condition operand)) }
+    ensures { IfOk result (λ operand. criterion_of query.now ≡ criterion_with waiting.new.items (operand_criterion operand)) }
 {
     let mut query = query;
     loop {
@@ -56,7 +56,7 @@ pub(crate) fn first_operand<'a>(
 
 // The right operand of an AND. Of a NOT it is the operand that is looked up, and what is found by it is left out.
 fn joined_by_and(right: &Bound) -> Right<'_>
-    ensures { (left : Condition) → joined_by result.how left (condition_of result.operand.now) ≡ Condition.And left (condition_of right.now) }
+    ensures { (left : Criterion) → joined_by result.how left (criterion_of result.operand.now) ≡ Criterion.And left (criterion_of right.now) }
 {
     match right {
         Bound::Not(operand) => Right {

@@ -7,7 +7,7 @@ ghost use Rattle.sc_hash.specs.Bounds.{bounds, contains};
 ghost use Rattle.sc_record.specs.declared.write.Write.{Write};
 ghost use Rattle.sc_journal.specs.Legal.{HasTerms};
 ghost use Rattle.sc_segment.specs.Joining.{has_row};
-ghost use Rattle.sc_eval.specs.Conditions.{condition_of};
+ghost use Rattle.sc_eval.specs.Criteria.{criterion_of};
 ghost use Rattle.sc_eval.specs.Matching.{finds};
 ghost use Rattle.sc_eval.specs.Numbers.{finds_at, row_in, AreStepsOfSearch};
 
@@ -33,10 +33,10 @@ pub fn find<L: Ledger>(
 ) -> Result<Vec<u32>, AllocError>
     requires { All (λ (row : Write). HasTerms row.id row.doc row.terms) snapshot.now.rows }
     ensures members { IfOk result (λ found. (number : ℕ)
-        → has_row found.items number ≡ finds_at range.now (condition_of query.now) (slice_get snapshot.now.rows number)) }
+        → has_row found.items number ≡ finds_at range.now (criterion_of query.now) (slice_get snapshot.now.rows number)) }
     ensures ascending { IfOk result (λ found. IsStrictlyIncreasing found.items) }
     ensures counted { steps.old ≤ steps.new }
-    ensures bound { AreStepsOfSearch (condition_of query.now) snapshot.now.rows (steps.new - steps.old) }
+    ensures bound { AreStepsOfSearch (criterion_of query.now) snapshot.now.rows (steps.new - steps.old) }
 {
     let numbers = matching(alloc, query, snapshot, steps)?;
     if has_all(range, snapshot) {
@@ -55,9 +55,9 @@ pub fn evaluate<L: Ledger>(
     steps: &mut Steps<L>,
 ) -> Result<List<Cell>, AllocError>
     requires { All (λ (row : Write). HasTerms row.id row.doc row.terms) snapshot.now.rows }
-    ensures found { IfOk result (λ found. map arc_value found ≡ filter (finds range.now (condition_of query.now)) snapshot.now.rows) }
+    ensures found { IfOk result (λ found. map arc_value found ≡ filter (finds range.now (criterion_of query.now)) snapshot.now.rows) }
     ensures counted { steps.old ≤ steps.new }
-    ensures bound { AreStepsOfSearch (condition_of query.now) snapshot.now.rows (steps.new - steps.old) }
+    ensures bound { AreStepsOfSearch (criterion_of query.now) snapshot.now.rows (steps.new - steps.old) }
 {
     let numbers = matching(alloc, query, snapshot, steps)?;
     cells_in(alloc, snapshot, range, numbers.as_slice(), steps)

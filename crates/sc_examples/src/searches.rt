@@ -6,7 +6,7 @@ ghost use Rattle.sc_record.specs.declared.write.Write.{Write};
 ghost use Rattle.sc_segment.specs.Fresh.{IsFresh};
 ghost use Rattle.sc_snapshot.specs.Rows.{AreRows};
 ghost use Rattle.sc_snapshot.specs.Postings.{term_count};
-ghost use Rattle.sc_eval.specs.Conditions.{condition_of};
+ghost use Rattle.sc_eval.specs.Criteria.{criterion_of};
 ghost use Rattle.sc_eval.specs.Numbers.{leaves, is_match};
 ghost use Rattle.sc_journal.specs.Legal.{HasTerms};
 
@@ -132,8 +132,8 @@ fn in_few_steps<L: Ledger>(
     steps: &mut Steps<L>,
 ) -> Result<List<Cell>, AllocError>
     requires { All (λ (row : Write). HasTerms row.id row.doc row.terms) snapshot.now.rows }
-    ensures { leaves (condition_of query.now) ≡ 2 → term_count snapshot.now.rows ≡ 57
-        → length (filter (is_match (condition_of query.now)) snapshot.now.rows) ≡ 20 → steps.new - steps.old ≤ 32 }
+    ensures { leaves (criterion_of query.now) ≡ 2 → term_count snapshot.now.rows ≡ 57
+        → length (filter (is_match (criterion_of query.now)) snapshot.now.rows) ≡ 20 → steps.new - steps.old ≤ 32 }
 {
     evaluate(alloc, query, snapshot, range, steps)
 }

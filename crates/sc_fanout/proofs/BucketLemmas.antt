@@ -25,7 +25,7 @@ use Rattle.sc_cluster.proofs.ListLemmas.{Contains-filter, Contains-from_filter}
 use Rattle.sc_cluster.proofs.CountLemmas.{count_by-filter}
 use Rattle.sc_cluster.proofs.LeaderLemmas.{is_leader, active_from_test, found_leads, fits_is_within}
 use Rattle.sc_cluster.proofs.TileLemmas.{holders-filter}
-use Rattle.sc_eval.specs.Conditions.{Condition}
+use Rattle.sc_eval.specs.Criteria.{Criterion}
 use Rattle.sc_eval.specs.Matching.{finds, matches, is_live}
 use Rattle.sc_journal.specs.Journal.{writes}
 use Rattle.sc_journal.specs.Committed.{last_commit, committed, IsShown}
@@ -42,7 +42,7 @@ use Rattle.sc_bucket.proofs.WriteLemmas.{Contains-find}
 use Rattle.sc_collection.specs.Desks.{IsBucketOf}
 use Rattle.sc_fanout.specs.Pages.{AreFound, all_of}
 use Rattle.sc_fanout.specs.Searches.{IsInRoute, IsFoundIn}
-use Rattle.sc_fanout.specs.Steps.{asks_for, is_asked, rows_in, found_in, Adds, IsOfSlice, AreOfSlices, IsJournalOf, AreAsked, HaveTerms}
+use Rattle.sc_fanout.specs.Steps.{asks_for, is_asked, searcher_rows, found_in, AddsSearchers, IsOfSlice, AreOfSlices, IsJournalOf, AreAsked, HaveTerms}
 use Rattle.sc_fanout.proofs.TakenLemmas.{asks_for-Decides}
 use Rattle.sc_fanout.proofs.ExactlyLemmas.{AreExactly, AreExactly-none, AreExactly-same, AreExactly-append, ascend-once, AscendById-filter}
 
@@ -58,26 +58,26 @@ and_all true false c first second third = second
 and_all false b c first second third = first
 
 -- the write is found in a slice
-pub record IsFoundBy (journal : List Entry) (condition : Condition) (slice : Slice) (write : Write) : Type 0 where
+pub record IsFoundBy (journal : List Entry) (criterion : Criterion) (slice : Slice) (write : Write) : Type 0 where
   pub shown : IsShown journal write
-  pub matched : matches condition write ≡ true
+  pub matched : matches criterion write ≡ true
   pub within : IsWithin slice.range.min slice.range.max write.hash
   pub hash : write.hash ≡ route_hash write.id
 
 -- one searcher finds what is found in its slice
-one-searcher : (first : List Slice) (journal : List Entry) (condition : Condition) (slice : Slice) (searcher : Searcher)
-    → IsLegal first journal → IsOfSlice journal slice searcher → AreRows (rows_in searcher)
-    → AreExactly (IsFoundBy journal condition slice) (found_in condition searcher)
-one-searcher first journal condition slice searcher legal is are = record {
+one-searcher : (first : List Slice) (journal : List Entry) (criterion : Criterion) (slice : Slice) (searcher : Searcher)
+    → IsLegal first journal → IsOfSlice journal slice searcher → AreRows (searcher_rows searcher)
+    → AreExactly (IsFoundBy journal criterion slice) (found_in criterion searcher)
+one-searcher first journal criterion slice searcher legal is are = record {
   exactly = λ write. (found write, there write);
-  once = ascend-once (found_in condition searcher) (AscendById-filter keeps rows are.ascend);
+  once = ascend-once (found_in criterion searcher) (AscendById-filter keeps rows are.ascend);
 }
   where
     rows : List Write
-    rows = rows_in searcher
+    rows = searcher_rows searcher
 
     keeps : Write → Bool
-    keeps = finds searcher.range condition
+    keeps = finds searcher.range criterion
 
     own : (write : Write) → Contains rows write → write_of rows write.id ≡ Some write
     own write has =
@@ -87,10 +87,10 @@ one-searcher first journal condition slice searcher legal is are = record {
         let same : x.0 ≡ write = same_from_count (is_of write.id) rows x.0 write (omega (arith, one, some)) x.2 x.3 has (is_of_own write) in
         x.1 ∙ ap (λ (w : Write). Some w) same
 
-    found : (write : Write) → Contains (found_in condition searcher) write → IsFoundBy journal condition slice write
+    found : (write : Write) → Contains (found_in criterion searcher) write → IsFoundBy journal criterion slice write
     found write has =
         let kept = Contains-from_filter keeps rows write has in
-        let outer = and_parts (is_live write && contains write.hash (bounds searcher.range)) (matches condition write) kept.1 in
+        let outer = and_parts (is_live write && contains write.hash (bounds searcher.range)) (matches criterion write) kept.1 in
         let inner = and_parts (is_live write) (contains write.hash (bounds searcher.range)) outer.0 in
         let hash : write.hash ≡ route_hash write.id =
         legal_hash first journal write legal (All-contains (Contains (writes journal)) rows write is.shows.written kept.0) in
@@ -107,14 +107,14 @@ one-searcher first journal condition slice searcher legal is are = record {
           hash = hash;
         }
 
-    there : (write : Write) → IsFoundBy journal condition slice write → Contains (found_in condition searcher) write
+    there : (write : Write) → IsFoundBy journal criterion slice write → Contains (found_in criterion searcher) write
     there write by =
         let row : write_of rows write.id ≡ Some write =
         is.shows.last write.id (subst (IsWithin slice.range.min slice.range.max) by.hash by.within) ∙ by.shown.last in
         let within : IsWithin searcher.range.min searcher.range.max write.hash =
         subst (λ (range : Range). IsWithin range.min range.max write.hash) (sym is.range_is) by.within in
         Contains-filter keeps rows write (Contains-find (is_of write.id) rows write row)
-        (and_all (is_live write) (contains write.hash (bounds searcher.range)) (matches condition write)
+        (and_all (is_live write) (contains write.hash (bounds searcher.range)) (matches criterion write)
         by.shown.live ((contains-Decides write.hash searcher.range.min searcher.range.max).1 within) by.matched)
 
 -- the slice has the hash
@@ -122,43 +122,43 @@ abbrev has_hash : ℤ → Slice → Bool
 has_hash h slice = contains h (slice_bounds slice)
 
 -- the write is found in one of the slices
-abbrev IsFoundAmong : List Entry → Condition → List Slice → Write → Type 0
-IsFoundAmong journal condition slices write = (slice : Slice) × Contains slices slice × IsFoundBy journal condition slice write
+abbrev IsFoundAmong : List Entry → Criterion → List Slice → Write → Type 0
+IsFoundAmong journal criterion slices write = (slice : Slice) × Contains slices slice × IsFoundBy journal criterion slice write
 
 -- the searchers of slices that have no hash in common find what is found in one of them
-slices-exactly : (first : List Slice) (journal : List Entry) (condition : Condition) (slices : List Slice) (searchers : List Searcher)
-    → IsLegal first journal → AreOfSlices journal slices searchers → All (λ (searcher : Searcher). AreRows (rows_in searcher)) searchers
+slices-exactly : (first : List Slice) (journal : List Entry) (criterion : Criterion) (slices : List Slice) (searchers : List Searcher)
+    → IsLegal first journal → AreOfSlices journal slices searchers → All (λ (searcher : Searcher). AreRows (searcher_rows searcher)) searchers
     → ((h : ℤ) → count_by (has_hash h) slices ≤ 1)
-    → AreExactly (IsFoundAmong journal condition slices) (all_of (map (found_in condition) searchers))
-slices-exactly first journal condition [] [] legal each rows once =
-    AreExactly-none (IsFoundAmong journal condition []) (λ write among. absurd (omega (arith, among.1.1)))
-slices-exactly first journal condition [] (searcher ∷ searchers) legal each rows once = absurd each
-slices-exactly first journal condition (slice ∷ slices) [] legal each rows once = absurd each
-slices-exactly first journal condition (slice ∷ slices) (searcher ∷ searchers) legal each rows once =
-    AreExactly-same (λ write. IsFoundBy journal condition slice write ⊎ IsFoundAmong journal condition slices write)
-    (IsFoundAmong journal condition (slice ∷ slices)) (found_in condition searcher ++ all_of (map (found_in condition) searchers))
+    → AreExactly (IsFoundAmong journal criterion slices) (all_of (map (found_in criterion) searchers))
+slices-exactly first journal criterion [] [] legal each rows once =
+    AreExactly-none (IsFoundAmong journal criterion []) (λ write among. absurd (omega (arith, among.1.1)))
+slices-exactly first journal criterion [] (searcher ∷ searchers) legal each rows once = absurd each
+slices-exactly first journal criterion (slice ∷ slices) [] legal each rows once = absurd each
+slices-exactly first journal criterion (slice ∷ slices) (searcher ∷ searchers) legal each rows once =
+    AreExactly-same (λ write. IsFoundBy journal criterion slice write ⊎ IsFoundAmong journal criterion slices write)
+    (IsFoundAmong journal criterion (slice ∷ slices)) (found_in criterion searcher ++ all_of (map (found_in criterion) searchers))
     to back
-    (AreExactly-append (IsFoundBy journal condition slice) (IsFoundAmong journal condition slices)
-    (found_in condition searcher) (all_of (map (found_in condition) searchers))
-    (one-searcher first journal condition slice searcher legal each.0 (All-head (λ (s : Searcher). AreRows (rows_in s)) searcher searchers rows))
-    (slices-exactly first journal condition slices searchers legal each.1 (All-tail (λ (s : Searcher). AreRows (rows_in s)) searcher searchers rows)
+    (AreExactly-append (IsFoundBy journal criterion slice) (IsFoundAmong journal criterion slices)
+    (found_in criterion searcher) (all_of (map (found_in criterion) searchers))
+    (one-searcher first journal criterion slice searcher legal each.0 (All-head (λ (s : Searcher). AreRows (searcher_rows s)) searcher searchers rows))
+    (slices-exactly first journal criterion slices searchers legal each.1 (All-tail (λ (s : Searcher). AreRows (searcher_rows s)) searcher searchers rows)
     (λ h. omega (arith, once h, counted h)))
     apart)
   where
     counted : (h : ℤ) → count_by (has_hash h) (slice ∷ slices) ≡ cond (has_hash h slice) 1 0 + count_by (has_hash h) slices
     counted h = sum_by-cons (λ (s : Slice). cond (has_hash h s) 1 0) slice slices
 
-    to : (write : Write) → IsFoundBy journal condition slice write ⊎ IsFoundAmong journal condition slices write
-        → IsFoundAmong journal condition (slice ∷ slices) write
+    to : (write : Write) → IsFoundBy journal criterion slice write ⊎ IsFoundAmong journal criterion slices write
+        → IsFoundAmong journal criterion (slice ∷ slices) write
     to write (inl here) = (slice, (0, omega arith, refl), here)
     to write (inr (s, there, by)) = (s, (suc there.0, omega (arith, there.1), there.2), by)
 
-    back : (write : Write) → IsFoundAmong journal condition (slice ∷ slices) write
-        → IsFoundBy journal condition slice write ⊎ IsFoundAmong journal condition slices write
-    back write (s, (zero, within, at), by) = inl (subst (λ (x : Slice). IsFoundBy journal condition x write) (sym at) by)
+    back : (write : Write) → IsFoundAmong journal criterion (slice ∷ slices) write
+        → IsFoundBy journal criterion slice write ⊎ IsFoundAmong journal criterion slices write
+    back write (s, (zero, within, at), by) = inl (subst (λ (x : Slice). IsFoundBy journal criterion x write) (sym at) by)
     back write (s, (suc k, within, at), by) = inr (s, (k, omega (arith, within), at), by)
 
-    apart : (one other : Write) → IsFoundBy journal condition slice one → IsFoundAmong journal condition slices other → one.id ≢ other.id
+    apart : (one other : Write) → IsFoundBy journal criterion slice one → IsFoundAmong journal criterion slices other → one.id ≢ other.id
     apart one other here among same =
         let hash : one.hash ≡ other.hash = here.hash ∙ ap route_hash same ∙ sym among.2.hash in
         let h = other.hash in
@@ -214,13 +214,13 @@ shown-written journal write shown =
     (Contains-append_left (writes before) (writes after) write (last_write_is before write.id write shown.last).1))
 
 -- What the searchers of a bucket find is what a search finds in its journal.
-pub bucket-exactly : (layout : Layout) (number : ℕ) (journal : List Entry) (condition : Condition) (route : Option Range) (searchers : List Searcher)
-    → AreAsked layout number journal route searchers → All (λ (searcher : Searcher). AreRows (rows_in searcher)) searchers
-    → AreExactly (IsFoundIn layout.first journal condition route) (all_of (map (found_in condition) searchers))
-bucket-exactly layout number journal condition route searchers asked rows =
-    AreExactly-same (IsFoundAmong journal condition (filter (is_asked route) slices)) (IsFoundIn layout.first journal condition route)
-    (all_of (map (found_in condition) searchers)) to back
-    (slices-exactly layout.first journal condition (filter (is_asked route) slices) searchers asked.is_of.legal asked.each rows
+pub bucket-exactly : (layout : Layout) (number : ℕ) (journal : List Entry) (criterion : Criterion) (route : Option Range) (searchers : List Searcher)
+    → AreAsked layout number journal route searchers → All (λ (searcher : Searcher). AreRows (searcher_rows searcher)) searchers
+    → AreExactly (IsFoundIn layout.first journal criterion route) (all_of (map (found_in criterion) searchers))
+bucket-exactly layout number journal criterion route searchers asked rows =
+    AreExactly-same (IsFoundAmong journal criterion (filter (is_asked route) slices)) (IsFoundIn layout.first journal criterion route)
+    (all_of (map (found_in criterion) searchers)) to back
+    (slices-exactly layout.first journal criterion (filter (is_asked route) slices) searchers asked.is_of.legal asked.each rows
     (λ h. asked-once route slices h asked.is_of.is_map))
   where
     slices : List Slice
@@ -231,7 +231,7 @@ bucket-exactly layout number journal condition route searchers asked rows =
     in_route None write slice asks leads = tt
     in_route (Some range) write slice asks leads = (slice, leads, (asks_for-Decides range slice.range).0 asks)
 
-    to : (write : Write) → IsFoundAmong journal condition (filter (is_asked route) slices) write → IsFoundIn layout.first journal condition route write
+    to : (write : Write) → IsFoundAmong journal criterion (filter (is_asked route) slices) write → IsFoundIn layout.first journal criterion route write
     to write (slice, among, by) =
         let kept = Contains-from_filter (is_asked route) slices slice among in
         let parts = and_parts (is_active slice) (asks_for route slice.range) kept.1 in
@@ -252,7 +252,7 @@ bucket-exactly layout number journal condition route searchers asked rows =
         (slice, subst (λ h. Leads slices h slice) (sym hash) leads, refl)
     chosen (Some range) write hash (slice, leads, meets) = (slice, leads, (asks_for-Decides range slice.range).1 meets)
 
-    back : (write : Write) → IsFoundIn layout.first journal condition route write → IsFoundAmong journal condition (filter (is_asked route) slices) write
+    back : (write : Write) → IsFoundIn layout.first journal criterion route write → IsFoundAmong journal criterion (filter (is_asked route) slices) write
     back write is =
         let hash = legal_hash layout.first journal write asked.is_of.legal (shown-written journal write is.shown) in
         let (slice, leads, asks) = chosen route write hash is.in_route in (
@@ -263,9 +263,9 @@ bucket-exactly layout number journal condition route searchers asked rows =
         )
 
 -- the ids of what is found belong to the bucket
-pub found-number : (layout : Layout) (number : ℕ) (journal : List Entry) (condition : Condition) (route : Option Range) (write : Write)
-    → IsJournalOf layout number journal → IsFoundIn layout.first journal condition route write → bucket_of write.id layout.buckets ≡ number
-found-number layout number journal condition route write is_of found =
+pub found-number : (layout : Layout) (number : ℕ) (journal : List Entry) (criterion : Criterion) (route : Option Range) (write : Write)
+    → IsJournalOf layout number journal → IsFoundIn layout.first journal criterion route write → bucket_of write.id layout.buckets ≡ number
+found-number layout number journal criterion route write is_of found =
     All-contains (λ (w : Write). bucket_of w.id layout.buckets ≡ number) (writes journal) write
     (All-from_recursion (λ (w : Write). bucket_of w.id layout.buckets ≡ number) (writes journal) is_of.ids)
     (shown-written journal write found.shown)
@@ -280,7 +280,7 @@ have-terms first journal (slice ∷ slices) [] legal each = absurd each
 have-terms first journal (slice ∷ slices) (searcher ∷ searchers) legal each =
     All-cons HaveTerms searcher searchers
     (All-weaker (Contains (writes journal)) (λ (row : Write). HasTerms row.id row.doc row.terms)
-    (λ row there. legal_terms first journal row legal there) (rows_in searcher) each.0.shows.written)
+    (λ row there. legal_terms first journal row legal there) (searcher_rows searcher) each.0.shows.written)
     (have-terms first journal slices searchers legal each.1)
 
 pub asked-terms : (layout : Layout) (number : ℕ) (journal : List Entry) (route : Option Range) (searchers : List Searcher)
@@ -309,26 +309,26 @@ few-asked layout number journal route searchers asked =
     )
 
 -- what is found may be merged
-pub is-found : (condition : Condition) (searcher : Searcher) → AreRows (rows_in searcher) → AreFound (found_in condition searcher)
-is-found condition searcher are =
-    let keeps = finds searcher.range condition in
+pub is-found : (criterion : Criterion) (searcher : Searcher) → AreRows (searcher_rows searcher) → AreFound (found_in criterion searcher)
+is-found criterion searcher are =
+    let keeps = finds searcher.range criterion in
     record {
-      ascend = AscendById-filter keeps (rows_in searcher) are.ascend;
-      bounded = omega (arith, length-filter keeps (rows_in searcher), count_by-le-length keeps (rows_in searcher), are.bounded);
+      ascend = AscendById-filter keeps (searcher_rows searcher) are.ascend;
+      bounded = omega (arith, length-filter keeps (searcher_rows searcher), count_by-le-length keeps (searcher_rows searcher), are.bounded);
     }
 
-pub are-found : (condition : Condition) (searchers : List Searcher) → All (λ (searcher : Searcher). AreRows (rows_in searcher)) searchers
-    → All AreFound (map (found_in condition) searchers)
-are-found condition searchers rows =
-    All-map AreFound (found_in condition) searchers
-    (All-weaker (λ (searcher : Searcher). AreRows (rows_in searcher)) (λ (searcher : Searcher). AreFound (found_in condition searcher))
-    (is-found condition) searchers rows)
+pub are-found : (criterion : Criterion) (searchers : List Searcher) → All (λ (searcher : Searcher). AreRows (searcher_rows searcher)) searchers
+    → All AreFound (map (found_in criterion) searchers)
+are-found criterion searchers rows =
+    All-map AreFound (found_in criterion) searchers
+    (All-weaker (λ (searcher : Searcher). AreRows (searcher_rows searcher)) (λ (searcher : Searcher). AreFound (found_in criterion searcher))
+    (is-found criterion) searchers rows)
 
 -- what was taken of a sound bucket
 pub asked : {E V : Type 0} (layout : Layout) (number : ℕ) (bucket : Bucket) (route : Option Range) (old new : List Searcher) (taken : Result V E)
     → IsSound bucket → IsBucketOf layout number bucket
-    → OnOk taken (Adds (AreOfSlices bucket.journal.entries (filter (is_asked route) bucket.map)) old new)
-    → OnOk taken (Adds (AreAsked layout number bucket.journal.entries route) old new)
+    → OnOk taken (AddsSearchers (AreOfSlices bucket.journal.entries (filter (is_asked route) bucket.map)) old new)
+    → OnOk taken (AddsSearchers (AreAsked layout number bucket.journal.entries route) old new)
 asked layout number bucket route old new (Err fault) sound is_of adds = adds
 asked layout number bucket route old new (Ok v) sound is_of adds =
     let same : bucket.map ≡ map_after layout.first bucket.journal.entries =

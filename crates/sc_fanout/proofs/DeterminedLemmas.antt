@@ -87,7 +87,7 @@ found-same : (layout : Layout) (seen other : Seen) (search : Search) (write : Wr
     → ((stop : Stop) → Contains search.stops stop → journal_at seen stop ≡ journal_at other stop)
     → IsFoundAtOne layout seen search write → IsFoundAtOne layout other search write
 found-same layout seen other search write same (stop, there, found) =
-    (stop, there, subst (λ (journal : List Entry). IsFoundIn layout.first journal search.condition search.route write) (same stop there) found)
+    (stop, there, subst (λ (journal : List Entry). IsFoundIn layout.first journal search.criterion search.route write) (same stop there) found)
 
 pub search_determined : SearchIsDetermined
 search_determined layout seen other_seen search one other same first second =

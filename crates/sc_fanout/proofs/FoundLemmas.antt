@@ -10,7 +10,7 @@ use Rattle.std.proofs.lemmas.Grind.{div_ceil_times}
 use Rattle.std.proofs.Math.Nat.{mul_comm}
 use Rattle.std.proofs.Math.Seq.{get_or-append_seam}
 use Rattle.sc_bucket.specs.declared.standing.Searcher.{Searcher}
-use Rattle.sc_eval.specs.Conditions.{Condition}
+use Rattle.sc_eval.specs.Criteria.{Criterion}
 use Rattle.sc_fanout.specs.Pages.{all_of}
 use Rattle.sc_fanout.specs.Steps.{found_in}
 use Rattle.sc_fanout.specs.Hits.{AreHits, HasFound, lists_of, searchers_of}
@@ -19,21 +19,21 @@ use Rattle.sc_fanout.specs.declared.hits.Found.{Found}
 use Rattle.sc_fanout.proofs.CountLemmas.{count-more}
 
 -- what is found with these searchers and then with those
-pub HasFound-more : (condition : Condition) (most : ℕ) (these those : List Searcher) (first next both : Found)
-    → HasFound condition most these first → HasFound condition most those next
+pub HasFound-more : (criterion : Criterion) (most : ℕ) (these those : List Searcher) (first next both : Found)
+    → HasFound criterion most these first → HasFound criterion most those next
     → both.count ≡ first.count + next.count → both.hits.items ≡ first.hits.items ++ next.hits.items
-    → HasFound condition most (these ++ those) both
-HasFound-more condition most these those first next both before more count hits = record {
+    → HasFound criterion most (these ++ those) both
+HasFound-more criterion most these those first next both before more count hits = record {
   count =
-      let joined = ap (λ (ls : List (List _)). length (all_of ls)) (map-append (found_in condition) these those) in
-      let each = count-more (map (found_in condition) these) (map (found_in condition) those) in
+      let joined = ap (λ (ls : List (List _)). length (all_of ls)) (map-append (found_in criterion) these those) in
+      let each = count-more (map (found_in criterion) these) (map (found_in criterion) those) in
       omega (arith, count, before.count, more.count, joined, each);
   few = omega (arith, count, before.few, more.few, length-append these those);
   searchers_are = ap searchers_of hits ∙ map-append (λ (h : Hits). h.searcher.now) first.hits.items next.hits.items
       ∙ ap (λ (ss : List Searcher). ss ++ searchers_of next.hits.items) before.searchers_are
       ∙ ap (λ (ss : List Searcher). these ++ ss) more.searchers_are;
-  kept = subst (All (AreHits condition most)) (sym hits)
-      (All-append (AreHits condition most) first.hits.items next.hits.items before.kept more.kept);
+  kept = subst (All (AreHits criterion most)) (sym hits)
+      (All-append (AreHits criterion most) first.hits.items next.hits.items before.kept more.kept);
 }
 
 -- the first parts and the next one are one part more
@@ -47,25 +47,25 @@ chunk-next xs size n m is =
     ∙ ap (λ (ys : List _). take (n * size) xs ++ ys) (drop-take (n * size) size xs)
 
 -- of results that stand in order, each of its part, the one that comes after the first ones is that of the next part
-pub found-next : (condition : Condition) (most size parts : ℕ) (searchers : List Searcher)
+pub found-next : (criterion : Criterion) (most size parts : ℕ) (searchers : List Searcher)
     (each yielded rest : List (Result Found AllocError)) (part : Result Found AllocError) (found : Found)
     → ((n : ℕ) (default : Result Found AllocError) → n < parts
-    → IfOk (slice_index_or each n default) (HasFound condition most (slice_chunk searchers size n)))
+    → IfOk (slice_index_or each n default) (HasFound criterion most (slice_chunk searchers size n)))
     → length each ≡ parts → yielded ++ part ∷ rest ≡ each → part ≡ Ok found
-    → HasFound condition most (slice_chunk searchers size (length yielded)) found
-found-next condition most size parts searchers each yielded rest part found all count is ok =
+    → HasFound criterion most (slice_chunk searchers size (length yielded)) found
+found-next criterion most size parts searchers each yielded rest part found all count is ok =
     let within : length yielded < parts =
     omega (arith, count, length-append yielded (part ∷ rest), ap (λ (rs : List (Result Found AllocError)). length rs) is) in
     let here : slice_index_or each (length yielded) part ≡ Ok found =
     ap (λ (rs : List (Result Found AllocError)). slice_index_or rs (length yielded) part) (sym is)
     ∙ get_or-append_seam yielded part rest part ∙ ok in
-    subst (λ (r : Result Found AllocError). IfOk r (HasFound condition most (slice_chunk searchers size (length yielded)))) here
+    subst (λ (r : Result Found AllocError). IfOk r (HasFound criterion most (slice_chunk searchers size (length yielded)))) here
     (all (length yielded) part within)
 
 -- the lists of the hits are what their searchers find
-pub lists-found : (condition : Condition) (most : ℕ) (searchers : List Searcher) (found : Found) → HasFound condition most searchers found
-    → lists_of condition found.hits.items ≡ map (found_in condition) searchers
-lists-found condition most searchers found has = ap (map (found_in condition)) has.searchers_are
+pub lists-found : (criterion : Criterion) (most : ℕ) (searchers : List Searcher) (found : Found) → HasFound criterion most searchers found
+    → lists_of criterion found.hits.items ≡ map (found_in criterion) searchers
+lists-found criterion most searchers found has = ap (map (found_in criterion)) has.searchers_are
 
 -- so many parts are all
 pub all-parts : {X : Type 0} (xs : List X) (size parts n : ℕ) → 1 ≤ parts → size ≡ div_ceil (length xs) parts → n ≡ parts

@@ -7,8 +7,8 @@ use Rattle.std.proofs.Math.ListN.{drop_of_length-le}
 use Rattle.std.proofs.lemmas.List.Elements.{recursion_from_All}
 use Rattle.sc_record.specs.declared.write.Write.{Write}
 use Rattle.sc_bucket.specs.declared.standing.Searcher.{Searcher}
-use Rattle.sc_eval.specs.Conditions.{Condition}
-use Rattle.sc_fanout.specs.Steps.{rows_in, found_in}
+use Rattle.sc_eval.specs.Criteria.{Criterion}
+use Rattle.sc_fanout.specs.Steps.{searcher_rows, found_in}
 use Rattle.sc_fanout.specs.Hits.{StandAt, AreHits, BeginAlike, hit_rows, lists_of}
 use Rattle.sc_fanout.specs.declared.hits.Hits.{Hits}
 
@@ -36,34 +36,34 @@ stand-read rows (n ∷ ns) (w ∷ ws) stand =
     ∙ ap (λ (l : List Write). w ∷ l) (stand-read rows ns ws later)
 
 -- the rows at the numbers of hits are the first that are found
-hits-alike : (condition : Condition) (most far : ℕ) (hits : Hits) → most ≤ far → AreHits condition far hits
-    → take most (hit_rows hits) ≡ take most (found_in condition hits.searcher.now)
-hits-alike condition most far hits le are =
-    ap (take most) (stand-read (rows_in hits.searcher.now) hits.numbers.items (take far (found_in condition hits.searcher.now)) are)
-    ∙ take-take most far (found_in condition hits.searcher.now) le
+hits-alike : (criterion : Criterion) (most far : ℕ) (hits : Hits) → most ≤ far → AreHits criterion far hits
+    → take most (hit_rows hits) ≡ take most (found_in criterion hits.searcher.now)
+hits-alike criterion most far hits le are =
+    ap (take most) (stand-read (searcher_rows hits.searcher.now) hits.numbers.items (take far (found_in criterion hits.searcher.now)) are)
+    ∙ take-take most far (found_in criterion hits.searcher.now) le
 
 -- the rows of all hits begin as the lists of all that is found do
-pub hits-begin : (condition : Condition) (most far : ℕ) (all : List Hits) → most ≤ far → All (AreHits condition far) all
-    → BeginAlike most (lists_of condition all) (map hit_rows all)
-hits-begin condition most far all le are = by all (recursion_from_All (AreHits condition far) all are)
+pub hits-begin : (criterion : Criterion) (most far : ℕ) (all : List Hits) → most ≤ far → All (AreHits criterion far) all
+    → BeginAlike most (lists_of criterion all) (map hit_rows all)
+hits-begin criterion most far all le are = by all (recursion_from_All (AreHits criterion far) all are)
   where
-    by : (hs : List Hits) → AllByRecursion (AreHits condition far) hs → map (take most) (map hit_rows hs) ≡ map (take most) (lists_of condition hs)
+    by : (hs : List Hits) → AllByRecursion (AreHits criterion far) hs → map (take most) (map hit_rows hs) ≡ map (take most) (lists_of criterion hs)
     by [] each = refl
     by (hits ∷ hs) each =
-        let here = hits-alike condition most far hits le each.0 in
+        let here = hits-alike criterion most far hits le each.0 in
         let later = by hs each.1 in
         ap (λ (l : List Write). l ∷ map (take most) (map hit_rows hs)) here
-        ∙ ap (λ (ls : List (List Write)). take most (found_in condition hits.searcher.now) ∷ ls) later
+        ∙ ap (λ (ls : List (List Write)). take most (found_in criterion hits.searcher.now) ∷ ls) later
 
 -- the hits of a searcher, of the numbers of all that it finds
-pub first-hits : (condition : Condition) (most : ℕ) (searcher : Searcher) (numbers : List ℕ) (hits : Hits)
-    → StandAt (rows_in searcher) numbers (found_in condition searcher)
-    → hits.searcher.now ≡ searcher → hits.numbers.items ≡ take most numbers → AreHits condition most hits
-first-hits condition most searcher numbers hits stand same is =
-    let here = stand-first (rows_in searcher) numbers (found_in condition searcher) most stand in
-    let of_searcher : StandAt (rows_in hits.searcher.now) (take most numbers) (take most (found_in condition hits.searcher.now)) =
-    subst (λ (s : Searcher). StandAt (rows_in s) (take most numbers) (take most (found_in condition s))) (sym same) here in
-    subst (λ (ns : List ℕ). StandAt (rows_in hits.searcher.now) ns (take most (found_in condition hits.searcher.now))) (sym is) of_searcher
+pub first-hits : (criterion : Criterion) (most : ℕ) (searcher : Searcher) (numbers : List ℕ) (hits : Hits)
+    → StandAt (searcher_rows searcher) numbers (found_in criterion searcher)
+    → hits.searcher.now ≡ searcher → hits.numbers.items ≡ take most numbers → AreHits criterion most hits
+first-hits criterion most searcher numbers hits stand same is =
+    let here = stand-first (searcher_rows searcher) numbers (found_in criterion searcher) most stand in
+    let of_searcher : StandAt (searcher_rows hits.searcher.now) (take most numbers) (take most (found_in criterion hits.searcher.now)) =
+    subst (λ (s : Searcher). StandAt (searcher_rows s) (take most numbers) (take most (found_in criterion s))) (sym same) here in
+    subst (λ (ns : List ℕ). StandAt (searcher_rows hits.searcher.now) ns (take most (found_in criterion hits.searcher.now))) (sym is) of_searcher
 
 -- a part of a list, between two places that are cut to its end
 pub between-part : {C : Type 0} (value : C → Write) (cells : List C) (from to begin end : ℕ)

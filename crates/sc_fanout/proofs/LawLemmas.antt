@@ -6,7 +6,7 @@ use Rattle.sc_fanout.specs.SearchLaws.{RoutesFindNoMore, CommitsShowAll, OthersC
 use Rattle.sc_journal.proofs.CommittedLemmas.{committed-push_commit, committed-push_other}
 
 pub no_more : RoutesFindNoMore
-no_more first journal condition route write found = record { shown = found.shown; matched = found.matched; in_route = tt }
+no_more first journal criterion route write found = record { shown = found.shown; matched = found.matched; in_route = tt }
 
 pub show_all : CommitsShowAll
 show_all journal one write is =

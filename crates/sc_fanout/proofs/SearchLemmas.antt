@@ -11,7 +11,7 @@ use Rattle.sc_router.specs.Route.{bucket_of}
 use Rattle.sc_record.specs.declared.write.Write.{Write}
 use Rattle.sc_record.specs.declared.entry.Entry.{Entry}
 use Rattle.sc_snapshot.specs.Rows.{AreRows}
-use Rattle.sc_eval.specs.Conditions.{Condition, condition_of}
+use Rattle.sc_eval.specs.Criteria.{Criterion, criterion_of}
 use Rattle.sc_seen.specs.Seen.{Layout, Seen, SeesMore, FromNowOn, journal_at}
 use Rattle.sc_seen.specs.Moments.{View, Keeps}
 use Rattle.sc_seen.specs.declared.stop.Stop.{Stop}
@@ -22,7 +22,7 @@ use Rattle.sc_fanout.specs.declared.ask.Ask.{Ask}
 use Rattle.sc_fanout.specs.declared.shown.Page.{Page}
 use Rattle.sc_fanout.specs.Pages.{AreFound, IsPageOf, all_of}
 use Rattle.sc_fanout.specs.Searches.{IsFoundIn, IsFoundAtOne, LooksAtBuckets, SearchesBuckets, search_of}
-use Rattle.sc_fanout.specs.Steps.{rows_in, found_in, AreAsked, LooksAtOne}
+use Rattle.sc_fanout.specs.Steps.{searcher_rows, found_in, AreAsked, LooksAtOne}
 use Rattle.sc_fanout.proofs.ExactlyLemmas.{AreExactly, AreExactly-none, AreExactly-same, AreExactly-append, AreExactly-sorted}
 use Rattle.sc_fanout.proofs.BucketLemmas.{bucket-exactly, found-number, few-asked, are-found}
 
@@ -106,8 +106,8 @@ pub FoundSoFar-more : (layout : Layout) (old between new : View) (ask : Ask) (co
     (lists next : List (List Write)) (searchers : List Searcher)
     → FoundSoFar layout old between ask count lists
     → LooksAtOne layout between new count (λ journal. AreAsked layout count journal ask.route searchers)
-    → All (λ (searcher : Searcher). AreRows (rows_in searcher)) searchers
-    → next ≡ lists ++ map (found_in (condition_of ask.query)) searchers
+    → All (λ (searcher : Searcher). AreRows (searcher_rows searcher)) searchers
+    → next ≡ lists ++ map (found_in (criterion_of ask.query)) searchers
     → FoundSoFar layout old new ask (count + 1) next
 unfolding Looked-more
 FoundSoFar-more layout old between new ask count lists next searchers far one rows is =
@@ -115,21 +115,21 @@ FoundSoFar-more layout old between new ask count lists next searchers far one ro
       looked = Looked-more layout old between new count (λ journal. AreAsked layout count journal ask.route searchers) far.looked one;
       found = λ later sees. subst (AreExactly (IsFoundAtOne layout later (search_of ask (far.looked.stops ++ stop ∷ [])))) (sym joined) (found later sees);
       below = λ write has. below write (subst (λ (ws : List Write). Contains ws write) joined has);
-      may_be = All-append AreFound lists here far.may_be (are-found condition searchers rows);
+      may_be = All-append AreFound lists here far.may_be (are-found criterion searchers rows);
       few = omega (
         arith,
         far.few,
         length-append lists here,
-        length-map searchers (found_in condition),
+        length-map searchers (found_in criterion),
         few-asked layout count one.journal ask.route searchers one.is_taken,
       );
     })
   where
-    condition : Condition
-    condition = condition_of ask.query
+    criterion : Criterion
+    criterion = criterion_of ask.query
 
     here : List (List Write)
-    here = map (found_in condition) searchers
+    here = map (found_in criterion) searchers
 
     stop : Stop
     stop = record { lock = count; place = length one.journal; made = false }
@@ -137,11 +137,11 @@ FoundSoFar-more layout old between new ask count lists next searchers far one ro
     joined : all_of (lists ++ here) ≡ all_of lists ++ all_of here
     joined = flat_map-append (λ (ws : List Write). ws) lists here
 
-    exactly_here : AreExactly (IsFoundIn layout.first one.journal condition ask.route) (all_of here)
-    exactly_here = bucket-exactly layout count one.journal condition ask.route searchers one.is_taken rows
+    exactly_here : AreExactly (IsFoundIn layout.first one.journal criterion ask.route) (all_of here)
+    exactly_here = bucket-exactly layout count one.journal criterion ask.route searchers one.is_taken rows
 
-    number : (write : Write) → IsFoundIn layout.first one.journal condition ask.route write → bucket_of write.id layout.buckets ≡ count
-    number write is_found = found-number layout count one.journal condition ask.route write one.is_taken.is_of is_found
+    number : (write : Write) → IsFoundIn layout.first one.journal criterion ask.route write → bucket_of write.id layout.buckets ≡ count
+    number write is_found = found-number layout count one.journal criterion ask.route write one.is_taken.is_of is_found
 
     below : (write : Write) → Contains (all_of lists ++ all_of here) write → bucket_of write.id layout.buckets < count + 1
     below write has =
@@ -153,9 +153,9 @@ FoundSoFar-more layout old between new ask count lists next searchers far one ro
     found : (later : Seen) → SeesMore new.seen later
         → AreExactly (IsFoundAtOne layout later (search_of ask (far.looked.stops ++ stop ∷ []))) (all_of lists ++ all_of here)
     found later sees =
-        AreExactly-same (λ write. IsFoundAtOne layout later (search_of ask far.looked.stops) write ⊎ IsFoundIn layout.first one.journal condition ask.route write)
+        AreExactly-same (λ write. IsFoundAtOne layout later (search_of ask far.looked.stops) write ⊎ IsFoundIn layout.first one.journal criterion ask.route write)
         (IsFoundAtOne layout later (search_of ask (far.looked.stops ++ stop ∷ []))) (all_of lists ++ all_of here) to back
-        (AreExactly-append (IsFoundAtOne layout later (search_of ask far.looked.stops)) (IsFoundIn layout.first one.journal condition ask.route)
+        (AreExactly-append (IsFoundAtOne layout later (search_of ask far.looked.stops)) (IsFoundIn layout.first one.journal criterion ask.route)
         (all_of lists) (all_of here) before exactly_here apart)
       where
         before : AreExactly (IsFoundAtOne layout later (search_of ask far.looked.stops)) (all_of lists)
@@ -165,26 +165,26 @@ FoundSoFar-more layout old between new ask count lists next searchers far one ro
         then = take-prefix one.journal (later.journals count)
             (IsPrefix-then one.journal (new.seen.journals count) (later.journals count) one.begins (sees.journals count))
 
-        to : (write : Write) → IsFoundAtOne layout later (search_of ask far.looked.stops) write ⊎ IsFoundIn layout.first one.journal condition ask.route write
+        to : (write : Write) → IsFoundAtOne layout later (search_of ask far.looked.stops) write ⊎ IsFoundIn layout.first one.journal criterion ask.route write
             → IsFoundAtOne layout later (search_of ask (far.looked.stops ++ stop ∷ [])) write
         to write (inl (at, there, is_found)) = (at, Contains-append_left far.looked.stops (stop ∷ []) at there, is_found)
         to write (inr is_found) = (
           stop,
           Contains-append_right far.looked.stops (stop ∷ []) stop (0, omega arith, refl),
-          subst (λ (j : List Entry). IsFoundIn layout.first j condition ask.route write) (sym then) is_found,
+          subst (λ (j : List Entry). IsFoundIn layout.first j criterion ask.route write) (sym then) is_found,
         )
 
         back : (write : Write) → IsFoundAtOne layout later (search_of ask (far.looked.stops ++ stop ∷ [])) write
-            → IsFoundAtOne layout later (search_of ask far.looked.stops) write ⊎ IsFoundIn layout.first one.journal condition ask.route write
+            → IsFoundAtOne layout later (search_of ask far.looked.stops) write ⊎ IsFoundIn layout.first one.journal criterion ask.route write
         back write (at, there, is_found) =
             ⊎_elim
             (λ (early : Contains far.looked.stops at). inl (at, early, is_found))
-            (λ (last : Contains (stop ∷ []) at). inr (subst (λ (j : List Entry). IsFoundIn layout.first j condition ask.route write) then
-            (subst (λ (s : Stop). IsFoundIn layout.first (journal_at later s) condition ask.route write) (sym (only-one stop at last)) is_found)))
+            (λ (last : Contains (stop ∷ []) at). inr (subst (λ (j : List Entry). IsFoundIn layout.first j criterion ask.route write) then
+            (subst (λ (s : Stop). IsFoundIn layout.first (journal_at later s) criterion ask.route write) (sym (only-one stop at last)) is_found)))
             (Contains-append_cases far.looked.stops (stop ∷ []) at there)
 
         apart : (first other : Write) → IsFoundAtOne layout later (search_of ask far.looked.stops) first
-            → IsFoundIn layout.first one.journal condition ask.route other → first.id ≢ other.id
+            → IsFoundIn layout.first one.journal criterion ask.route other → first.id ≢ other.id
         apart first other early late same =
             omega (arith, far.below first ((before.exactly first).1 early), number other late, ap (λ id. bucket_of id layout.buckets) same)
 

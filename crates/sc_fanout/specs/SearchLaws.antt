@@ -4,7 +4,7 @@ use Rattle.sc_hash.specs.declared.range.Range.{Range}
 use Rattle.sc_record.specs.declared.write.Write.{Write}
 use Rattle.sc_record.specs.declared.entry.Entry.{Entry}
 use Rattle.sc_cluster.specs.declared.slice.Slice.{Slice}
-use Rattle.sc_eval.specs.Conditions.{Condition}
+use Rattle.sc_eval.specs.Criteria.{Criterion}
 use Rattle.sc_journal.specs.Journal.{last_write}
 use Rattle.sc_journal.specs.Committed.{commits, IsShown}
 use Rattle.sc_seen.specs.Seen.{Layout, Seen, journal_at}
@@ -13,8 +13,8 @@ use Rattle.sc_fanout.specs.Searches.{IsFoundIn, Search, SearchPage, ShowsFound}
 
 -- what is found with a route is found without one
 abbrev pub RoutesFindNoMore : Type 0
-RoutesFindNoMore = (first : List Slice) (journal : List Entry) (condition : Condition) (route : Option Range) (write : Write)
-    → IsFoundIn first journal condition route write → IsFoundIn first journal condition None write
+RoutesFindNoMore = (first : List Slice) (journal : List Entry) (criterion : Criterion) (route : Option Range) (write : Write)
+    → IsFoundIn first journal criterion route write → IsFoundIn first journal criterion None write
 
 -- once an entry commits, the last write of each id before it can be found, unless it is a deletion, and no other
 abbrev pub CommitsShowAll : Type 0

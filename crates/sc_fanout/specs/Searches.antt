@@ -10,7 +10,7 @@ use Rattle.sc_record.specs.declared.write.Write.{Write}
 use Rattle.sc_record.specs.declared.entry.Entry.{Entry}
 use Rattle.sc_cluster.specs.declared.slice.Slice.{Slice}
 use Rattle.sc_cluster.specs.Map.{Leads}
-use Rattle.sc_eval.specs.Conditions.{Condition, condition_of}
+use Rattle.sc_eval.specs.Criteria.{Criterion, criterion_of}
 use Rattle.sc_eval.specs.Matching.{matches}
 use Rattle.sc_journal.specs.Splits.{map_after}
 use Rattle.sc_journal.specs.Committed.{IsShown}
@@ -27,10 +27,10 @@ IsInRoute slices (Some route) write =
     (slice : Slice) × Leads slices write.hash slice × Meets slice.range.min slice.range.max route.min route.max
 
 -- the search finds the write in a journal, from the first map on: it is the last of its id that was committed there, it is no
--- deletion, its document meets the condition, and the search looks there
-pub record IsFoundIn (first : List Slice) (journal : List Entry) (condition : Condition) (route : Option Range) (write : Write) : Type 0 where
+-- deletion, its document meets the criterion, and the search looks there
+pub record IsFoundIn (first : List Slice) (journal : List Entry) (criterion : Criterion) (route : Option Range) (write : Write) : Type 0 where
   pub shown : IsShown journal write
-  pub matched : matches condition write ≡ true
+  pub matched : matches criterion write ≡ true
   pub in_route : IsInRoute (map_after first journal) route write
 
 -- the buckets from 0 on were each looked at once, in order: so many of them
@@ -38,10 +38,10 @@ pub record LooksAtBuckets (count : ℕ) (stops : List Stop) : Type 0 where
   pub locks : map (λ (stop : Stop). stop.lock) stops ≡ range_with_len 0 count
   pub made : All (λ (stop : Stop). stop.made ≡ false) stops
 
--- a search: its stops, the condition of its query, and the hashes of its route, if it has one
+-- a search: its stops, the criterion of its query, and the hashes of its route, if it has one
 pub record Search : Type 0 where
   pub stops : List Stop
-  pub condition : Condition
+  pub criterion : Criterion
   pub route : Option Range
 
 -- what a search shows: from which document on, counted from 0, and how many at most; how many are found in all; and the documents
@@ -54,7 +54,7 @@ pub record SearchPage : Type 0 where
 -- the search finds the write in the journal at one of its stops
 abbrev pub IsFoundAtOne : Layout → Seen → Search → Write → Type 0
 IsFoundAtOne layout seen search write =
-    (stop : Stop) × Contains search.stops stop × IsFoundIn layout.first (journal_at seen stop) search.condition search.route write
+    (stop : Stop) × Contains search.stops stop × IsFoundIn layout.first (journal_at seen stop) search.criterion search.route write
 
 -- the writes are exactly those that the search finds, each once, ascending by the ids' bytes
 pub record AreFoundAt (layout : Layout) (seen : Seen) (search : Search) (sorted : List Write) : Type 0 where
@@ -70,7 +70,7 @@ pub record ShowsFound (layout : Layout) (seen : Seen) (search : Search) (page : 
 
 -- the search that is asked for, with its stops
 abbrev pub search_of : Ask → List Stop → Search
-search_of ask stops = record { stops = stops; condition = condition_of ask.query; route = ask.route }
+search_of ask stops = record { stops = stops; criterion = criterion_of ask.query; route = ask.route }
 
 -- the page that is shown of what is asked for
 abbrev pub page_of : Ask → Page → SearchPage

@@ -10,7 +10,7 @@ use Rattle.sc_record.specs.declared.entry.Entry.{Entry}
 use Rattle.sc_cluster.specs.declared.slice.Slice.{Slice}
 use Rattle.sc_cluster.specs.Slices.{is_active}
 use Rattle.sc_cluster.specs.Map.{IsMap}
-use Rattle.sc_eval.specs.Conditions.{Condition}
+use Rattle.sc_eval.specs.Criteria.{Criterion}
 use Rattle.sc_eval.specs.Matching.{finds}
 use Rattle.sc_journal.specs.Journal.{writes}
 use Rattle.sc_journal.specs.Splits.{map_after}
@@ -30,21 +30,21 @@ abbrev pub is_asked : Option Range → Slice → Bool
 is_asked route slice = is_active slice && asks_for route slice.range
 
 -- the rows that a searcher looks at
-abbrev pub rows_in : Searcher → List Write
-rows_in searcher = (arc_value searcher.snapshot).rows
+abbrev pub searcher_rows : Searcher → List Write
+searcher_rows searcher = (arc_value searcher.snapshot).rows
 
 -- the rows that a searcher looks at have their terms
 abbrev pub HaveTerms : Searcher → Type 0
-HaveTerms searcher = All (λ (row : Write). HasTerms row.id row.doc row.terms) (rows_in searcher)
+HaveTerms searcher = All (λ (row : Write). HasTerms row.id row.doc row.terms) (searcher_rows searcher)
 
--- what the condition finds in the searcher's rows
-abbrev pub found_in : Condition → Searcher → List Write
-found_in condition searcher = filter (finds searcher.range condition) (rows_in searcher)
+-- what the criterion finds in the searcher's rows
+abbrev pub found_in : Criterion → Searcher → List Write
+found_in criterion searcher = filter (finds searcher.range criterion) (searcher_rows searcher)
 
 -- the searcher is that of the slice
 pub record IsOfSlice (journal : List Entry) (slice : Slice) (searcher : Searcher) : Type 0 where
   pub range_is : searcher.range ≡ slice.range
-  pub shows : ShowsCommitted journal slice (rows_in searcher)
+  pub shows : ShowsCommitted journal slice (searcher_rows searcher)
 
 -- the searchers are those of the slices, in order
 abbrev pub AreOfSlices : List Entry → List Slice → List Searcher → Type 0
@@ -65,7 +65,7 @@ pub record AreAsked (layout : Layout) (number : ℕ) (journal : List Entry) (rou
   pub each : AreOfSlices journal (filter (is_asked route) (map_after layout.first journal)) searchers
 
 -- the searchers are the old ones and, after them, some of which this holds
-pub record Adds (these : List Searcher → Type 0) (old new : List Searcher) : Type 0 where
+pub record AddsSearchers (these : List Searcher → Type 0) (old new : List Searcher) : Type 0 where
   pub more : List Searcher
   pub added : new ≡ old ++ more
   pub are : these more

@@ -1,11 +1,11 @@
 ghost use Rattle.std.specs.Prelude.{◌≡◌, ◌≤◌, length, take, All, IfOk};
 ghost use Rattle.sc_record.specs.declared.write.Write.{Write};
-ghost use Rattle.sc_eval.specs.Conditions.{condition_of};
+ghost use Rattle.sc_eval.specs.Criteria.{criterion_of};
 ghost use Rattle.sc_journal.specs.Legal.{HasTerms};
 ghost use Rattle.sc_segment.specs.Fresh.{IsFresh};
 ghost use Rattle.sc_snapshot.specs.Rows.{AreRows};
 ghost use Rattle.sc_fanout.specs.Hits.{HasFound, StandAt};
-ghost use Rattle.sc_fanout.specs.Steps.{rows_in, found_in, HaveTerms};
+ghost use Rattle.sc_fanout.specs.Steps.{searcher_rows, found_in, HaveTerms};
 
 use crate::hits::{Found, Hits};
 use sc_bucket::Searcher;
@@ -27,7 +27,7 @@ pub(crate) fn find_all<'a>(
 ) -> Result<Found<'a>, AllocError>
     requires terms { All HaveTerms searchers.now }
     requires few { length searchers.now ≤ 65536 }
-    ensures { IfOk result (HasFound (condition_of query.now) most searchers.now) }
+    ensures { IfOk result (HasFound (criterion_of query.now) most searchers.now) }
 {
     let mut count: u64 = 0;
     let mut hits = Vec::with_capacity(alloc, searchers.len())?;
@@ -56,8 +56,8 @@ fn hits_of(searcher: &Searcher, mut numbers: Vec<u32>, most: usize) -> Hits<'_>
 fn find_in(alloc: Global, query: &Bound, searcher: &Searcher) -> Result<Vec<u32>, AllocError>
     requires { HaveTerms searcher.now }
     ensures found { IfOk result (λ numbers.
-        StandAt (rows_in searcher.now) numbers.items (found_in (condition_of query.now) searcher.now)) }
-    ensures rows { AreRows (rows_in searcher.now) }
+        StandAt (searcher_rows searcher.now) numbers.items (found_in (criterion_of query.now) searcher.now)) }
+    ensures rows { AreRows (searcher_rows searcher.now) }
 {
     if searcher.snapshot.rows() == 0 {
         return Ok(Vec::new(alloc));
@@ -75,7 +75,7 @@ fn numbers_in<L: Ledger>(
     requires terms { HaveTerms searcher.now }
     requires fresh { IsFresh blank L.name L.parts }
     ensures { IfOk result (λ numbers.
-        StandAt (rows_in searcher.now) numbers.items (found_in (condition_of query.now) searcher.now)) }
+        StandAt (searcher_rows searcher.now) numbers.items (found_in (criterion_of query.now) searcher.now)) }
 {
     let mut steps = Steps::<L>::new(blank);
     find(

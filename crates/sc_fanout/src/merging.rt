@@ -7,7 +7,8 @@ ghost use Rattle.sc_record.specs.declared.write.Write.{Write};
 ghost use Rattle.sc_segment.specs.Fresh.{IsFresh};
 ghost use Rattle.sc_fanout.specs.Pages.{AreFound, IsStartOf, all_of};
 ghost use Rattle.sc_fanout.specs.Merging.{goes_before, merged};
-ghost use Rattle.sc_fanout.specs.Hits.{BeginAlike, hit_rows, lent, lent_in};
+ghost use Rattle.sc_bucket.specs.Taking.{lent};
+ghost use Rattle.sc_fanout.specs.Hits.{BeginAlike, hit_rows, lent_in};
 
 use crate::hits::Hits;
 use sc_record::Cell;

@@ -1,9 +1,10 @@
 ghost use Rattle.std.specs.Prelude.{◌≡◌, ◌+◌, ◌≤◌, List, length, map, take, drop, All, IfOk};
 ghost use Rattle.std.specs.Arc.{arc_value};
 ghost use Rattle.sc_record.specs.declared.write.Write.{Write};
-ghost use Rattle.sc_eval.specs.Conditions.{condition_of};
+ghost use Rattle.sc_eval.specs.Criteria.{criterion_of};
 ghost use Rattle.sc_fanout.specs.Pages.{AreFound, IsPageOf, all_of};
-ghost use Rattle.sc_fanout.specs.Hits.{AreHits, lent, lists_of};
+ghost use Rattle.sc_bucket.specs.Taking.{lent};
+ghost use Rattle.sc_fanout.specs.Hits.{AreHits, lists_of};
 
 use crate::ask::Ask;
 use crate::hits::Hits;
@@ -19,10 +20,10 @@ use std::sync::ledger::Blank;
 /// rows are read than the page can show, only the first where none comes in, and none where the page is empty; the documents of the page
 /// alone are shared. The only error is that memory was refused.
 pub(crate) fn page(alloc: Global, ask: &Ask, found: u64, all: &[Hits]) -> Result<Page, AllocError>
-    requires counted { found ≡ length (all_of (lists_of (condition_of ask.now.query) all.now)) }
-    requires may_be { All AreFound (lists_of (condition_of ask.now.query) all.now) }
-    requires kept { All (AreHits (condition_of ask.now.query) (ask.now.start + ask.now.rows)) all.now }
-    ensures { IfOk result (IsPageOf (all_of (lists_of (condition_of ask.now.query) all.now)) ask.now.start ask.now.rows) }
+    requires counted { found ≡ length (all_of (lists_of (criterion_of ask.now.query) all.now)) }
+    requires may_be { All AreFound (lists_of (criterion_of ask.now.query) all.now) }
+    requires kept { All (AreHits (criterion_of ask.now.query) (ask.now.start + ask.now.rows)) all.now }
+    ensures { IfOk result (IsPageOf (all_of (lists_of (criterion_of ask.now.query) all.now)) ask.now.start ask.now.rows) }
 {
     let most = reach(ask, found);
     let kept = first_of_all::<Brand>(alloc, all, most, Blank::new(1))?;

@@ -1,7 +1,7 @@
 ghost use Rattle.std.specs.Prelude.{◌≡◌, ℕ, ◌<◌, ◌≤◌, length, map, All, IfOk, Result, slice_index_or};
 ghost use Rattle.std.specs.Fork.{slice_chunk};
 ghost use Rattle.std.specs.declared.alloc.AllocError.{AllocError};
-ghost use Rattle.sc_eval.specs.Conditions.{condition_of};
+ghost use Rattle.sc_eval.specs.Criteria.{criterion_of};
 ghost use Rattle.sc_fanout.specs.Hits.{HasFound};
 ghost use Rattle.sc_fanout.specs.Steps.{HaveTerms};
 ghost use Rattle.sc_fanout.specs.declared.hits.Found.{Found};
@@ -43,7 +43,7 @@ pub(crate) fn find_in_parts<'a, R: Threads + Sync>(
     requires parts { 1 ≤ parts }
     requires terms { All HaveTerms searchers.now }
     requires few { length searchers.now ≤ 65536 }
-    ensures { IfOk result (HasFound (condition_of query.now) most searchers.now) }
+    ensures { IfOk result (HasFound (criterion_of query.now) most searchers.now) }
 {
     if parts == 1 {
         return find_all(alloc, query, searchers, most);
@@ -76,7 +76,7 @@ fn find_each<'a, R: Threads + Sync>(
     requires few { length searchers.now ≤ 65536 }
     ensures count { IfOk result (λ found. length found.items ≡ parts) }
     ensures each { IfOk result (λ found. (n : ℕ) (default : Result Found AllocError) → n < parts
-        → IfOk (slice_index_or found.items n default) (HasFound (condition_of query.now) most (slice_chunk searchers.now size n))) }
+        → IfOk (slice_index_or found.items n default) (HasFound (criterion_of query.now) most (slice_chunk searchers.now size n))) }
 {
     thread::map_indices(
         rt,
@@ -84,7 +84,7 @@ fn find_each<'a, R: Threads + Sync>(
         parts,
         &|n: usize| -> Result<Found, AllocError>
             requires { All HaveTerms searchers.now × (length searchers.now ≤ 65536) }
-            ensures { IfOk result (HasFound (condition_of query.entry.now) most (slice_chunk searchers.entry.now size n)) }
+            ensures { IfOk result (HasFound (criterion_of query.entry.now) most (slice_chunk searchers.entry.now size n)) }
         { find_all(alloc, query, part_of(searchers, size, n), most) },
     )
 }

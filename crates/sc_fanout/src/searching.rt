@@ -6,7 +6,7 @@ ghost use Rattle.sc_seen.specs.Moments.{view_of};
 ghost use Rattle.sc_collection.specs.Desks.{nothing_out, IsDeskAtRest};
 ghost use Rattle.sc_collection.specs.Kept.{trail_room};
 ghost use Rattle.sc_fanout.specs.Searches.{SearchesBuckets};
-ghost use Rattle.sc_fanout.specs.Steps.{asks_for, is_asked, rows_in, Adds, AreOfSlices, AreAsked, LooksAtOne};
+ghost use Rattle.sc_fanout.specs.Steps.{asks_for, is_asked, searcher_rows, AddsSearchers, AreOfSlices, AreAsked, LooksAtOne};
 
 use crate::ask::Ask;
 use crate::pages::page;
@@ -59,7 +59,7 @@ fn take_searchers<D: Desk>(
     requires within { b < (D.layout desk.old).buckets }
     requires room { length trail.old.stops < trail_room }
     ensures looks { LooksAtOne (D.layout desk.old) (view_of (D.seen desk.old) trail.old.stops) (view_of (D.seen desk.new) trail.new.stops) b
-        (λ journal. OnOk result (Adds (AreAsked (D.layout desk.old) b journal route.now) searchers.old.items searchers.new.items)) }
+        (λ journal. OnOk result (AddsSearchers (AreAsked (D.layout desk.old) b journal route.now) searchers.old.items searchers.new.items)) }
     ensures layout { D.layout desk.new ≡ D.layout desk.old }
     ensures rest { IsDeskAtRest (D.layout desk.new) (D.out desk.new) (D.seen desk.new) }
     ensures stops { length trail.new.stops ≡ length trail.old.stops + 1 }
@@ -83,7 +83,7 @@ fn add_searchers(
     searchers: &mut Vec<Searcher>,
 ) -> Result<(), AllocError>
     requires { IsSound bucket.now }
-    ensures { OnOk result (Adds (AreOfSlices bucket.now.journal.entries (filter (is_asked route.now) bucket.now.map))
+    ensures { OnOk result (AddsSearchers (AreOfSlices bucket.now.journal.entries (filter (is_asked route.now) bucket.now.map))
         searchers.old.items searchers.new.items) }
 {
     let mut from = 0;
@@ -108,7 +108,7 @@ fn asks_for(route: &Option<Range>, range: &Range) -> bool
 
 // How many rows the searchers have in all, or 2^64 - 1 where there are more.
 fn rows_of(searchers: &[Searcher]) -> u64
-    ensures { All (λ (searcher : Searcher). AreRows (rows_in searcher)) searchers.now }
+    ensures { All (λ (searcher : Searcher). AreRows (searcher_rows searcher)) searchers.now }
 {
     let mut rows: u64 = 0;
     for searcher in searchers {

@@ -23,7 +23,7 @@ use Rattle.sc_journal.proofs.SplitLemmas.{open_split-push}
 use Rattle.sc_bucket.specs.Kept.{FeedState}
 use Rattle.sc_bucket.specs.Cores.{is_of_one}
 use Rattle.sc_bucket.specs.Pending.{is_feed_of, to_feed}
-use Rattle.sc_bucket.specs.Sound.{is_idle, IsFeed, IsOpen, IsInPhase, IsSound}
+use Rattle.sc_bucket.specs.Sound.{is_idle, IsFeed, IsSplitOpen, IsInPhase, IsSound}
 use Rattle.sc_bucket.specs.declared.bucket.Bucket.{Bucket}
 use Rattle.sc_bucket.specs.declared.phase.Phase.{Phase}
 use Rattle.sc_bucket.specs.declared.phase.Phase.TheVariants as phases
@@ -39,12 +39,12 @@ use Rattle.sc_handover.proofs.NoFeedLemmas.{AreFeeds-none}
 use Rattle.sc_handover.proofs.LeftOutLemmas.{LeavesFeeds, IsSound-taken_out}
 
 -- the split of the parent is open
-pub is_open : (b : Bucket) (parent : SliceId) → IsSound b → CanAbort b parent → IsOpen b parent
+pub is_open : (b : Bucket) (parent : SliceId) → IsSound b → CanAbort b parent → IsSplitOpen b parent
 is_open b parent sound can = by b.phase can sound.phase where
-  by : (phase : Phase) → split_of phase ≡ Some parent → IsInPhase b phase → IsOpen b parent
+  by : (phase : Phase) → split_of phase ≡ Some parent → IsInPhase b phase → IsSplitOpen b parent
   by phases.Idle none is = absurd (none-some parent none)
-  by (phases.Building building) some is = subst (IsOpen b) (same_Some building parent some) is
-  by (phases.Recovering recovering) some is = subst (IsOpen b) (same_Some recovering parent some) is.0
+  by (phases.Building building) some is = subst (IsSplitOpen b) (same_Some building parent some) is
+  by (phases.Recovering recovering) some is = subst (IsSplitOpen b) (same_Some recovering parent some) is.0
 
 -- how many followers its subs are to have
 abbrev pub followers_of_subs : Bucket → ℕ

@@ -28,7 +28,7 @@ use Rattle.sc_bucket.specs.Kept.{Sent, FeedState}
 use Rattle.sc_record.specs.Names.{is_core}
 use Rattle.sc_bucket.specs.Cores.{core_key, core_keys, IsLeaderOf}
 use Rattle.sc_bucket.specs.Flight.{in_flight}
-use Rattle.sc_bucket.specs.Pending.{is_within, is_feed_of, left_of, to_feed, pending}
+use Rattle.sc_bucket.specs.Pending.{is_feed_of, left_of, to_feed, pending}
 use Rattle.sc_bucket.specs.Sound.{AreWritten, IsInRange, IsSent, HasCores, Serves, IsSound}
 use Rattle.sc_bucket.specs.declared.bucket.Bucket.{Bucket}
 use Rattle.sc_bucket.proofs.CoreLemmas.{name_of, is_core-Decides}
@@ -40,11 +40,11 @@ use Rattle.sc_bucket.proofs.WriteLemmas.{Contains-find}
 use Rattle.sc_cluster.proofs.IdLemmas.{id_of, greatest_id-bounds}
 use Rattle.sc_handover.proofs.KeptLemmas.{slice_of_key}
 use Rattle.sc_handover.proofs.EachCoreLemmas.{IsSoundWith}
-use Rattle.sc_handover.specs.Made.{first_core, first_feed, range_of, cells_now}
+use Rattle.sc_handover.specs.Made.{first_core, first_feed, sub_range, cells_now}
 use Rattle.sc_handover.proofs.PlanLemmas.{sub_above, was_there, is_begun, sub_within}
 use Rattle.sc_handover.proofs.SameWritesLemmas.{last_write-same, same_writes_is_sound}
 use Rattle.sc_handover.proofs.MadeLemmas.{IsMade}
-use Rattle.sc_snapshot.specs.Rows.{SnapshotState}
+use Rattle.sc_snapshot.specs.Rows.{SnapshotState, is_within}
 
 -- cores of two slices have two names
 of_other_slice : (one other : CoreId) → one.slice.0 ≢ other.slice.0 → is_core one other ≡ false
@@ -191,7 +191,7 @@ made_is_sound old parent subs leader one core sound plan is_map no_write leader_
         let is = last_write_is old.journal.entries id write last in
         let hash : write.hash ≡ route_hash id =
         legal_hash old.first old.journal.entries write sound.journal.legal is.1 ∙ ap route_hash is.2 in
-        Contains-filter (is_within (range_of made.sub)) leader.cells write
+        Contains-filter (is_within (sub_range made.sub)) leader.cells write
         (Contains-find (is_of id) leader.cells write cell)
         ((contains-Decides write.hash made.sub.min made.sub.max).1
         (subst (IsWithin made.sub.min made.sub.max) (sym hash) within))
@@ -207,7 +207,7 @@ made_is_sound old parent subs leader one core sound plan is_map no_write leader_
       written = (
         subst (All (Contains (writes (longer old one)))) (sym cells_are) (All-nil (Contains (writes (longer old one)))),
         subst (λ (all : List Write). All (Contains all) left) (sym same_writes)
-            (All-filter (is_within (range_of made.sub)) (Contains (writes old.journal.entries)) leader.cells written.0),
+            (All-filter (is_within (sub_range made.sub)) (Contains (writes old.journal.entries)) leader.cells written.0),
       );
       held = λ slice there same attached id write within found.
           inr (fed id write
@@ -217,9 +217,9 @@ made_is_sound old parent subs leader one core sound plan is_map no_write leader_
       in_range = λ slice there same. (
         subst (All (IsInRange slice)) (sym cells_are) (All-nil (IsInRange slice)),
         subst (λ (s : Slice). All (IsInRange s) left) (begun slice there same)
-            (All-weaker (λ (w : Write). is_within (range_of made.sub) w ≡ true) (IsInRange (begun_slice made.sub))
+            (All-weaker (λ (w : Write). is_within (sub_range made.sub) w ≡ true) (IsInRange (begun_slice made.sub))
             (λ w passes. (contains-Decides w.hash made.sub.min made.sub.max).0 passes) left
-            (filter_passes (is_within (range_of made.sub)) leader.cells)),
+            (filter_passes (is_within (sub_range made.sub)) leader.cells)),
       );
       clock = inl (ap (λ (c : Core). c.clock) made.core_is);
       cell_room = made.roomy;

@@ -9,16 +9,16 @@ use Rattle.sc_cluster.specs.declared.slice.Slice.{Slice}
 use Rattle.sc_cluster.specs.declared.slice.State.TheVariants as states
 use Rattle.sc_cluster.specs.Slices.{is_active, is_forming, forming}
 use Rattle.sc_cluster.specs.Plans.{IsPlan}
-use Rattle.sc_cluster.specs.Changes.{Change, begun_slice, IsSplit}
+use Rattle.sc_cluster.specs.Changes.{Change, begun_slice, IsBeingSplit}
 use Rattle.sc_cluster.proofs.BegunLemmas.{All-forming_begun}
 use Rattle.sc_cluster.proofs.ListLemmas.{filter-none, filter-all, none_from_filter}
 use Rattle.sc_cluster.proofs.MapLemmas.{begun_is_split}
 use Rattle.sc_cluster.proofs.StateLemmas.{is_settled, forming-begun}
 use Rattle.sc_journal.specs.Splits.{open_split, entries_of_split}
-use Rattle.sc_journal.specs.Legal.{MayBegin}
+use Rattle.sc_journal.specs.Legal.{MayBeSplit}
 use Rattle.sc_journal.proofs.OwedLemmas.{owed-push_begun}
 use Rattle.sc_journal.proofs.SplitLemmas.{open_split-push}
-use Rattle.sc_bucket.specs.Sound.{HasJournal, IsIdle, IsOpen}
+use Rattle.sc_bucket.specs.Sound.{HasJournal, IsIdle, IsSplitOpen}
 use Rattle.sc_bucket.specs.declared.bucket.Bucket.{Bucket}
 use Rattle.sc_bucket.proofs.AcceptLemmas.{bucket_has_map}
 use Rattle.sc_handover.proofs.PushedLemmas.{HasJournal-pushed}
@@ -38,7 +38,7 @@ pub HasJournal-begun : (old new : Bucket) (parent : SliceId) (subs : List SubSli
     → IsPlan old.map parent subs → Begins old parent subs new → new.unsettled.places ≡ old.unsettled.places
     → new.owed + 1 ≡ old.owed + entries_of_split subs → new.owed ≤ new.journal.room → HasJournal new
 HasJournal-begun old new parent subs journal idle plan begins places owed_is room =
-    let may : MayBegin old.first old.journal.entries parent subs =
+    let may : MayBeSplit old.first old.journal.entries parent subs =
     record { idle = idle.idle; plan = subst (λ slices. IsPlan slices parent subs) journal.map_is plan } in
     let more = owed-push_begun old.first old.journal.entries parent subs journal.legal may in
     HasJournal-pushed old new (entry.Begun parent subs) (Change.Begun parent subs) journal may refl refl (λ place. refl)
@@ -54,7 +54,7 @@ HasJournal-begun old new parent subs journal idle plan begins places owed_is roo
 
 -- a split is open, and the slices that it makes come last
 pub IsOpen-begun : (old new : Bucket) (parent : SliceId) (subs : List SubSlice) → HasJournal old → IsIdle old
-    → IsPlan old.map parent subs → Begins old parent subs new → IsOpen new parent
+    → IsPlan old.map parent subs → Begins old parent subs new → IsSplitOpen new parent
 IsOpen-begun old new parent subs journal idle plan begins =
     let subs_are : List Slice = map begun_slice subs in
     let made = forming-begun old.map subs idle.whole in
@@ -76,7 +76,7 @@ IsOpen-begun old new parent subs journal idle plan begins =
     (sym made) in
     record {
       begun = ap open_split begins.entries ∙ open_split-push old.journal.entries (entry.Begun parent subs);
-      split = subst (λ slices. IsSplit slices parent) (sym begins.map_is)
+      split = subst (λ slices. IsBeingSplit slices parent) (sym begins.map_is)
           (begun_is_split old.map parent subs (bucket_has_map old journal) plan);
       constructed = subst (λ (slices : List Slice). All (λ (slice : Slice). slice.state ≡ states.Construction)
           (forming slices))

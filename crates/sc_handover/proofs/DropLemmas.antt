@@ -16,7 +16,7 @@ use Rattle.sc_cluster.proofs.ListLemmas.{none_from_filter, Contains-filter, Cont
 use Rattle.sc_cluster.proofs.MapLemmas.{dropped_is_idle}
 use Rattle.sc_cluster.proofs.StateLemmas.{is_other}
 use Rattle.sc_journal.specs.Splits.{owed}
-use Rattle.sc_journal.specs.Legal.{MayDrop}
+use Rattle.sc_journal.specs.Legal.{MayBeDropped}
 use Rattle.sc_journal.proofs.DownLemmas.{is_down-push_dropped}
 use Rattle.sc_replica.specs.Core.{Core}
 use Rattle.sc_journal.proofs.OwedLemmas.{owed-push_dropped}
@@ -46,7 +46,7 @@ pub no_spares : (b : Bucket) → IsSound b → b.phase ≡ phases.Idle → b.spa
 no_spares b sound idle = subst (λ phase. ArePrepared phase b.map b.searchers b.spares) idle sound.prepared
 
 -- the slice may be dropped
-may_drop : (b : Bucket) (slice : SliceId) → IsSound b → CanDrop b slice → MayDrop b.first b.journal.entries slice
+may_drop : (b : Bucket) (slice : SliceId) → IsSound b → CanDrop b slice → MayBeDropped b.first b.journal.entries slice
 may_drop b slice sound can = record {
   idle = (is_idle b sound can.0).idle;
   inactive = subst (λ slices. IsInactive slices slice) sound.journal.map_is can.1;

@@ -14,7 +14,8 @@ use Rattle.sc_replica.proofs.CoreLemmas.{mode-fed_all}
 use Rattle.sc_bucket.specs.Kept.{FeedState}
 use Rattle.sc_record.specs.Names.{is_core}
 use Rattle.sc_bucket.specs.Flight.{in_flight}
-use Rattle.sc_bucket.specs.Pending.{is_within, is_feed_of, left_of, to_feed}
+use Rattle.sc_snapshot.specs.Rows.{is_within}
+use Rattle.sc_bucket.specs.Pending.{is_feed_of, left_of, to_feed}
 use Rattle.sc_bucket.specs.Sound.{IsFeed, AreFeeds, IsSound}
 use Rattle.sc_bucket.specs.declared.bucket.Bucket.{Bucket}
 use Rattle.sc_bucket.proofs.CoreLemmas.{is_core-Decides}
@@ -26,7 +27,7 @@ use Rattle.sc_bucket.proofs.DeliveredLemmas.{IsSoundCore, fed_all_is_sound}
 use Rattle.sc_bucket.proofs.TakenLemmas.{Contains-slice_get}
 use Rattle.sc_bucket.proofs.InOrderLemmas.{in_order-fed_all}
 use Rattle.sc_handover.proofs.EachCoreLemmas.{core_in}
-use Rattle.sc_handover.specs.Feeding.{fed_core, IsFedAt, next_of, after_rows}
+use Rattle.sc_handover.specs.Feeding.{fed_core, IsFedAt, next_fed, after_rows}
 use Rattle.sc_handover.proofs.ChangedLemmas.{with_fed, IsFeed-with_fed, IsSoundIn-parts, IsSound-core_changed, IsSound-other_feeds}
 
 -- writes that are applied change neither the name, nor the mark, nor the log
@@ -52,11 +53,11 @@ fed_all-append core [] ys = refl
 fed_all-append core (x ∷ xs) ys = fed_all-append (fed core x) xs ys
 
 -- what is left of a feed begins with its next rows
-pub left-next : (n : ℕ) (feed : FeedState) → left_of feed ≡ next_of n feed ++ left_of (after_rows n feed)
+pub left-next : (n : ℕ) (feed : FeedState) → left_of feed ≡ next_fed n feed ++ left_of (after_rows n feed)
 left-next n feed =
     ap (filter (is_within feed.range)) (sym (take-append-drop n (drop feed.next feed.rows)))
     ∙ filter-append (is_within feed.range) (take n (drop feed.next feed.rows)) (drop n (drop feed.next feed.rows))
-    ∙ ap (λ rows. next_of n feed ++ filter (is_within feed.range) rows) (drop-drop n feed.next feed.rows)
+    ∙ ap (λ rows. next_fed n feed ++ filter (is_within feed.range) rows) (drop-drop n feed.next feed.rows)
 
 -- where the same is to be fed of the feeds after one, the same is with it
 to_feed-after : (first : FeedState) (xs ys : List FeedState) (name : CoreId) → to_feed xs name ≡ to_feed ys name
@@ -157,7 +158,7 @@ to_feed-at b feed_at core_at feed core sound is =
 pub IsSound-fed : (b : Bucket) (feed_at core_at n : ℕ) (feed : FeedState) (core : Core) → IsSound b
     → IsFedAt b (fed_core feed_at core_at feed core) → feed.next + n ≤ length feed.rows
     → IsSound (with_fed b (set b.feeds feed_at (after_rows n feed))
-    (set b.replicas core_at (fed_all core (next_of n feed))))
+    (set b.replicas core_at (fed_all core (next_fed n feed))))
 IsSound-fed b feed_at core_at n feed core sound is within =
     IsSound-core_changed b feeds core_at core after sound is.core_found (name_and_mark-fed_all core these)
     (λ active. mode-fed_all core these ∙ active) (in_order-fed_all core these)
@@ -174,7 +175,7 @@ IsSound-fed b feed_at core_at n feed core sound is within =
     (AreAlike-set b.replicas core_at core after is.core_found (name_and_mode-fed_all core these)))
   where
     these : List Write
-    these = next_of n feed
+    these = next_fed n feed
 
     after : Core
     after = fed_all core these

@@ -18,7 +18,8 @@ use Rattle.sc_replica.specs.Core.{Core}
 use Rattle.sc_journal.specs.Journal.{writes}
 use Rattle.sc_bucket.specs.Kept.{FeedState}
 use Rattle.sc_bucket.specs.Flight.{in_flight}
-use Rattle.sc_bucket.specs.Pending.{is_within, is_feed_of, left_of, to_feed, pending}
+use Rattle.sc_snapshot.specs.Rows.{is_within}
+use Rattle.sc_bucket.specs.Pending.{is_feed_of, left_of, to_feed, pending}
 use Rattle.sc_bucket.specs.Sound.{HasLastWrites, IsInRange, may_catch_up, IsFeed, AreFeeds, IsSound}
 use Rattle.sc_bucket.specs.declared.bucket.Bucket.{Bucket}
 use Rattle.sc_bucket.proofs.AcceptLemmas.{bucket_has_map}

@@ -28,7 +28,7 @@ use Rattle.sc_journal.specs.Committed.{committed, last_commit}
 use Rattle.sc_journal.proofs.CommittedLemmas.{committed-push_other, last_commit-push_other}
 use Rattle.sc_journal.proofs.JournalLemmas.{writes-push_other}
 use Rattle.sc_bucket.specs.Searchers.{AreOfEachSlice, ShowsCommitted, StandingState, standing_of, cut_to, AreHandedOn, ArePrepared}
-use Rattle.sc_bucket.specs.Sound.{HasSearchers, IsOpen, IsSound}
+use Rattle.sc_bucket.specs.Sound.{HasSearchers, IsSplitOpen, IsSound}
 use Rattle.sc_bucket.specs.declared.bucket.Bucket.{Bucket}
 use Rattle.sc_bucket.specs.declared.phase.Phase.TheVariants as phases
 use Rattle.sc_bucket.specs.declared.standing.Standing.{Standing}
@@ -196,7 +196,7 @@ pub All-from_map : {A B : Type 0} (P : B → Type 0) (f : A → B) (xs : List A)
 All-from_map P f xs all k d below = subst P (get_or-map f xs k d (f d) below) (all k (f d) (omega (arith, length-map xs f)))
 
 -- so a bucket has its searchers once its split was switched
-pub HasSearchers-switched : (old new : Bucket) (parent : SliceId) → IsSound old → IsOpen old parent → PutsSwitch old parent new
+pub HasSearchers-switched : (old new : Bucket) (parent : SliceId) → IsSound old → IsSplitOpen old parent → PutsSwitch old parent new
     → HasSearchers new
 HasSearchers-switched old new parent sound split puts = record {
   each_slice = subst (λ slices. AreOfEachSlice slices new.searchers) (sym puts.map_is)

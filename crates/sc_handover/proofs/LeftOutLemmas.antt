@@ -23,7 +23,7 @@ use Rattle.sc_bucket.specs.Kept.{Sent}
 use Rattle.sc_bucket.specs.Cores.{is_of_one, IsCoreWithoutRoom}
 use Rattle.sc_bucket.specs.Flight.{in_flight, is_to, is_same_message}
 use Rattle.sc_bucket.specs.Pending.{to_feed, pending}
-use Rattle.sc_bucket.specs.Searchers.{ShowsCommitted, rows_of, ArePrepared}
+use Rattle.sc_bucket.specs.Searchers.{ShowsCommitted, standing_rows, ArePrepared}
 use Rattle.sc_bucket.specs.Sound.{HasJournal, HasSearchers, IsSent, AreSent, AreFeeds, may_catch_up, IsInPhase, IsSound}
 use Rattle.sc_bucket.specs.declared.bucket.Bucket.{Bucket}
 use Rattle.sc_bucket.specs.declared.phase.Phase.TheVariants as phases
@@ -169,7 +169,7 @@ HasSearchers-kept old one new leaves has =
   where
     Show : List Slice → Standing → Type 0
     Show slices searcher = (slice : Slice) → Contains slices slice → slice.id ≡ searcher.slice
-        → (searcher.range ≡ slice.range) × ShowsCommitted old.journal.entries slice (rows_of searcher)
+        → (searcher.range ≡ slice.range) × ShowsCommitted old.journal.entries slice (standing_rows searcher)
 
 -- So the bucket is sound, where its journal is as it has to be.
 IsSound-left_out : (old : Bucket) (one : Entry) (new : Bucket) → IsSound old → HasJournal new

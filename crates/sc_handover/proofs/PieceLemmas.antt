@@ -9,13 +9,14 @@ use Rattle.sc_record.specs.declared.slice.CoreId.{CoreId}
 use Rattle.sc_record.specs.declared.write.Write.{Write}
 use Rattle.sc_replica.specs.Core.{Core, fed_all}
 use Rattle.sc_bucket.specs.Kept.{FeedState}
-use Rattle.sc_bucket.specs.Pending.{is_within, is_feed_of, left_of}
+use Rattle.sc_snapshot.specs.Rows.{is_within}
+use Rattle.sc_bucket.specs.Pending.{is_feed_of, left_of}
 use Rattle.sc_bucket.specs.declared.bucket.Bucket.{Bucket}
 use Rattle.sc_bucket.proofs.CoreLemmas.{is_core-Decides, IsCoreFound}
 use Rattle.sc_bucket.proofs.DeliverLemmas.{place_of_core}
 use Rattle.sc_handover.specs.Made.{feed_limit, piece_of, moved_on}
 use Rattle.sc_handover.specs.Events.{FeedsPiece}
-use Rattle.sc_handover.specs.Feeding.{fed_core, IsFedAt, next_of, after_rows, FeedsRows}
+use Rattle.sc_handover.specs.Feeding.{fed_core, IsFedAt, next_fed, after_rows, FeedsRows}
 use Rattle.sc_handover.proofs.ChangedLemmas.{with_fed, HasSameRest-with_fed}
 use Rattle.sc_handover.proofs.RowLemmas.{same_rest, FeedsRows-none, FeedsRows-more, IsFedAt-rows}
 
@@ -33,7 +34,7 @@ pub record IsUnderWay (old : Bucket) (name : CoreId) (feed_at core_at count n : 
   pub named : feed.core ≡ name
   pub count_is : count ≡ min (length feed.rows - feed.next) 64
   pub fed : FeedsRows old (fed_core feed_at core_at feed core) n new
-  pub at : IsFedAt new (fed_core feed_at core_at (after_rows n feed) (fed_all core (next_of n feed)))
+  pub at : IsFedAt new (fed_core feed_at core_at (after_rows n feed) (fed_all core (next_fed n feed)))
 
 -- how many rows are left of the feed at a place
 rows_left : (feeds : List FeedState) (at left : ℕ) (feed other : FeedState) → slice_get feeds at ≡ Some feed
@@ -74,7 +75,7 @@ pub under_way_more : (old mid new : Bucket) (name : CoreId) (feed_at core_at cou
     → IsUnderWay old name feed_at core_at count (n + 1) new
 under_way_more old mid new name feed_at core_at count n way next =
     let looked : FeedState = after_rows n way.feed in
-    let before : Core = fed_all way.core (next_of n way.feed) in
+    let before : Core = fed_all way.core (next_fed n way.feed) in
     let fed : FeedsRows old (fed_core feed_at core_at way.feed way.core) (n + 1) new =
     FeedsRows-more old mid new feed_at core_at n 1 way.feed way.core way.fed (next looked before way.at) in
     record {
@@ -95,7 +96,7 @@ left_then old mid name feed_at core_at count n left other way there is =
     rows_left mid.feeds feed_at left (after_rows n way.feed) other way.at.feed_found there is
 
 -- a piece is of the next 64 rows, or of all that are left
-next-piece : (feed : FeedState) (n : ℕ) → n ≡ min (length feed.rows - feed.next) 64 → next_of n feed ≡ piece_of feed
+next-piece : (feed : FeedState) (n : ℕ) → n ≡ min (length feed.rows - feed.next) 64 → next_fed n feed ≡ piece_of feed
 unfolding feed_limit
 next-piece feed n many =
     let rows : List Write = drop feed.next feed.rows in

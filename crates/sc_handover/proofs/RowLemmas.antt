@@ -7,20 +7,21 @@ use Rattle.std.proofs.lemmas.Option.{cond_some, same_Some, slice_get_within, get
 use Rattle.sc_record.specs.declared.write.Write.{Write}
 use Rattle.sc_replica.specs.Core.{Core, fed_all}
 use Rattle.sc_bucket.specs.Kept.{FeedState}
-use Rattle.sc_bucket.specs.Pending.{is_within, left_of}
+use Rattle.sc_snapshot.specs.Rows.{is_within}
+use Rattle.sc_bucket.specs.Pending.{left_of}
 use Rattle.sc_bucket.specs.Sound.{HasSpare, IsSound}
 use Rattle.sc_bucket.specs.declared.bucket.Bucket.{Bucket}
 use Rattle.sc_bucket.proofs.PendingLemmas.{length-pending}
 use Rattle.sc_bucket.proofs.PlaceLemmas.{slice_get-set}
 use Rattle.sc_bucket.proofs.SoundLemmas.{All-slice_get}
 use Rattle.sc_handover.specs.Events.{HasSameRest}
-use Rattle.sc_handover.specs.Feeding.{fed_core, IsFedAt, next_of, after_rows, FeedsRows}
+use Rattle.sc_handover.specs.Feeding.{fed_core, IsFedAt, next_fed, after_rows, FeedsRows}
 use Rattle.sc_handover.proofs.ChangedLemmas.{with_fed, HasSameRest-with_fed}
 use Rattle.sc_handover.proofs.FedLemmas.{name-fed_all, fed_all-append, left-next, to_feed-at, IsSound-fed}
 
 -- the next row of a feed
 next-row : (feed : FeedState) (row : Write) → slice_get feed.rows feed.next ≡ Some row
-    → next_of 1 feed ≡ cond (is_within feed.range row) (row ∷ []) []
+    → next_fed 1 feed ≡ cond (is_within feed.range row) (row ∷ []) []
 next-row feed row there =
     ap (λ rows. filter (is_within feed.range) (take 1 rows))
     (drop-cons feed.rows feed.next row (slice_get_within feed.rows feed.next row there)
@@ -28,13 +29,13 @@ next-row feed row there =
 
 -- a look at it says what is to be fed of it
 pub looked-some : (feed : FeedState) (row write : Write) → slice_get feed.rows feed.next ≡ Some row
-    → Some write ≡ (if is_within feed.range row then Some row else None) → next_of 1 feed ≡ write ∷ []
+    → Some write ≡ (if is_within feed.range row then Some row else None) → next_fed 1 feed ≡ write ∷ []
 looked-some feed row write there looked =
     let (within, same) = cond_some (is_within feed.range row) row write (sym looked) in
     next-row feed row there ∙ ap (λ b. cond b (row ∷ []) []) within ∙ ap (λ (w : Write). w ∷ []) same
 
 pub looked-none : (feed : FeedState) (row : Write) → slice_get feed.rows feed.next ≡ Some row
-    → None ≡ (if is_within feed.range row then Some row else None) → next_of 1 feed ≡ []
+    → None ≡ (if is_within feed.range row then Some row else None) → next_fed 1 feed ≡ []
 looked-none feed row there looked =
     next-row feed row there ∙ ap (λ b. cond b (row ∷ []) []) (by (is_within feed.range row) looked)
   where
@@ -44,7 +45,7 @@ looked-none feed row there looked =
 
 -- the core has room for a row that is to be fed
 pub room_to_feed : (b : Bucket) (feed_at core_at : ℕ) (feed : FeedState) (core : Core) (write : Write) → IsSound b
-    → IsFedAt b (fed_core feed_at core_at feed core) → next_of 1 feed ≡ write ∷ [] → 0 < core.cell_spare
+    → IsFedAt b (fed_core feed_at core_at feed core) → next_fed 1 feed ≡ write ∷ [] → 0 < core.cell_spare
 room_to_feed b feed_at core_at feed core write sound is one =
     let spare = All-slice_get (HasSpare b.flight.messages b.feeds) b.replicas core_at core sound.room is.core_found
     in
@@ -71,7 +72,7 @@ FeedsRows-none b feed_at core_at feed core is =
 
 -- one row: the feed looked at it, and the core was fed what it is to be fed of it
 pub FeedsRows-one : (b : Bucket) (feed_at core_at : ℕ) (feed : FeedState) (core : Core) (feeds : List FeedState)
-    (cores : List Core) (writes : List Write) → next_of 1 feed ≡ writes
+    (cores : List Core) (writes : List Write) → next_fed 1 feed ≡ writes
     → feeds ≡ set b.feeds feed_at (after_rows 1 feed) → cores ≡ set b.replicas core_at (fed_all core writes)
     → FeedsRows b (fed_core feed_at core_at feed core) 1 (with_fed b feeds cores)
 FeedsRows-one b feed_at core_at feed core feeds cores writes one moved fed = record {
@@ -106,23 +107,23 @@ IsSound-rows b feed_at core_at n feed core feeds cores sound is within fed =
 -- the feed and the core then
 pub IsFedAt-rows : (old : Bucket) (feed_at core_at n : ℕ) (feed : FeedState) (core : Core) (new : Bucket)
     → IsFedAt old (fed_core feed_at core_at feed core) → FeedsRows old (fed_core feed_at core_at feed core) n new
-    → IsFedAt new (fed_core feed_at core_at (after_rows n feed) (fed_all core (next_of n feed)))
+    → IsFedAt new (fed_core feed_at core_at (after_rows n feed) (fed_all core (next_fed n feed)))
 IsFedAt-rows old feed_at core_at n feed core new is fed = record {
   feed_found = ap (λ (feeds : List FeedState). slice_get feeds feed_at) fed.feeds_are
       ∙ slice_get-set old.feeds feed_at (after_rows n feed) (slice_get_within old.feeds feed_at feed is.feed_found);
   core_found = ap (λ (cores : List Core). slice_get cores core_at) fed.cores
-      ∙ slice_get-set old.replicas core_at (fed_all core (next_of n feed))
+      ∙ slice_get-set old.replicas core_at (fed_all core (next_fed n feed))
       (slice_get_within old.replicas core_at core is.core_found);
-  core_is = name-fed_all core (next_of n feed) ∙ is.core_is;
+  core_is = name-fed_all core (next_fed n feed) ∙ is.core_is;
 }
 
 -- more rows are those before and those after
-next-more : (n m : ℕ) (feed : FeedState) → next_of (n + m) feed ≡ next_of n feed ++ next_of m (after_rows n feed)
+next-more : (n m : ℕ) (feed : FeedState) → next_fed (n + m) feed ≡ next_fed n feed ++ next_fed m (after_rows n feed)
 next-more n m feed =
     ap (filter (is_within feed.range)) (take-add n m (drop feed.next feed.rows))
     ∙ filter-append (is_within feed.range) (take n (drop feed.next feed.rows))
     (take m (drop n (drop feed.next feed.rows)))
-    ∙ ap (λ rows. next_of n feed ++ filter (is_within feed.range) (take m rows)) (drop-drop n feed.next feed.rows)
+    ∙ ap (λ rows. next_fed n feed ++ filter (is_within feed.range) (take m rows)) (drop-drop n feed.next feed.rows)
 
 -- nothing else was changed by two, where nothing else was by either
 pub same_rest : (old mid new : Bucket) → HasSameRest old mid → HasSameRest mid new → HasSameRest old new
@@ -138,13 +139,13 @@ same_rest old mid new one other = record {
 -- so for rows that are fed one after another
 pub FeedsRows-more : (old mid new : Bucket) (feed_at core_at n m : ℕ) (feed : FeedState) (core : Core)
     → FeedsRows old (fed_core feed_at core_at feed core) n mid
-    → FeedsRows mid (fed_core feed_at core_at (after_rows n feed) (fed_all core (next_of n feed))) m new
+    → FeedsRows mid (fed_core feed_at core_at (after_rows n feed) (fed_all core (next_fed n feed))) m new
     → FeedsRows old (fed_core feed_at core_at feed core) (n + m) new
 FeedsRows-more old mid new feed_at core_at n m feed core one other =
-    let first : Core = fed_all core (next_of n feed) in
-    let last : Core = fed_all first (next_of m (after_rows n feed)) in
-    let all : last ≡ fed_all core (next_of (n + m) feed) =
-    sym (fed_all-append core (next_of n feed) (next_of m (after_rows n feed)))
+    let first : Core = fed_all core (next_fed n feed) in
+    let last : Core = fed_all first (next_fed m (after_rows n feed)) in
+    let all : last ≡ fed_all core (next_fed (n + m) feed) =
+    sym (fed_all-append core (next_fed n feed) (next_fed m (after_rows n feed)))
     ∙ ap (fed_all core) (sym (next-more n m feed)) in
     let next : feed.next + n + m ≡ feed.next + (n + m) = omega arith in
     record {

@@ -10,14 +10,14 @@ use Rattle.sc_cluster.specs.declared.slice.State.TheVariants as states
 use Rattle.sc_cluster.specs.declared.slice.Slice.{Slice}
 use Rattle.sc_cluster.specs.Slices.{is_forming}
 use Rattle.sc_cluster.specs.Map.{IsMap}
-use Rattle.sc_cluster.specs.Changes.{Change, in_state, switched_slice, IsSplit}
+use Rattle.sc_cluster.specs.Changes.{Change, in_state, switched_slice, IsBeingSplit}
 use Rattle.sc_cluster.proofs.StateLemmas.{switched_keeps}
 use Rattle.sc_replica.specs.Core.{Core}
 use Rattle.sc_journal.specs.Down.{is_down, follower_keys}
 use Rattle.sc_journal.specs.Splits.{map_after, open_split, owed}
 use Rattle.sc_journal.proofs.OwedLemmas.{owed-push_switched}
 use Rattle.sc_bucket.specs.Cores.{core_keys, slice_keys, is_attached}
-use Rattle.sc_bucket.specs.Sound.{HasJournal, IsOpen, AreLedActively, IsInPhase, IsSound}
+use Rattle.sc_bucket.specs.Sound.{HasJournal, IsSplitOpen, AreLedActively, IsInPhase, IsSound}
 use Rattle.sc_bucket.specs.declared.bucket.Bucket.{Bucket}
 use Rattle.sc_bucket.specs.declared.phase.Phase.TheVariants as phases
 use Rattle.sc_bucket.proofs.AcceptLemmas.{bucket_has_map}
@@ -27,7 +27,7 @@ use Rattle.sc_handover.proofs.SubLemmas.{not_inactive}
 
 -- what the phase of a bucket says of its split
 pub split_is_open : (b : Bucket) (parent : SliceId) → IsSound b → b.phase ≡ phases.Recovering parent
-    → IsOpen b parent × AreLedActively b
+    → IsSplitOpen b parent × AreLedActively b
 split_is_open b parent sound is = subst (IsInPhase b) is sound.phase
 
 -- how many of the slice's followers are not down
@@ -36,24 +36,24 @@ followers_up journal slice = count_by (λ (key : ℕ × ℕ). not (is_down journ
 
 -- a switch is over with the end of the split and with the parent's followers
 owed-switched : (first : List Slice) (journal : List Entry) (parent : SliceId) (slice : Slice) → slice.id ≡ parent
-    → IsMap (map_after first journal) → IsSplit (map_after first journal) parent → open_split journal ≡ Some parent
+    → IsMap (map_after first journal) → IsBeingSplit (map_after first journal) parent → open_split journal ≡ Some parent
     → Contains (map_after first journal) slice
     → owed first (journal ++ entry.Switched parent ∷ []) + 1 + followers_up journal slice ≡ owed first journal
 owed-switched first journal parent slice named =
-    subst (λ (id : SliceId). IsMap (map_after first journal) → IsSplit (map_after first journal) id
+    subst (λ (id : SliceId). IsMap (map_after first journal) → IsBeingSplit (map_after first journal) id
     → open_split journal ≡ Some id → Contains (map_after first journal) slice
     → owed first (journal ++ entry.Switched id ∷ []) + 1 + followers_up journal slice ≡ owed first journal) named
     (owed-push_switched first journal slice)
 
 -- so many entries less are owed then
-less_switched : (b : Bucket) (parent : SliceId) (slice : Slice) → HasJournal b → IsOpen b parent → Contains b.map slice
+less_switched : (b : Bucket) (parent : SliceId) (slice : Slice) → HasJournal b → IsSplitOpen b parent → Contains b.map slice
     → slice.id ≡ parent
     → owed b.first (b.journal.entries ++ entry.Switched parent ∷ []) + 1 + followers_up b.journal.entries slice
     ≡ owed b.first b.journal.entries
 less_switched b parent slice journal split there named =
     let same = journal.map_is in
     owed-switched b.first b.journal.entries parent slice named (subst IsMap same (bucket_has_map b journal))
-    (subst (λ these. IsSplit these parent) same split.split) split.begun
+    (subst (λ these. IsBeingSplit these parent) same split.split) split.begun
     (subst (λ (these : List Slice). Contains these slice) same there)
 
 -- and they are owed before, where the parent is this slice
@@ -76,7 +76,7 @@ pub record SwitchesParts (old : Bucket) (parent : SliceId) (new : Bucket) : Type
   pub spares_are : new.spares ≡ None
 
 -- its journal is as it has to be
-pub HasJournal-switched : (old new : Bucket) (parent : SliceId) → HasJournal old → IsOpen old parent → PutsSwitch old parent new
+pub HasJournal-switched : (old new : Bucket) (parent : SliceId) → HasJournal old → IsSplitOpen old parent → PutsSwitch old parent new
     → SwitchesParts old parent new → HasJournal new
 HasJournal-switched old new parent journal split puts parts =
     let fewer = less_switched old parent parts.slice journal split parts.slice_there parts.slice_is in

@@ -3,7 +3,7 @@ use Rattle.std.specs.Prelude.{◌≡◌, ℕ, ◌+◌, List, filter, take, drop,
 use Rattle.sc_record.specs.declared.write.Write.{Write}
 use Rattle.sc_replica.specs.Core.{Core, fed_all}
 use Rattle.sc_bucket.specs.Kept.{FeedState}
-use Rattle.sc_bucket.specs.Pending.{is_within}
+use Rattle.sc_snapshot.specs.Rows.{is_within}
 use Rattle.sc_bucket.specs.declared.bucket.Bucket.{Bucket}
 use Rattle.sc_handover.specs.Events.{HasSameRest}
 
@@ -24,8 +24,8 @@ pub record IsFedAt (b : Bucket) (one : FedCore) : Type 0 where
   pub core_is : one.core.core ≡ one.feed.core
 
 -- of the next n rows of a feed those whose hash is in the core's range
-abbrev pub next_of : ℕ → FeedState → List Write
-next_of n feed = filter (is_within feed.range) (take n (drop feed.next feed.rows))
+abbrev pub next_fed : ℕ → FeedState → List Write
+next_fed n feed = filter (is_within feed.range) (take n (drop feed.next feed.rows))
 
 -- the feed once it looked at n rows more
 abbrev pub after_rows : ℕ → FeedState → FeedState
@@ -35,5 +35,5 @@ after_rows n feed = record feed { next = feed.next + n }
 -- range
 pub record FeedsRows (old : Bucket) (one : FedCore) (n : ℕ) (new : Bucket) : Type 0 where
   pub rest : HasSameRest old new
-  pub cores : new.replicas ≡ slice_set old.replicas one.core_at (fed_all one.core (next_of n one.feed))
+  pub cores : new.replicas ≡ slice_set old.replicas one.core_at (fed_all one.core (next_fed n one.feed))
   pub feeds_are : new.feeds ≡ slice_set old.feeds one.feed_at (after_rows n one.feed)

@@ -8,7 +8,7 @@ use Rattle.sc_record.specs.declared.slice.CoreId.{CoreId}
 use Rattle.sc_record.specs.declared.write.Write.{Write}
 use Rattle.sc_cluster.specs.declared.slice.Slice.{Slice}
 use Rattle.sc_cluster.specs.Slices.{forming}
-use Rattle.sc_snapshot.specs.Rows.{SnapshotState}
+use Rattle.sc_snapshot.specs.Rows.{SnapshotState, is_within}
 use Rattle.sc_ulog.specs.declared.mode.Mode.TheVariants.{Buffering}
 use Rattle.sc_replica.specs.Core.{Core}
 use Rattle.sc_replica.specs.Deliveries.{received_all}
@@ -16,7 +16,7 @@ use Rattle.sc_bucket.specs.Kept.{Sent, FeedState}
 use Rattle.sc_bucket.specs.Flight.{in_flight}
 use Rattle.sc_bucket.specs.Cores.{is_of_one}
 use Rattle.sc_bucket.specs.declared.bucket.Bucket.{Bucket}
-use Rattle.sc_bucket.specs.Pending.{is_within, left_of, new_feed}
+use Rattle.sc_bucket.specs.Pending.{left_of, new_feed}
 
 -- the name of a slice's leader
 abbrev pub leader_of : SliceId → CoreId
@@ -41,8 +41,8 @@ empty_core name = record {
 }
 
 -- a sub's range
-abbrev pub range_of : SubSlice → Range
-range_of sub = record { min = sub.min; max = sub.max; ordered = sub.ordered }
+abbrev pub sub_range : SubSlice → Range
+sub_range sub = record { min = sub.min; max = sub.max; ordered = sub.ordered }
 
 -- the cells of the core as a snapshot that is taken now
 abbrev pub cells_now : Bucket → Core → SnapshotState
@@ -50,7 +50,7 @@ cells_now b core = record { place = length b.journal.entries; rows = core.cells 
 
 -- the feed of a sub's leader, from the first row of the snapshot on
 abbrev pub first_feed : SnapshotState → SubSlice → FeedState
-first_feed snapshot sub = new_feed (first_core sub) (range_of sub) snapshot
+first_feed snapshot sub = new_feed (first_core sub) (sub_range sub) snapshot
 
 -- how many rows a piece of a feed looks at, at most
 unfoldable pub feed_limit : ℕ

@@ -9,7 +9,7 @@ ghost use Rattle.sc_bucket.specs.Pending.{new_feed};
 ghost use Rattle.sc_bucket.specs.Sound.{IsSound};
 ghost use Rattle.sc_bucket.specs.Events.{IsSameButRoom};
 ghost use Rattle.sc_handover.specs.Conditions.{CanBegin};
-ghost use Rattle.sc_handover.specs.Made.{first_core, range_of, empty_core, first_feed, IsRoomyFor};
+ghost use Rattle.sc_handover.specs.Made.{first_core, sub_range, empty_core, first_feed, IsRoomyFor};
 ghost use Rattle.sc_handover.specs.Events.{Begins};
 ghost use Rattle.sc_handover.specs.Preparing.{IsPreparedFor};
 
@@ -203,7 +203,7 @@ fn first_core(sub: &SubSlice) -> CoreId
 
 // A sub's range.
 fn range_of(sub: &SubSlice) -> Range
-    ensures { result ≡ range_of sub.now }
+    ensures { result ≡ sub_range sub.now }
 {
     Range {
         min: sub.min,

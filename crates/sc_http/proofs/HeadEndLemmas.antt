@@ -11,42 +11,42 @@ use Rattle.httparse.specs.Grammar.{AllPass, LineEnd, crlf, lf, print_end, print_
 use Rattle.httparse.specs.Pieces.{is_newline}
 use Rattle.httparse.proofs.GrammarLemmas.{print_request-append}
 use Rattle.httparse.proofs.PieceLemmas.{token_is_no_newline}
-use Rattle.sc_http.specs.HeadEnd.{next_place}
-use Rattle.sc_http.specs.declared.head_end.Place.{Place}
-use Rattle.sc_http.specs.declared.head_end.Place.TheVariants as places
+use Rattle.sc_http.specs.HeadEnd.{next_progress}
+use Rattle.sc_http.specs.declared.head_end.HeadProgress.{HeadProgress}
+use Rattle.sc_http.specs.declared.head_end.HeadProgress.TheVariants as stages
 
--- the place after these bytes
-abbrev pub place_after : Place → List ℕ → Place
-place_after place bytes = fold next_place place bytes
+-- the progress after these bytes
+abbrev pub progress_after : HeadProgress → List ℕ → HeadProgress
+progress_after progress bytes = fold next_progress progress bytes
 
 -- the byte ends no line
 abbrev pub IsPlain : ℕ → Type 0
 IsPlain b = (b ≢ 10) × (b ≢ 13)
 
-after-append : (place between : Place) (xs ys : List ℕ) → place_after place xs ≡ between → place_after place (xs ++ ys) ≡ place_after between ys
-after-append place between xs ys e = fold-append next_place place xs ys ∙ ap (λ p. place_after p ys) e
+after-append : (progress between : HeadProgress) (xs ys : List ℕ) → progress_after progress xs ≡ between → progress_after progress (xs ++ ys) ≡ progress_after between ys
+after-append progress between xs ys e = fold-append next_progress progress xs ys ∙ ap (λ p. progress_after p ys) e
 
 -- after the end nothing more is looked at
-pub end_stays : (bytes : List ℕ) → place_after places.End bytes ≡ places.End
-end_stays bytes = fold_stays next_place places.End (λ b. refl) bytes
+pub end_stays : (bytes : List ℕ) → progress_after stages.End bytes ≡ stages.End
+end_stays bytes = fold_stays next_progress stages.End (λ b. refl) bytes
 
-step_plain : (place : Place) (b : ℕ) → IsPlain b → place ≢ places.End → next_place place b ≡ places.Text
-step_plain places.Before b plain open_ = rw (ne_eqb b 10 plain.0, ne_eqb b 13 plain.1)
-step_plain places.Text b plain open_ = rw (ne_eqb b 10 plain.0)
-step_plain places.LineStart b plain open_ = rw (ne_eqb b 10 plain.0, ne_eqb b 13 plain.1)
-step_plain places.LineStartReturn b plain open_ = rw (ne_eqb b 10 plain.0)
-step_plain places.End b plain open_ = absurd (open_ refl)
+step_plain : (progress : HeadProgress) (b : ℕ) → IsPlain b → progress ≢ stages.End → next_progress progress b ≡ stages.Text
+step_plain stages.Before b plain open_ = rw (ne_eqb b 10 plain.0, ne_eqb b 13 plain.1)
+step_plain stages.Text b plain open_ = rw (ne_eqb b 10 plain.0)
+step_plain stages.LineStart b plain open_ = rw (ne_eqb b 10 plain.0, ne_eqb b 13 plain.1)
+step_plain stages.LineStartReturn b plain open_ = rw (ne_eqb b 10 plain.0)
+step_plain stages.End b plain open_ = absurd (open_ refl)
 
-text_stays : (bytes : List ℕ) → All IsPlain bytes → place_after places.Text bytes ≡ places.Text
+text_stays : (bytes : List ℕ) → All IsPlain bytes → progress_after stages.Text bytes ≡ stages.Text
 text_stays [] plain = refl
 text_stays (b ∷ bytes) plain =
-    ap (λ p. place_after p bytes) (step_plain places.Text b (All-head IsPlain b bytes plain) (λ e. cc))
+    ap (λ p. progress_after p bytes) (step_plain stages.Text b (All-head IsPlain b bytes plain) (λ e. cc))
     ∙ text_stays bytes (All-tail IsPlain b bytes plain)
 
-text_begins : (place : Place) (bytes : List ℕ) → place ≢ places.End → 0 < length bytes → All IsPlain bytes → place_after place bytes ≡ places.Text
-text_begins place [] open_ some plain = absurd (omega arith)
-text_begins place (b ∷ bytes) open_ some plain =
-    ap (λ p. place_after p bytes) (step_plain place b (All-head IsPlain b bytes plain) open_)
+text_begins : (progress : HeadProgress) (bytes : List ℕ) → progress ≢ stages.End → 0 < length bytes → All IsPlain bytes → progress_after progress bytes ≡ stages.Text
+text_begins progress [] open_ some plain = absurd (omega arith)
+text_begins progress (b ∷ bytes) open_ some plain =
+    ap (λ p. progress_after p bytes) (step_plain progress b (All-head IsPlain b bytes plain) open_)
     ∙ text_stays bytes (All-tail IsPlain b bytes plain)
 
 -- what passes a test that no line end passes is plain
@@ -66,30 +66,30 @@ plain_token bytes pass =
       (λ e. let at : is_newline 13 ≡ false = subst (λ v. is_newline v ≡ false) e (token_is_no_newline b yes) in cc),
     )) bytes pass
 
-plain_version : (minor : ℕ) → minor < 2 → place_after places.Text (print_version minor) ≡ places.Text
-plain_version minor small = step_plain places.Text (48 + minor) ((λ e. omega arith), (λ e. omega arith)) (λ e. cc)
+plain_version : (minor : ℕ) → minor < 2 → progress_after stages.Text (print_version minor) ≡ stages.Text
+plain_version minor small = step_plain stages.Text (48 + minor) ((λ e. omega arith), (λ e. omega arith)) (λ e. cc)
 
-blank_stays : (ends : List LineEnd) → place_after places.Before (print_blank ends) ≡ places.Before
+blank_stays : (ends : List LineEnd) → progress_after stages.Before (print_blank ends) ≡ stages.Before
 blank_stays [] = refl
 blank_stays (crlf ∷ ends) = blank_stays ends
 blank_stays (lf ∷ ends) = blank_stays ends
 
-line_ends : (end : LineEnd) → place_after places.Text (print_end end) ≡ places.LineStart
+line_ends : (end : LineEnd) → progress_after stages.Text (print_end end) ≡ stages.LineStart
 line_ends crlf = refl
 line_ends lf = refl
 
-field_ends : (field : Field) → IsField field → place_after places.LineStart (print_field field) ≡ places.LineStart
+field_ends : (field : Field) → IsField field → progress_after stages.LineStart (print_field field) ≡ stages.LineStart
 field_ends field is =
-    ap (place_after places.LineStart) (append_assoc field.name (58 ∷ field.raw) (print_end field.end))
-    ∙ (after-append places.LineStart places.Text field.name (58 ∷ (field.raw ++ print_end field.end))
-    (text_begins places.LineStart field.name (λ e. cc) is.name.0 (plain_token field.name is.name.1)))
-    ∙ (after-append places.Text places.Text field.raw (print_end field.end) (text_stays field.raw (plain_by is_value_byte refl refl field.raw is.raw)))
+    ap (progress_after stages.LineStart) (append_assoc field.name (58 ∷ field.raw) (print_end field.end))
+    ∙ (after-append stages.LineStart stages.Text field.name (58 ∷ (field.raw ++ print_end field.end))
+    (text_begins stages.LineStart field.name (λ e. cc) is.name.0 (plain_token field.name is.name.1)))
+    ∙ (after-append stages.Text stages.Text field.raw (print_end field.end) (text_stays field.raw (plain_by is_value_byte refl refl field.raw is.raw)))
     ∙ line_ends field.end
 
-fields_end : (fields : List Field) → All IsField fields → place_after places.LineStart (flat_map print_field fields) ≡ places.LineStart
+fields_end : (fields : List Field) → All IsField fields → progress_after stages.LineStart (flat_map print_field fields) ≡ stages.LineStart
 fields_end [] all = refl
 fields_end (field ∷ fields) all =
-    after-append places.LineStart places.LineStart (print_field field) (flat_map print_field fields) (field_ends field (All-head IsField field fields all))
+    after-append stages.LineStart stages.LineStart (print_field field) (flat_map print_field fields) (field_ends field (All-head IsField field fields all))
     ∙ fields_end fields (All-tail IsField field fields all)
 
 -- what stands before the line feed of a line's end
@@ -101,7 +101,7 @@ pub feed_splits : (end : LineEnd) → print_end end ≡ before_feed end ++ 10 �
 feed_splits crlf = refl
 feed_splits lf = refl
 
-feed_closes : (end : LineEnd) → next_place (place_after places.LineStart (before_feed end)) 10 ≡ places.End
+feed_closes : (end : LineEnd) → next_progress (progress_after stages.LineStart (before_feed end)) 10 ≡ stages.End
 feed_closes crlf = refl
 feed_closes lf = refl
 
@@ -125,58 +125,58 @@ head_splits h =
         ≡ (a ++ (b ++ 32 ∷ (c ++ 32 ∷ (d ++ (e ++ (f ++ k)))))) ++ 10 ∷ []
     regroup a b c d e f g k split = rw split (simp (append_assoc, append-nil, cons-append))
 
--- after all but the last byte of a head the place is that before the last line feed
-but_last_place : (h : RequestHead) → IsRequestHead h → place_after places.Before (but_last h) ≡ place_after places.LineStart (before_feed h.last)
-but_last_place h is =
+-- after all but the last byte of a head the progress is that before the last line feed
+but_last_progress : (h : RequestHead) → IsRequestHead h → progress_after stages.Before (but_last h) ≡ progress_after stages.LineStart (before_feed h.last)
+but_last_progress h is =
     let headers = flat_map print_field h.fields ++ before_feed h.last in
     let line = print_end h.line_end ++ headers in
     let version = print_version h.minor ++ line in
     let target = h.target ++ 32 ∷ version in
-    after-append places.Before places.Before (print_blank h.blank) (h.method ++ 32 ∷ target) (blank_stays h.blank)
-    ∙ after-append places.Before places.Text h.method (32 ∷ target) (text_begins places.Before h.method (λ e. cc) is.method.0 (plain_token h.method is.method.1))
-    ∙ after-append places.Text places.Text h.target (32 ∷ version) (text_stays h.target (plain_by is_uri_byte refl refl h.target is.target.1))
-    ∙ after-append places.Text places.Text (print_version h.minor) line (plain_version h.minor (omega arith))
-    ∙ after-append places.Text places.LineStart (print_end h.line_end) headers (line_ends h.line_end)
-    ∙ after-append places.LineStart places.LineStart (flat_map print_field h.fields) (before_feed h.last) (fields_end h.fields is.fields)
+    after-append stages.Before stages.Before (print_blank h.blank) (h.method ++ 32 ∷ target) (blank_stays h.blank)
+    ∙ after-append stages.Before stages.Text h.method (32 ∷ target) (text_begins stages.Before h.method (λ e. cc) is.method.0 (plain_token h.method is.method.1))
+    ∙ after-append stages.Text stages.Text h.target (32 ∷ version) (text_stays h.target (plain_by is_uri_byte refl refl h.target is.target.1))
+    ∙ after-append stages.Text stages.Text (print_version h.minor) line (plain_version h.minor (omega arith))
+    ∙ after-append stages.Text stages.LineStart (print_end h.line_end) headers (line_ends h.line_end)
+    ∙ after-append stages.LineStart stages.LineStart (flat_map print_field h.fields) (before_feed h.last) (fields_end h.fields is.fields)
 
 -- the search finds the end of a head that comes first
-pub end_of_head : (bytes : List ℕ) (h : RequestHead) (rest : List ℕ) → ReadsRequest bytes h rest → place_after places.Before bytes ≡ places.End
+pub end_of_head : (bytes : List ℕ) (h : RequestHead) (rest : List ℕ) → ReadsRequest bytes h rest → progress_after stages.Before bytes ≡ stages.End
 end_of_head bytes h rest reads =
     let split : bytes ≡ but_last h ++ (10 ∷ rest) = rw (reads.1, head_splits h, append_assoc) refl in
-    ap (place_after places.Before) split
-    ∙ after-append places.Before _ (but_last h) (10 ∷ rest) (but_last_place h reads.0)
-    ∙ ap (λ p. place_after p rest) (feed_closes h.last)
+    ap (progress_after stages.Before) split
+    ∙ after-append stages.Before _ (but_last h) (10 ∷ rest) (but_last_progress h reads.0)
+    ∙ ap (λ p. progress_after p rest) (feed_closes h.last)
     ∙ end_stays rest
 
 -- a search that goes on from where it stopped has searched all
-pub search_goes_on : (place result : Place) (bytes same : List ℕ) (searched : ℕ) → same ≡ bytes → place ≡ place_after places.Before (take searched bytes)
-    → result ≡ place_after place (take (length same - searched) (drop searched same)) → result ≡ place_after places.Before bytes
-search_goes_on place result bytes same searched is before next =
-    next ∙ ap (λ xs. place_after place (take (length xs - searched) (drop searched xs))) is
-    ∙ ap (place_after place) (take_rest bytes searched)
-    ∙ ap (λ p. place_after p (drop searched bytes)) before
-    ∙ sym (fold-append next_place places.Before (take searched bytes) (drop searched bytes))
-    ∙ ap (place_after places.Before) (take-append-drop searched bytes)
+pub search_goes_on : (progress result : HeadProgress) (bytes same : List ℕ) (searched : ℕ) → same ≡ bytes → progress ≡ progress_after stages.Before (take searched bytes)
+    → result ≡ progress_after progress (take (length same - searched) (drop searched same)) → result ≡ progress_after stages.Before bytes
+search_goes_on progress result bytes same searched is before next =
+    next ∙ ap (λ xs. progress_after progress (take (length xs - searched) (drop searched xs))) is
+    ∙ ap (progress_after progress) (take_rest bytes searched)
+    ∙ ap (λ p. progress_after p (drop searched bytes)) before
+    ∙ sym (fold-append next_progress stages.Before (take searched bytes) (drop searched bytes))
+    ∙ ap (progress_after stages.Before) (take-append-drop searched bytes)
 
 -- the same once more bytes have come
-pub place_kept : (result : Place) (bytes more after : List ℕ) (searched : ℕ) → result ≡ place_after places.Before bytes → searched ≡ length bytes
-    → after ≡ bytes ++ more → result ≡ place_after places.Before (take searched after)
-place_kept result bytes more after searched here all grown =
-    here ∙ ap (place_after places.Before) (sym (take_at bytes more searched (sym all)) ∙ ap (take searched) (sym grown))
+pub progress_kept : (result : HeadProgress) (bytes more after : List ℕ) (searched : ℕ) → result ≡ progress_after stages.Before bytes → searched ≡ length bytes
+    → after ≡ bytes ++ more → result ≡ progress_after stages.Before (take searched after)
+progress_kept result bytes more after searched here all grown =
+    here ∙ ap (progress_after stages.Before) (sym (take_at bytes more searched (sym all)) ∙ ap (take searched) (sym grown))
 
-feed_open : (end : LineEnd) → place_after places.LineStart (before_feed end) ≡ places.End → ⊥
+feed_open : (end : LineEnd) → progress_after stages.LineStart (before_feed end) ≡ stages.End → ⊥
 feed_open crlf e = apart e
   where
-    apart : places.LineStartReturn ≡ places.End → ⊥
+    apart : stages.LineStartReturn ≡ stages.End → ⊥
     apart same = cc
 feed_open lf e = apart e
   where
-    apart : places.LineStart ≡ places.End → ⊥
+    apart : stages.LineStart ≡ stages.End → ⊥
     apart same = cc
 
 -- a part of a head that lacks its last byte has no end
 part_is_open : (h : RequestHead) (bytes more : List ℕ) → IsRequestHead h → bytes ++ more ≡ but_last h ++ 10 ∷ [] → 0 < length more
-    → place_after places.Before bytes ≡ places.End → ⊥
+    → progress_after stages.Before bytes ≡ stages.End → ⊥
 part_is_open h bytes more is whole some found =
     let total = length-append (but_last h) (10 ∷ []) in
     let parts = length-append bytes more in
@@ -186,19 +186,19 @@ part_is_open h bytes more is whole some found =
     let prefix : but_last h ≡ bytes ++ take n more =
     sym (take_at (but_last h) (10 ∷ []) (length (but_last h)) refl) ∙ ap (take (length (but_last h))) (sym whole)
     ∙ ap (λ k. take k (bytes ++ more)) split ∙ take-append-add bytes more n in
-    feed_open h.last (sym (but_last_place h is) ∙ ap (place_after places.Before) prefix ∙ after-append places.Before places.End bytes (take n more) found ∙ end_stays (take n more))
+    feed_open h.last (sym (but_last_progress h is) ∙ ap (progress_after stages.Before) prefix ∙ after-append stages.Before stages.End bytes (take n more) found ∙ end_stays (take n more))
 
 -- bytes that are no head yet, and may become one, have no end of a head
-pub open_not_found : (bytes : List ℕ) → HasNoRequest bytes → MayBecomeRequest bytes → place_after places.Before bytes ≡ places.End → ⊥
+pub open_not_found : (bytes : List ℕ) → HasNoRequest bytes → MayBecomeRequest bytes → progress_after stages.Before bytes ≡ stages.End → ⊥
 open_not_found bytes none (inl ([], h, reads)) found = none h [] (subst (λ (xs : List ℕ). ReadsRequest xs h []) (append-nil bytes) reads)
 open_not_found bytes none (inl (m ∷ more, h, reads)) found =
     let some : 0 < length (m ∷ more) = omega arith in
     part_is_open h bytes (m ∷ more) reads.0 (reads.1 ∙ append-nil (print_request h) ∙ head_splits h) some found
 open_not_found bytes none (inr (blank, method, target, token, uri, split)) found =
-    apart (sym (ap (place_after places.Before) (split ∙ append_assoc (print_blank blank) method (32 ∷ target))
-    ∙ after-append places.Before places.Before (print_blank blank) (method ++ 32 ∷ target) (blank_stays blank)
-    ∙ after-append places.Before places.Text method (32 ∷ target) (text_begins places.Before method (λ e. cc) token.0 (plain_token method token.1))
+    apart (sym (ap (progress_after stages.Before) (split ∙ append_assoc (print_blank blank) method (32 ∷ target))
+    ∙ after-append stages.Before stages.Before (print_blank blank) (method ++ 32 ∷ target) (blank_stays blank)
+    ∙ after-append stages.Before stages.Text method (32 ∷ target) (text_begins stages.Before method (λ e. cc) token.0 (plain_token method token.1))
     ∙ text_stays target (plain_by is_uri_byte refl refl target uri)) ∙ found)
   where
-    apart : places.Text ≡ places.End → ⊥
+    apart : stages.Text ≡ stages.End → ⊥
     apart same = cc

@@ -9,7 +9,7 @@ pub mod MessageLemmas
 pub mod HeaderLemmas
 pub mod FramingLemmas
 pub mod ParsedLemmas
-pub mod PlaceLemmas
+pub mod ProgressLemmas
 pub mod ChunkedLemmas
 pub mod ReaderLemmas
 pub mod ReplyLemmas

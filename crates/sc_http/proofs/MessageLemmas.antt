@@ -13,8 +13,8 @@ use Rattle.sc_model.specs.Heads.{head_limit, line_limit, Framing, of_length, chu
 use Rattle.sc_model.specs.Messages.{HasHead, window, ReadsBody, HasNoMessage, HasMalformedHead, Ending, done, cut, bad_head, too_large, HasLongHead, EndsSo}
 use Rattle.sc_http.specs.Bodies.{HasNoBody, EndsBody}
 use Rattle.sc_http.specs.Laws.{OneReading}
-use Rattle.sc_http.specs.declared.head_end.Place.TheVariants as places
-use Rattle.sc_http.proofs.HeadEndLemmas.{place_after, end_of_head}
+use Rattle.sc_http.specs.declared.head_end.HeadProgress.TheVariants as stages
+use Rattle.sc_http.proofs.HeadEndLemmas.{progress_after, end_of_head}
 
 -- the window of more bytes begins with that of the first ones
 pub window-append : (bytes more : List ℕ) → window (bytes ++ more) ≡ window bytes ++ take (head_limit - length bytes) more
@@ -80,7 +80,7 @@ one_reading bytes more request other rest others a b =
     (a.is ∙ ap (λ x. request_of x a.body) same.0 ∙ ap (request_of b.head) parts.0 ∙ sym b.is, parts.1)
 
 -- no request is whole where the end of its head has not come
-pub no_message_yet : (bytes : List ℕ) → place_after places.Before bytes ≢ places.End → HasNoMessage bytes
+pub no_message_yet : (bytes : List ℕ) → progress_after stages.Before bytes ≢ stages.End → HasNoMessage bytes
 no_message_yet bytes open_ request rest read = open_ (end_of_head bytes read.head read.after read.has.reads)
 
 -- nor where the body has not come whole

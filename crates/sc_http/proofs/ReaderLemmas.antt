@@ -16,8 +16,8 @@ use Rattle.sc_http.specs.Stream.{Gives, KeepsBytes, ReadsWhile, HasEnded, Leaves
 use Rattle.sc_http.specs.declared.head.Head.{Head}
 use Rattle.sc_http.specs.declared.end.MessageEnd.{MessageEnd}
 use Rattle.sc_http.specs.declared.end.MessageEnd.TheVariants as ends
-use Rattle.sc_http.specs.declared.head_end.Place.TheVariants as places
-use Rattle.sc_http.proofs.HeadEndLemmas.{place_after, open_not_found}
+use Rattle.sc_http.specs.declared.head_end.HeadProgress.TheVariants as stages
+use Rattle.sc_http.proofs.HeadEndLemmas.{progress_after, open_not_found}
 use Rattle.sc_http.proofs.StreamLemmas.{reads_after, whole_is}
 use Rattle.sc_http.proofs.MessageLemmas.{HasHead-append, ReadsBody-append, ends-append, no_message_in_body}
 
@@ -25,9 +25,9 @@ use Rattle.sc_http.proofs.MessageLemmas.{HasHead-append, ReadsBody-append, ends-
 judged_ends : (r : Result Head MessageEnd) (left more : List ℕ) → IsJudged left → IfErr r (λ end. IfSome (ending_of end) (EndsSo left))
     → (r ≡ Err ends.Cut → EndsInHead left) → IfErr r (λ end. IfSome (ending_of end) (EndsSo (left ++ more)))
 judged_ends (Ok head) left more judged e in_head = tt
-judged_ends (Err ends.Done) left more (inl found) e in_head = absurd (apart (sym (ap (place_after places.Before) e) ∙ found))
+judged_ends (Err ends.Done) left more (inl found) e in_head = absurd (apart (sym (ap (progress_after stages.Before) e) ∙ found))
   where
-    apart : places.Before ≡ places.End → ⊥
+    apart : stages.Before ≡ stages.End → ⊥
     apart same = cc
 judged_ends (Err ends.Done) left more (inr long) e in_head = absurd (omega (arith, long, ap length e))
 judged_ends (Err ends.Cut) left more (inl found) e in_head = absurd (open_not_found left (in_head refl).partial (in_head refl).open_ found)

@@ -1,9 +1,9 @@
 ghost use Rattle.std.specs.Prelude.{◌≡◌, ◌≤◌, ◌↔◌, IsTrue, fold, length, take};
-ghost use Rattle.sc_http.specs.HeadEnd.{next_place};
+ghost use Rattle.sc_http.specs.HeadEnd.{next_progress};
 
 /// How far the search for the end of a head has come: a head ends at the first empty line after some text.
 #[derive(Clone, Copy, Debug)]
-pub(crate) enum Place {
+pub(crate) enum HeadProgress {
     /// In the line ends before the head's text, which belong to it.
     Before,
     Text,
@@ -15,53 +15,53 @@ pub(crate) enum Place {
     End,
 }
 
-impl Place {
-    /// The place after one byte more.
-    fn next(self, byte: u8) -> Place
-        ensures { result ≡ next_place self byte }
+impl HeadProgress {
+    /// The progress after one byte more.
+    fn next(self, byte: u8) -> HeadProgress
+        ensures { result ≡ next_progress self byte }
     {
         match (self, byte) {
-            (Place::End, _) => Place::End,
-            (Place::Before, b'\r' | b'\n') => Place::Before,
-            (Place::LineStart | Place::LineStartReturn, b'\n') => Place::End,
-            (_, b'\n') => Place::LineStart,
-            (Place::LineStart, b'\r') => Place::LineStartReturn,
-            _ => Place::Text,
+            (HeadProgress::End, _) => HeadProgress::End,
+            (HeadProgress::Before, b'\r' | b'\n') => HeadProgress::Before,
+            (HeadProgress::LineStart | HeadProgress::LineStartReturn, b'\n') => HeadProgress::End,
+            (_, b'\n') => HeadProgress::LineStart,
+            (HeadProgress::LineStart, b'\r') => HeadProgress::LineStartReturn,
+            _ => HeadProgress::Text,
         }
     }
 
     pub(crate) fn is_end(self) -> bool
-        ensures { IsTrue result ↔ (self ≡ Place.End) }
+        ensures { IsTrue result ↔ (self ≡ HeadProgress.End) }
     {
-        matches!(self, Place::End)
+        matches!(self, HeadProgress::End)
     }
 
-    /// The place after these bytes. The search stops at the end of the head.
-    pub(crate) fn after(self, bytes: &[u8]) -> Place
-        ensures { result ≡ fold next_place self bytes.now }
+    /// The progress after these bytes. The search stops at the end of the head.
+    pub(crate) fn after(self, bytes: &[u8]) -> HeadProgress
+        ensures { result ≡ fold next_progress self bytes.now }
     {
-        let mut place = self;
+        let mut progress = self;
         let mut at = 0;
         while at < bytes.len() {
-            at += place.stay(&bytes[at..]);
+            at += progress.stay(&bytes[at..]);
             if at == bytes.len() {
-                return place;
+                return progress;
             }
-            place = place.next(bytes[at]);
+            progress = progress.next(bytes[at]);
             at += 1;
-            if let Place::End = place {
-                return Place::End;
+            if let HeadProgress::End = progress {
+                return HeadProgress::End;
             }
         }
-        place
+        progress
     }
 
-    /// How many of these bytes are passed over at once, since the place stays the same after them.
+    /// How many of these bytes are passed over at once, since the progress stays the same after them.
     fn stay(self, bytes: &[u8]) -> usize
         ensures bound { result ≤ length bytes.now }
-        ensures stays { fold next_place self (take result bytes.now) ≡ self }
+        ensures stays { fold next_progress self (take result bytes.now) ≡ self }
     {
-        if let Place::Text = self {
+        if let HeadProgress::Text = self {
             return text_length(bytes);
         }
         0
@@ -71,7 +71,7 @@ impl Place {
 /// How many bytes come before the first line feed.
 fn text_length(bytes: &[u8]) -> usize
     ensures bound { result ≤ length bytes.now }
-    ensures stays { fold next_place Place.Text (take result bytes.now) ≡ Place.Text }
+    ensures stays { fold next_progress HeadProgress.Text (take result bytes.now) ≡ HeadProgress.Text }
 {
     let mut length = 0;
     while length < bytes.len() && bytes[length] != b'\n' {

@@ -3,7 +3,7 @@ ghost use Rattle.sc_model.specs.Messages.{ReadsMessage, HasNoMessage, EndsSo};
 ghost use Rattle.sc_http.specs.Ends.{ending_of};
 ghost use mathlib.Core.List.{IsSuffix};
 ghost use Rattle.sc_http.specs.Stream.{KeepsBytes, HasEnded, HasNoMessageBefore, ReadsWhile, reader_limit};
-ghost use Rattle.sc_http.specs.HeadEnd.{next_place, IsJudged};
+ghost use Rattle.sc_http.specs.HeadEnd.{next_progress, IsJudged};
 ghost use Rattle.sc_http.specs.Lines.{IsHeadOf, IsWithinBody};
 ghost use Rattle.sc_io.specs.Counts.{CountsFaults};
 
@@ -11,7 +11,7 @@ use crate::body::read_body;
 use crate::buffer::{Buffer, ROOM};
 use crate::end::MessageEnd;
 use crate::head::{Head, MAX_HEAD, parse_head};
-use crate::head_end::Place;
+use crate::head_end::HeadProgress;
 use crate::stopped::Stopped;
 use sc_io::Source;
 use sc_model::{Bytes, Incoming};
@@ -122,17 +122,17 @@ fn await_head<S: Source>(buffer: &mut Buffer, source: &mut S) -> Result<(), Stop
     ensures needed { (source.new ≡ source.old)
         ⊎ ReadsWhile (λ before. HasNoMessage (buffer.old ++ before)) (S.rest source.old) (S.rest source.new) }
     ensures bounded { length buffer.new ≤ max (length buffer.old) reader_limit }
-    ensures waiting { OnErr result (fold next_place Place.Before buffer.new ≢ Place.End) }
+    ensures waiting { OnErr result (fold next_progress HeadProgress.Before buffer.new ≢ HeadProgress.End) }
     ensures ended { result ≡ Err Stopped.Ended → HasEnded (S.rest source.old) (S.rest source.new) }
     ensures faults { CountsFaults (result ≡ Err Stopped.Failed) (S.faults source.old) (S.faults source.new) }
 {
-    let mut place = Place::Before;
+    let mut progress = HeadProgress::Before;
     let mut searched = 0;
     loop {
         let unread = buffer.unread();
-        place = place.after(&unread[searched..]);
+        progress = progress.after(&unread[searched..]);
         searched = unread.len();
-        if place.is_end() || searched > MAX_HEAD {
+        if progress.is_end() || searched > MAX_HEAD {
             return Ok(());
         }
         buffer.fill(source, ROOM)?;

@@ -6,17 +6,17 @@ use Rattle.std.specs.Str.{bytes_eq}
 use Rattle.sc_io.specs.declared.hosts.Host.{Host}
 
 -- this is the core of that name on that node
-abbrev pub is_core : ℕ → List ℕ → Host → Bool
-is_core node core host = host.node == node && bytes_eq host.core core
+abbrev pub is_core_on : ℕ → List ℕ → Host → Bool
+is_core_on node core host = host.node == node && bytes_eq host.core core
 
 -- the cores with this one, which comes last where it was not among them
 abbrev pub with_core : ℕ → List ℕ → List Host → List Host
 with_core node core cores =
-    if list_any (is_core node core) cores then cores else cores ++ record { node = node; core = core } ∷ []
+    if list_any (is_core_on node core) cores then cores else cores ++ record { node = node; core = core } ∷ []
 
 -- the cores without this one
 abbrev pub without_core : ℕ → List ℕ → List Host → List Host
-without_core node core cores = filter (λ host. not (is_core node core host)) cores
+without_core node core cores = filter (λ host. not (is_core_on node core host)) cores
 
 -- the lines of a core's `core.properties` (Solr Reference Guide, "Core Discovery")
 abbrev pub core_properties : ℕ → List ℕ → List ℕ

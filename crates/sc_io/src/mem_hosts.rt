@@ -1,6 +1,6 @@
 ghost use Rattle.std.specs.Prelude.{◌≡◌, ◌↔◌, ◌+◌, ◌-◌, ◌^◌, [], min, Some, IsTrue, IsFalse, IsErr, OnOk, OnErr, Contains, if◌then◌else◌};
 ghost use Rattle.std.specs.List.{list_any};
-ghost use Rattle.sc_io.specs.Hosts.{is_core, with_core, without_core};
+ghost use Rattle.sc_io.specs.Hosts.{is_core_on, with_core, without_core};
 
 use crate::fault::{Failed, Faults};
 use crate::hosts::{Host, Hosts};
@@ -11,14 +11,14 @@ use std::mem;
 
 // This is the core of that name on that node.
 fn is_core(node: u32, core: &str, host: &Host) -> bool
-    ensures { result ≡ is_core node core.now host.now }
+    ensures { result ≡ is_core_on node core.now host.now }
 {
     host.node == node && host.core.as_str() == core
 }
 
 // The core is among these.
 fn has_core(node: u32, core: &str, cores: &[Host]) -> bool
-    ensures { result ≡ list_any (is_core node core.now) cores.now }
+    ensures { result ≡ list_any (is_core_on node core.now) cores.now }
 {
     cores.iter().any(|host| is_core(node, core, host))
 }

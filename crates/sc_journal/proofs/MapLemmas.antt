@@ -6,7 +6,7 @@ use Rattle.sc_record.specs.declared.entry.Entry.TheVariants as entry
 use Rattle.sc_cluster.specs.declared.slice.Slice.{Slice}
 use Rattle.sc_cluster.specs.Slices.{forming}
 use Rattle.sc_cluster.specs.Map.{IsMap}
-use Rattle.sc_cluster.specs.Changes.{Change, after, IsSplit}
+use Rattle.sc_cluster.specs.Changes.{Change, after, IsBeingSplit}
 use Rattle.sc_cluster.proofs.MapLemmas.{change_is_map, begun_is_split, switched_is_idle, failed_is_idle, dropped_is_idle}
 use Rattle.sc_journal.specs.Splits.{map_change_of, map_after, split_after, open_split}
 use Rattle.sc_journal.specs.Legal.{MayFollow, IsLegal}
@@ -18,7 +18,7 @@ use Rattle.sc_journal.proofs.LegalLemmas.{legal_induction}
 pub record FitsSplit (slices : List Slice) (split : Option SliceId) : Type 0 where
   pub is_map : IsMap slices
   pub idle : split ≡ None → forming slices ≡ []
-  pub splitting : (parent : SliceId) → split ≡ Some parent → IsSplit slices parent
+  pub splitting : (parent : SliceId) → split ≡ Some parent → IsBeingSplit slices parent
 
 -- so they do after an entry that changes the map
 fits_change : (first : List Slice) (journal : List Entry) (one : Entry) (change : Change) (split : Option SliceId)
@@ -44,12 +44,12 @@ fits_idle : (slices : List Slice) → IsMap slices → forming slices ≡ [] →
 fits_idle slices is_map idle = record { is_map = is_map; idle = λ _. idle; splitting = λ parent is. absurd (cc) }
 
 -- a split that begins
-fits_begun : (slices : List Slice) (parent : SliceId) → IsMap slices → IsSplit slices parent
+fits_begun : (slices : List Slice) (parent : SliceId) → IsMap slices → IsBeingSplit slices parent
     → FitsSplit slices (Some parent)
 fits_begun slices parent is_map split = record {
   is_map = is_map;
   idle = λ is. absurd (cc);
-  splitting = λ other is. let same : parent ≡ other = cc in subst (IsSplit slices) same split;
+  splitting = λ other is. let same : parent ≡ other = cc in subst (IsBeingSplit slices) same split;
 }
 
 fits_push : (first : List Slice) (journal : List Entry) (one : Entry) → IsLegal first journal

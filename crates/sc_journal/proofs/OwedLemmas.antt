@@ -14,7 +14,7 @@ use Rattle.sc_cluster.specs.declared.slice.State.TheVariants as states
 use Rattle.sc_cluster.specs.declared.slice.Slice.{Slice}
 use Rattle.sc_cluster.specs.Map.{IsMap}
 use Rattle.sc_cluster.specs.Slices.{is_active_state, is_forming_state, is_active, is_forming, forming, is_inactive_state, is_inactive}
-use Rattle.sc_cluster.specs.Changes.{Change, after, begun_slice, in_state, switched_slice, IsSplit, IsInactive}
+use Rattle.sc_cluster.specs.Changes.{Change, after, begun_slice, in_state, switched_slice, IsBeingSplit, IsInactive}
 use Rattle.sc_cluster.proofs.CountLemmas.{count_by-map, count_by-filter, count_by-none, count_by-balance}
 use Rattle.sc_cluster.proofs.IdLemmas.{id_of}
 use Rattle.sc_cluster.proofs.ListLemmas.{filter-filter}
@@ -22,7 +22,7 @@ use Rattle.sc_cluster.proofs.OrderLemmas.{at_key, count_by-at_key, same_from_ris
 use Rattle.sc_cluster.proofs.StateLemmas.{is_settled, is_other}
 use Rattle.sc_journal.specs.Down.{is_down, follower_keys, count_up, IsFollower}
 use Rattle.sc_journal.specs.Splits.{map_change_of, map_after, open_split, owed_by_split, owed, new_followers, entries_of_split}
-use Rattle.sc_journal.specs.Legal.{MayBegin, MayGoDown, MayComeUp, MayLead, IsLegal}
+use Rattle.sc_journal.specs.Legal.{MayBeSplit, MayGoDown, MayComeUp, MayLead, IsLegal}
 use Rattle.sc_journal.proofs.DownLemmas.{LeavesCores, LeavesCores-begun, LeavesCores-switched, LeavesCores-failed, is_down-push_dropped, is_down-push_down, is_down-push_down_other, is_down-push_led, is_down-push_led_other, is_down-push_up, is_down-push_up_other}
 use Rattle.sc_journal.proofs.FollowerLemmas.{count_by-followers_one, count_by-followers_begun, count_by-followers_switched, count_by-followers_failed, count_by-followers_dropped}
 use Rattle.sc_journal.proofs.LegalDownLemmas.{begun_are_up, forming_are_up}
@@ -64,7 +64,7 @@ owed_by_slices-push_begun first journal parent subs idle =
 
 -- and none of its slices' followers is down
 pub count_up-push_begun : (first : List Slice) (journal : List Entry) (parent : SliceId) (subs : List SubSlice)
-    → IsLegal first journal → MayBegin first journal parent subs
+    → IsLegal first journal → MayBeSplit first journal parent subs
     → count_up (map_after first (journal ++ entry.Begun parent subs ∷ [])) (journal ++ entry.Begun parent subs ∷ [])
     ≡ count_up (map_after first journal) journal + new_followers subs
 count_up-push_begun first journal parent subs legal may =
@@ -73,7 +73,7 @@ count_up-push_begun first journal parent subs legal may =
     (begun_are_up first journal parent subs legal may.plan)
 
 pub owed-push_begun : (first : List Slice) (journal : List Entry) (parent : SliceId) (subs : List SubSlice)
-    → IsLegal first journal → MayBegin first journal parent subs
+    → IsLegal first journal → MayBeSplit first journal parent subs
     → owed first (journal ++ entry.Begun parent subs ∷ []) + 1 ≡ owed first journal + entries_of_split subs
 owed-push_begun first journal parent subs legal may =
     let one : Entry = entry.Begun parent subs in
@@ -112,7 +112,7 @@ inactive_balance parent slice =
       by states.Recovery false = refl
 
 -- so there is one inactive slice more
-inactive_more : (slices : List Slice) (parent : SliceId) → IsMap slices → IsSplit slices parent
+inactive_more : (slices : List Slice) (parent : SliceId) → IsMap slices → IsBeingSplit slices parent
     → count_by is_inactive (map (switched_slice parent) slices) ≡ count_by is_inactive slices + 1
 inactive_more slices parent is_map (slice, named, splitting) =
     subst (λ id. count_by is_inactive (map (switched_slice id) slices) ≡ count_by is_inactive slices + 1) named
@@ -139,7 +139,7 @@ inactive_more slices parent is_map (slice, named, splitting) =
 
 -- so a switch leaves one of them, the drop of the parent
 pub owed_by_slices-push_switched : (first : List Slice) (journal : List Entry) (parent : SliceId)
-    → IsMap (map_after first journal) → IsSplit (map_after first journal) parent → open_split journal ≡ Some parent
+    → IsMap (map_after first journal) → IsBeingSplit (map_after first journal) parent → open_split journal ≡ Some parent
     → owed_by_slices first (journal ++ entry.Switched parent ∷ []) + 1 ≡ owed_by_slices first journal
 owed_by_slices-push_switched first journal parent is_map split begun =
     let one : Entry = entry.Switched parent in
@@ -163,7 +163,7 @@ count_up-push_switched first journal parent is_map there active =
     omega (arith, pushed, less)
 
 pub owed-push_switched : (first : List Slice) (journal : List Entry) (parent : Slice) → IsMap (map_after first journal)
-    → IsSplit (map_after first journal) parent.id → open_split journal ≡ Some parent.id
+    → IsBeingSplit (map_after first journal) parent.id → open_split journal ≡ Some parent.id
     → Contains (map_after first journal) parent
     → owed first (journal ++ entry.Switched parent.id ∷ []) + 1
     + count_by (λ (key : ℕ × ℕ). not (is_down journal key)) (follower_keys parent)

@@ -19,7 +19,7 @@ use Rattle.sc_cluster.specs.Slices.{is_inactive_state, is_inactive}
 use Rattle.sc_journal.specs.Down.{count_up}
 use Rattle.sc_journal.specs.Splits.{map_after, open_split, owed_by_split, owed}
 use Rattle.sc_journal.specs.Legal.{MayFollow, IsLegal}
-use Rattle.sc_journal.specs.Laws.{IsAtRest, OwesNothingAtRest, closes, ComesToRest}
+use Rattle.sc_journal.specs.Laws.{IsJournalAtRest, OwesNothingAtRest, closes, ComesToRest}
 use Rattle.sc_journal.proofs.ListLemmas.{append-cons}
 use Rattle.sc_journal.proofs.SettledLemmas.{unsettled_is, unsettled_from, unsettled-push_other, length-unsettled-push_settled}
 use Rattle.sc_journal.proofs.OwedLemmas.{owed_by_slices-push_failed}
@@ -152,7 +152,7 @@ owes_less first journal some = by (unsettled journal) refl (open_split journal) 
       (entry.Dropped found.0.id, drops_next first journal found.0 split_is found.1 found.2)
 
 -- nothing is left to bring it to rest: no write is unsettled, no split is open, and no slice is inactive
-pub at_rest : (first : List Slice) (journal : List Entry) → owed_to_rest first journal ≡ 0 → IsAtRest first journal
+pub at_rest : (first : List Slice) (journal : List Entry) → owed_to_rest first journal ≡ 0 → IsJournalAtRest first journal
 at_rest first journal nothing = record {
   settled = λ place written. settled place written (is_settled journal place) refl;
   ended = ended (open_split journal) refl;
@@ -171,7 +171,7 @@ at_rest first journal nothing = record {
       let two = ap owed_by_split is in
       absurd (omega (arith, nothing, two))
 
-nothing_owed : (first : List Slice) (journal : List Entry) → IsAtRest first journal → owed_to_rest first journal ≡ 0
+nothing_owed : (first : List Slice) (journal : List Entry) → IsJournalAtRest first journal → owed_to_rest first journal ≡ 0
 nothing_owed first journal rest =
     let places = none (unsettled journal) refl in
     let split = ap owed_by_split rest.ended in
@@ -195,7 +195,7 @@ owes_nothing_at_rest first journal = (
 -- entry after entry it comes to rest
 abbrev Rests : List Slice → List Entry → Type 0
 Rests first journal = (more : List Entry) × IsLegal first (journal ++ more) × All (λ (one : Entry). closes one ≡ true) more
-    × (length more ≤ owed_to_rest first journal) × IsAtRest first (journal ++ more)
+    × (length more ≤ owed_to_rest first journal) × IsJournalAtRest first (journal ++ more)
 
 -- where nothing is left to be done it is
 at_once : (first : List Slice) (journal : List Entry) → IsLegal first journal → owed_to_rest first journal ≡ 0
@@ -205,7 +205,7 @@ at_once first journal legal nothing = (
   subst (IsLegal first) (sym (append-nil journal)) legal,
   All-nil (λ (one : Entry). closes one ≡ true),
   omega arith,
-  subst (IsAtRest first) (sym (append-nil journal)) (at_rest first journal nothing),
+  subst (IsJournalAtRest first) (sym (append-nil journal)) (at_rest first journal nothing),
 )
 
 -- and elsewhere one entry more brings it nearer
@@ -218,7 +218,7 @@ after_one first journal one next (more, legal, closing, few, rest) =
       subst (IsLegal first) joined legal,
       All-cons (λ (e : Entry). closes e ≡ true) one more next.closing closing,
       omega (arith, few, less),
-      subst (IsAtRest first) joined rest,
+      subst (IsJournalAtRest first) joined rest,
     )
 
 rests : (n : ℕ) (first : List Slice) (journal : List Entry) → owed_to_rest first journal ≤ n → IsLegal first journal

@@ -11,7 +11,7 @@ use Rattle.sc_record.specs.declared.entry.Entry.TheVariants as entry
 use Rattle.sc_cluster.specs.declared.slice.Slice.{Slice}
 use Rattle.sc_cluster.specs.Slices.{is_forming, forming, is_inactive}
 use Rattle.sc_cluster.specs.Map.{IsMap}
-use Rattle.sc_cluster.specs.Changes.{IsSplit}
+use Rattle.sc_cluster.specs.Changes.{IsBeingSplit}
 use Rattle.sc_journal.specs.Journal.{write_at, writes_of, is_settled}
 use Rattle.sc_journal.specs.Splits.{map_after, open_split, owed, entries_of_split}
 use Rattle.sc_journal.specs.Down.{is_down, follower_keys, count_up}
@@ -100,7 +100,7 @@ SeatsBeginInOrder = (first : List Slice) (journal : List Entry) (id : SliceId) �
     → (seat : ℕ) → seats journal id seat ≡ seat
 
 -- A journal is at rest: each of its writes is settled, no split is open, and no slice is inactive.
-pub record IsAtRest (first : List Slice) (journal : List Entry) : Type 0 where
+pub record IsJournalAtRest (first : List Slice) (journal : List Entry) : Type 0 where
   pub settled : (place : ℕ) → IsSome (write_at journal place) → is_settled journal place ≡ true
   pub ended : open_split journal ≡ None
   pub dropped : All (λ (slice : Slice). is_inactive slice ≡ false) (map_after first journal)
@@ -108,7 +108,7 @@ pub record IsAtRest (first : List Slice) (journal : List Entry) : Type 0 where
 -- at rest, and only then, nothing is owed but an entry of each follower that is not down
 abbrev pub OwesNothingAtRest : Type 0
 OwesNothingAtRest = (first : List Slice) (journal : List Entry)
-    → (owed first journal ≡ count_up (map_after first journal) journal) ↔ IsAtRest first journal
+    → (owed first journal ≡ count_up (map_after first journal) journal) ↔ IsJournalAtRest first journal
 
 -- the entry settles a write, gives up a split or drops a slice
 abbrev pub closes : Entry → Bool
@@ -121,7 +121,7 @@ closes _ = false
 abbrev pub ComesToRest : Type 0
 ComesToRest = (first : List Slice) (journal : List Entry) → IsLegal first journal
     → (more : List Entry) × IsLegal first (journal ++ more) × All (λ (one : Entry). closes one ≡ true) more
-    × (length more ≤ owed first journal) × IsAtRest first (journal ++ more)
+    × (length more ≤ owed first journal) × IsJournalAtRest first (journal ++ more)
 
 -- the slices after a legal journal are those of a cluster, and those that are being made are the subs of the slice whose
 -- split is open
@@ -129,4 +129,4 @@ abbrev pub JournalsKeepAMap : Type 0
 JournalsKeepAMap = (first : List Slice) (journal : List Entry) → IsMap first → forming first ≡ [] → IsLegal first journal
     → IsMap (map_after first journal)
     × (open_split journal ≡ None → forming (map_after first journal) ≡ [])
-    × ((parent : SliceId) → open_split journal ≡ Some parent → IsSplit (map_after first journal) parent)
+    × ((parent : SliceId) → open_split journal ≡ Some parent → IsBeingSplit (map_after first journal) parent)

@@ -41,12 +41,12 @@ pub record MaySettle (before : List Entry) (place : ℕ) : Type 0 where
   pub once : is_settled before place ≡ false
 
 -- a split of the parent into the subs may begin: none is open, and the map allows it
-pub record MayBegin (first : List Slice) (before : List Entry) (parent : SliceId) (subs : List SubSlice) : Type 0 where
+pub record MayBeSplit (first : List Slice) (before : List Entry) (parent : SliceId) (subs : List SubSlice) : Type 0 where
   pub idle : open_split before ≡ None
   pub plan : IsPlan (map_after first before) parent subs
 
 -- the slice may be dropped: no split is open, and it is inactive
-pub record MayDrop (first : List Slice) (before : List Entry) (slice : SliceId) : Type 0 where
+pub record MayBeDropped (first : List Slice) (before : List Entry) (slice : SliceId) : Type 0 where
   pub idle : open_split before ≡ None
   pub inactive : IsInactive (map_after first before) slice
 
@@ -72,10 +72,10 @@ abbrev pub MayFollow : List Slice → List Entry → Entry → Type 0
 MayFollow first before (entry.Write cell) = MayWrite before cell.value
 MayFollow first before (entry.Settled place) = MaySettle before place
 MayFollow first before entry.Committed = ⊤
-MayFollow first before (entry.Begun parent subs) = MayBegin first before parent subs
+MayFollow first before (entry.Begun parent subs) = MayBeSplit first before parent subs
 MayFollow first before (entry.Switched parent) = open_split before ≡ Some parent
 MayFollow first before (entry.Failed parent) = open_split before ≡ Some parent
-MayFollow first before (entry.Dropped slice) = MayDrop first before slice
+MayFollow first before (entry.Dropped slice) = MayBeDropped first before slice
 MayFollow first before (entry.Down core) = MayGoDown first before core
 MayFollow first before (entry.Up core) = MayComeUp first before core
 MayFollow first before (entry.Led core) = MayLead first before core

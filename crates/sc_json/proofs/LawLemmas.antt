@@ -25,7 +25,7 @@ use Rattle.sc_record.specs.declared.value.Kind.{Kind}
 use Rattle.sc_record.specs.declared.value.Kind.TheVariants as kinds
 use Rattle.sc_record.specs.declared.value.Value.{Value}
 use Rattle.sc_record.specs.declared.value.Value.TheVariants as values
-use Rattle.sc_schema.specs.Documents.{member as found, id_of, id_text, version_condition, is_field_name, is_object, parts_of, part_of, and_then, found_map, change_of_members, set_field, field_of, document_order}
+use Rattle.sc_schema.specs.Documents.{member as found, id_of, id_text, version_condition, is_field_name, is_object, member_changes, member_change, and_then, found_map, change_of_members, set_field, field_of, document_order}
 use Rattle.sc_schema.specs.Values.{value_of, values_in, how_of_value}
 use Rattle.sc_schema.specs.declared.raw.RawField.{RawField}
 use Rattle.sc_schema.specs.declared.raw.RawOne.TheVariants as ones
@@ -67,15 +67,15 @@ kept-put j k d (member l e ms) other = kept_at (slice_cmp nat_cmp k l) j k l d e
 
 -- what is put under a name that is no field's changes no field
 parts_at : (o : Ordering) (k l : List ℕ) (d e : Data) (ms : Members) → slice_cmp nat_cmp k l ≡ o → is_field_name k ≡ false
-    → parts_of (raw_fields (put k d ms)) ≡ parts_of (raw_fields ms)
-    → parts_of (raw_fields (match_ordering o (member k d (member l e ms)) (member l d ms) (member l e (put k d ms)))) ≡ parts_of (raw_fields (member l e ms))
+    → member_changes (raw_fields (put k d ms)) ≡ member_changes (raw_fields ms)
+    → member_changes (raw_fields (match_ordering o (member k d (member l e ms)) (member l d ms) (member l e (put k d ms)))) ≡ member_changes (raw_fields (member l e ms))
 parts_at Less k l d e ms h apart later = rw apart refl
 parts_at Equal k l d e ms h apart later =
     rw (subst (λ (n : List ℕ). is_field_name n ≡ false) (sym (one_name k l h)) apart) refl
 parts_at Greater k l d e ms h apart later =
-    ap (λ rest. cond (is_field_name l) (and_then (λ part. found_map (λ parts. part ∷ parts) rest) (part_of (record { name = l; value = raw_value e }))) rest) later
+    ap (λ rest. cond (is_field_name l) (and_then (λ part. found_map (λ parts. part ∷ parts) rest) (member_change (record { name = l; value = raw_value e }))) rest) later
 
-parts-put : (k : List ℕ) (d : Data) (ms : Members) → is_field_name k ≡ false → parts_of (raw_fields (put k d ms)) ≡ parts_of (raw_fields ms)
+parts-put : (k : List ℕ) (d : Data) (ms : Members) → is_field_name k ≡ false → member_changes (raw_fields (put k d ms)) ≡ member_changes (raw_fields ms)
 parts-put k d no_members apart = rw apart refl
 parts-put k d (member l e ms) apart = parts_at (slice_cmp nat_cmp k l) k l d e ms refl apart (parts-put k d ms apart)
 
@@ -215,7 +215,7 @@ set_to field = record { name = field.name; how = Set field.values }
 
 part_back : (name : List ℕ) (vs : List Value) (kind : Option (Kind × Bool)) → kind_of name ≡ kind → fits_name kind vs ≡ true
     → AllByRecursion HasItsBits vs
-    → part_of (record { name = name; value = raw_value (field_data (kind_of name) vs) }) ≡ Ok (record { name = name; how = Set vs })
+    → member_change (record { name = name; value = raw_value (field_data (kind_of name) vs) }) ≡ Ok (record { name = name; how = Set vs })
 part_back name vs None is fits range = cc
 part_back name vs (Some (kind, many)) is fits range =
     let (each, count) = and_parts (list_all (fits_kind kind) vs) (fits_count many (length vs)) fits in
@@ -244,11 +244,11 @@ field_named name vs fits =
 
 -- the members of fields set them
 parts_back : (fields : List Field) → Ascends fields → AllByRecursion IsField fields → AllByRecursion IsFieldInRange fields
-    → parts_of (raw_fields (members_of (map field_member fields))) ≡ Ok (map set_to fields)
+    → member_changes (raw_fields (members_of (map field_member fields))) ≡ Ok (map set_to fields)
 unfolding data_of set_to
 parts_back [] a each range = refl
 parts_back (f ∷ fields) a each range =
-    ap (λ ms. parts_of (raw_fields ms)) (shown_first f fields a)
+    ap (λ ms. member_changes (raw_fields ms)) (shown_first f fields a)
     ∙ rw (field_named f.name f.values each.0, part_back f.name f.values (kind_of f.name) refl each.0 range.0, parts_back fields a.1 each.1 range.1) refl
 
 -- and a document of what they set has these fields
@@ -267,7 +267,7 @@ fields_back (f ∷ fields) each = ap₂ cons_option (set_back f.name (kind_of f.
 -- the order of a document by its parts
 ordered : (raws : List RawField) (id : List ℕ) (condition : ℤ) (parts : List FieldChange) (change : Change)
     → id_of (found raws (codes "id")) ≡ Ok id → version_condition (found raws (codes "_version_")) ≡ Ok condition
-    → parts_of raws ≡ Ok parts → change_of_members raws parts ≡ change
+    → member_changes raws ≡ Ok parts → change_of_members raws parts ≡ change
     → document_order raws ≡ Ok (record { id = id; condition = condition; change = change })
 ordered raws id condition parts change named asked read is = rw (named, asked, read, is) refl
 
@@ -290,7 +290,7 @@ reads_back id version fields kept =
     ∙ id_back id kept.named kept.short in
     let asked : version_condition (found raws (codes "_version_")) ≡ Ok version =
     ap version_condition (found-put (codes "_version_") (whole_number version) with_id) ∙ rw (as_long version kept.long) refl in
-    let read : parts_of raws ≡ Ok (map set_to fields) =
+    let read : member_changes raws ≡ Ok (map set_to fields) =
     parts-put (codes "_version_") (whole_number version) with_id refl ∙ parts-put (codes "id") (string id) shown refl
     ∙ parts_back fields kept.document.ascends kept.document.each kept.numbers in
     let plain = plain-put (codes "_version_") (whole_number version) with_id refl (plain-put (codes "id") (string id) shown refl (plain_fields fields)) in

@@ -11,13 +11,13 @@ use Rattle.sc_schema.specs.declared.raw.RawOne.{RawOne}
 use Rattle.sc_schema.specs.declared.raw.RawOne.TheVariants as ones
 
 -- a whole number of 64 signed bits, but for `-0`
-abbrev pub whole : Option ℤ → RawOne
-whole (Some n) = ones.Number n
-whole None = ones.Other
+abbrev pub raw_whole : Option ℤ → RawOne
+raw_whole (Some n) = ones.Number n
+raw_whole None = ones.Other
 
 -- a number; all but whole numbers of 64 signed bits are other values
 abbrev pub raw_number : Num → RawOne
-raw_number n = whole (as_i64 n)
+raw_number n = raw_whole (as_i64 n)
 
 -- one value; arrays and objects are other values
 abbrev pub raw_one : Data → RawOne

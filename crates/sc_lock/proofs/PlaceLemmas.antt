@@ -7,7 +7,7 @@ use Rattle.std.specs.Prelude.{ltb, cond}
 use Rattle.std.specs.List.{All, Contains}
 use Rattle.std.specs.List.Sorted.{IsStrictlyIncreasing}
 use Rattle.std.proofs.Math.Arith.{lt_of_le-ne}
-use Rattle.sc_lock.specs.Journal.{AreDisjoint, ArePlacesIn, places_after, merged, inserted}
+use Rattle.sc_lock.specs.Journal.{AreDisjoint, ArePlacesIn, places_after, merged_places, inserted}
 
 -- nothing stands in an empty list
 pub Contains-none : {A : Type 0} (a : A) → Contains [] a → ⊥
@@ -44,11 +44,11 @@ Contains-inserted [] p q h = ⊎_elim inr inl (Contains-cases p q [] h)
 Contains-inserted (x ∷ xs) p q h = Contains-inserted-if (ltb p x) x p q xs (Contains-inserted xs p q) h
 
 -- a place of two merged lists is in one of them
-pub Contains-merged : (xs ys : List ℕ) (q : ℕ) → Contains (merged xs ys) q → Contains xs q ⊎ Contains ys q
+pub Contains-merged : (xs ys : List ℕ) (q : ℕ) → Contains (merged_places xs ys) q → Contains xs q ⊎ Contains ys q
 Contains-merged xs [] q h = inl h
 Contains-merged xs (y ∷ ys) q h =
     ⊎_elim (λ a. ⊎_elim inl (λ b. inr (Contains-later y q ys b)) (Contains-merged xs ys q a))
-    (λ e. inr (0, omega arith, e)) (Contains-inserted (merged xs ys) y q h)
+    (λ e. inr (0, omega arith, e)) (Contains-inserted (merged_places xs ys) y q h)
 
 IsStrictlyIncreasing-none : IsStrictlyIncreasing []
 IsStrictlyIncreasing-none k within = absurd (omega arith)
@@ -100,10 +100,10 @@ IsStrictlyIncreasing-inserted (x ∷ xs) p up new =
     (IsStrictlyIncreasing-inserted xs p (IsStrictlyIncreasing-rest x xs up) (λ h. new (Contains-later x p xs h)))
 
 IsStrictlyIncreasing-merged : (xs ys : List ℕ) → IsStrictlyIncreasing xs → IsStrictlyIncreasing ys
-    → AreDisjoint xs ys → IsStrictlyIncreasing (merged xs ys)
+    → AreDisjoint xs ys → IsStrictlyIncreasing (merged_places xs ys)
 IsStrictlyIncreasing-merged xs [] up also disjoint = up
 IsStrictlyIncreasing-merged xs (y ∷ ys) up also disjoint =
-    IsStrictlyIncreasing-inserted (merged xs ys) y
+    IsStrictlyIncreasing-inserted (merged_places xs ys) y
     (IsStrictlyIncreasing-merged xs ys up (IsStrictlyIncreasing-rest y ys also)
     (λ p a b. disjoint p a (Contains-later y p ys b)))
     (λ h. ⊎_elim (λ a. disjoint y a (Contains-first y ys))
@@ -130,10 +130,10 @@ module _ {E : Type 0} where
 
   -- disjoint places in two journals merge into places in one that is no shorter
   pub ArePlacesIn-merged : (xs ys : List ℕ) (first second long : List E) → ArePlacesIn xs first → ArePlacesIn ys second
-      → length first ≤ length long → length second ≤ length long → AreDisjoint xs ys → ArePlacesIn (merged xs ys) long
+      → length first ≤ length long → length second ≤ length long → AreDisjoint xs ys → ArePlacesIn (merged_places xs ys) long
   ArePlacesIn-merged xs ys first second long a b le also disjoint = record {
     ascend = IsStrictlyIncreasing-merged xs ys a.ascend b.ascend disjoint;
-    inside = All-from_contains (λ p. p < length long) (merged xs ys) (λ p h.
+    inside = All-from_contains (λ p. p < length long) (merged_places xs ys) (λ p h.
         ⊎_elim (λ at. let below = ArePlacesIn-below xs first p a at in omega arith)
         (λ at. let below = ArePlacesIn-below ys second p b at in omega arith) (Contains-merged xs ys p h));
   }

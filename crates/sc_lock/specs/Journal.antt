@@ -19,9 +19,9 @@ inserted [] p = p ∷ []
 inserted (x ∷ xs) p = if nat_lt p x then (p ∷ x ∷ xs) else (x ∷ inserted xs p)
 
 -- the places of both lists, in order
-abbrev pub merged : List ℕ → List ℕ → List ℕ
-merged xs [] = xs
-merged xs (y ∷ ys) = inserted (merged xs ys) y
+abbrev pub merged_places : List ℕ → List ℕ → List ℕ
+merged_places xs [] = xs
+merged_places xs (y ∷ ys) = inserted (merged_places xs ys) y
 
 -- the places and the new entry's, where the journal grew by one: it is the number of entries before it
 abbrev pub places_after : {E : Type 0} → List ℕ → List E → List E → List ℕ

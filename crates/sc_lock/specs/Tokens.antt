@@ -61,8 +61,8 @@ module _ {K E P : Type 0} where
   seat_weight seat = seat.me.0.weight
 
   -- the seat has no ticket, and no value is out with it
-  abbrev pub IsIdle : SeatToken K E P → Type 0
-  IsIdle seat = (seat.me.0.stage ≡ Idle) × (seat.me.1 ≡ [])
+  abbrev pub IsIdleSeat : SeatToken K E P → Type 0
+  IsIdleSeat seat = (seat.me.0.stage ≡ Idle) × (seat.me.1 ≡ [])
 
   -- it is a seat of this lock, and may draw tickets
   pub record IsSeatOf (lock : LockId K) (seat : SeatToken K E P) : Type 0 where
@@ -84,7 +84,7 @@ module _ {K E P : Type 0} where
 
   -- no turn of the pass is out
   abbrev pub IsFree : Pass K E P → Type 0
-  IsFree pass = IsIdle pass.seat
+  IsFree pass = IsIdleSeat pass.seat
 
   -- it is a pass of this lock, which has no part
   pub record IsPassOf (lock : LockId K) (pass : Pass K E P) : Type 0 where
@@ -105,7 +105,7 @@ module _ {K E P : Type 0} where
 
   -- no turn of the keeper is out
   abbrev pub IsFreeKeeper : Keeper K E P → Type 0
-  IsFreeKeeper keeper = IsIdle keeper.seat
+  IsFreeKeeper keeper = IsIdleSeat keeper.seat
 
   -- it is the keeper of this lock, which has a part
   pub record IsKeeperOf (lock : LockId K) (keeper : Keeper K E P) : Type 0 where

@@ -5,7 +5,7 @@ use Rattle.sc_lock.specs.declared.kept.Kept.{Ghosts as Kept}
 use Rattle.sc_lock.specs.declared.view.View.{View}
 use Rattle.sc_lock.specs.declared.view.Stage.{Stage}
 use Rattle.sc_lock.specs.declared.view.Stage.TheVariants.{Idle, Waiting, Holding, Noted, Joined}
-use Rattle.sc_lock.specs.Journal.{longer, merged}
+use Rattle.sc_lock.specs.Journal.{longer, merged_places}
 
 module _ {K E P : Type 0} where
   -- the ticket that a seat has at this stage
@@ -76,7 +76,7 @@ module _ {K E P : Type 0} where
   joined v w = record {
     origin = v.origin;
     seen = longer v.seen w.seen;
-    places = merged v.places w.places;
+    places = merged_places v.places w.places;
     weight = v.weight + w.weight;
     part = v.part;
     stage = Joined v.seen v.places w.seen w.places;

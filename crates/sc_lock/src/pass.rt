@@ -1,6 +1,6 @@
 //! Those who hold the lock and leave the keeper's part as it is.
 ghost use Rattle.std.specs.Prelude.{◌≡◌, ◌+◌, ◌<◌};
-ghost use Rattle.sc_lock.specs.Journal.{AreDisjoint, merged, places_after, IsLongest};
+ghost use Rattle.sc_lock.specs.Journal.{AreDisjoint, merged_places, places_after, IsLongest};
 ghost use Rattle.sc_lock.specs.Tokens.{lock_id, IsPassOf, IsFree, seen, own_places, splits_left, IsTurnOf, handed};
 ghost use Rattle.sc_lock.specs.Calls.{IsNewPassOf, PassKnowsTheSame, IsFoundBy, MayBeGiven};
 
@@ -68,7 +68,7 @@ impl<K: Kept> Lock<K> {
         ensures pass { IsPassOf (lock_id self.now) into.new × IsFree into.new }
         ensures seen { IsLongest (seen into.old) (seen from) (seen into.new) }
         ensures disjoint { AreDisjoint (own_places into.old) (own_places from) }
-        ensures places { own_places into.new ≡ merged (own_places into.old) (own_places from) }
+        ensures places { own_places into.new ≡ merged_places (own_places into.old) (own_places from) }
         ensures splits { splits_left into.new ≡ splits_left into.old + splits_left from + 1 }
     {
         let Pass { seat } = from;

@@ -4,7 +4,7 @@ ghost use Rattle.sc_lock.specs.declared.view.Stage.TheVariants.{Idle, Waiting, H
 ghost use Rattle.sc_lock.specs.Journal.{AreDisjoint, ArePlacesIn, IsLongest, longer, places_after};
 ghost use Rattle.sc_lock.specs.Views.{with_stage, joined};
 ghost use Rattle.sc_lock.specs.Steps.{IsWaitingFor, HasTaken, IsHandedOut, MayPutBack, noted};
-ghost use Rattle.sc_lock.specs.Tokens.{IsIdle, IsOfTable, IsSameSeat, origin_of};
+ghost use Rattle.sc_lock.specs.Tokens.{IsIdleSeat, IsOfTable, IsSameSeat, origin_of};
 
 use crate::kept::Kept;
 use crate::lock::Lock;
@@ -41,7 +41,7 @@ impl<K: Kept> Lock<K> {
     // Draws a ticket, and answers its remainder modulo 2^64.
     pub(crate) fn draw(&self, seat: &mut LockSeat<K>) -> u64
         requires lock { IsOfTable self.now seat.old }
-        requires idle { IsIdle seat.old × (0 < seat.old.me.0.weight) }
+        requires idle { IsIdleSeat seat.old × (0 < seat.old.me.0.weight) }
         ensures seat { IsSameSeat seat.old seat.new }
         ensures drawn { (t : ℕ) × (result ≡ t % 2 ^ 64) × (seat.new.me ≡ (with_stage seat.old.me.0 (Waiting t), [])) }
     {
@@ -129,7 +129,7 @@ impl<K: Kept> Lock<K> {
     // Lets `into` have what `from` has seen, and its places.
     pub(crate) fn join_seats(&self, into: &mut LockSeat<K>, from: LockSeat<K>)
         requires lock { IsOfTable self.now into.old × IsOfTable self.now from }
-        requires idle { IsIdle into.old × IsIdle from }
+        requires idle { IsIdleSeat into.old × IsIdleSeat from }
         ensures seat { IsSameSeat into.old into.new }
         ensures view { into.new.me ≡ (with_stage (joined into.old.me.0 from.me.0) Idle, []) }
         ensures longest { IsLongest into.old.me.0.seen from.me.0.seen (longer into.old.me.0.seen from.me.0.seen) }

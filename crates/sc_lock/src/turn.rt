@@ -3,7 +3,7 @@
 ghost use Rattle.std.specs.Prelude.{◌≡◌, None, Some};
 ghost use Rattle.sc_lock.specs.Journal.{places_after};
 ghost use Rattle.sc_lock.specs.Views.{part_after};
-ghost use Rattle.sc_lock.specs.Tokens.{lock_id, seat_seen, seat_places, seat_part, seat_weight, IsIdle, IsSeatOf, IsTurnAt, handed};
+ghost use Rattle.sc_lock.specs.Tokens.{lock_id, seat_seen, seat_places, seat_part, seat_weight, IsIdleSeat, IsSeatOf, IsTurnAt, handed};
 ghost use Rattle.sc_lock.specs.Calls.{SeatKnowsTheSame, IsFoundBy, MayBeGiven};
 
 use crate::kept::Kept;
@@ -22,7 +22,7 @@ pub struct Turn<K: Kept> {
 impl<K: Kept> Lock<K> {
     // Draws a ticket, waits until it is served, and hands out the value.
     pub(crate) fn take_turn<R: Wait>(&self, rt: &R, seat: &mut LockSeat<K>) -> (K, Turn<K>)
-        requires seat { IsSeatOf (lock_id self.now) seat.old × IsIdle seat.old }
+        requires seat { IsSeatOf (lock_id self.now) seat.old × IsIdleSeat seat.old }
         ensures found { IsFoundBy K.Kept self.now (seat_seen seat.old) (seat_places seat.old) result.0 }
         ensures left { (p : K.Part) → seat_part seat.old ≡ Some p → K.part result.0 ≡ p }
         ensures turn { IsTurnAt K.name seat.new result.1 }
@@ -46,7 +46,7 @@ impl<K: Kept> Lock<K> {
         requires turn { IsTurnAt K.name seat.old turn }
         requires value { MayBeGiven K.Kept (seat_places seat.old) (handed turn) value }
         requires part { seat_part seat.old ≡ None → K.part value ≡ K.part (handed turn) }
-        ensures seat { IsSeatOf (lock_id self.now) seat.new × IsIdle seat.new }
+        ensures seat { IsSeatOf (lock_id self.now) seat.new × IsIdleSeat seat.new }
         ensures seen { seat_seen seat.new ≡ K.journal value }
         ensures places { seat_places seat.new
             ≡ places_after (seat_places seat.old) (K.journal (handed turn)) (K.journal value) }

@@ -12,7 +12,7 @@ use Rattle.sc_record.specs.declared.value.Value.{Value}
 use Rattle.sc_record.specs.declared.document.Field.{Field}
 use Rattle.sc_record.specs.declared.order.How.{How}
 use Rattle.sc_record.specs.declared.order.How.TheVariants as hows
-use Rattle.sc_partial.specs.Changed.{with_distinct, number_in, number_value, changed, is_in_range}
+use Rattle.sc_partial.specs.Changed.{with_distinct, number_in, number_value, changed, is_in_kind_range}
 use Rattle.sc_partial.specs.Resolved.{standing, resolved, some_values, IsChanged}
 use Rattle.sc_partial.specs.Laws.{one_change, AreOne, KeepsLastSet, AddsDistinctOnce, RemovesWhatIsAdded, SumsIncrements, SumsWithinRange}
 use Rattle.sc_partial.proofs.DistinctLemmas.{all_among_themselves, all_among_with_distinct, with_distinct-none, without-with_distinct}
@@ -82,7 +82,7 @@ sums_increments amount other =
 
 -- what is refused of one increment, by the number that stands
 refused_by : List ℕ → ℤ → Option (List ℕ)
-refused_by name n = if is_in_range (kind_of name) n then None else Some name
+refused_by name n = if is_in_kind_range (kind_of name) n then None else Some name
 
 pub sums_within_range : SumsWithinRange
 unfolding refused_by

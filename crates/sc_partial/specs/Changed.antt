@@ -55,9 +55,9 @@ changed name old (hows.Remove values) = without old values
 changed name old (hows.Inc amount) = number_value (kind_of name) (number_in old +ℤ amount) ∷ []
 
 -- the number is in the range of the kind: 32 bits of an Int, and 64 of a Long
-abbrev pub is_in_range : Option (Kind × Bool) → ℤ → Bool
-is_in_range (Some (kinds.Int, many)) n = is_int n
-is_in_range kind n = is_long n
+abbrev pub is_in_kind_range : Option (Kind × Bool) → ℤ → Bool
+is_in_kind_range (Some (kinds.Int, many)) n = is_int n
+is_in_kind_range kind n = is_long n
 
 -- a field may have these values: two or more only where it may have many
 abbrev pub has_room : Option (Kind × Bool) → List Value → Bool
@@ -66,5 +66,5 @@ has_room kind list = true
 
 -- the field of this name can take the change: no sum leaves the range of its kind, and no field of one value gets two
 abbrev pub can_change : List ℕ → List Value → How → Bool
-can_change name old (hows.Inc amount) = is_in_range (kind_of name) (number_in old +ℤ amount)
+can_change name old (hows.Inc amount) = is_in_kind_range (kind_of name) (number_in old +ℤ amount)
 can_change name old how = has_room (kind_of name) (changed name old how)

@@ -1,5 +1,5 @@
 ghost use Rattle.std.specs.Prelude.{◌≡◌, ◌∷◌, [], ◌+ℤ◌, IfOk, if◌then◌else◌, Some, None};
-ghost use Rattle.sc_partial.specs.Changed.{can_change, changed, has_room, is_in_range, number_in, number_value};
+ghost use Rattle.sc_partial.specs.Changed.{can_change, changed, has_room, is_in_kind_range, number_in, number_value};
 
 use crate::value::{with_all, with_distinct, without};
 use sc_record::{CloneIn, How, Kind, List, Value, kind_of};
@@ -46,7 +46,7 @@ fn incremented(
     old: &[Value],
     amount: i64,
 ) -> Result<Option<List<Value>>, AllocError>
-    ensures { IfOk result (λ after. after ≡ (if is_in_range kind (number_in old.now +ℤ amount)
+    ensures { IfOk result (λ after. after ≡ (if is_in_kind_range kind (number_in old.now +ℤ amount)
         then Some (number_value kind (number_in old.now +ℤ amount) ∷ []) else None)) }
 {
     let Some(sum) = number_in(old).checked_add(amount) else {
@@ -73,7 +73,7 @@ fn number_in(old: &[Value]) -> i64
 
 /// The number as a value of a field of this kind. `None` where it is outside the kind's range.
 fn number_value(kind: Option<(Kind, bool)>, number: i64) -> Option<Value>
-    ensures { result ≡ (if is_in_range kind number then Some (number_value kind number) else None) }
+    ensures { result ≡ (if is_in_kind_range kind number then Some (number_value kind number) else None) }
 {
     match kind {
         Some((Kind::Int, _)) => match i32::try_from(number) {

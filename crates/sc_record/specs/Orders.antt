@@ -52,13 +52,13 @@ AreFieldChanges parts =
     AllByRecursion IsFieldChange parts × IsStrictlySortedBy (slice_cmp nat_cmp) (map (λ (part : FieldChange). part.name) parts)
 
 -- an order may ask for the change
-abbrev pub IsChange : Change → Type 0
-IsChange (changes.Whole doc) = ⊤
-IsChange (changes.Parts parts) = AreFieldChanges parts
-IsChange changes.Delete = ⊤
+abbrev pub IsChangeOfOrder : Change → Type 0
+IsChangeOfOrder (changes.Whole doc) = ⊤
+IsChangeOfOrder (changes.Parts parts) = AreFieldChanges parts
+IsChangeOfOrder changes.Delete = ⊤
 
 -- which has at most one proof
-pub IsChange-prop : (change : Change) → IsProp (IsChange change)
+pub IsChange-prop : (change : Change) → IsProp (IsChangeOfOrder change)
 IsChange-prop (changes.Whole doc) = Unit-prop
 IsChange-prop (changes.Parts parts) =
     ×_prop (AllByRecursion-prop IsFieldChange (λ part. Bool-set _ _) parts) (IsStrictlySortedBy-prop (slice_cmp nat_cmp) (map (λ (part : FieldChange). part.name) parts))

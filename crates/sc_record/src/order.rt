@@ -1,4 +1,4 @@
-ghost use Rattle.sc_record.specs.Orders.{IsChange, IsChange-prop};
+ghost use Rattle.sc_record.specs.Orders.{IsChangeOfOrder, IsChange-prop};
 
 use crate::document::Doc;
 use crate::id::Id;
@@ -50,5 +50,5 @@ pub struct Order {
     pub id: Id,
     pub condition: i64,
     pub change: Change,
-    pub ghost lawful: { IsChange change } by { IsChange-prop change },
+    pub ghost lawful: { IsChangeOfOrder change } by { IsChange-prop change },
 }

@@ -15,7 +15,7 @@ use Rattle.std.proofs.lemmas.Map.Keys.{Less-from_sorted}
 use Rattle.sc_record.specs.declared.write.Write.{Write}
 use Rattle.sc_record.specs.Writes.{is_of, write_of, AscendById}
 use Rattle.sc_replica.specs.Cells.{CellsState, put, applied, spare_after}
-use Rattle.sc_replica.specs.Places.{compared, IsPlace}
+use Rattle.sc_replica.specs.Places.{compared, IsSearchedPlace}
 use Rattle.sc_replica.proofs.IdLemmas.{order, order-back, same-id, id-itself, lower-id, higher-id}
 use Rattle.sc_replica.proofs.CellLemmas.{ids, IsBelowAll, put-ascends}
 
@@ -66,7 +66,7 @@ module _ {X : Type 0} (f : X → Write) where
   -- the answer of a binary search is a place
   pub IsPlace-from_search : (xs : List X) (id : List ℕ) (r : Result ℕ ℕ) → AscendById (map f xs)
       → IsSearchInRange r (length xs)
-      → IsBinarySearchResult (λ (x : X). compared id (f x)) xs r → IsPlace (map f xs) id r
+      → IsBinarySearchResult (λ (x : X). compared id (f x)) xs r → IsSearchedPlace (map f xs) id r
   IsPlace-from_search xs id (Ok place) a bound found = (simp length-map bound, HoldsAt-map (λ (w : Write). compared id w ≡ Equal) xs place bound found)
   IsPlace-from_search xs id (Err place) a bound parts =
       let split = parts (searchable xs id a) in (
@@ -149,32 +149,32 @@ module _ {X : Type 0} (f : X → Write) where
       above-last (map f xs) id (f last) a here below k d low (simp length-map within)
 
   -- the place of an id is within the list
-  pub within-at : (xs : List X) (id : List ℕ) (place : ℕ) → IsPlace (map f xs) id (Ok place) → place < length xs
+  pub within-at : (xs : List X) (id : List ℕ) (place : ℕ) → IsSearchedPlace (map f xs) id (Ok place) → place < length xs
   within-at xs id place p = simp length-map at p.0
 
   -- the place before which an id would be put in is at most the list's end
-  pub within-nowhere : (xs : List X) (id : List ℕ) (place : ℕ) → IsPlace (map f xs) id (Err place) → place ≤ length xs
+  pub within-nowhere : (xs : List X) (id : List ℕ) (place : ℕ) → IsSearchedPlace (map f xs) id (Err place) → place ≤ length xs
   within-nowhere xs id place p = simp length-map at p.0
 
   -- the write at the place of an id is the id's
   pub write_of-at : (xs : List X) (id : List ℕ) (place : ℕ) (d : X) → AscendById (map f xs)
-      → IsPlace (map f xs) id (Ok place)
+      → IsSearchedPlace (map f xs) id (Ok place)
       → write_of (map f xs) id ≡ Some (f (get_or xs place d))
   write_of-at xs id place d a p =
       write_of-found (map f xs) id place (f d) a p.0 (p.1 (f d)) ∙ ap Some (lists.get_or-map f xs place d)
 
   -- an id that has no place has no write
-  pub write_of-nowhere : (xs : List X) (id : List ℕ) (place : ℕ) → IsPlace (map f xs) id (Err place)
+  pub write_of-nowhere : (xs : List X) (id : List ℕ) (place : ℕ) → IsSearchedPlace (map f xs) id (Err place)
       → write_of (map f xs) id ≡ None
   write_of-nowhere xs id place p = write_of-absent (map f xs) id place p.0 p.1 p.2
 
   -- a put sets the write at the place of its id
-  pub put-at : (xs : List X) (x : X) (place : ℕ) → AscendById (map f xs) → IsPlace (map f xs) (f x).id (Ok place)
+  pub put-at : (xs : List X) (x : X) (place : ℕ) → AscendById (map f xs) → IsSearchedPlace (map f xs) (f x).id (Ok place)
       → put (map f xs) (f x) ≡ map f (set xs place x)
   put-at xs x place a p = put-found (map f xs) (f x) place (f x) a p.0 (p.1 (f x)) ∙ sym (map-set f xs place x)
 
   -- or puts it in before the place
-  pub put-nowhere : (xs : List X) (x : X) (place : ℕ) → IsPlace (map f xs) (f x).id (Err place)
+  pub put-nowhere : (xs : List X) (x : X) (place : ℕ) → IsSearchedPlace (map f xs) (f x).id (Err place)
       → put (map f xs) (f x) ≡ map f (insert xs place x)
   put-nowhere xs x place p = put-absent (map f xs) (f x) place p.0 p.1 p.2 ∙ sym (map-insert xs place x)
     where
@@ -183,17 +183,17 @@ module _ {X : Type 0} (f : X → Write) where
 
   -- with the write set at its place the ids ascend
   pub ascends-at : (xs : List X) (x : X) (place : ℕ) → AscendById (map f xs)
-      → IsPlace (map f xs) (f x).id (Ok place) → AscendById (map f (set xs place x))
+      → IsSearchedPlace (map f xs) (f x).id (Ok place) → AscendById (map f (set xs place x))
   ascends-at xs x place a p = rw (← put-at xs x place a p) (put-ascends (map f xs) (f x) a)
 
   -- and with the write put in there
   pub ascends-nowhere : (xs : List X) (x : X) (place : ℕ) → AscendById (map f xs)
-      → IsPlace (map f xs) (f x).id (Err place) → AscendById (map f (insert xs place x))
+      → IsSearchedPlace (map f xs) (f x).id (Err place) → AscendById (map f (insert xs place x))
   ascends-nowhere xs x place a p = rw (← put-nowhere xs x place p) (put-ascends (map f xs) (f x) a)
 
   -- the cells with the write set at its place, or put in there, are those of a put
   pub put-state-at : (xs : List X) (x : X) (place spare : ℕ) → AscendById (map f xs)
-      → IsPlace (map f xs) (f x).id (Ok place)
+      → IsSearchedPlace (map f xs) (f x).id (Ok place)
       → let cells = map f xs in
       let before : CellsState = record { writes = map f (set xs place x); spare = spare } in
       before ≡ record { writes = put cells (f x); spare = spare_after cells spare (f x) }
@@ -201,7 +201,7 @@ module _ {X : Type 0} (f : X → Write) where
 
   -- where the id has no place, they are those with the write put in
   pub put-state-nowhere : (xs : List X) (x : X) (place spare : ℕ) → AscendById (map f xs)
-      → IsPlace (map f xs) (f x).id (Err place)
+      → IsSearchedPlace (map f xs) (f x).id (Err place)
       → let cells = map f xs in
       let before : CellsState = record { writes = map f (insert xs place x); spare = spare - 1 } in
       before ≡ record { writes = put cells (f x); spare = spare_after cells spare (f x) }
@@ -209,7 +209,7 @@ module _ {X : Type 0} (f : X → Write) where
 
   -- and those of a write that is applied, unless its version isn't greater
   pub applied-state-at : (xs : List X) (x : X) (place spare : ℕ) → AscendById (map f xs)
-      → IsPlace (map f xs) (f x).id (Ok place)
+      → IsSearchedPlace (map f xs) (f x).id (Ok place)
       → int_lt (f (get_or xs place x)).version (f x).version ≡ true
       → let cells = map f xs in
       let before : CellsState = record { writes = map f (set xs place x); spare = spare } in
@@ -219,7 +219,7 @@ module _ {X : Type 0} (f : X → Write) where
 
   -- where it is not greater, the cells stay
   pub applied-state-older : (xs : List X) (x : X) (place spare : ℕ) → AscendById (map f xs)
-      → IsPlace (map f xs) (f x).id (Ok place)
+      → IsSearchedPlace (map f xs) (f x).id (Ok place)
       → int_lt (f (get_or xs place x)).version (f x).version ≡ false
       → let cells = map f xs in
       let before : CellsState = record { writes = cells; spare = spare } in
@@ -229,7 +229,7 @@ module _ {X : Type 0} (f : X → Write) where
 
   -- where the id has no place, the write is put in
   pub applied-state-nowhere : (xs : List X) (x : X) (place spare : ℕ) → AscendById (map f xs)
-      → IsPlace (map f xs) (f x).id (Err place)
+      → IsSearchedPlace (map f xs) (f x).id (Err place)
       → let cells = map f xs in
       let before : CellsState = record { writes = map f (insert xs place x); spare = spare - 1 } in
       before ≡ record { writes = applied cells (f x); spare = spare_after cells spare (f x) }

@@ -12,8 +12,8 @@ abbrev pub compared : List ℕ → Write → Ordering
 compared id write = slice_cmp nat_cmp write.id id
 
 -- the place of the id's write, or else the place before which the ids are lower and from which on they are higher
-abbrev pub IsPlace : List Write → List ℕ → Result ℕ ℕ → Type 0
-IsPlace writes id result =
+abbrev pub IsSearchedPlace : List Write → List ℕ → Result ℕ ℕ → Type 0
+IsSearchedPlace writes id result =
     MatchResult result (λ place. (place < length writes) × HoldsAt (λ write. compared id write ≡ Equal) writes place)
     (λ place. (place ≤ length writes) × AllWithin (λ write. compared id write ≡ Less) writes 0 place
     × AllWithin (λ write. compared id write ≡ Greater) writes place (length writes))

@@ -6,7 +6,7 @@ ghost use Rattle.std.specs.VecDeque.{deque_len, deque_capacity};
 ghost use Rattle.std.specs.Option.{option_map};
 ghost use Rattle.std.specs.Arc.{arc_value};
 ghost use Rattle.sc_record.specs.Writes.{write_of, AscendById};
-ghost use Rattle.sc_replica.specs.Places.{IsPlace, compared};
+ghost use Rattle.sc_replica.specs.Places.{IsSearchedPlace, compared};
 
 use sc_record::{Cell, Id, List};
 use std::alloc::{AllocError, Global};
@@ -147,7 +147,7 @@ impl Cells {
 // come in their order are so put in without one.
 fn place(cells: &VecDeque<Cell>, id: &Id) -> Result<usize, usize>
     requires { AscendById (map arc_value cells.now.items) }
-    ensures { IsPlace (map arc_value cells.now.items) id.now result }
+    ensures { IsSearchedPlace (map arc_value cells.now.items) id.now result }
 {
     if is_above_all(cells, id) {
         return Err(cells.len());
@@ -169,7 +169,7 @@ fn is_above_all(cells: &VecDeque<Cell>, id: &Id) -> bool
 // The same by one binary search over all cells.
 fn search(cells: &VecDeque<Cell>, id: &Id) -> Result<usize, usize>
     requires { AscendById (map arc_value cells.now.items) }
-    ensures { IsPlace (map arc_value cells.now.items) id.now result }
+    ensures { IsSearchedPlace (map arc_value cells.now.items) id.now result }
 {
     let id = id.as_str();
     cells.binary_search_by(|cell| cell.id.as_str().cmp(id))

@@ -36,34 +36,34 @@ pub data Refusal : Type 0 where
   memory : Refusal
 
 -- the status of a refusal
-abbrev pub status_of : Refusal → ℕ
-status_of bad_head = 400
-status_of too_large = 413
-status_of not_found = 404
-status_of method_not_allowed = 405
-status_of encoded_body = 415
-status_of no_length = 411
-status_of bad_json = 400
-status_of (bad_shape at) = 400
-status_of too_many = 400
-status_of no_id = 400
-status_of id_too_long = 400
-status_of (unknown_field name) = 400
-status_of (wrong_value name) = 400
-status_of (partial name) = 400
-status_of (conflict id expected actual) = 409
-status_of log_full = 507
-status_of (bad_query at) = 400
-status_of (bad_param name) = 400
-status_of unknown_shard = 400
-status_of (running shard) = 409
-status_of (shard_state state) = 400
-status_of range_too_small = 400
-status_of bad_ranges = 400
-status_of too_many_slices = 400
-status_of (host_fault core) = 500
-status_of stopped = 500
-status_of memory = 503
+abbrev pub refusal_status : Refusal → ℕ
+refusal_status bad_head = 400
+refusal_status too_large = 413
+refusal_status not_found = 404
+refusal_status method_not_allowed = 405
+refusal_status encoded_body = 415
+refusal_status no_length = 411
+refusal_status bad_json = 400
+refusal_status (bad_shape at) = 400
+refusal_status too_many = 400
+refusal_status no_id = 400
+refusal_status id_too_long = 400
+refusal_status (unknown_field name) = 400
+refusal_status (wrong_value name) = 400
+refusal_status (partial name) = 400
+refusal_status (conflict id expected actual) = 409
+refusal_status log_full = 507
+refusal_status (bad_query at) = 400
+refusal_status (bad_param name) = 400
+refusal_status unknown_shard = 400
+refusal_status (running shard) = 409
+refusal_status (shard_state state) = 400
+refusal_status range_too_small = 400
+refusal_status bad_ranges = 400
+refusal_status too_many_slices = 400
+refusal_status (host_fault core) = 500
+refusal_status stopped = 500
+refusal_status memory = 503
 
 -- the message of a refusal
 abbrev pub message_of : Refusal → List ℕ

@@ -1,6 +1,6 @@
 ghost use Rattle.std.specs.Prelude.{◌≡◌, ◌++◌, IfOk, codes, decimal};
 ghost use Rattle.std.specs.Fmt.{signed_decimal};
-ghost use Rattle.sc_reply.specs.Refusals.{status_of, message_of};
+ghost use Rattle.sc_reply.specs.Refusals.{refusal_status, message_of};
 ghost use Rattle.sc_reply.specs.Causes.{refusal_of};
 
 use sc_cluster::MOST_SLICES;
@@ -87,7 +87,7 @@ pub enum Cause<'a> {
 impl<'a> Cause<'a> {
     /// The status of the refusal (RFC 9110, section 15).
     pub fn status(&self) -> u16
-        ensures { result ≡ status_of (refusal_of self.now) }
+        ensures { result ≡ refusal_status (refusal_of self.now) }
     {
         match self {
             Cause::BadJson

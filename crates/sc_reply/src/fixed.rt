@@ -3,7 +3,7 @@
 
 ghost use Rattle.std.specs.Prelude.{◌≡◌, false, [], None};
 ghost use Rattle.sc_reply.specs.Bodies.{update_text, error_text, get_text};
-ghost use Rattle.sc_reply.specs.Refusals.{message_of, status_of, memory};
+ghost use Rattle.sc_reply.specs.Refusals.{message_of, refusal_status, memory};
 
 /// The body of the answer to an update that was done and shows no versions.
 pub fn ok_body() -> &'static str
@@ -15,7 +15,7 @@ pub fn ok_body() -> &'static str
 /// The body of the refusal where memory ran out.
 pub fn memory_body() -> &'static str
     ensures { result.now
-        ≡ error_text (status_of memory) (message_of memory) [] [] false }
+        ≡ error_text (refusal_status memory) (message_of memory) [] [] false }
 {
     r#"{"error":{"code":503,"msg":"out of memory"},"responseHeader":{"QTime":0,"status":503}}"#
 }

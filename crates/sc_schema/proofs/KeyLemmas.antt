@@ -16,7 +16,7 @@ use Rattle.std.proofs.lemmas.Slice.Eq.{bytes_eq-Decides}
 use Rattle.sc_record.specs.Terms.{term_cmp}
 use Rattle.sc_record.specs.declared.term.Term.{Term}
 use Rattle.sc_schema.specs.Terms.{term}
-use Rattle.sc_schema.specs.Keys.{AreKeys, Found, AreInOrder, Adds}
+use Rattle.sc_schema.specs.Keys.{AreKeys, Found, AreTermsInOrder, AddsTerms}
 
 -- the terms of what was found
 abbrev pub terms_in : Found → List Term
@@ -37,7 +37,7 @@ name_below name field key [] h = tt
 name_below name field key (k ∷ keys) h = (ap (λ o. ordering_then o (slice_cmp nat_cmp key k)) h, name_below name field key keys h)
 
 -- a term of a name below all others comes before all their terms
-all_below : (name key : List ℕ) (found : List Found) (terms : List Term) → IsBelow name found → AreInOrder found terms
+all_below : (name key : List ℕ) (found : List Found) (terms : List Term) → IsBelow name found → AreTermsInOrder found terms
     → AllByRecursion (λ (y : Term). term_cmp (term name key) y ≡ Less) terms
 all_below name key [] terms below are = subst (AllByRecursion (λ (y : Term). term_cmp (term name key) y ≡ Less)) (sym are) tt
 all_below name key (f ∷ found) terms below (keys, rest, own, is, others) =
@@ -59,7 +59,7 @@ key_below name key (k ∷ keys) h =
 
 -- the terms of one field, and then those of the fields after it
 one_ascends : (name : List ℕ) (keys : List (List ℕ)) (found : List Found) (rest : List Term) → IsBelow name found
-    → AreInOrder found rest → IsStrictlySortedBy (slice_cmp nat_cmp) keys → IsStrictlySortedBy term_cmp rest
+    → AreTermsInOrder found rest → IsStrictlySortedBy (slice_cmp nat_cmp) keys → IsStrictlySortedBy term_cmp rest
     → IsStrictlySortedBy term_cmp (map (term name) keys ++ rest)
 unfolding IsStrictlySortedBy
 one_ascends name [] found rest below are ascend sorted = sorted
@@ -73,7 +73,7 @@ unfoldable pub AscendByField : List Found → Type 0
 AscendByField [] = ⊤
 AscendByField (f ∷ found) = IsBelow f.0 found × AscendByField found
 
-pub all_ascend : (found : List Found) (terms : List Term) → AscendByField found → AreInOrder found terms → IsStrictlySortedBy term_cmp terms
+pub all_ascend : (found : List Found) (terms : List Term) → AscendByField found → AreTermsInOrder found terms → IsStrictlySortedBy term_cmp terms
 unfolding IsStrictlySortedBy AscendByField
 all_ascend [] terms ascend are = subst (IsStrictlySortedBy term_cmp) (sym are) tt
 all_ascend (f ∷ found) terms ascend (keys, rest, own, is, others) =
@@ -101,7 +101,7 @@ either : (xs ys vs ws : List Term) (t : Term) → (Contains xs t → Contains vs
 either xs ys vs ws t f g there =
     ⊎_elim (λ inside. Contains-append_left vs ws t (f inside)) (λ inside. Contains-append_right vs ws t (g inside)) (Contains-append_cases xs ys t there)
 
-pub all_same : (found : List Found) (terms : List Term) → AreInOrder found terms → (t : Term) → Contains terms t ↔ Contains (flat_map terms_in found) t
+pub all_same : (found : List Found) (terms : List Term) → AreTermsInOrder found terms → (t : Term) → Contains terms t ↔ Contains (flat_map terms_in found) t
 all_same [] terms are t = (subst (λ xs. Contains xs t) are, subst (λ xs. Contains xs t) (sym are))
 all_same (f ∷ found) terms (keys, rest, own, is, others) t =
     let own_terms = map (term f.0) keys in
@@ -113,9 +113,9 @@ all_same (f ∷ found) terms (keys, rest, own, is, others) t =
     )
 
 -- what was found in some fields and then in others
-in_order-append : (found more : List Found) (terms others : List Term) → AreInOrder found terms → AreInOrder more others
-    → AreInOrder (found ++ more) (terms ++ others)
-in_order-append [] more terms others are those = subst (λ ts. AreInOrder more (ts ++ others)) (sym are) those
+in_order-append : (found more : List Found) (terms others : List Term) → AreTermsInOrder found terms → AreTermsInOrder more others
+    → AreTermsInOrder (found ++ more) (terms ++ others)
+in_order-append [] more terms others are those = subst (λ ts. AreTermsInOrder more (ts ++ others)) (sym are) those
 in_order-append (f ∷ found) more terms others (keys, rest, own, is, after) those = (
   keys,
   rest ++ others,
@@ -124,19 +124,19 @@ in_order-append (f ∷ found) more terms others (keys, rest, own, is, after) tho
   in_order-append found more rest others after those,
 )
 
-pub Adds-more : (found more : List Found) (old mid new : List Term) → Adds found old mid → Adds more mid new → Adds (found ++ more) old new
+pub Adds-more : (found more : List Found) (old mid new : List Term) → AddsTerms found old mid → AddsTerms more mid new → AddsTerms (found ++ more) old new
 Adds-more found more old mid new first then = record {
   terms = first.terms ++ then.terms;
   are = in_order-append found more first.terms then.terms first.are then.are;
   added = then.added ∙ ap (λ ts. ts ++ then.terms) first.added ∙ append_assoc old first.terms then.terms;
 }
 
-pub Adds-none : (old : List Term) → Adds [] old old
+pub Adds-none : (old : List Term) → AddsTerms [] old old
 Adds-none old = record { terms = []; are = refl; added = search rules }
 
 -- the terms of one field
 pub Adds-one : (found : Found) (keys : List (List ℕ)) (old new : List Term) → AreKeys found.1 keys
-    → new ≡ old ++ map (term found.0) keys → Adds (found ∷ []) old new
+    → new ≡ old ++ map (term found.0) keys → AddsTerms (found ∷ []) old new
 Adds-one found keys old new are added = record {
   terms = map (term found.0) keys;
   are = (keys, [], are, search rules, refl);

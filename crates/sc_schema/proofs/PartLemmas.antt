@@ -18,7 +18,7 @@ use Rattle.sc_record.specs.declared.order.FieldChange.{FieldChange}
 use Rattle.sc_record.specs.declared.order.Change.TheVariants as changes
 use Rattle.sc_schema.specs.Raw.{raw_names, AscendByName}
 use Rattle.sc_schema.specs.Values.{how_of_value}
-use Rattle.sc_schema.specs.Documents.{and_then, found_map, how_of_member, part_of, is_field_name, parts_of, set_field, field_of, NamesFields}
+use Rattle.sc_schema.specs.Documents.{and_then, found_map, how_of_member, member_change, is_field_name, member_changes, set_field, field_of, NamesFields}
 use Rattle.sc_schema.specs.declared.raw.RawField.{RawField}
 use Rattle.sc_schema.specs.declared.fault.DocFault.{DocFault}
 use Rattle.sc_schema.specs.declared.fault.DocFault.TheVariants as faults
@@ -62,12 +62,12 @@ each_step P true made rest parts first others h =
 each_step P false made rest parts first others h = others parts h
 
 -- what holds of each change that is found of a member holds of all
-each_part : (P : FieldChange → Type 0) → ((field : RawField) (part : FieldChange) → part_of field ≡ Ok part → P part)
-    → (fields : List RawField) (parts : List FieldChange) → parts_of fields ≡ Ok parts → AllByRecursion P parts
+each_part : (P : FieldChange → Type 0) → ((field : RawField) (part : FieldChange) → member_change field ≡ Ok part → P part)
+    → (fields : List RawField) (parts : List FieldChange) → member_changes fields ≡ Ok parts → AllByRecursion P parts
 unfolding taken
 each_part P holds [] parts h = let e : [] ≡ parts = cc in subst (AllByRecursion P) e tt
 each_part P holds (field ∷ fields) parts h =
-    each_step P (is_field_name field.name) (part_of field) (parts_of fields) parts (holds field)
+    each_step P (is_field_name field.name) (member_change field) (member_changes fields) parts (holds field)
     (each_part P holds fields) h
 
 names_step : (name : List ℕ) (names : List (List ℕ)) (b : Bool) (made : Result FieldChange DocFault)
@@ -83,13 +83,13 @@ names_step name names true made rest parts first others h =
 names_step name names false made rest parts first others h = others parts h
 
 -- the changes have the names of the members, in order
-pub parts-names : (fields : List RawField) (parts : List FieldChange) → parts_of fields ≡ Ok parts
+pub parts-names : (fields : List RawField) (parts : List FieldChange) → member_changes fields ≡ Ok parts
     → names_of parts ≡ filter is_field_name (raw_names fields)
 unfolding taken
 parts-names [] parts h = let e : [] ≡ parts = cc in sym (ap names_of e)
 parts-names (field ∷ fields) parts h =
-    names_step field.name (filter is_field_name (raw_names fields)) (is_field_name field.name) (part_of field)
-    (parts_of fields) parts
+    names_step field.name (filter is_field_name (raw_names fields)) (is_field_name field.name) (member_change field)
+    (member_changes fields) parts
     (λ part made. (part-found field _ part made).2) (parts-names fields) h
 
 -- a change that fits its field, and the field that it makes
@@ -111,7 +111,7 @@ kind-fits field (Some (kind, many)) how e h = by_value (how_of_value kind many f
         let fits = subst (FitsKind kind many) same (how-fits kind many field.value other was) in
         (rw e fits.change, fits.field field.name e)
 
-part-fits : (field : RawField) (part : FieldChange) → part_of field ≡ Ok part → Fits part
+part-fits : (field : RawField) (part : FieldChange) → member_change field ≡ Ok part → Fits part
 unfolding Fits
 part-fits field part h =
     let (how, made, name_is, how_is) = part-found field _ part h in
@@ -127,7 +127,7 @@ each_change (part ∷ parts) all = (all.0.0, each_change parts all.1)
 
 -- the changes that are found may be those of an order
 pub parts-lawful : (fields : List RawField) (parts : List FieldChange) → AscendByName fields
-    → parts_of fields ≡ Ok parts → AreFieldChanges parts
+    → member_changes fields ≡ Ok parts → AreFieldChanges parts
 parts-lawful fields parts ascend h = (
   each_change parts (each_part Fits part-fits fields parts h),
   subst (IsStrictlySortedBy (slice_cmp nat_cmp)) (sym (parts-names fields parts h))
@@ -180,7 +180,7 @@ each_field (part ∷ parts) all = each_made (field_of part) (filter_map field_of
 
 -- the fields that the changes make are those of a document
 pub made-document : (fields : List RawField) (parts : List FieldChange) → AscendByName fields
-    → parts_of fields ≡ Ok parts → IsDocument (filter_map field_of parts)
+    → member_changes fields ≡ Ok parts → IsDocument (filter_map field_of parts)
 made-document fields parts ascend h =
     record {
       each = each_field parts (each_part Fits part-fits fields parts h);
@@ -188,7 +188,7 @@ made-document fields parts ascend h =
     }
 
 -- an atomic update names each field
-pub update-names : (fields : List RawField) (parts : List FieldChange) → parts_of fields ≡ Ok parts → (update : Bool)
+pub update-names : (fields : List RawField) (parts : List FieldChange) → member_changes fields ≡ Ok parts → (update : Bool)
     → NamesFields fields (cond update (changes.Parts parts) (changes.Whole (filter_map field_of parts)))
 update-names fields parts h true = parts-names fields parts h
 update-names fields parts h false = tt

@@ -19,7 +19,7 @@ use Rattle.sc_record.specs.Fields.{IsDocument, IsField, Ascends, IsBelowFirst, k
 use Rattle.sc_record.specs.declared.document.Field.{Field}
 use Rattle.sc_record.specs.declared.term.Term.{Term}
 use Rattle.sc_schema.specs.Terms.{term, field_terms, AreTerms}
-use Rattle.sc_schema.specs.Keys.{Found, found_in, AreInOrder}
+use Rattle.sc_schema.specs.Keys.{Found, found_in_field, AreTermsInOrder}
 use Rattle.sc_schema.proofs.KeyLemmas.{terms_in, IsBelow, AscendByField, all_ascend, all_same}
 
 -- the name comes before that of the id
@@ -30,11 +30,11 @@ below_first : (name other : List ℕ) (fields : List Field) → slice_cmp nat_cm
 below_first name other [] h below = tt
 below_first name other (f ∷ fields) h below = nat_list_cmp_total.trans name other f.name h below
 
-below_all : (name : List ℕ) (fields : List Field) → IsBelowFirst name fields → Ascends fields → IsBelow name (map found_in fields)
+below_all : (name : List ℕ) (fields : List Field) → IsBelowFirst name fields → Ascends fields → IsBelow name (map found_in_field fields)
 below_all name [] below ascend = tt
 below_all name (f ∷ fields) below ascend = (below, below_all name fields (below_first name f.name fields below ascend.0) ascend.1)
 
-all_ascend_by : (fields : List Field) → Ascends fields → AscendByField (map found_in fields)
+all_ascend_by : (fields : List Field) → Ascends fields → AscendByField (map found_in_field fields)
 unfolding AscendByField
 all_ascend_by [] ascend = tt
 all_ascend_by (f ∷ fields) ascend = (below_all f.name fields ascend.0 ascend.1, all_ascend_by fields ascend.1)
@@ -54,9 +54,9 @@ id_below field fits h = by (slice_cmp nat_cmp field.name (codes "id")) refl
 
 -- what was found in the fields, and the id at its place among them
 abbrev pub with_id : List ℕ → ℕ → List Field → List Found
-with_id id at fields = map found_in (take at fields) ++ (codes "id", id ∷ []) ∷ map found_in (drop at fields)
+with_id id at fields = map found_in_field (take at fields) ++ (codes "id", id ∷ []) ∷ map found_in_field (drop at fields)
 
-below_with : (name id : List ℕ) (at : ℕ) (fields : List Field) → slice_cmp nat_cmp name (codes "id") ≡ Less → IsBelow name (map found_in fields)
+below_with : (name id : List ℕ) (at : ℕ) (fields : List Field) → slice_cmp nat_cmp name (codes "id") ≡ Less → IsBelow name (map found_in_field fields)
     → IsBelow name (with_id id at fields)
 below_with name id zero fields h below = (h, below)
 below_with name id (suc at) [] h below = (h, tt)
@@ -95,15 +95,15 @@ from_front xs ys z t there =
 -- terms in that order are those of the document
 pub terms-with_id : (id : List ℕ) (at : ℕ) (fields : List Field) (terms : List Term) → IsDocument fields
     → AllByRecursion IsBelowId (take at fields) → IfSome (slice_get fields at) (λ field. IsBelowId field → ⊥)
-    → AreInOrder (with_id id at fields) terms → AreTerms id fields terms
+    → AreTermsInOrder (with_id id at fields) terms → AreTerms id fields terms
 terms-with_id id at fields terms document below next are =
     let before = flat_map field_terms (take at fields) in
     let after = flat_map field_terms (drop at fields) in
     let own = term (codes "id") id in
     let is : flat_map terms_in (with_id id at fields) ≡ before ++ own ∷ after =
-    flat_map-append terms_in (map found_in (take at fields)) ((codes "id", id ∷ []) ∷ map found_in (drop at fields))
-    ∙ ap (λ xs. xs ++ own ∷ flat_map terms_in (map found_in (drop at fields))) (flat_map-map terms_in found_in (take at fields))
-    ∙ ap (λ xs. before ++ own ∷ xs) (flat_map-map terms_in found_in (drop at fields)) in
+    flat_map-append terms_in (map found_in_field (take at fields)) ((codes "id", id ∷ []) ∷ map found_in_field (drop at fields))
+    ∙ ap (λ xs. xs ++ own ∷ flat_map terms_in (map found_in_field (drop at fields))) (flat_map-map terms_in found_in_field (take at fields))
+    ∙ ap (λ xs. before ++ own ∷ xs) (flat_map-map terms_in found_in_field (drop at fields)) in
     let whole : before ++ after ≡ flat_map field_terms fields =
     sym (flat_map-append field_terms (take at fields) (drop at fields)) ∙ ap (flat_map field_terms) (take-append-drop at fields) in
     let same = all_same (with_id id at fields) terms are in

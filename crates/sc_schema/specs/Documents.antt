@@ -74,18 +74,18 @@ how_of_member None field = Err (faults.UnknownField field.name)
 how_of_member (Some (kind, many)) field = ok_or (how_of_value kind many field.value) (faults.WrongValue field.name)
 
 -- the change of a field that a member asks for
-abbrev pub part_of : RawField → Result FieldChange DocFault
-part_of field = found_map (λ how. record { name = field.name; how = how }) (how_of_member (kind_of field.name) field)
+abbrev pub member_change : RawField → Result FieldChange DocFault
+member_change field = found_map (λ how. record { name = field.name; how = how }) (how_of_member (kind_of field.name) field)
 
 -- the id and the version stand apart from the fields
 abbrev pub is_field_name : List ℕ → Bool
 is_field_name name = not (bytes_eq name (codes "id") || bytes_eq name (codes "_version_"))
 
 -- the changes of fields that the members ask for, in order
-abbrev pub parts_of : List RawField → Result (List FieldChange) DocFault
-parts_of [] = Ok []
-parts_of (field ∷ fields) =
-    if is_field_name field.name then and_then (λ part. found_map (λ parts. part ∷ parts) (parts_of fields)) (part_of field) else parts_of fields
+abbrev pub member_changes : List RawField → Result (List FieldChange) DocFault
+member_changes [] = Ok []
+member_changes (field ∷ fields) =
+    if is_field_name field.name then and_then (λ part. found_map (λ parts. part ∷ parts) (member_changes fields)) (member_change field) else member_changes fields
 
 -- the value is an object
 abbrev pub is_object : RawValue → Bool
@@ -118,7 +118,7 @@ content_of order = record { id = order.id; condition = order.condition; change =
 -- the order that a document's members ask for, or the first fault: of the id, of the version, then of the fields in order
 abbrev pub document_order : List RawField → Result OrderContent DocFault
 document_order fields =
-    and_then (λ id. and_then (λ condition. found_map (λ parts. record { id = id; condition = condition; change = change_of_members fields parts }) (parts_of fields))
+    and_then (λ id. and_then (λ condition. found_map (λ parts. record { id = id; condition = condition; change = change_of_members fields parts }) (member_changes fields))
     (version_condition (member fields (codes "_version_")))) (id_of (member fields (codes "id")))
 
 -- an atomic update names each member but the id and the version, in order; and no document asks for a deletion

@@ -18,17 +18,17 @@ abbrev pub Found : Type 0
 Found = List ℕ × List (List ℕ)
 
 -- what was found in a field
-abbrev pub found_in : Field → Found
-found_in field = (field.name, flat_map (keys_of (by_words (kind_of field.name))) field.values)
+abbrev pub found_in_field : Field → Found
+found_in_field field = (field.name, flat_map (keys_of (by_words (kind_of field.name))) field.values)
 
 -- the terms are those of what was found, in the same order of the fields, and those of each field ascend, each once
-abbrev pub AreInOrder : List Found → List Term → Type 0
-AreInOrder [] terms = terms ≡ []
-AreInOrder (found ∷ others) terms =
-    (keys : List (List ℕ)) × (rest : List Term) × AreKeys found.1 keys × (terms ≡ map (term found.0) keys ++ rest) × AreInOrder others rest
+abbrev pub AreTermsInOrder : List Found → List Term → Type 0
+AreTermsInOrder [] terms = terms ≡ []
+AreTermsInOrder (found ∷ others) terms =
+    (keys : List (List ℕ)) × (rest : List Term) × AreKeys found.1 keys × (terms ≡ map (term found.0) keys ++ rest) × AreTermsInOrder others rest
 
 -- these terms of what was found were put at the end
-pub record Adds (found : List Found) (old new : List Term) : Type 0 where
+pub record AddsTerms (found : List Found) (old new : List Term) : Type 0 where
   pub terms : List Term
-  pub are : AreInOrder found terms
+  pub are : AreTermsInOrder found terms
   pub added : new ≡ old ++ terms

@@ -1,9 +1,9 @@
 ghost use Rattle.std.specs.Prelude.{◌≡◌, IfOk, IfErr, Ok, option_copied, codes, filter_map, IsTrue};
 ghost use Rattle.std.specs.List.{list_any};
-ghost use Rattle.sc_record.specs.Orders.{IsChange};
+ghost use Rattle.sc_record.specs.Orders.{IsChangeOfOrder};
 ghost use Rattle.sc_record.specs.declared.order.Order.{Order};
 ghost use Rattle.sc_schema.specs.declared.raw.RawField.{RawField};
-ghost use Rattle.sc_schema.specs.Documents.{content_of, change_of_members, how_of_member, version_condition, condition_text, document_order, field_of, id_of, id_text, is_field_name, is_object, IsDocumentFault, member, NamesFields, part_of, parts_of};
+ghost use Rattle.sc_schema.specs.Documents.{content_of, change_of_members, how_of_member, version_condition, condition_text, document_order, field_of, id_of, id_text, is_field_name, is_object, IsDocumentFault, member, NamesFields, member_change, member_changes};
 
 use crate::change::how_of;
 use crate::fault::DocFault;
@@ -88,8 +88,8 @@ fn condition_of(alloc: Global, value: Option<&RawValue>) -> Result<i64, DocFault
 
 /// The changes of fields that the members ask for, or the first fault of a field.
 fn parts_of(alloc: Global, fields: &[RawField]) -> Result<List<FieldChange>, DocFault>
-    ensures ok { IfOk result (λ parts. parts_of fields.now ≡ Ok parts) }
-    ensures fault { IfErr result (IsDocumentFault (parts_of fields.now)) }
+    ensures ok { IfOk result (λ parts. member_changes fields.now ≡ Ok parts) }
+    ensures fault { IfErr result (IsDocumentFault (member_changes fields.now)) }
 {
     let mut parts = List::from_vec(Vec::with_capacity(alloc, fields.len())?);
     for field in fields {
@@ -109,8 +109,8 @@ fn is_field_name(name: &str) -> bool
 
 /// The change of a field that a member asks for.
 fn part_of(alloc: Global, field: &RawField) -> Result<FieldChange, DocFault>
-    ensures ok { IfOk result (λ part. part_of field.now ≡ Ok part) }
-    ensures fault { IfErr result (IsDocumentFault (part_of field.now)) }
+    ensures ok { IfOk result (λ part. member_change field.now ≡ Ok part) }
+    ensures fault { IfErr result (IsDocumentFault (member_change field.now)) }
 {
     let name = field.name.clone()?;
     let Some((kind, many)) = kind_of(name.as_str()) else {
@@ -139,9 +139,9 @@ fn condition_text(alloc: Global, text: &str) -> Result<i64, DocFault>
 
 /// The change that the document asks for.
 fn change_of(alloc: Global, raw: &RawDoc, parts: List<FieldChange>) -> Result<Change, AllocError>
-    requires { parts_of raw.now.fields ≡ Ok parts }
+    requires { member_changes raw.now.fields ≡ Ok parts }
     ensures value { IfOk result (λ change. change ≡ change_of_members raw.now.fields parts) }
-    ensures lawful { IfOk result IsChange }
+    ensures lawful { IfOk result IsChangeOfOrder }
 {
     if is_update(raw.fields.as_slice()) {
         return Ok(Change::Parts(parts));

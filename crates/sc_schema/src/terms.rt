@@ -6,7 +6,7 @@ ghost use Rattle.std.specs.declared.cmp.Ordering.TheVariants.{Less};
 ghost use Rattle.sc_record.specs.Fields.{kind_of};
 ghost use Rattle.sc_record.specs.declared.document.Field.{Field};
 ghost use Rattle.sc_schema.specs.Terms.{by_words, keys_of, term, AreTerms};
-ghost use Rattle.sc_schema.specs.Keys.{found_in, Adds, AreKeys};
+ghost use Rattle.sc_schema.specs.Keys.{found_in_field, AddsTerms, AreKeys};
 
 use crate::value::decimal;
 use crate::word::push_words;
@@ -70,7 +70,7 @@ fn bytes_of(values: &[Value]) -> usize {
 
 /// Puts the terms of fields at the end.
 fn push_fields(alloc: Global, terms: &mut Vec<Term>, fields: &[Field]) -> Result<(), AllocError>
-    ensures { OnOk result (Adds (map found_in fields.now) terms.old.items terms.new.items) }
+    ensures { OnOk result (AddsTerms (map found_in_field fields.now) terms.old.items terms.new.items) }
 {
     for field in fields {
         push_field(alloc, terms, field)?;
@@ -80,7 +80,7 @@ fn push_fields(alloc: Global, terms: &mut Vec<Term>, fields: &[Field]) -> Result
 
 /// Puts the terms of a field at the end.
 fn push_field(alloc: Global, terms: &mut Vec<Term>, field: &Field) -> Result<(), AllocError>
-    ensures { OnOk result (Adds (found_in field.now ∷ []) terms.old.items terms.new.items) }
+    ensures { OnOk result (AddsTerms (found_in_field field.now ∷ []) terms.old.items terms.new.items) }
 {
     let split = is_found_by_words(field.name.as_str());
     match field.values.as_slice() {

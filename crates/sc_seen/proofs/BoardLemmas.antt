@@ -16,7 +16,7 @@ use Rattle.sc_cluster.specs.declared.slice.State.TheVariants as states
 use Rattle.sc_cluster.specs.declared.slice.Slice.{Slice}
 use Rattle.sc_cluster.specs.Slices.{is_forming_state, is_forming, forming, is_inactive_state, is_inactive, greatest_id}
 use Rattle.sc_cluster.specs.Map.{IsMap}
-use Rattle.sc_cluster.specs.Changes.{Change, after, in_state, recovering_slice, MayChange, IsSplit, IsInactive}
+use Rattle.sc_cluster.specs.Changes.{Change, after, in_state, recovering_slice, MayChange, IsBeingSplit, IsInactive}
 use Rattle.sc_cluster.specs.Histories.{after_all, subs_begun}
 use Rattle.sc_cluster.proofs.CountLemmas.{count_by-map}
 use Rattle.sc_cluster.proofs.SplitLemmas.{some_forming, not_idle}
@@ -32,7 +32,7 @@ use Rattle.sc_journal.proofs.OwedLemmas.{owed_by_slices-push_begun, owed_by_slic
 use Rattle.sc_seen.specs.declared.board.BoardEntry.{BoardEntry}
 use Rattle.sc_seen.specs.declared.board.BoardEntry.TheVariants as board
 use Rattle.sc_seen.specs.Board.{board_change_of, board_map, running_after, running_split, owed_after, board_owed, AreRecovering, MayNote, IsLegalBoard}
-use Rattle.sc_seen.specs.BoardLaws.{BoardGrowsByWhatMayCome, HasLegalBoardPrefixes, BoardsKeepAMap, Runs, BoardsRunOneSplit, BoardsGoOn, BoardsCountIdsUp, FailedLeavesTheMap, BoardsOweEntries}
+use Rattle.sc_seen.specs.BoardLaws.{BoardGrowsByWhatMayCome, HasLegalBoardPrefixes, BoardsKeepAMap, IsRunningSplit, BoardsRunOneSplit, BoardsGoOn, BoardsCountIdsUp, FailedLeavesTheMap, BoardsOweEntries}
 
 -- ---- one entry more
 -- the map after it
@@ -120,7 +120,7 @@ AreRecovering-after slices parent =
     }
 
 -- no slice of an open split is both under construction and recovering
-not_both : (slices : List Slice) (parent : SliceId) → IsSplit slices parent
+not_both : (slices : List Slice) (parent : SliceId) → IsBeingSplit slices parent
     → All (λ (slice : Slice). slice.state ≡ states.Construction) (forming slices) → AreRecovering slices → ⊥
 not_both slices parent (slice, named, splitting) building recovering =
     let some = some_forming slices slice splitting in
@@ -133,11 +133,11 @@ not_both slices parent (slice, named, splitting) building recovering =
     cc
 
 -- no split is open where no slice is being made
-pub not_open : (slices : List Slice) (parent : SliceId) → IsSplit slices parent → forming slices ≡ [] → ⊥
+pub not_open : (slices : List Slice) (parent : SliceId) → IsBeingSplit slices parent → forming slices ≡ [] → ⊥
 not_open slices parent (slice, named, splitting) idle = not_idle slices slice splitting idle
 
 -- a map has one split open at most
-pub same_parent : (slices : List Slice) (one other : SliceId) → IsMap slices → IsSplit slices one → IsSplit slices other → one ≡ other
+pub same_parent : (slices : List Slice) (one other : SliceId) → IsMap slices → IsBeingSplit slices one → IsBeingSplit slices other → one ≡ other
 same_parent slices one other is_map (parent, named, splitting) (parent2, named2, splitting2) =
     sym named ∙ ap (λ (slice : Slice). slice.id) (has_one_parent slices parent parent2 is_map splitting splitting2) ∙ named2
 
@@ -185,12 +185,12 @@ Stands-recovering first entries parent is_map may (builds before plan is running
     let ends : entries ++ one ∷ [] ≡ before ++ board.Begun plan ∷ board.Recovering plan.parent ∷ [] =
     ap (λ j. j ++ one ∷ []) is ∙ append-cons before (board.Begun plan) (one ∷ [])
     ∙ ap (λ id. before ++ board.Begun plan ∷ board.Recovering id ∷ []) same in
-    let split : IsSplit (after slices (Change.Recovering parent)) plan.parent =
-    subst (IsSplit (after slices (Change.Recovering parent))) same (recovering_is_split slices parent may.0) in
-    let next : IsSplit (after slices (Change.Recovering parent)) plan.parent × AreRecovering (after slices (Change.Recovering parent)) =
+    let split : IsBeingSplit (after slices (Change.Recovering parent)) plan.parent =
+    subst (IsBeingSplit (after slices (Change.Recovering parent))) same (recovering_is_split slices parent may.0) in
+    let next : IsBeingSplit (after slices (Change.Recovering parent)) plan.parent × AreRecovering (after slices (Change.Recovering parent)) =
     (split, AreRecovering-after slices parent) in
     recovers before plan ends (running_split-push entries one ∙ running)
-    (subst (λ s. IsSplit s plan.parent × AreRecovering s) (sym (board_map-push first entries one)) next)
+    (subst (λ s. IsBeingSplit s plan.parent × AreRecovering s) (sym (board_map-push first entries one)) next)
     (owed_by_split-push entries one)
 
 Stands-done : (first : List Slice) (entries : List BoardEntry) (parent : SliceId) → Stands first (entries ++ board.Done parent ∷ [])
@@ -256,7 +256,7 @@ boards_keep_a_map first entries is_map idle legal =
 
 pub boards_run_one_split : BoardsRunOneSplit
 boards_run_one_split first entries place is_map idle legal is = by (board_stands first entries is_map idle legal) where
-  by : Stands first entries → (plan : SplitPlan) × Runs first entries place plan
+  by : Stands first entries → (plan : SplitPlan) × IsRunningSplit first entries place plan
   by (rests none formed owed) = let two : None ≡ Some place = sym none ∙ is in absurd (cc)
   by (builds before plan ends running may owed) =
       let same : Some place ≡ Some (length before) = sym is ∙ running in
@@ -293,9 +293,9 @@ may_go_on_recovered first entries parent legal =
     let slices = board_map first entries in
     let one : BoardEntry = board.Recovering parent in
     let may = MayNote_end first entries one legal in
-    let next : IsSplit (after slices (Change.Recovering parent)) parent × AreRecovering (after slices (Change.Recovering parent)) =
+    let next : IsBeingSplit (after slices (Change.Recovering parent)) parent × AreRecovering (after slices (Change.Recovering parent)) =
     (recovering_is_split slices parent may.0, AreRecovering-after slices parent) in
-    subst (λ s. IsSplit s parent × AreRecovering s) (sym (board_map-push first entries one)) next
+    subst (λ s. IsBeingSplit s parent × AreRecovering s) (sym (board_map-push first entries one)) next
 
 pub boards_go_on : BoardsGoOn
 boards_go_on first entries plan is_map idle = (
@@ -360,13 +360,13 @@ inactive-begun : (slices : List Slice) (plan : SplitPlan)
     → count_by is_inactive (after slices (Change.Begun plan.parent plan.subs)) ≡ count_by is_inactive slices
 inactive-begun slices plan = omega (arith, owed_by_slices-push_begun slices [] plan.parent plan.subs refl)
 
-inactive-switched : (slices : List Slice) (parent : SliceId) → IsMap slices → IsSplit slices parent
+inactive-switched : (slices : List Slice) (parent : SliceId) → IsMap slices → IsBeingSplit slices parent
     → count_by is_inactive (after slices (Change.Switched parent)) ≡ count_by is_inactive slices + 1
 inactive-switched slices parent is_map split =
     let begun : List Entry = entry.Begun parent [] ∷ [] in
     let nil = append-nil slices in
     let push = owed_by_slices-push_switched slices begun parent (subst IsMap (sym nil) is_map)
-    (subst (λ s. IsSplit s parent) (sym nil) split) refl in
+    (subst (λ s. IsBeingSplit s parent) (sym nil) split) refl in
     omega (arith, push, ap (λ s. count_by is_inactive (after s (Change.Switched parent))) nil, ap (count_by is_inactive) nil)
 
 inactive-failed : (slices : List Slice) (parent : SliceId)
@@ -421,7 +421,7 @@ owed_where_recovering first entries parent may (builds before plan ends running 
     absurd (not_both (board_map first entries) parent may.0 may2.1 may.1)
 owed_where_recovering first entries parent may (recovers before plan ends running done owed) = owed
 
-pub owed_where_open : (first : List Slice) (entries : List BoardEntry) (parent : SliceId) → IsSplit (board_map first entries) parent
+pub owed_where_open : (first : List Slice) (entries : List BoardEntry) (parent : SliceId) → IsBeingSplit (board_map first entries) parent
     → Stands first entries → 2 ≤ owed_by_split entries
 owed_where_open first entries parent split (rests none idle owed) = absurd (not_open (board_map first entries) parent split idle)
 owed_where_open first entries parent split (builds before plan ends running may2 owed) = omega arith

@@ -6,7 +6,7 @@ use Rattle.sc_record.specs.declared.slice.SliceId.{SliceId}
 use Rattle.sc_cluster.specs.declared.slice.State.TheVariants as states
 use Rattle.sc_cluster.specs.declared.slice.Slice.{Slice}
 use Rattle.sc_cluster.specs.Slices.{forming, is_inactive}
-use Rattle.sc_cluster.specs.Changes.{Change, IsSplit, MayChange}
+use Rattle.sc_cluster.specs.Changes.{Change, IsBeingSplit, MayChange}
 use Rattle.sc_cluster.specs.Histories.{after_all}
 use Rattle.sc_seen.specs.declared.board.BoardEntry.{BoardEntry}
 use Rattle.sc_seen.specs.declared.board.BoardEntry.TheVariants as board
@@ -62,7 +62,7 @@ pub record AreRecovering (slices : List Slice) : Type 0 where
 -- The entry may come after these, where the first map is this: a split begins where none is running and the map allows it; then its
 -- slices are recovered, and after that it is done, or at any time it failed; and a slice is dropped where none is running.
 abbrev pub MayNote : List Slice → List BoardEntry → BoardEntry → Type 0
-MayNote first before (board.Done parent) = IsSplit (board_map first before) parent × AreRecovering (board_map first before)
+MayNote first before (board.Done parent) = IsBeingSplit (board_map first before) parent × AreRecovering (board_map first before)
 MayNote first before one = MayChange (board_map first before) (board_change_of one)
 
 -- each entry may come after those before it

@@ -9,7 +9,7 @@ use Rattle.sc_cluster.specs.declared.slice.Slice.{Slice}
 use Rattle.sc_cluster.specs.Limits.{most_slices}
 use Rattle.sc_cluster.specs.Slices.{forming, greatest_id}
 use Rattle.sc_cluster.specs.Map.{IsMap}
-use Rattle.sc_cluster.specs.Changes.{IsSplit}
+use Rattle.sc_cluster.specs.Changes.{IsBeingSplit}
 use Rattle.sc_journal.specs.Limits.{greatest_journal}
 use Rattle.sc_seen.specs.declared.board.BoardEntry.{BoardEntry}
 use Rattle.sc_seen.specs.declared.board.BoardEntry.TheVariants as board
@@ -34,18 +34,18 @@ BoardsKeepAMap = (first : List Slice) (entries : List BoardEntry) → IsMap firs
 
 -- The split that runs after the entries is that of the plan, which began at the place: nothing came after that, or only that the
 -- slices that it makes are recovered. Those are the subs of the plan's parent.
-pub record Runs (first : List Slice) (entries : List BoardEntry) (place : ℕ) (plan : SplitPlan) : Type 0 where
+pub record IsRunningSplit (first : List Slice) (entries : List BoardEntry) (place : ℕ) (plan : SplitPlan) : Type 0 where
   pub before : List BoardEntry
   pub later : List BoardEntry
   pub entries_are : entries ≡ before ++ board.Begun plan ∷ later
   pub place_is : place ≡ length before
   pub few : length later ≤ 1
-  pub split : IsSplit (board_map first entries) plan.parent
+  pub split : IsBeingSplit (board_map first entries) plan.parent
 
 -- where a split runs after a legal journal, it began by an entry at that place
 abbrev pub BoardsRunOneSplit : Type 0
 BoardsRunOneSplit = (first : List Slice) (entries : List BoardEntry) (place : ℕ) → IsMap first → forming first ≡ []
-    → IsLegalBoard first entries → running_split entries ≡ Some place → (plan : SplitPlan) × Runs first entries place plan
+    → IsLegalBoard first entries → running_split entries ≡ Some place → (plan : SplitPlan) × IsRunningSplit first entries place plan
 
 -- once a split has begun, its slices may be recovered, and it may fail; once they are recovered, it may be done, and it may fail
 abbrev pub BoardsGoOn : Type 0

@@ -15,6 +15,6 @@ module _ {K : Type 0} (order : K → K → Ordering) where
     pub after : (i : ℕ) (k : K) → at ≤ i → slice_get keys i ≡ Some k → order key k ≡ Less
 
   -- what a search answers: where the key stands, or else where it would have to stand
-  abbrev pub IsPlace : List K → K → Result ℕ ℕ → Type 0
-  IsPlace keys key (Ok at) = StandsAt keys key at
-  IsPlace keys key (Err at) = IsGapFor keys key at
+  abbrev pub IsKeyPlace : List K → K → Result ℕ ℕ → Type 0
+  IsKeyPlace keys key (Ok at) = StandsAt keys key at
+  IsKeyPlace keys key (Err at) = IsGapFor keys key at

@@ -2,7 +2,7 @@ ghost use Rattle.std.specs.Prelude.{◌≡◌, ℕ, ◌+◌, ◌-◌, ◌*◌, �
 ghost use Rattle.std.specs.declared.cmp.Ordering.TheVariants.{Greater};
 ghost use Rattle.std.specs.List.Sorted.{IsStrictlyIncreasing, IsStrictlySortedBy};
 ghost use Rattle.sc_segment.specs.Index.{IsIndexOf, IsInOrder, rows_with, WasAddedWith};
-ghost use Rattle.sc_segment.specs.Searching.{IsPlace};
+ghost use Rattle.sc_segment.specs.Searching.{IsKeyPlace};
 
 use crate::flat_index::FlatIndex;
 use crate::key::Key;
@@ -65,7 +65,7 @@ pub(crate) fn search<K: Key, L: Ledger>(
     requires ascending { IsStrictlySortedBy K.order keys.now }
     requires within { from ≤ length keys.now }
     requires before { (i : ℕ) → (k : K) → i < from → slice_get keys.now i ≡ Some k → K.order key.now k ≡ Greater }
-    ensures place { IsPlace K.order keys.now key.now result }
+    ensures place { IsKeyPlace K.order keys.now key.now result }
     ensures from { MatchResult result (λ at. from ≤ at) (λ at. from ≤ at) }
     ensures counted { steps.old ≤ steps.new }
     ensures bound { 2 ^ (steps.new - steps.old) ≤ 2 * length keys.now + 1 }

@@ -11,7 +11,7 @@ use Rattle.sc_shared.specs.Sharing.{ArePasses}
 use Rattle.sc_server.specs.declared.worker.Worker.{Worker}
 use Rattle.sc_server.specs.Reports.{without_moment}
 use Rattle.sc_server.specs.Working.{IsReady}
-use Rattle.sc_server.specs.Crews.{SetsBelow, AreReportedBack, seen_by}
+use Rattle.sc_server.specs.Crews.{SetsBelow, AreReportedBack, seen_by_worker}
 use Rattle.sc_server.specs.Serving.{IsOneStory}
 use Rattle.sc_server.proofs.CrewLemmas.{SetsBetween, none_between, one_more_between, all_between, AreReportedBackFrom, none_back_reported, one_more_back_reported, all_back_reported}
 use Rattle.sc_server.proofs.MatchLemmas.{element_of}
@@ -24,7 +24,7 @@ module _ {R C H P L : Type 0} where
     pub done : List (Worker R C H P L)
     pub split : all ≡ left ++ done
     pub are : ArePasses locks passes
-    pub joined : AreJoined (map seen_by done) (seen_of passes)
+    pub joined : AreJoined (map seen_by_worker done) (seen_of passes)
     pub back : AreReportedBackFrom (length left) done back_old back_now
     pub out : SetsBetween (length left) (length all) false out_old out_now
 
@@ -68,14 +68,14 @@ module _ {R C H P L : Type 0} where
 
       -- it is done too
       pub one_more_done : (next : Passes) (back_next : Option (ℕ → Option (Crew C H P L))) (out_next : ℕ → Bool) → ArePasses locks next
-          → SeesBoth (seen_of passes) (seen_by worker) (seen_of next)
+          → SeesBoth (seen_of passes) (seen_by_worker worker) (seen_of next)
           → SetsReported (length rest) (Some (without_moment worker.crew)) back_now back_next → SetsAt (length rest) false out_now out_next
           → IsHalfway locks next all rest back_old back_next out_old out_next
       one_more_done next back_next out_next are both back out = record {
         done = worker ∷ is.done;
         split = is.split ∙ ap (λ (xs : List (Worker R C H P L)). xs ++ is.done) ends ∙ append_assoc rest (worker ∷ []) is.done;
         are = are;
-        joined = one_more_joined (seen_by worker) (map seen_by is.done) (seen_of passes) (seen_of next) is.joined both;
+        joined = one_more_joined (seen_by_worker worker) (map seen_by_worker is.done) (seen_of passes) (seen_of next) is.joined both;
         back = one_more_back_reported (length rest) worker is.done back_old back_now back_next
             (subst (λ (n : ℕ). AreReportedBackFrom n is.done back_old back_now) long is.back) back;
         out = one_more_between (length rest) (length all) false out_old out_now out_next inside
@@ -86,10 +86,10 @@ module _ {R C H P L : Type 0} where
       done_is : is.done ≡ all
       done_is = ap (λ (xs : List (Worker R C H P L)). xs ++ is.done) (sym none) ∙ sym is.split
 
-      pub story : IsOneStory (layout_of locks) (map seen_by all) (seen_of passes)
+      pub story : IsOneStory (layout_of locks) (map seen_by_worker all) (seen_of passes)
       story =
-          subst (λ (xs : List (Worker R C H P L)). IsOneStory (layout_of locks) (map seen_by xs) (seen_of passes)) done_is
-          (all_joined (layout_of locks) (map seen_by is.done) (seen_of passes) is.are.of_locks.legal is.joined)
+          subst (λ (xs : List (Worker R C H P L)). IsOneStory (layout_of locks) (map seen_by_worker xs) (seen_of passes)) done_is
+          (all_joined (layout_of locks) (map seen_by_worker is.done) (seen_of passes) is.are.of_locks.legal is.joined)
 
       pub back : AreReportedBack all back_old back_now
       back =

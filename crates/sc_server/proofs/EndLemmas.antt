@@ -14,7 +14,7 @@ use Rattle.sc_server.specs.declared.worker.Worker.{Worker}
 use Rattle.sc_server.specs.Reports.{Reports}
 use Rattle.sc_server.specs.Working.{Told, ServesAll, serving}
 use Rattle.sc_server.specs.Needs.{listening_line}
-use Rattle.sc_server.specs.Crews.{SetsBelow, SetsReportedBelow, AreEnlisted, AreReportedBack, StationState, HaveCrews, HaveGivenBack, seen_by}
+use Rattle.sc_server.specs.Crews.{SetsBelow, SetsReportedBelow, AreEnlisted, AreReportedBack, StationState, HaveCrews, HaveGivenBack, seen_by_worker}
 use Rattle.sc_server.specs.Serving.{IsOneStory, Front, AreGivenAndBack, WritesNothing, IsEnd, EndsServer}
 use Rattle.sc_server.proofs.FrontLemmas.{none_given_and_back, given_and_back, unused}
 use Rattle.sc_server.proofs.CauseLemmas.{with_causes}
@@ -126,7 +126,7 @@ module _ {C H P L S W : Type 0} (reports : Reports C H P L S W) (server : Server
     -- all workers had their crews
     pub all_given : (cores : List Host) (line : List ℕ) (all : Seen) {status : ℕ} → HasShape server.shape (layout_of locks)
         → cores ≡ cores_of_map server.shape.nodes (layout_of locks).first → line ≡ listening_line server.port → length enlisted ≡ server.workers
-        → length new ≡ length enlisted → IsOneStory (layout_of locks) (map seen_by new) all
+        → length new ≡ length enlisted → IsOneStory (layout_of locks) (map seen_by_worker new) all
         → ServesAll reports cores line (serving enlisted (told_of before.written before.write_faults))
         (serving new (told_of after.written after.write_faults)) status
         → EndsServer reports server before after status

@@ -2,7 +2,7 @@
 use Rattle.std.proofs.Common.{◌≡◌, ◌≢◌, ◌⊎◌, inl, inr, ◌≤◌, ◌<◌, ℕ, Bool, cond, List, ◌++◌, length, map, Option, Some, IfSome, slice_get, sym, ap, subst, ◌∙◌, arith}
 use Rattle.std.proofs.lemmas.Bool.{cases_eq}
 use Rattle.std.proofs.lemmas.Option.{same_Some, slice_get_within}
-use Rattle.sc_cores.specs.Cores.{cores_of_map}
+use Rattle.sc_cores.specs.Cores.{cores_of_map, StartsCores, StartsFirst}
 use Rattle.sc_io.specs.declared.hosts.Host.{Host}
 use Rattle.sc_seen.specs.Seen.{Seen}
 use Rattle.sc_collection.specs.Shapes.{HasShape, SeesNothing}
@@ -13,12 +13,12 @@ use Rattle.sc_shared.specs.Passes.{seen_of}
 use Rattle.sc_shared.specs.Collections.{Locks, layout_of}
 use Rattle.sc_arguments.specs.declared.asked.Server.{Server}
 use Rattle.sc_server.specs.declared.worker.Worker.{Worker}
-use Rattle.sc_server.specs.Reports.{Reports, WorkerCrew, StartsCores, with_moment, without_moment, clock_gives, setting, beside}
+use Rattle.sc_server.specs.Reports.{Reports, WorkerCrew, with_moment, without_moment, clock_gives, setting, beside}
 use Rattle.sc_server.specs.Working.{IsReady, with_hosts, HasFirstHosts, ended_by_fault, has_failed, status_after, HasWorked, HaveWorked, FirstFails, FirstStarts, Told, ServesAll, serving}
 use Rattle.sc_io.specs.Pieces.{AddsPrefix}
 use Rattle.sc_server.specs.Needs.{listening_line}
-use Rattle.sc_server.specs.Crews.{IsEnlisted, AreEnlisted, AreReportedBack, seen_with, seen_by}
-use Rattle.sc_server.specs.Serving.{IsOneStory, StartsFirst, Front, AreGivenAndBack, WorkerRun, status_of, IsWorkerRun, RunsServer, WritesNothing, FailsToStart, FailsToWrite, IsEnd, EndsServer}
+use Rattle.sc_server.specs.Crews.{IsEnlisted, AreEnlisted, AreReportedBack, seen_with, seen_by_worker}
+use Rattle.sc_server.specs.Serving.{IsOneStory, Front, AreGivenAndBack, WorkerRun, status_of, IsWorkerRun, RunsServer, WritesNothing, FailsToStart, FailsToWrite, IsEnd, EndsServer}
 use Rattle.sc_server.proofs.FrontLemmas.{one_back, none_begins}
 use Rattle.sc_server.proofs.CauseLemmas.{with_causes}
 use Rattle.sc_server.proofs.MatchLemmas.{some_at, AreMatched, all_matched, same_map, same_any}
@@ -98,7 +98,7 @@ module _ {R C H P L S W : Type 0} (reports : Reports C H P L S W) (server : Serv
     -- it is a run of this worker
     record IsRunOf (number : ℕ) (worker : Worker R C H P L) (run : WorkerRun C H P L) : Type 0 where
       is : IsWorkerRun (record { reports = reports; layout = layout_of locks }) server before after number run
-      after_is : seen_by worker ≡ run.after
+      after_is : seen_by_worker worker ≡ run.after
       end_is : worker.end ≡ Some run.end
 
     module _ (number : ℕ) (one other worker : Worker R C H P L) (at : slice_get enlisted number ≡ Some one) (at_other : slice_get began number ≡ Some other)
@@ -205,7 +205,7 @@ module _ {R C H P L S W : Type 0} (reports : Reports C H P L S W) (server : Serv
         all_runs.1 (λ number worker run is. ap ended_by_fault is.end_is))
 
     pub runs_server : (all : Seen) → HasShape server.shape (layout_of locks) → length enlisted ≡ server.workers
-        → IsOneStory (layout_of locks) (map seen_by new) all → AreGivenAndBack before after server.workers → after.open_faults ≡ before.open_faults
+        → IsOneStory (layout_of locks) (map seen_by_worker new) all → AreGivenAndBack before after server.workers → after.open_faults ≡ before.open_faults
         → IfSome before.written (λ old. after.written ≡ Some (old ++ listening_line server.port)) → after.write_faults ≡ before.write_faults
         → RunsServer reports server before after runs
     unfolding runs all_runs
@@ -219,7 +219,7 @@ module _ {R C H P L S W : Type 0} (reports : Reports C H P L S W) (server : Serv
           (all_runs.1.each number worker.0 run worker.1 at).is;
       all = all;
       story = subst (λ (parts : List Seen). IsOneStory (layout_of locks) parts all)
-          (same_map seen_by (λ (run : WorkerRun C H P L). run.after) IsRunOf new runs all_runs.1 (λ number worker run is. is.after_is)) story;
+          (same_map seen_by_worker (λ (run : WorkerRun C H P L). run.after) IsRunOf new runs all_runs.1 (λ number worker run is. is.after_is)) story;
       crews = crews;
       open_faults = open_faults;
       line = line;
@@ -229,7 +229,7 @@ module _ {R C H P L S W : Type 0} (reports : Reports C H P L S W) (server : Serv
   -- how the server ended, by how its workers ended
   module _ (cores : List Host) (line : List ℕ) (all : Seen) (shape : HasShape server.shape (layout_of locks))
       (cores_are : cores ≡ cores_of_map server.shape.nodes (layout_of locks).first) (line_is : line ≡ listening_line server.port)
-      (count : length enlisted ≡ server.workers) (story : IsOneStory (layout_of locks) (map seen_by new) all)
+      (count : length enlisted ≡ server.workers) (story : IsOneStory (layout_of locks) (map seen_by_worker new) all)
       (crews : AreGivenAndBack before after server.workers) (open_faults : after.open_faults ≡ before.open_faults) where
     is_end : {status : ℕ} → ServesAll reports cores line (serving enlisted (record { written = before.written; faults = before.write_faults }))
         (serving new (record { written = after.written; faults = after.write_faults })) status → IsEnd reports server before after status

@@ -4,7 +4,7 @@ use Rattle.std.specs.List.{Contains}
 use Rattle.std.proofs.lemmas.Option.{same_Some}
 use Rattle.sc_seen.specs.Seen.{Layout, Seen, SeesMore, AreLegal}
 use Rattle.sc_seen.proofs.ExtendsLemmas.{IsPrefix-then, IsPrefix-self}
-use Rattle.sc_lock.specs.Journal.{AreDisjoint, inserted, merged}
+use Rattle.sc_lock.specs.Journal.{AreDisjoint, inserted, merged_places}
 use Rattle.sc_shared.specs.Collections.{SeesBoth}
 use Rattle.sc_shared.specs.declared.passes.Passes.{Passes}
 use Rattle.sc_server.specs.Crews.{seen_with}
@@ -32,16 +32,16 @@ still_inserted (x ∷ places) place other has = by (ltb place x) has (λ more. s
   by false (zero, within, is) more = (0, omega arith, is)
   by false (suc k, within, is) more = later x other (inserted places place) (more (k, omega (arith, within), is))
 
-first_merged : (ones others : List ℕ) (place : ℕ) → Contains ones place → Contains (merged ones others) place
+first_merged : (ones others : List ℕ) (place : ℕ) → Contains ones place → Contains (merged_places ones others) place
 first_merged ones [] place has = has
-first_merged ones (x ∷ others) place has = still_inserted (merged ones others) x place (first_merged ones others place has)
+first_merged ones (x ∷ others) place has = still_inserted (merged_places ones others) x place (first_merged ones others place has)
 
-second_merged : (ones others : List ℕ) (place : ℕ) → Contains others place → Contains (merged ones others) place
+second_merged : (ones others : List ℕ) (place : ℕ) → Contains others place → Contains (merged_places ones others) place
 second_merged ones [] place (k, within, is) = absurd (omega (arith, within))
 second_merged ones (x ∷ others) place (zero, within, is) =
-    subst (Contains (inserted (merged ones others) x)) is (here_inserted (merged ones others) x)
+    subst (Contains (inserted (merged_places ones others) x)) is (here_inserted (merged_places ones others) x)
 second_merged ones (x ∷ others) place (suc k, within, is) =
-    still_inserted (merged ones others) x place (second_merged ones others place (k, omega (arith, within), is))
+    still_inserted (merged_places ones others) x place (second_merged ones others place (k, omega (arith, within), is))
 
 -- ---- what is joined
 -- these are beginnings of what is seen, whose entries are one's own now, and no entry is of two of them

@@ -9,7 +9,8 @@ use Rattle.sc_session.specs.declared.worker.WorkEnd.{WorkEnd}
 use Rattle.sc_session.specs.Working.{IsWorked}
 use Rattle.sc_shared.specs.Collections.{Locks}
 use Rattle.sc_server.specs.declared.worker.Worker.{Worker}
-use Rattle.sc_server.specs.Reports.{Reports, WorkerCrew, StartsCores, clock_gives, setting, beside}
+use Rattle.sc_cores.specs.Cores.{StartsCores}
+use Rattle.sc_server.specs.Reports.{Reports, WorkerCrew, clock_gives, setting, beside}
 use Rattle.sc_server.specs.Working.{IsReady, IsReadyToWork, ended_by_fault, with_hosts, HasFirstHosts, status_after, HasWorked, HaveWorked, FirstStarts, Told, ServesAll, serving}
 
 -- what each element has, each still has once the first is replaced by one that has it

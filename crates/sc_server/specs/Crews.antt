@@ -51,8 +51,8 @@ module _ {R C H P L : Type 0} where
       (number : ℕ) (worker : Worker R C H P L) → slice_get workers number ≡ Some worker → IsEnlisted server locks crews number worker
 
   -- what the passes of a worker have seen, which is nothing where it has none
-  abbrev pub seen_by : Worker R C H P L → Seen
-  seen_by worker = seen_with worker.passes
+  abbrev pub seen_by_worker : Worker R C H P L → Seen
+  seen_by_worker worker = seen_with worker.passes
 
   -- the crew of each of these workers is back at its number, and at every other stands what stood there
   pub record AreBack (workers : List (Worker R C H P L)) (old new : ℕ → Option (Crew C H P L)) : Type 0 where

@@ -1,21 +1,13 @@
 -- What a worker's crew reports.
-use Rattle.std.specs.Prelude.{◌≡◌, ℕ, List, Option, Some, IfSome}
-use Rattle.sc_cores.specs.Cores.{Outside, with_cores}
-use Rattle.sc_io.specs.declared.hosts.Host.{Host}
+use Rattle.std.specs.Prelude.{ℕ, List, Option}
+use Rattle.sc_cores.specs.Cores.{Outside}
 use Rattle.sc_seen.specs.Seen.{Layout, Seen}
 use Rattle.sc_session.specs.declared.listener.Link.{Link}
 use Rattle.sc_session.specs.declared.listener.Taken.{Taken}
 use Rattle.sc_session.specs.declared.station.Crew.{Crew}
-use Rattle.sc_session.specs.Working.{Setting, WorkState}
+use Rattle.sc_session.specs.Working.{LinkSetting, WorkState}
 use Rattle.sc_server.specs.declared.clock.WorkerClock.{WorkerClock}
 use Rattle.sc_server.specs.Clocks.{gives_at}
-
--- each of these cores was started, in order, and no call failed
-pub record StartsCores (cores : List Host) (old new : Outside) : Type 0 where
-  pub started : IfSome old.started (λ before. new.started ≡ Some (with_cores cores before))
-  pub start_faults : new.start_faults ≡ old.start_faults
-  pub stop_faults : new.stop_faults ≡ old.stop_faults
-  pub stops : new.stops ≡ old.stops
 
 -- what the parts of a crew report: the clock its moments, hosts and pace what is outside of the collection, the listener its links
 -- and faults, and the links' sources and sinks their bytes and faults
@@ -54,7 +46,7 @@ module _ {C H P L S W : Type 0} (reports : Reports C H P L S W) where
   clock_gives old now new = gives_at reports.gives old.moment old.clock now new.moment new.clock
 
   -- what the sources and sinks of a listener's links report, and how the collection is laid out
-  abbrev pub setting : Layout → Setting S W
+  abbrev pub setting : Layout → LinkSetting S W
   setting layout = record {
     layout = layout;
     rest = reports.rest;

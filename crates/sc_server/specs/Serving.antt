@@ -1,8 +1,7 @@
 -- What a server and its workers leave.
 use Rattle.std.specs.Prelude.{◌≡◌, ◌≢◌, ◌⊎◌, ◌↔◌, ◌≤◌, ◌<◌, ◌++◌, ℕ, Bool, false, List, length, map, slice_get, if◌then◌else◌, Option, Some, None, IfSome}
 use Rattle.std.specs.List.{list_any}
-use Rattle.sc_cluster.specs.declared.slice.Slice.{Slice}
-use Rattle.sc_cores.specs.Cores.{Outside, cores_of_map}
+use Rattle.sc_cores.specs.Cores.{StartsFirst}
 use Rattle.sc_io.specs.Pieces.{AddsPrefix}
 use Rattle.sc_seen.specs.Seen.{Layout, Seen, SeesMore, AreLegal}
 use Rattle.sc_lock.specs.Journal.{AreDisjoint}
@@ -11,7 +10,7 @@ use Rattle.sc_session.specs.declared.worker.WorkEnd.{WorkEnd}
 use Rattle.sc_session.specs.Working.{IsWorked}
 use Rattle.sc_collection.specs.Shapes.{HasShape, SeesNothing}
 use Rattle.sc_arguments.specs.declared.asked.Server.{Server}
-use Rattle.sc_server.specs.Reports.{Reports, WorkerCrew, StartsCores, with_moment, without_moment, clock_gives, setting, beside}
+use Rattle.sc_server.specs.Reports.{Reports, WorkerCrew, with_moment, without_moment, clock_gives, setting, beside}
 use Rattle.sc_server.specs.Working.{has_failed}
 use Rattle.sc_server.specs.Needs.{listening_line}
 use Rattle.sc_server.specs.Crews.{SetsBelow, SetsReportedBelow}
@@ -22,10 +21,6 @@ pub record IsOneStory (layout : Layout) (parts : List Seen) (all : Seen) : Type 
   pub beginnings : (i : ℕ) (part : Seen) → slice_get parts i ≡ Some part → SeesMore part all
   pub apart : (i j : ℕ) (one other : Seen) → i ≢ j → slice_get parts i ≡ Some one → slice_get parts j ≡ Some other
       → (lock : ℕ) → AreDisjoint (one.own lock) (other.own lock)
-
--- Each core of the first map was started, slice by slice, and no call failed.
-abbrev pub StartsFirst : (nodes : ℕ) → List Slice → (old new : Outside) → Type 0
-StartsFirst nodes first = StartsCores (cores_of_map nodes first)
 
 -- What a station and a sink report: the crews that are still to be given, those that are back and those that are out, by the worker's
 -- number; how often opening the port has failed; the bytes that were written, and how often writing has failed.

@@ -11,7 +11,8 @@ use Rattle.sc_shared.specs.Passes.{seen_of}
 use Rattle.sc_shared.specs.Collections.{Locks, layout_of}
 use Rattle.sc_shared.specs.Sharing.{ArePasses}
 use Rattle.sc_server.specs.declared.worker.Worker.{Worker}
-use Rattle.sc_server.specs.Reports.{Reports, StartsCores, clock_gives, setting, beside}
+use Rattle.sc_cores.specs.Cores.{StartsCores}
+use Rattle.sc_server.specs.Reports.{Reports, clock_gives, setting, beside}
 
 -- its listener failed
 abbrev pub has_failed : WorkEnd → Bool

@@ -8,7 +8,7 @@ ghost use Rattle.sc_shared.specs.Collections.{Locks, layout_of, SeesBoth};
 ghost use Rattle.sc_shared.specs.Sharing.{ArePasses};
 ghost use Rattle.sc_server.specs.Working.{IsReady, IsReadyToWork, ended_by_fault, HasWorked, HaveWorked, ServesAll, serving};
 ghost use Rattle.sc_server.specs.Needs.{IsKit};
-ghost use Rattle.sc_server.specs.Crews.{HaveCrews, HaveGivenBack, seen_with, seen_by};
+ghost use Rattle.sc_server.specs.Crews.{HaveCrews, HaveGivenBack, seen_with, seen_by_worker};
 ghost use Rattle.sc_server.specs.Serving.{IsOneStory, EndsServer};
 
 use crate::clock::WorkerClock;
@@ -278,7 +278,7 @@ fn dismiss<'a, R, T: Station>(
     requires passes { ArePasses collection.now passes.old }
     requires workers { All (IsReady collection.now) workers.items }
     requires out { (number : ℕ) → number < length workers.items → T.out station.old number ≡ true }
-    ensures story { IsOneStory (layout_of collection.now) (map seen_by workers.entry.items) (seen_of passes.new) }
+    ensures story { IsOneStory (layout_of collection.now) (map seen_by_worker workers.entry.items) (seen_of passes.new) }
     ensures back { HaveGivenBack workers.entry.items
         (record {
           crews = T.crews station.old;

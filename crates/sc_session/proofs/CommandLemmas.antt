@@ -145,7 +145,7 @@ cause_at layout (given_up plan recovered) old new splits.BadRanges cause = absur
 cause_at layout (given_up plan recovered) old new splits.TooManySlices cause = absurd cause
 
 -- a split made no write
-split_once : (layout : Layout) (seen : Seen) (asked : board.Asked) (first : Stop) (course : Course) (end : SplitEnd)
+split_once : (layout : Layout) (seen : Seen) (asked : board.AskedSplit) (first : Stop) (course : Course) (end : SplitEnd)
     → IsAnswered layout seen asked first course end → filter_map (ack_made layout seen) (split_stops first course) ≡ []
 split_once layout seen asked first refused end is = board_once layout seen first is.lock
 split_once layout seen asked first (given_up plan recovered) end is = board_once layout seen first is.lock

@@ -11,7 +11,7 @@ use Rattle.sc_seen.specs.Seen.{Layout, Extends, AreLegal}
 use Rattle.sc_seen.specs.Batches.{GivesTimestamps}
 use Rattle.sc_seen.specs.Moments.{Moment}
 use Rattle.sc_session.specs.Commands.{situation}
-use Rattle.sc_session.specs.Answers.{Answer, replied, ran_out, reply_of}
+use Rattle.sc_session.specs.Answers.{Answer, replied, ran_out, written_reply}
 use Rattle.sc_session.specs.declared.end.End.{End}
 use Rattle.sc_session.specs.declared.end.End.TheVariants as ends
 use Rattle.sc_session.specs.Connection.{Exchange, Last, ended, answered, out_of_memory, read_failed, exchanges_of, AreExchanges, LeaveRest, stops_of, timestamps_of, texts_of, end_after, end_of, last_text, EndsWith, IsReadFrom, HasEnd, IsWritten}
@@ -176,7 +176,7 @@ served_at_exchange gives layout before now then held next request end open_ step
     xs = open_.exchanges
 
     text : EndsWriting (Some end) (end_of xs (answered step.exchange)) (last_text xs (answered step.exchange)) now.written then.written
-    text = subst (λ (e : Option End). EndsWriting (Some end) e (text_of (reply_of step.exchange.answer) (is_some e)) now.written then.written)
+    text = subst (λ (e : Option End). EndsWriting (Some end) e (text_of (written_reply step.exchange.answer) (is_some e)) now.written then.written)
         (end_same gives layout before now then held next request (Some end) open_ step) step.responds
 
     no_read_fault : end ≢ ends.ReadFault

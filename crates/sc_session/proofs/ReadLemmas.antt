@@ -12,7 +12,7 @@ use Rattle.sc_record.specs.declared.write.Write.{Write}
 use Rattle.sc_record.specs.declared.document.Field.{Field}
 use Rattle.sc_record.specs.declared.ack.Ack.{Ack}
 use Rattle.sc_reply.specs.Bodies.{IsLiveOrNone, AreLive, get_text, ids_text, select_text}
-use Rattle.sc_eval.specs.Conditions.{condition_of}
+use Rattle.sc_eval.specs.Criteria.{criterion_of}
 use Rattle.sc_journal.specs.Journal.{write_at, last_write}
 use Rattle.sc_seen.specs.Seen.{Layout, Seen, SeesMore, journal_at}
 use Rattle.sc_seen.specs.Batches.{ack_made, ack_written}
@@ -21,7 +21,7 @@ use Rattle.sc_get.specs.Got.{IsGot, AreGot, ReadsEach, live, live_at, live_write
 use Rattle.sc_fanout.specs.Searches.{Search, SearchPage, SearchesBuckets, LooksAtBuckets, ShowsFound, search_of, page_of}
 use Rattle.sc_fanout.specs.declared.ask.Ask.{Ask}
 use Rattle.sc_fanout.specs.declared.shown.Page.{Page}
-use Rattle.sc_session.specs.Queries.{HaveCondition, IsRouteOf}
+use Rattle.sc_session.specs.Queries.{HaveCriterion, IsRouteOf}
 use Rattle.sc_session.specs.Requests.{Select, get, get_ids, select}
 use Rattle.sc_session.specs.Answers.{Answer, replied, ran_out, IsAnswer, read_trace, ids_reply}
 use Rattle.sc_session.specs.Answering.{AnswersOfBuckets, unread, reply_of, answer_of}
@@ -178,9 +178,9 @@ pub searched_none : (layout : Layout) (ask : Select) (made : Ask) (old new : Mom
 searched_none layout ask made old new found is =
     searched_with layout ask made old new found ran_out is (λ later more. (is.stops, is.count, is.few, refl, is.looks))
 
--- a search is answered by what its condition finds in the buckets at their stops
+-- a search is answered by what its criterion finds in the buckets at their stops
 pub searched : (layout : Layout) (ask : Select) (made : Ask) (old new : Moment ⊤) (page : Page) (body : List ℕ)
-    → HaveCondition ask.queries (condition_of made.query) → IsRouteOf ask.route made.route → made.start ≡ ask.start → made.rows ≡ ask.rows
+    → HaveCriterion ask.queries (criterion_of made.query) → IsRouteOf ask.route made.route → made.start ≡ ask.start → made.rows ≡ ask.rows
     → SearchesBuckets layout old.view new.view made (Ok page) → body ≡ select_text page.found ask.start (map arc_value page.docs)
     → AnswersOfBuckets unread layout (select ask) old new (replied (record { status = 200; body = body }))
 searched layout ask made old new page body asks route start rows is text =

@@ -9,7 +9,7 @@ use Rattle.sc_model.specs.Replies.{text_of}
 use Rattle.sc_seen.specs.Seen.{Layout}
 use Rattle.sc_journal.proofs.ListLemmas.{split_last}
 use Rattle.sc_collection.specs.Kept.{are_enough}
-use Rattle.sc_session.specs.Answers.{Answer, replied, ran_out, reply_of}
+use Rattle.sc_session.specs.Answers.{Answer, replied, ran_out, written_reply}
 use Rattle.sc_session.specs.Connection.{Exchange, StaysOpen, texts_of, end_after, end_at}
 use Rattle.sc_session.specs.Requests.{asked}
 use Rattle.sc_session.specs.States.{ConnectionState, CountsFault, world_of}
@@ -19,8 +19,8 @@ use Rattle.sc_session.specs.declared.end.End.{End}
 use Rattle.sc_session.specs.declared.end.End.TheVariants as ends
 use Rattle.sc_session.proofs.OpenLemmas.{IsOpen, HasRead, without_source, traces_after, end_same, read_after, reads_more, writes_then}
 
-texts_of-push : (exchanges : List Exchange) (x : Exchange) → texts_of (exchanges ++ x ∷ []) ≡ texts_of exchanges ++ text_of (reply_of x.answer) false
-texts_of-push exchanges x = flat_map-append (λ (y : Exchange). text_of (reply_of y.answer) false) exchanges (x ∷ []) ∙ ap (λ (bytes : List ℕ). texts_of exchanges ++ bytes) (append-nil (text_of (reply_of x.answer) false))
+texts_of-push : (exchanges : List Exchange) (x : Exchange) → texts_of (exchanges ++ x ∷ []) ≡ texts_of exchanges ++ text_of (written_reply x.answer) false
+texts_of-push exchanges x = flat_map-append (λ (y : Exchange). text_of (written_reply y.answer) false) exchanges (x ∷ []) ∙ ap (λ (bytes : List ℕ). texts_of exchanges ++ bytes) (append-nil (text_of (written_reply x.answer) false))
 
 -- where each exchange leaves the connection open and one more does, all do
 stays_more : (exchanges : List Exchange) (x : Exchange) → StaysOpen exchanges → end_at exchanges x ≡ None → StaysOpen (exchanges ++ x ∷ [])
@@ -52,15 +52,15 @@ open_more {C} gives layout before now then held next request open_ step reports 
       more = not_full step.exchange.answer step.exchange.request.close (are_enough then.requests (length then.moment.view.stops)) (sym went.0);
       read = reads before.unread (read_after gives layout before now then held next request None open_ step reports message);
       wrote = subst (λ (text : List ℕ). Writes text before.written then.written) (sym (texts_of-push open_.exchanges step.exchange))
-          (writes_then (texts_of open_.exchanges) (text_of (reply_of step.exchange.answer) false) before.written now.written then.written open_.wrote went.1);
+          (writes_then (texts_of open_.exchanges) (text_of (written_reply step.exchange.answer) false) before.written now.written then.written open_.wrote went.1);
       read_faults = steady ∙ open_.read_faults;
       write_faults = step.write_faults.stays (λ fault. absurd (cc)) ∙ open_.write_faults;
     }
   where
     -- its reply was written, and the connection stays open
-    went : (None ≡ end_by step.exchange (without_source then)) × Writes (text_of (reply_of step.exchange.answer) false) now.written then.written
+    went : (None ≡ end_by step.exchange (without_source then)) × Writes (text_of (written_reply step.exchange.answer) false) now.written then.written
     went = elim step.responds [
-      | inl whole ↦ (whole.0, subst (λ (end : Option End). Writes (text_of (reply_of step.exchange.answer) (is_some end)) now.written then.written) (sym whole.0) whole.1)
+      | inl whole ↦ (whole.0, subst (λ (end : Option End). Writes (text_of (written_reply step.exchange.answer) (is_some end)) now.written then.written) (sym whole.0) whole.1)
       | inr part ↦ (let fault : None ≡ Some ends.WriteFault = part.0 in absurd (cc))
     ]
 
@@ -78,7 +78,7 @@ open_more {C} gives layout before now then held next request open_ step reports 
 pub exchanged : {C : Type 0} (gives : C → ℕ → C → Type 0) (layout : Layout) (request : Incoming) (old new : ConnectionState C) (answer : Answer) (end expected : Option End)
     → AnswersAsked gives layout (asked request) (world_of old) (world_of new) answer → new.requests ≡ old.requests + 1
     → expected ≡ end_after answer request.close (are_enough new.requests (length new.moment.view.stops))
-    → Responds end expected (reply_of answer) old.written new.written
+    → Responds end expected (written_reply answer) old.written new.written
     → CountsFault (end ≡ Some ends.WriteFault) old.write_faults new.write_faults
     → Exchanges gives layout request old new end
 exchanged gives layout request old new answer end expected answers count is responds faults = record {
@@ -91,6 +91,6 @@ exchanged gives layout request old new answer end expected answers count is resp
   stops = answers.kept;
   requests = count;
   timestamps = answers.given;
-  responds = subst (λ (e : Option End). Responds end e (reply_of answer) old.written new.written) is responds;
+  responds = subst (λ (e : Option End). Responds end e (written_reply answer) old.written new.written) is responds;
   write_faults = faults;
 }

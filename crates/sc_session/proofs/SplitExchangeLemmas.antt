@@ -13,7 +13,7 @@ use Rattle.sc_seen.proofs.ExtendsLemmas.{IsPrefix-length, entries-bucket}
 use Rattle.sc_admin.specs.Commands.{split, status, delete}
 use Rattle.sc_admin.specs.Deletes.{DeleteCourse}
 use Rattle.sc_admin.specs.declared.deleting.DeleteEnd.{DeleteEnd}
-use Rattle.sc_board.specs.Splits.{Asked, asked_for}
+use Rattle.sc_board.specs.Splits.{AskedSplit, asked_for}
 use Rattle.sc_cores.specs.Cores.{Outside}
 use Rattle.sc_seen.specs.Moments.{view_of}
 use Rattle.sc_seen.specs.Seen.{Layout, Seen, Extends, EndAtLast, SeesMore, FromNowOn, IsStopWithin, ComeInOrder, place_after, journal_at, stops_at, entries_at}
@@ -30,7 +30,7 @@ use Rattle.sc_session.specs.Connection.{Exchange, situation_after, IsExchange, A
 use Rattle.sc_session.specs.States.{ConnectionState, world_of, situation_in}
 use Rattle.sc_session.specs.Served.{IsServed}
 use Rattle.sc_session.specs.declared.end.End.{End}
-use Rattle.sc_session.specs.SplitLaws.{ComesBetween, Switches, ConnectionsSplit, LooksAreAround}
+use Rattle.sc_session.specs.SplitLaws.{ComesBetween, SwitchesBetween, ConnectionsSplit, LooksAreAround}
 use Rattle.sc_session.proofs.SplitPlaceLemmas.{done_splits_switch}
 
 -- the cause of an answer does not depend on the stops that were kept
@@ -51,23 +51,23 @@ cause_by_seen layout (given_up plan recovered) old seen outside one other ends.B
 cause_by_seen layout (given_up plan recovered) old seen outside one other ends.TooManySlices cause = absurd cause
 
 -- the command was a split that went so
-abbrev CameTo : CommandEnd → Asked → Stop → Course → SplitEnd → Type 0
+abbrev CameTo : CommandEnd → AskedSplit → Stop → Course → SplitEnd → Type 0
 CameTo came asked first course end = came ≡ split_ended asked first course end
 
 -- a command's end is that of no other
-not_none : (asked : Asked) (first : Stop) (course : Course) (end : SplitEnd) → CameTo no_command asked first course end → ⊥
+not_none : (asked : AskedSplit) (first : Stop) (course : Course) (end : SplitEnd) → CameTo no_command asked first course end → ⊥
 not_none asked first course end same = cc
 
-not_deleted : (shard : List ℕ) (stop : Stop) (how : DeleteCourse) (deleted : DeleteEnd) (asked : Asked) (first : Stop) (course : Course) (end : SplitEnd)
+not_deleted : (shard : List ℕ) (stop : Stop) (how : DeleteCourse) (deleted : DeleteEnd) (asked : AskedSplit) (first : Stop) (course : Course) (end : SplitEnd)
     → CameTo (delete_ended shard stop how deleted) asked first course end → ⊥
 not_deleted shard stop how deleted asked first course end same = cc
 
 -- a split's stops, and what it was answered
-record AnswersSplit (layout : Layout) (seen : Seen) (trace : Trace) (asked : Asked) (first : Stop) (course : Course) (end : SplitEnd) : Type 0 where
+record AnswersSplit (layout : Layout) (seen : Seen) (trace : Trace) (asked : AskedSplit) (first : Stop) (course : Course) (end : SplitEnd) : Type 0 where
   stops_are : trace.stops ≡ split_stops first course
   answered : IsAnswered layout seen asked first course end
 
-module _ (layout : Layout) (seen : Seen) (trace : Trace) (asked : Asked) (first : Stop) (course : Course) (end : SplitEnd)
+module _ (layout : Layout) (seen : Seen) (trace : Trace) (asked : AskedSplit) (first : Stop) (course : Course) (end : SplitEnd)
     (came : CameTo trace.command asked first course end) where
   -- a trace that is another's is none
   no_split : (other : Trace) → other.command ≡ no_command → trace ≡ other → AnswersSplit layout seen trace asked first course end
@@ -91,7 +91,7 @@ module _ (layout : Layout) (seen : Seen) (trace : Trace) (asked : Asked) (first 
         record {
           stops_are = ap (λ (t : Trace). t.stops) is.trace_is ∙ ap (λ (f : Stop). split_stops f is.course) first_same
               ∙ ap (split_stops first) course_same;
-          answered = subst (λ (a : Asked). IsAnswered layout seen a first course end) asked_same
+          answered = subst (λ (a : AskedSplit). IsAnswered layout seen a first course end) asked_same
               (subst (λ (f : Stop). IsAnswered layout seen (asked_for shard is.cut) f course end) first_same
               (subst (λ (c : Course). IsAnswered layout seen (asked_for shard is.cut) is.first c end) course_same
               (subst (λ (e : SplitEnd). IsAnswered layout seen (asked_for shard is.cut) is.first is.course e) end_same is.answered)));
@@ -124,7 +124,7 @@ module _ (layout : Layout) (seen : Seen) (trace : Trace) (asked : Asked) (first 
       (sym (ap (λ (t : Trace). t.command) is.1.trace_is) ∙ came))
 
 -- an exchange whose command was a split is one
-is_split : (layout : Layout) (old : Situation) (x : Exchange) (wanted : Asked) (first : Stop) (course : Course) (end : SplitEnd)
+is_split : (layout : Layout) (old : Situation) (x : Exchange) (wanted : AskedSplit) (first : Stop) (course : Course) (end : SplitEnd)
     → IsExchange layout old.seen x → Leaves layout x.trace.stops x.trace.command old (situation_after x)
     → CameTo x.trace.command wanted first course end
     → IsSplit layout wanted (moment_at old) (split_moment (view_of x.seen x.trace.stops) x.outside) end
@@ -188,7 +188,7 @@ parts layout old (y ∷ earlier) x further new are =
     record { before = rest.before; prior = (are.0, rest.prior); is = rest.is; later = rest.later }
 
 module _ {C : Type 0} (gives : C → ℕ → C → Type 0) (layout : Layout) (before after : ConnectionState C) (end : End)
-    (earlier further : List Exchange) (x : Exchange) (wanted : Asked) (first : Stop) (course : Course) (split_end : SplitEnd)
+    (earlier further : List Exchange) (x : Exchange) (wanted : AskedSplit) (first : Stop) (course : Course) (split_end : SplitEnd)
     (served : IsServed gives layout before after end) (is : served.exchanges ++ exchanges_of served.last ≡ earlier ++ x ∷ further)
     (came : CameTo x.trace.command wanted first course split_end) where
   comes : ComesIn layout (situation_in (world_of before)) earlier x further after.moment.view.seen
@@ -264,7 +264,7 @@ looks_are_around gives layout before after end earlier between further rest read
         × ((comes_split gives layout before after end (earlier ++ reading ∷ between) (further ++ again ∷ rest) x wanted first course
         (ends.Done subs commits) served order came).course ≡ done plan answers)
         × (subs ≡ map (λ (sub : SubSlice). sub.name) plan.subs)
-        × ((lock : ℕ) → lock < layout.buckets → Switches plan (one_split.before.seen.journals lock) (x.seen.journals lock))
+        × ((lock : ℕ) → lock < layout.buckets → SwitchesBetween plan (one_split.before.seen.journals lock) (x.seen.journals lock))
     switches = done_splits_switch layout wanted (moment_at one_split.before) (split_moment (view_of x.seen x.trace.stops) x.outside) subs commits
         (comes_split gives layout before after end (earlier ++ reading ∷ between) (further ++ again ∷ rest) x wanted first course
         (ends.Done subs commits) served order came)
@@ -286,7 +286,7 @@ looks_are_around gives layout before after end earlier between further rest read
         (omega (arith, its.not_seen, seen_before, look_within layout reads.before reading one reads.is looked below))
         (omega (arith, within, seen_again, after_it)))
       where
-        its : Switches switches.0 (one_split.before.seen.journals one.lock) (x.seen.journals one.lock)
+        its : SwitchesBetween switches.0 (one_split.before.seen.journals one.lock) (x.seen.journals one.lock)
         its = switches.4 one.lock below
 
         within : its.switched < length (x.seen.journals one.lock)

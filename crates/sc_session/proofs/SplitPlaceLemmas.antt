@@ -11,14 +11,14 @@ use Rattle.sc_seen.specs.Seen.{Layout, Seen}
 use Rattle.sc_seen.specs.Commits.{CommitAnswer}
 use Rattle.sc_seen.specs.declared.stop.Stop.{Stop}
 use Rattle.sc_seen.proofs.GoesOnLemmas.{SeesMore-self}
-use Rattle.sc_board.specs.Splits.{Asked}
+use Rattle.sc_board.specs.Splits.{AskedSplit}
 use Rattle.sc_board.specs.declared.fault.BoardFault.{BoardFault}
 use Rattle.sc_board.specs.declared.fault.BoardFault.TheVariants as faults
 use Rattle.sc_collection.specs.declared.commits.Commits.{Commits}
 use Rattle.sc_split.specs.declared.end.SplitEnd.{SplitEnd}
 use Rattle.sc_split.specs.declared.end.SplitEnd.TheVariants as ends
 use Rattle.sc_split.specs.Splits.{SplitMoment, Course, refused, given_up, done, IsSwitchedIn, is_of_split, refusal, HasCause, IsAnswered, LeavesBuckets}
-use Rattle.sc_session.specs.SplitLaws.{ComesBetween, Switches, DoneSplitsSwitch}
+use Rattle.sc_session.specs.SplitLaws.{ComesBetween, SwitchesBetween, DoneSplitsSwitch}
 use Rattle.sc_session.specs.SplitRefusalLaws.{is_done}
 
 -- an element, with what comes before it, of which the test finds none, and what comes after it
@@ -95,7 +95,7 @@ module _ (plan : SplitPlan) (before during further : List Entry) where
       ∙ slice_get-append_end (before ++ begun ∷ during) switched further
 
 -- a split that is switched in a journal comes so in it, and in all that goes on from it
-switches : (plan : SplitPlan) (seen journal : List Entry) → IsSwitchedIn plan (length seen) journal → Switches plan seen journal
+switches : (plan : SplitPlan) (seen journal : List Entry) → IsSwitchedIn plan (length seen) journal → SwitchesBetween plan seen journal
 switches plan seen journal (place, rest, begins, grown, found) =
     let parts = find-parts is_of_split rest (entry.Switched plan.parent) found in
     let first : List Entry = begins.before ++ entry.Begun plan.parent plan.subs ∷ parts.0 in
@@ -126,7 +126,7 @@ refused_is_not_done faults.LogFull = refl
 refused_is_not_done faults.Memory = refl
 
 -- a split that did not begin was not done
-pub not_done_unbegun : (layout : Layout) (seen : Seen) (asked : Asked) (first : Stop) (end : SplitEnd) → IsAnswered layout seen asked first refused end
+pub not_done_unbegun : (layout : Layout) (seen : Seen) (asked : AskedSplit) (first : Stop) (end : SplitEnd) → IsAnswered layout seen asked first refused end
     → is_done end ≡ false
 not_done_unbegun layout seen asked first end answered = ap is_done answered.end_is ∙ refused_is_not_done answered.fault
 
@@ -138,7 +138,7 @@ record WentDone (layout : Layout) (old new : Seen) (subs : List (List ℕ)) (cou
   subs_are : subs ≡ map (λ (sub : SubSlice). sub.name) plan.subs
   buckets : LeavesBuckets layout.buckets (done plan answers) old new
 
-went_done : (layout : Layout) (asked : Asked) (old new : SplitMoment) (subs : List (List ℕ)) (commits : Commits) (first : Stop) (course : Course)
+went_done : (layout : Layout) (asked : AskedSplit) (old new : SplitMoment) (subs : List (List ℕ)) (commits : Commits) (first : Stop) (course : Course)
     → IsAnswered layout new.view.seen asked first course (ends.Done subs commits) → HasCause layout course old new (ends.Done subs commits)
     → LeavesBuckets layout.buckets course old.view.seen new.view.seen → WentDone layout old.view.seen new.view.seen subs course
 went_done layout asked old new subs commits first refused answered cause buckets =

@@ -17,10 +17,10 @@ use Rattle.sc_cluster.specs.Changes.{Change}
 use Rattle.sc_cluster.specs.Plans.{IsPlan}
 use Rattle.sc_cluster.specs.Histories.{after_all}
 use Rattle.sc_cluster.proofs.UndoLemmas.{undoes_a_failed_split}
-use Rattle.sc_eval.specs.Conditions.{Condition}
+use Rattle.sc_eval.specs.Criteria.{Criterion}
 use Rattle.sc_journal.specs.Journal.{as_write, writes, last_of}
 use Rattle.sc_journal.specs.Committed.{commits, committed}
-use Rattle.sc_journal.specs.Legal.{MayBegin, MayFollow, IsLegal}
+use Rattle.sc_journal.specs.Legal.{MayBeSplit, MayFollow, IsLegal}
 use Rattle.sc_journal.specs.Splits.{map_change_of, map_after, split_after, open_split}
 use Rattle.sc_journal.proofs.ListLemmas.{append-cons}
 use Rattle.sc_journal.proofs.JournalLemmas.{writes-append}
@@ -34,12 +34,12 @@ use Rattle.sc_seen.specs.declared.board.BoardEntry.TheVariants as board
 use Rattle.sc_seen.specs.declared.stop.Stop.{Stop}
 use Rattle.sc_seen.proofs.BoardLemmas.{failed_leaves_the_map}
 use Rattle.sc_seen.proofs.GoesOnLemmas.{SeesMore-self}
-use Rattle.sc_board.specs.Splits.{Asked}
+use Rattle.sc_board.specs.Splits.{AskedSplit}
 use Rattle.sc_fanout.specs.Searches.{IsFoundIn, IsInRoute}
 use Rattle.sc_split.specs.declared.end.SplitEnd.{SplitEnd}
-use Rattle.sc_split.specs.Splits.{Course, refused, given_up, done, noted_by, BeginsAt, IsFailedIn, is_of_split, IsAnswered, LeavesBuckets, LeavesBoard}
+use Rattle.sc_split.specs.Splits.{Course, refused, given_up, done, noted_by, BeginsAt, IsFailedIfBegun, is_of_split, IsAnswered, LeavesBuckets, LeavesBoard}
 use Rattle.sc_session.specs.Answers.{status_reply}
-use Rattle.sc_session.specs.SplitLaws.{Journals, seen_of, FindsOver}
+use Rattle.sc_session.specs.SplitLaws.{Journals, seen_in_journals, FindsOver}
 use Rattle.sc_session.specs.SplitRefusalLaws.{is_done, IsGivenUpIn, IsWithout, FailsWhereBegun, GoesOnWithout, IsAsIfNotAsked, at_end_of_board, AreAnsweredAlike, RefusedSplitsLeaveNothing}
 use Rattle.sc_session.proofs.SplitJournalLemmas.{writes-without, shown_alike}
 use Rattle.sc_session.proofs.SplitPlaceLemmas.{Parts, find-parts}
@@ -153,7 +153,7 @@ module _ (first : List Slice) (plan : SplitPlan) (seen journal other : List Entr
       legal_begun : IsLegal first (given.earlier ++ begun ∷ given.during)
       legal_begun = IsLegal-prefix first (given.earlier ++ begun ∷ given.during) (failed ∷ given.further) legal_parts
 
-      may : MayBegin first given.earlier plan.parent plan.subs
+      may : MayBeSplit first given.earlier plan.parent plan.subs
       may = legal_begun given.earlier begun given.during refl
 
       nothing : filter_map map_change_of given.during ≡ []
@@ -217,21 +217,21 @@ later_alike first course seen journal later other legal goes =
     (IsLegal-prefix first journal goes.more (subst (IsLegal first) goes.later_is legal)) goes.is)))
 
 -- the same is found of both
-found_alike : (first : List Slice) (one other : List Entry) (condition : Condition) (route : Option Range) (write : Write)
-    → AnswerAlike first one other → IsFoundIn first one condition route write → IsFoundIn first other condition route write
-found_alike first one other condition route write answers found = record {
+found_alike : (first : List Slice) (one other : List Entry) (criterion : Criterion) (route : Option Range) (write : Write)
+    → AnswerAlike first one other → IsFoundIn first one criterion route write → IsFoundIn first other criterion route write
+found_alike first one other criterion route write answers found = record {
   shown = shown_alike one other write (ap (filter (is_of write.id)) answers.alike.committed_are) found.shown;
   matched = found.matched;
   in_route = subst (λ (slices : List Slice). IsInRoute slices route write) answers.slices found.in_route;
 }
 
-finds_alike : (layout : Layout) (one other : Journals) (condition : Condition) (route : Option Range) (write : Write)
+finds_alike : (layout : Layout) (one other : Journals) (criterion : Criterion) (route : Option Range) (write : Write)
     → ((lock : ℕ) → lock < layout.buckets → AnswerAlike layout.first (one lock) (other lock))
-    → FindsOver layout one condition route write → FindsOver layout other condition route write
-finds_alike layout one other condition route write alike finds =
-    let found = found_in layout one condition route write finds in
-    found_over layout other condition route write
-    (found.0, found.1, found_alike layout.first (one found.0) (other found.0) condition route write (alike found.0 found.1) found.2)
+    → FindsOver layout one criterion route write → FindsOver layout other criterion route write
+finds_alike layout one other criterion route write alike finds =
+    let found = found_in layout one criterion route write finds in
+    found_over layout other criterion route write
+    (found.0, found.1, found_alike layout.first (one found.0) (other found.0) criterion route write (alike found.0 found.1) found.2)
 
 -- ---- the board
 board_map-append : (first : List Slice) (entries more : List BoardEntry)
@@ -240,7 +240,7 @@ board_map-append first entries more =
     ap (after_all first) (map-append board_change_of entries more) ∙ after_all-append first (map board_change_of entries) (map board_change_of more)
 
 -- what a split that was refused noted leaves the board's map
-noted_leaves : (layout : Layout) (asked : Asked) (seen : Seen) (first : Stop) (course : Course) (end : SplitEnd) (before : List BoardEntry)
+noted_leaves : (layout : Layout) (asked : AskedSplit) (seen : Seen) (first : Stop) (course : Course) (end : SplitEnd) (before : List BoardEntry)
     → IsAnswered layout seen asked first course end → is_done end ≡ false → before ≡ take first.place seen.board
     → board_map layout.first (before ++ noted_by course) ≡ board_map layout.first before
 noted_leaves layout asked seen first refused end before answered not_done is = ap (board_map layout.first) (append-nil before)
@@ -269,7 +269,7 @@ status_is layout seen =
     ap (λ (entries : List BoardEntry). record { status = 200; body = status_text (board_map layout.first entries) layout.nodes }) all
 
 -- the status is the one without the entries that the split noted
-status_alike : (layout : Layout) (asked : Asked) (old new later other : Seen) (first : Stop) (course : Course) (end : SplitEnd)
+status_alike : (layout : Layout) (asked : AskedSplit) (old new later other : Seen) (first : Stop) (course : Course) (end : SplitEnd)
     → IsAnswered layout new asked first course end → is_done end ≡ false → LeavesBoard layout first course old new
     → IsAsIfNotAsked layout course old new later other
     → status_reply layout later (at_end_of_board layout later) ≡ status_reply layout other (at_end_of_board layout other)
@@ -308,7 +308,7 @@ begins-within (x ∷ xs) (y ∷ ys) zs begins short =
     (rest.0, ap (λ w. w ∷ (xs ++ rest.0)) first ∙ ap (λ (ws : List _). y ∷ ws) rest.1)
 
 -- wherever it began it failed
-failed_where_begun : (plan : SplitPlan) (seen journal : List Entry) → IsPrefix seen journal → IsFailedIn plan (length seen) journal
+failed_where_begun : (plan : SplitPlan) (seen journal : List Entry) → IsPrefix seen journal → IsFailedIfBegun plan (length seen) journal
     → (place : ℕ) (later : List Entry) → BeginsAt plan journal place later → length seen ≤ place
     → (other : List Entry) × IsGivenUpIn plan seen journal other
 failed_where_begun plan seen journal grown fails place later begins after =
@@ -330,7 +330,7 @@ failed_where_begun plan seen journal grown fails place later begins after =
       },
     )
 
-fails_where_begun : (layout : Layout) (asked : Asked) (old new : Seen) (first : Stop) (course : Course) (end : SplitEnd)
+fails_where_begun : (layout : Layout) (asked : AskedSplit) (old new : Seen) (first : Stop) (course : Course) (end : SplitEnd)
     → IsAnswered layout new asked first course end → is_done end ≡ false → LeavesBuckets layout.buckets course old new
     → ((lock : ℕ) → IsPrefix (old.journals lock) (new.journals lock))
     → (lock : ℕ) → lock < layout.buckets → FailsWhereBegun course (old.journals lock) (new.journals lock)
@@ -366,12 +366,12 @@ refused_splits_leave_nothing layout asked old new end split not_done = (
           status = status_alike layout asked old.view.seen new.view.seen later other split.first split.course end now not_done split.board as_if;
           slices = λ lock is_bucket. (alike lock is_bucket).slices;
           gets = λ lock is_bucket id. ap (λ (ws : List Write). last_of (filter (is_of id) ws)) (alike lock is_bucket).alike.writes_are;
-          searches = λ condition route page. (
-            shows_alike layout (seen_of later.journals) (seen_of other.journals) _ _ page
-                (λ write. finds_alike layout later.journals other.journals condition route write alike)
-                (λ write. finds_alike layout other.journals later.journals condition route write back),
-            shows_alike layout (seen_of other.journals) (seen_of later.journals) _ _ page
-                (λ write. finds_alike layout other.journals later.journals condition route write back)
-                (λ write. finds_alike layout later.journals other.journals condition route write alike),
+          searches = λ criterion route page. (
+            shows_alike layout (seen_in_journals later.journals) (seen_in_journals other.journals) _ _ page
+                (λ write. finds_alike layout later.journals other.journals criterion route write alike)
+                (λ write. finds_alike layout other.journals later.journals criterion route write back),
+            shows_alike layout (seen_in_journals other.journals) (seen_in_journals later.journals) _ _ page
+                (λ write. finds_alike layout other.journals later.journals criterion route write back)
+                (λ write. finds_alike layout later.journals other.journals criterion route write alike),
           );
         }

@@ -37,7 +37,7 @@ use Rattle.sc_cluster.proofs.OrderLemmas.{same_from_rising_key}
 use Rattle.sc_cluster.proofs.StateLemmas.{is_other, switched-active, switched-forming}
 use Rattle.sc_journal.specs.Journal.{writes}
 use Rattle.sc_journal.specs.Committed.{committed, IsShown}
-use Rattle.sc_journal.specs.Legal.{MayBegin, MayDrop, MayFollow, IsLegal}
+use Rattle.sc_journal.specs.Legal.{MayBeSplit, MayBeDropped, MayFollow, IsLegal}
 use Rattle.sc_journal.specs.Splits.{map_change_of, map_after}
 use Rattle.sc_journal.proofs.CommittedLemmas.{committed-prefix}
 use Rattle.sc_journal.proofs.JournalLemmas.{last_write_is, writes-append}
@@ -85,7 +85,7 @@ module _ (first : List Slice) (is_map : IsMap first) (idle : forming first ≡ [
   left journal one leaves = subst (λ (slices : List Slice). Leads slices h slice) (sym (map_after-left first journal one leaves))
 
   -- an entry that drops a slice leaves those that are active
-  kept_dropped : (journal : List Entry) (dropped : SliceId) → IsLegal first journal → MayDrop first journal dropped → HasIt journal
+  kept_dropped : (journal : List Entry) (dropped : SliceId) → IsLegal first journal → MayBeDropped first journal dropped → HasIt journal
       → HasIt (journal ++ entry.Dropped dropped ∷ [])
   kept_dropped journal dropped legal may leads =
       subst (λ (slices : List Slice). Leads slices h slice) (sym (map_after-push first journal (entry.Dropped dropped) (Change.Dropped dropped) refl))
@@ -274,7 +274,7 @@ module _ (first : List Slice) (plan : SplitPlan) (before after : List Entry) (h 
   legal_begin : IsLegal first at_begin
   legal_begin = IsLegal-prefix first at_begin (begun ∷ split.during) legal_switch
 
-  may : MayBegin first at_begin plan.parent plan.subs
+  may : MayBeSplit first at_begin plan.parent plan.subs
   may = legal_switch at_begin begun split.during refl
 
   nothing : filter_map map_change_of split.during ≡ []
@@ -314,7 +314,7 @@ module _ (first : List Slice) (plan : SplitPlan) (before after : List Entry) (h 
   follows = record { slice = start.0; later = taken_over.0; was = start.1; is = ends; succeeded = taken_over.2 }
 
 pub routes_follow_the_subs : RoutesFollowTheSubs
-routes_follow_the_subs first plan before after condition write is_map idle legal split others found =
+routes_follow_the_subs first plan before after criterion write is_map idle legal split others found =
     (followed.slice, followed.later, followed.was, followed.is, followed.succeeded, λ route. (meets route, looks route))
   where
     within : IsWithin least_hash greatest_hash write.hash
@@ -323,7 +323,7 @@ routes_follow_the_subs first plan before after condition write is_map idle legal
     followed : Follows first plan before after write.hash
     followed = follows first plan before after write.hash is_map idle legal split others within
 
-    meets : (route : Range) → IsFoundIn first after condition (Some route) write
+    meets : (route : Range) → IsFoundIn first after criterion (Some route) write
         → Meets followed.later.range.min followed.later.range.max route.min route.max
     meets route routed =
         let same : routed.in_route.0 ≡ followed.later =
@@ -332,5 +332,5 @@ routes_follow_the_subs first plan before after condition write is_map idle legal
         subst (λ (slice : Slice). Meets slice.range.min slice.range.max route.min route.max) same routed.in_route.2
 
     looks : (route : Range) → Meets followed.later.range.min followed.later.range.max route.min route.max
-        → IsFoundIn first after condition (Some route) write
+        → IsFoundIn first after criterion (Some route) write
     looks route meet = record { shown = found.shown; matched = found.matched; in_route = (followed.later, followed.is, meet) }

@@ -9,7 +9,7 @@ use Rattle.sc_record.specs.declared.entry.Entry.TheVariants as entry
 use Rattle.sc_cluster.specs.declared.plan.SplitPlan.{SplitPlan}
 use Rattle.sc_cluster.proofs.ListLemmas.{Contains-map}
 use Rattle.sc_cluster.proofs.PairLemmas.{Contains-from_map}
-use Rattle.sc_eval.specs.Conditions.{Condition}
+use Rattle.sc_eval.specs.Criteria.{Criterion}
 use Rattle.sc_journal.specs.Journal.{writes_of}
 use Rattle.sc_journal.specs.Committed.{committed}
 use Rattle.sc_journal.proofs.CommittedLemmas.{committed-push_commit}
@@ -18,7 +18,7 @@ use Rattle.sc_seen.specs.declared.stop.Stop.{Stop}
 use Rattle.sc_seen.proofs.ExtendsLemmas.{IsPrefix-self}
 use Rattle.sc_seen.proofs.GoesOnLemmas.{take-prefix}
 use Rattle.sc_fanout.specs.Searches.{IsFoundIn, IsFoundAtOne, Search, SearchPage, ShowsFound}
-use Rattle.sc_session.specs.SplitLaws.{Journals, seen_of, at_end_of, FindsOver, of_others, ComesBetweenAll, once_committed, SearchesAreOfTheirJournals, SearchesAreOfTheirCommits, SearchesStay, FindingsStay}
+use Rattle.sc_session.specs.SplitLaws.{Journals, seen_in_journals, at_end_of, FindsOver, of_others, ComesBetweenAll, once_committed, SearchesAreOfTheirJournals, SearchesAreOfTheirCommits, SearchesStay, FindingsStay}
 use Rattle.sc_session.proofs.SplitJournalLemmas.{same_committed, shown_alike}
 
 -- a number of a range
@@ -50,29 +50,29 @@ has-lock n lock below =
     subst (Contains (range_with_len 0 n)) same (range-has 0 n lock below)
 
 -- a bucket in whose journal the write is found
-abbrev pub IsFoundInOne : Layout → Journals → Condition → Option Range → Write → Type 0
-IsFoundInOne layout journals condition route write =
-    (lock : ℕ) × (lock < layout.buckets) × IsFoundIn layout.first (journals lock) condition route write
+abbrev pub IsFoundInOne : Layout → Journals → Criterion → Option Range → Write → Type 0
+IsFoundInOne layout journals criterion route write =
+    (lock : ℕ) × (lock < layout.buckets) × IsFoundIn layout.first (journals lock) criterion route write
 
-module _ (layout : Layout) (journals : Journals) (condition : Condition) (route : Option Range) where
+module _ (layout : Layout) (journals : Journals) (criterion : Criterion) (route : Option Range) where
   -- a look at the end of a journal sees all of it
-  whole : (lock : ℕ) → journal_at (seen_of journals) (at_end_of journals lock) ≡ journals lock
+  whole : (lock : ℕ) → journal_at (seen_in_journals journals) (at_end_of journals lock) ≡ journals lock
   whole lock = take-prefix (journals lock) (journals lock) (IsPrefix-self (journals lock))
 
-  pub found_in : (write : Write) → FindsOver layout journals condition route write → IsFoundInOne layout journals condition route write
+  pub found_in : (write : Write) → FindsOver layout journals criterion route write → IsFoundInOne layout journals criterion route write
   found_in write finds =
       let look = Contains-from_map (at_end_of journals) (range_with_len 0 layout.buckets) finds.0 finds.1 in (
         look.0,
         below-range layout.buckets look.0 look.1,
-        subst (λ (j : List Entry). IsFoundIn layout.first j condition route write) (whole look.0)
-            (subst (λ (stop : Stop). IsFoundIn layout.first (journal_at (seen_of journals) stop) condition route write) (sym look.2) finds.2),
+        subst (λ (j : List Entry). IsFoundIn layout.first j criterion route write) (whole look.0)
+            (subst (λ (stop : Stop). IsFoundIn layout.first (journal_at (seen_in_journals journals) stop) criterion route write) (sym look.2) finds.2),
       )
 
-  pub found_over : (write : Write) → IsFoundInOne layout journals condition route write → FindsOver layout journals condition route write
+  pub found_over : (write : Write) → IsFoundInOne layout journals criterion route write → FindsOver layout journals criterion route write
   found_over write found = (
     at_end_of journals found.0,
     Contains-map (at_end_of journals) (range_with_len 0 layout.buckets) found.0 (has-lock layout.buckets found.0 found.1),
-    subst (λ (j : List Entry). IsFoundIn layout.first j condition route write) (sym (whole found.0)) found.2,
+    subst (λ (j : List Entry). IsFoundIn layout.first j criterion route write) (sym (whole found.0)) found.2,
   )
 
 -- a search shows what another shows that finds the same
@@ -95,30 +95,30 @@ shows_alike layout seen other one two page to from shows = record {
 
 pub searches_are_of_their_journals : SearchesAreOfTheirJournals
 searches_are_of_their_journals layout seen search journals page looks same = (
-  shows_alike layout seen (seen_of journals) search _ page to from,
-  shows_alike layout (seen_of journals) seen _ search page from to,
+  shows_alike layout seen (seen_in_journals journals) search _ page to from,
+  shows_alike layout (seen_in_journals journals) seen _ search page from to,
 )
   where
-    to : (write : Write) → IsFoundAtOne layout seen search write → FindsOver layout journals search.condition search.route write
+    to : (write : Write) → IsFoundAtOne layout seen search write → FindsOver layout journals search.criterion search.route write
     to write found =
         let there : Contains (map (λ (stop : Stop). stop.lock) search.stops) found.0.lock =
         Contains-map (λ (stop : Stop). stop.lock) search.stops found.0 found.1 in
-        found_over layout journals search.condition search.route write (
+        found_over layout journals search.criterion search.route write (
           found.0.lock,
           below-range layout.buckets found.0.lock (subst (λ (locks : List ℕ). Contains locks found.0.lock) looks.locks there),
-          subst (λ (j : List Entry). IsFoundIn layout.first j search.condition search.route write) (same found.0 found.1) found.2,
+          subst (λ (j : List Entry). IsFoundIn layout.first j search.criterion search.route write) (same found.0 found.1) found.2,
         )
 
-    from : (write : Write) → FindsOver layout journals search.condition search.route write → IsFoundAtOne layout seen search write
+    from : (write : Write) → FindsOver layout journals search.criterion search.route write → IsFoundAtOne layout seen search write
     from write finds =
-        let found = found_in layout journals search.condition search.route write finds in
+        let found = found_in layout journals search.criterion search.route write finds in
         let there : Contains (map (λ (stop : Stop). stop.lock) search.stops) found.0 =
         subst (λ (locks : List ℕ). Contains locks found.0) (sym looks.locks) (has-lock layout.buckets found.0 found.1) in
         let look = Contains-from_map (λ (stop : Stop). stop.lock) search.stops found.0 there in (
           look.0,
           look.1,
-          subst (λ (j : List Entry). IsFoundIn layout.first j search.condition search.route write) (sym (same look.0 look.1))
-              (subst (λ (lock : ℕ). IsFoundIn layout.first (journals lock) search.condition search.route write) (sym look.2) found.2),
+          subst (λ (j : List Entry). IsFoundIn layout.first j search.criterion search.route write) (sym (same look.0 look.1))
+              (subst (λ (lock : ℕ). IsFoundIn layout.first (journals lock) search.criterion search.route write) (sym look.2) found.2),
         )
 
 -- ---- over a commit
@@ -130,11 +130,11 @@ committed_again journal = committed-push_commit (committed journal) entry.Commit
 abbrev again : Journals → Journals
 again journals = once_committed (λ (lock : ℕ). committed (journals lock))
 
-module _ (layout : Layout) (journals : Journals) (condition : Condition) (write : Write) where
-  found_again : FindsOver layout journals condition None write → FindsOver layout (again journals) condition None write
+module _ (layout : Layout) (journals : Journals) (criterion : Criterion) (write : Write) where
+  found_again : FindsOver layout journals criterion None write → FindsOver layout (again journals) criterion None write
   found_again finds =
-      let found = found_in layout journals condition None write finds in
-      found_over layout (again journals) condition None write (
+      let found = found_in layout journals criterion None write finds in
+      found_over layout (again journals) criterion None write (
         found.0,
         found.1,
         record {
@@ -145,10 +145,10 @@ module _ (layout : Layout) (journals : Journals) (condition : Condition) (write 
         },
       )
 
-  found_first : FindsOver layout (again journals) condition None write → FindsOver layout journals condition None write
+  found_first : FindsOver layout (again journals) criterion None write → FindsOver layout journals criterion None write
   found_first finds =
-      let found = found_in layout (again journals) condition None write finds in
-      found_over layout journals condition None write (
+      let found = found_in layout (again journals) criterion None write finds in
+      found_over layout journals criterion None write (
         found.0,
         found.1,
         record {
@@ -160,21 +160,21 @@ module _ (layout : Layout) (journals : Journals) (condition : Condition) (write 
       )
 
 pub searches_are_of_their_commits : SearchesAreOfTheirCommits
-searches_are_of_their_commits layout journals condition page = (
-  shows_alike layout (seen_of journals) (seen_of (again journals)) _ _ page
-      (found_again layout journals condition) (found_first layout journals condition),
-  shows_alike layout (seen_of (again journals)) (seen_of journals) _ _ page
-      (found_first layout journals condition) (found_again layout journals condition),
+searches_are_of_their_commits layout journals criterion page = (
+  shows_alike layout (seen_in_journals journals) (seen_in_journals (again journals)) _ _ page
+      (found_again layout journals criterion) (found_first layout journals criterion),
+  shows_alike layout (seen_in_journals (again journals)) (seen_in_journals journals) _ _ page
+      (found_first layout journals criterion) (found_again layout journals criterion),
 )
 
 -- ---- over a split that was done
-module _ (layout : Layout) (plan : SplitPlan) (before after : Journals) (condition : Condition) (write : Write)
+module _ (layout : Layout) (plan : SplitPlan) (before after : Journals) (criterion : Criterion) (write : Write)
     (split : ComesBetweenAll layout.buckets plan before after)
     (none : (lock : ℕ) → (is_bucket : lock < layout.buckets) → writes_of (of_others (split lock is_bucket)) write.id ≡ []) where
-  stays_found : FindsOver layout after condition None write → FindsOver layout (once_committed before) condition None write
+  stays_found : FindsOver layout after criterion None write → FindsOver layout (once_committed before) criterion None write
   stays_found finds =
-      let found = found_in layout after condition None write finds in
-      found_over layout (once_committed before) condition None write (
+      let found = found_in layout after criterion None write finds in
+      found_over layout (once_committed before) criterion None write (
         found.0,
         found.1,
         record {
@@ -185,10 +185,10 @@ module _ (layout : Layout) (plan : SplitPlan) (before after : Journals) (conditi
         },
       )
 
-  found_since : FindsOver layout (once_committed before) condition None write → FindsOver layout after condition None write
+  found_since : FindsOver layout (once_committed before) criterion None write → FindsOver layout after criterion None write
   found_since finds =
-      let found = found_in layout (once_committed before) condition None write finds in
-      found_over layout after condition None write (
+      let found = found_in layout (once_committed before) criterion None write finds in
+      found_over layout after criterion None write (
         found.0,
         found.1,
         record {
@@ -200,15 +200,15 @@ module _ (layout : Layout) (plan : SplitPlan) (before after : Journals) (conditi
       )
 
 pub findings_stay : FindingsStay
-findings_stay layout plan before after condition write split none =
-    (stays_found layout plan before after condition write split none, found_since layout plan before after condition write split none)
+findings_stay layout plan before after criterion write split none =
+    (stays_found layout plan before after criterion write split none, found_since layout plan before after criterion write split none)
 
 pub searches_stay : SearchesStay
-searches_stay layout plan before after condition page split none = (
-  shows_alike layout (seen_of after) (seen_of (once_committed before)) _ _ page (λ write. (findings_stay layout plan before after condition write split (of_id write)).0)
-      (λ write. (findings_stay layout plan before after condition write split (of_id write)).1),
-  shows_alike layout (seen_of (once_committed before)) (seen_of after) _ _ page (λ write. (findings_stay layout plan before after condition write split (of_id write)).1)
-      (λ write. (findings_stay layout plan before after condition write split (of_id write)).0),
+searches_stay layout plan before after criterion page split none = (
+  shows_alike layout (seen_in_journals after) (seen_in_journals (once_committed before)) _ _ page (λ write. (findings_stay layout plan before after criterion write split (of_id write)).0)
+      (λ write. (findings_stay layout plan before after criterion write split (of_id write)).1),
+  shows_alike layout (seen_in_journals (once_committed before)) (seen_in_journals after) _ _ page (λ write. (findings_stay layout plan before after criterion write split (of_id write)).1)
+      (λ write. (findings_stay layout plan before after criterion write split (of_id write)).0),
 )
   where
     of_id : (write : Write) (lock : ℕ) → (is_bucket : lock < layout.buckets) → writes_of (of_others (split lock is_bucket)) write.id ≡ []

@@ -24,7 +24,7 @@ use Rattle.std.proofs.lemmas.Option.{slice_get_within}
 use Rattle.sc_journal.proofs.ListLemmas.{last_of_cases, slice_get-append_end}
 use Rattle.sc_seen.proofs.GoesOnLemmas.{SeesMore-self}
 use Rattle.sc_update.specs.Updated as updates
-use Rattle.sc_update.specs.Updated.{UpdateEnd, finished, Shows, OrdersEnd, IsUpdated, Reports, reported}
+use Rattle.sc_update.specs.Updated.{UpdateEnd, finished, Shows, OrdersEnd, IsUpdated, ReportsEnd, reported}
 use Rattle.sc_update.specs.declared.end.BatchEnd.{BatchEnd}
 use Rattle.sc_update.specs.declared.end.BatchFault.{BatchFault}
 use Rattle.sc_update.specs.declared.end.BatchFault.TheVariants as reports
@@ -103,15 +103,15 @@ of_order gives layout batch old new end updated =
 
 -- a reply to what is reported is the answer by the orders and the commits
 answer_is : (batch : Batch) (answers : List OrderAnswer) (how : UpdateEnd) (end : BatchEnd) (reply : Reply) → OrdersEnd batch answers how
-    → IsPrefix (map order_of answers) batch.orders → Reports batch answers how end → IsReplyTo batch end reply
+    → IsPrefix (map order_of answers) batch.orders → ReportsEnd batch answers how end → IsReplyTo batch end reply
     → update_answer batch.flags.versions answers how ≡ replied (reply_of reply)
 answer_is batch answers how end reply orders prefix says is = by how orders says.fault is where
   -- a refusal, where what is reported is this fault and the fault is for this reason
   refuses : (refusal : refusals.Refusal)
-      → reply_of reply ≡ record { status = refusals.status_of refusal; body = error_text (refusals.status_of refusal) (refusals.message_of refusal) end.adds end.deletes batch.flags.versions }
+      → reply_of reply ≡ record { status = refusals.refusal_status refusal; body = error_text (refusals.refusal_status refusal) (refusals.message_of refusal) end.adds end.deletes batch.flags.versions }
       → replied (refusal_after batch.flags.versions answers refusal) ≡ replied (reply_of reply)
-  refuses refusal is = ap replied (sym (is ∙ ap (λ (text : List ℕ). record { status = refusals.status_of refusal; body = text })
-      (refused_same batch.flags.versions (refusals.status_of refusal) (refusals.message_of refusal) answers end says.shown)))
+  refuses refusal is = ap replied (sym (is ∙ ap (λ (text : List ℕ). record { status = refusals.refusal_status refusal; body = text })
+      (refused_same batch.flags.versions (refusals.refusal_status refusal) (refusals.message_of refusal) answers end says.shown)))
 
   -- what is replied to an update that reports this
   here : (fault : Option BatchFault) → end.fault ≡ fault → IsReplyTo batch end reply → IsReplyTo batch (record { adds = end.adds; deletes = end.deletes; fault = fault }) reply
@@ -151,7 +151,7 @@ answer_is batch answers how end reply orders prefix says is = by how orders says
 -- a refusal is the reply to what is reported, but for want of memory
 pub refused_reply : (batch : Batch) (end : BatchEnd) (fault : BatchFault) (refusal : refusals.Refusal) (reply : Result Reply AllocError)
     → end.fault ≡ Some fault → fault ≢ reports.Memory → RefusesFor batch fault refusal
-    → IfOk reply (λ reply. reply_of reply ≡ record { status = refusals.status_of refusal; body = error_text (refusals.status_of refusal) (refusals.message_of refusal) end.adds end.deletes batch.flags.versions })
+    → IfOk reply (λ reply. reply_of reply ≡ record { status = refusals.refusal_status refusal; body = error_text (refusals.refusal_status refusal) (refusals.message_of refusal) end.adds end.deletes batch.flags.versions })
     → IfOk reply (IsReplyTo batch end)
 refused_reply batch end fault refusal (Err e) same apart why is = tt
 refused_reply batch end fault refusal (Ok reply) same apart why is =

@@ -11,7 +11,7 @@ use Rattle.sc_collection.specs.Kept.{Kept}
 use Rattle.sc_session.specs.Listening.{GivesFirst, nothing_kept}
 use Rattle.sc_session.specs.Served.{IsServed}
 use Rattle.sc_session.specs.States.{CountsFault}
-use Rattle.sc_session.specs.Working.{Setting, Surroundings, ServedLink, WorkState, HasWorkEnd, IsWorked, IsLinkServed, AreServed, over_link, stops_of_links}
+use Rattle.sc_session.specs.Working.{LinkSetting, Surroundings, ServedLink, WorkState, HasWorkEnd, IsWorked, IsLinkServed, AreServed, over_link, stops_of_links}
 use Rattle.sc_session.specs.declared.listener.Link.{Link}
 use Rattle.sc_session.specs.declared.listener.Taken.{Taken}
 use Rattle.sc_session.specs.declared.worker.WorkEnd.{WorkEnd}
@@ -28,7 +28,7 @@ work_state seen clock outside coming taken faults out = record {
 }
 
 -- the setting of a worker, by these
-abbrev pub setting : {S W : Type 0} → Layout → (S → Option (List ℕ)) → (S → ℕ) → (W → Option (List ℕ)) → (W → ℕ) → Setting S W
+abbrev pub setting : {S W : Type 0} → Layout → (S → Option (List ℕ)) → (S → ℕ) → (W → Option (List ℕ)) → (W → ℕ) → LinkSetting S W
 setting layout rest read_faults written write_faults = record {
   layout = layout;
   rest = rest;
@@ -76,7 +76,7 @@ none_after : {A : Type 0} (old between new : Option (List A)) (xs : List A) → 
 none_after None between new xs one two = tt
 none_after {A} (Some links) between new xs one two = subst (λ (o : Option (List A)). IfSome o (λ all. new ≡ Some [])) one.2 two
 
-served_then : {C S W : Type 0} (gives : C → ℕ → C → Type 0) (told : Setting S W) (before between after : Surroundings C) (xs ys : List (ServedLink C S W))
+served_then : {C S W : Type 0} (gives : C → ℕ → C → Type 0) (told : LinkSetting S W) (before between after : Surroundings C) (xs ys : List (ServedLink C S W))
     → AreServed gives told before xs between → AreServed gives told between ys after → AreServed gives told before (xs ++ ys) after
 served_then {C} gives told before between after [] ys one two =
     subst (λ (around : Surroundings C). AreServed gives told around ys after) one two
@@ -95,7 +95,7 @@ comes_same None new same = tt
 comes_same (Some all) new same = same
 
 -- no link was given
-pub worked_none : {C S W : Type 0} (gives : C → ℕ → C → Type 0) (told : Setting S W) (most : ℕ) (before after : WorkState C S W) (end : WorkEnd)
+pub worked_none : {C S W : Type 0} (gives : C → ℕ → C → Type 0) (told : LinkSetting S W) (most : ℕ) (before after : WorkState C S W) (end : WorkEnd)
     → after.around ≡ before.around → IfSome before.coming (λ all. after.coming ≡ Some all) → after.taken ≡ before.taken
     → after.out ≡ before.out → HasWorkEnd most 0 before after end → IsWorked gives told most before after end
 worked_none {C} gives told most before after end around coming taken out has = record {
@@ -110,21 +110,21 @@ worked_none {C} gives told most before after end around coming taken out has = r
 }
 
 -- the stops of a link's connection are those by which what was seen went on
-link_extends : {C S W : Type 0} (gives : C → ℕ → C → Type 0) (told : Setting S W) (before : Surroundings C) (x : ServedLink C S W)
+link_extends : {C S W : Type 0} (gives : C → ℕ → C → Type 0) (told : LinkSetting S W) (before : Surroundings C) (x : ServedLink C S W)
     → IsLinkServed gives told before x → Extends told.layout before.seen x.after.seen (stops_of_links (x ∷ []))
 link_extends gives told before x served =
     subst (λ (stops : List Stop). Extends told.layout before.seen x.after.seen stops)
     (sym served.traces.stops ∙ sym (append-nil x.taken.trail.stops)) served.traces.journals
 
 -- a link that was served from a trail on that is empty
-pub served_from : {C S W : Type 0} (gives : C → ℕ → C → Type 0) (told : Setting S W) (before : Surroundings C) (x : ServedLink C S W) (kept : Kept)
+pub served_from : {C S W : Type 0} (gives : C → ℕ → C → Type 0) (told : LinkSetting S W) (before : Surroundings C) (x : ServedLink C S W) (kept : Kept)
     → kept ≡ nothing_kept → IsServed gives told.layout (over_link told before (record { link = x.given; trail = kept })) (over_link told x.after x.taken) x.end
     → IsLinkServed gives told before x
 served_from gives told before x kept is served =
     subst (λ (k : Kept). IsServed gives told.layout (over_link told before (record { link = x.given; trail = k })) (over_link told x.after x.taken) x.end) is served
 
 -- one link was given, served and taken back
-pub worked_one : {C S W : Type 0} (gives : C → ℕ → C → Type 0) (told : Setting S W) (before after : WorkState C S W) (x : ServedLink C S W)
+pub worked_one : {C S W : Type 0} (gives : C → ℕ → C → Type 0) (told : LinkSetting S W) (before after : WorkState C S W) (x : ServedLink C S W)
     → IsLinkServed gives told before.around x → after.around ≡ x.after
     → IfSome before.coming (λ all. GivesFirst (Some x.given) all after.coming) → TakesBack before.taken after.taken (x.taken ∷ [])
     → after.out ≡ before.out → after.faults ≡ before.faults
@@ -146,7 +146,7 @@ worked_one {C} gives told before after x served around coming taken out faults =
 }
 
 -- so many links were served, and then one more, or there came none
-pub worked_then : {C S W : Type 0} (gives : C → ℕ → C → Type 0) (told : Setting S W) (count most : ℕ) (before now then : WorkState C S W) (end : WorkEnd)
+pub worked_then : {C S W : Type 0} (gives : C → ℕ → C → Type 0) (told : LinkSetting S W) (count most : ℕ) (before now then : WorkState C S W) (end : WorkEnd)
     → count < most → (end ≡ ends.Enough → most ≡ count + 1)
     → IsWorked gives told count before now ends.Enough → IsWorked gives told 1 now then end
     → IsWorked gives told most before then end

@@ -102,8 +102,8 @@ IsReplyTo batch end reply = by_fault end.fault
     by_fault (Some reports.Memory) = ⊥
     by_fault (Some fault) = (refusal : Refusal) × RefusesFor batch fault refusal
         × (reply_of reply ≡ record {
-          status = refusals.status_of refusal;
-          body = error_text (refusals.status_of refusal) (refusals.message_of refusal) end.adds end.deletes batch.flags.versions;
+          status = refusals.refusal_status refusal;
+          body = error_text (refusals.refusal_status refusal) (refusals.message_of refusal) end.adds end.deletes batch.flags.versions;
         })
 
 -- the answer to queries with this fault, or memory ran out

@@ -29,15 +29,15 @@ use Rattle.sc_update.specs.Updated as updates
 use Rattle.sc_update.specs.Updated.{UpdateEnd, finished, Ends}
 use Rattle.sc_get.specs.Got.{live, ReadsEach, live_writes}
 use Rattle.sc_fanout.specs.Searches.{Search, SearchPage, LooksAtBuckets, ShowsFound}
-use Rattle.sc_session.specs.Queries.{HaveCondition, HaveFault, IsRouteOf}
+use Rattle.sc_session.specs.Queries.{HaveCriterion, HaveFault, IsRouteOf}
 use Rattle.sc_session.specs.Requests.{Asked, Select, refused, update, get, get_ids, select, command}
 use Rattle.sc_session.specs.Commands.{CommandEnd, no_command, split_ended, delete_ended, split_refusal, delete_refusal}
 
 -- a refusal, after these orders were accepted
 abbrev pub refusal_after : Bool → List OrderAnswer → refusals.Refusal → Reply
 refusal_after versions answers refusal = record {
-  status = refusals.status_of refusal;
-  body = error_text (refusals.status_of refusal) (refusals.message_of refusal) (accepted_adds answers) (accepted_deletes answers) versions;
+  status = refusals.refusal_status refusal;
+  body = error_text (refusals.refusal_status refusal) (refusals.message_of refusal) (accepted_adds answers) (accepted_deletes answers) versions;
 }
 
 -- a refusal by the request alone
@@ -83,9 +83,9 @@ pub data Answer : Type 0 where
   ran_out : Answer
 
 -- the reply that is written
-abbrev pub reply_of : Answer → Reply
-reply_of (replied reply) = reply
-reply_of ran_out = memory_reply
+abbrev pub written_reply : Answer → Reply
+written_reply (replied reply) = reply
+written_reply ran_out = memory_reply
 
 -- the answer to an update that was refused for this reason, where there is one; else memory ran out
 abbrev pub refusal_answer : Bool → List OrderAnswer → Option refusals.Refusal → Answer
@@ -135,7 +135,7 @@ split_commits (done plan answers) = answers
 split_commits _ = []
 
 -- what is left of a split that was asked for so, and went so
-abbrev pub split_trace : board.Asked → Stop → Course → SplitEnd → Trace
+abbrev pub split_trace : board.AskedSplit → Stop → Course → SplitEnd → Trace
 split_trace asked first course end = record {
   answers = [];
   commits = split_commits course;
@@ -172,11 +172,11 @@ pub record ReadsIds (layout : Layout) (ids : List (List ℕ)) (trace : Trace) (s
   pub trace_is : trace ≡ read_trace stops
   pub reads : ReadsEach layout ids stops
 
--- The reply to a search that has a condition: the buckets were looked at, and the page is of all that the search finds there.
+-- The reply to a search that has a criterion: the buckets were looked at, and the page is of all that the search finds there.
 pub record IsSelected (layout : Layout) (seen : Seen) (ask : Select) (trace : Trace) (reply : Reply) : Type 0 where
   pub search : Search
   pub page : SearchPage
-  pub asks : HaveCondition ask.queries search.condition
+  pub asks : HaveCriterion ask.queries search.criterion
   pub route_is : IsRouteOf ask.route search.route
   pub trace_is : trace ≡ read_trace search.stops
   pub looks : LooksAtBuckets layout.buckets search.stops

@@ -4,7 +4,7 @@ use Rattle.sc_reply.specs.Refusals as refusals
 use Rattle.sc_record.specs.Orders.{order_limit}
 use Rattle.sc_commands.specs.Updates.{update_of}
 use Rattle.sc_model.specs.declared.message.Param.{Param}
-use Rattle.sc_admin.specs.Commands.{command_of}
+use Rattle.sc_admin.specs.Commands.{admin_command}
 use Rattle.sc_admin.specs.Cuts.{IsCutIfAny}
 use Rattle.sc_session.specs.Requests as asking
 use Rattle.sc_session.specs.declared.asked.Asked.{Asked}
@@ -35,13 +35,13 @@ RefusesSearch params (select_faults.BadParam name) = asking.asked_search params 
 RefusesSearch params select_faults.Memory = ⊤
 
 -- what a request asks for
-abbrev pub asked_of : Asked → asking.Asked
-asked_of (asks.Refused refused) = asking.refused (refused_of refused)
-asked_of (asks.Update batch) = asking.update (update_of batch)
-asked_of (asks.Get id) = asking.get id
-asked_of (asks.GetIds ids) = asking.get_ids ids
-asked_of (asks.Select select) = asking.select (select_of select)
-asked_of (asks.Command admin) = asking.command (command_of admin)
+abbrev pub asked_by_request : Asked → asking.Asked
+asked_by_request (asks.Refused refused) = asking.refused (refused_of refused)
+asked_by_request (asks.Update batch) = asking.update (update_of batch)
+asked_by_request (asks.Get id) = asking.get id
+asked_by_request (asks.GetIds ids) = asking.get_ids ids
+asked_by_request (asks.Select select) = asking.select (select_of select)
+asked_by_request (asks.Command admin) = asking.command (admin_command admin)
 
 -- what was asked for is within its limits: a batch has no more orders than may be, a list of ids no more than may be, a route has a
 -- length that can be hashed, and a split is in 2 to 8 parts

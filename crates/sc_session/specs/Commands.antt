@@ -3,10 +3,10 @@ use Rattle.std.specs.Prelude.{◌≡◌, ◌<◌, ◌≤◌, ℕ, List, [], ◌+
 use Rattle.std.specs.List.{range_with_len}
 use Rattle.sc_reply.specs.Refusals as refusals
 use Rattle.sc_admin.specs.Status.{state_name}
-use Rattle.sc_admin.specs.Deletes.{DeleteCourse, StopsCores, LeavesBucket, noted_by}
+use Rattle.sc_admin.specs.Deletes.{DeleteCourse, StopsCores, LeavesBucket, noted_by_delete}
 use Rattle.sc_admin.specs.declared.deleting.DeleteEnd.{DeleteEnd}
 use Rattle.sc_admin.specs.declared.deleting.DeleteEnd.TheVariants as deletes
-use Rattle.sc_board.specs.Splits.{Asked}
+use Rattle.sc_board.specs.Splits.{AskedSplit}
 use Rattle.sc_cores.specs.Cores.{Outside, CountsGoUp}
 use Rattle.sc_seen.specs.Seen.{Layout, Seen, stops_at}
 use Rattle.sc_seen.specs.Moments.{view_of}
@@ -20,7 +20,7 @@ pub data CommandEnd : Type 0 where
   -- it asked for no such change
   no_command : CommandEnd
   -- a split that was asked for so, by its stop of the board and by how it went from there
-  split_ended : Asked → Stop → Course → SplitEnd → CommandEnd
+  split_ended : AskedSplit → Stop → Course → SplitEnd → CommandEnd
   -- a deletion of the shard of this name, by its stop of the board and by how it went
   delete_ended : List ℕ → Stop → DeleteCourse → DeleteEnd → CommandEnd
 
@@ -78,9 +78,9 @@ pub record LeavesSplit (layout : Layout) (first : Stop) (course : Course) (end :
 
 -- What a deletion left that went so.
 pub record LeavesDelete (layout : Layout) (first : Stop) (course : DeleteCourse) (end : DeleteEnd) (old new : Situation) : Type 0 where
-  pub board : new.seen.board ≡ take first.place new.seen.board ++ noted_by course
+  pub board : new.seen.board ≡ take first.place new.seen.board ++ noted_by_delete course
   pub begins : length old.seen.board ≤ first.place
-  pub own : new.seen.own layout.buckets ≡ old.seen.own layout.buckets ++ range_with_len first.place (length (noted_by course))
+  pub own : new.seen.own layout.buckets ≡ old.seen.own layout.buckets ++ range_with_len first.place (length (noted_by_delete course))
   pub buckets : (lock : ℕ) → lock < layout.buckets → LeavesBucket course old.seen new.seen lock
   pub outside : StopsCores layout.nodes course old.outside new.outside end
   pub counts : CountsGoUp old.outside new.outside

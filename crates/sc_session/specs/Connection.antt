@@ -11,7 +11,7 @@ use Rattle.sc_seen.specs.Seen.{Layout, Seen, Extends, EndAtLast, FromNowOn}
 use Rattle.sc_seen.specs.Batches.{WritesOnce}
 use Rattle.sc_seen.specs.declared.stop.Stop.{Stop}
 use Rattle.sc_collection.specs.Kept.{are_enough}
-use Rattle.sc_session.specs.Answers.{Answer, replied, ran_out, Trace, IsAnswer, reply_of, refusal_reply, memory_reply}
+use Rattle.sc_session.specs.Answers.{Answer, replied, ran_out, Trace, IsAnswer, written_reply, refusal_reply, memory_reply}
 use Rattle.sc_model.specs.declared.message.Incoming.{Incoming}
 use Rattle.sc_session.specs.Commands.{Situation, situation, Leaves}
 use Rattle.sc_session.specs.declared.end.End.{End}
@@ -84,7 +84,7 @@ StaysOpen exchanges = (before : List Exchange) (x : Exchange) (after : List Exch
 
 -- the bytes of replies after which the connection stays open
 abbrev pub texts_of : List Exchange → List ℕ
-texts_of exchanges = flat_map (λ (x : Exchange). text_of (reply_of x.answer) false) exchanges
+texts_of exchanges = flat_map (λ (x : Exchange). text_of (written_reply x.answer) false) exchanges
 
 -- what comes after the last exchange that left the connection open
 pub data Last : Type 0 where
@@ -103,7 +103,7 @@ last_text before (ended done) = []
 last_text before (ended cut) = []
 last_text before (ended bad_head) = text_of (refusal_reply refusals.bad_head) true
 last_text before (ended too_large) = text_of (refusal_reply refusals.too_large) true
-last_text before (answered x) = text_of (reply_of x.answer) (is_some (end_at before x))
+last_text before (answered x) = text_of (written_reply x.answer) (is_some (end_at before x))
 last_text before out_of_memory = text_of memory_reply true
 last_text before read_failed = []
 

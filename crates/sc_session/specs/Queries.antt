@@ -1,11 +1,11 @@
--- The condition that the texts of a search's queries are, or the place of their fault.
+-- The criterion that the texts of a search's queries are, or the place of their fault.
 use Rattle.std.specs.Prelude.{◌≡◌, ◌⊎◌, ℕ, List, [], ◌∷◌, ◌++◌, All, Option, Some, None, Ok, Err, ⊤}
 use Rattle.std.specs.List.{AllZip}
 use Rattle.sc_hash.specs.declared.range.Range.{Range}
 use Rattle.sc_router.specs.Route.{least_under, greatest_under}
 use Rattle.sc_query.specs.Tree.{Tree}
 use Rattle.sc_query.specs.Grammar.{HasTree, HasFault}
-use Rattle.sc_eval.specs.Conditions.{Condition}
+use Rattle.sc_eval.specs.Criteria.{Criterion}
 use Rattle.sc_eval.specs.Binding.{bound}
 
 -- the trees, joined by AND in their order
@@ -24,12 +24,12 @@ pub record HaveJoined (texts : List (List ℕ)) (tree : Tree) : Type 0 where
   pub trees : HaveTrees texts first others
   pub joined : all_joined first others ≡ tree
 
--- the texts are queries, and joined by AND they are bound to the condition
-pub record HaveCondition (texts : List (List ℕ)) (condition : Condition) : Type 0 where
+-- the texts are queries, and joined by AND they are bound to the criterion
+pub record HaveCriterion (texts : List (List ℕ)) (criterion : Criterion) : Type 0 where
   pub first : Tree
   pub others : List Tree
   pub trees : HaveTrees texts first others
-  pub bound_is : bound (all_joined first others) ≡ Ok condition
+  pub bound_is : bound (all_joined first others) ≡ Ok criterion
 
 -- the first text that is no query has its fault there
 pub record HasTextFault (texts : List (List ℕ)) (at : ℕ) : Type 0 where

@@ -8,7 +8,7 @@ use Rattle.sc_schema.specs.declared.fault.DocFault.TheVariants as documents
 use Rattle.sc_commands.specs.declared.batch.Flags.{Flags}
 use Rattle.sc_commands.specs.declared.fault.CommandFault.{CommandFault}
 use Rattle.sc_commands.specs.declared.fault.CommandFault.TheVariants as commands
-use Rattle.sc_commands.specs.Updates.{Update, asked_by}
+use Rattle.sc_commands.specs.Updates.{Update, asked_by_update}
 use Rattle.sc_reply.specs.Refusals as refusals
 use Rattle.sc_model.specs.declared.message.Incoming.{Incoming}
 use Rattle.sc_model.specs.declared.message.Method.{Method}
@@ -16,7 +16,7 @@ use Rattle.sc_model.specs.declared.message.Method.TheVariants as methods
 use Rattle.sc_model.specs.declared.message.Param.{Param}
 use Rattle.sc_model.specs.Heads.{form_params}
 use Rattle.sc_model.specs.Parameters.{parameter, is_set_to, between_commas}
-use Rattle.sc_admin.specs.Commands.{Command, asked_admin}
+use Rattle.sc_admin.specs.Commands.{AdminCommand, asked_admin}
 use Rattle.sc_session.specs.Parameters.{count_of, query_texts, other_fault}
 use Rattle.sc_session.specs.declared.path.Path.{Path}
 use Rattle.sc_session.specs.declared.path.Path.TheVariants as paths
@@ -40,7 +40,7 @@ pub data Asked : Type 0 where
   -- a page of the documents that queries find
   select : Select → Asked
   -- a command to the collection
-  command : Command → Asked
+  command : AdminCommand → Asked
 
 -- what the parameters of an update set (Solr Reference Guide, "Indexing with Update Handlers", "Optimistic Concurrency")
 abbrev pub flags_of : List Param → Flags
@@ -139,7 +139,7 @@ asked_search params = by_rows params (count_of usual_rows most_rows (parameter (
     by_rows params (Some rows) = by_start params rows (count_of 0 (last_row - rows) (parameter (codes "start") params))
 
 -- what the parameters of a command ask for, or which of them is at fault
-abbrev pub asked_command : Result Command (List ℕ) → Asked
+abbrev pub asked_command : Result AdminCommand (List ℕ) → Asked
 asked_command (Ok one) = command one
 asked_command (Err name) = refused (refusals.bad_param name)
 
@@ -177,8 +177,8 @@ is_post request = by_method request.method
     by_method method = false
 
 -- the request is neither a GET nor a POST
-abbrev pub is_other : Incoming → Bool
-is_other request = by_method request.method
+abbrev pub is_other_method : Incoming → Bool
+is_other_method request = by_method request.method
   where
     by_method : Method → Bool
     by_method methods.Other = true
@@ -190,7 +190,7 @@ all_params request = request.params ++ (if is_post request then form_params requ
 
 -- what a request to this path asks for, where its head gives no cause to refuse it
 abbrev pub asked_at : Path → Incoming → Asked
-asked_at paths.Update request = asked_batch (asked_by (flags_of request.params) request.body)
+asked_at paths.Update request = asked_batch (asked_by_update (flags_of request.params) request.body)
 asked_at paths.Get request = asked_params (all_params request)
 asked_at paths.Select request = asked_search (all_params request)
 asked_at paths.Collections request = asked_command (asked_admin (all_params request))
@@ -203,7 +203,7 @@ is_lengthless_update path request = false
 -- the first cause to refuse a request to a path that is served, by its head: its method, the coding of its body, or the missing length
 abbrev pub refused_at : Path → Incoming → Option refusals.Refusal
 refused_at path request =
-    if is_other request then Some refusals.method_not_allowed
+    if is_other_method request then Some refusals.method_not_allowed
     else (if request.encoded then Some refusals.encoded_body
     else (if is_lengthless_update path request then Some refusals.no_length
     else None))

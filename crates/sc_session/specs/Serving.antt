@@ -4,7 +4,7 @@ use Rattle.sc_io.specs.Pieces.{AddsPrefix}
 use Rattle.sc_collection.specs.Kept.{are_enough}
 use Rattle.sc_seen.specs.Seen.{Layout}
 use Rattle.sc_seen.specs.Batches.{GivesTimestamps}
-use Rattle.sc_session.specs.Answers.{reply_of}
+use Rattle.sc_session.specs.Answers.{written_reply}
 use Rattle.sc_session.specs.Commands.{Leaves}
 use Rattle.sc_session.specs.States.{ConnectionState, CountsFault, world_of, situation_in}
 use Rattle.sc_session.specs.declared.end.End.{End}
@@ -45,5 +45,5 @@ pub record Exchanges {C : Type 0} (gives : C → ℕ → C → Type 0) (layout :
   pub stops : new.moment.view.stops ≡ old.moment.view.stops ++ exchange.trace.stops
   pub requests : new.requests ≡ old.requests + 1
   pub timestamps : GivesTimestamps gives old.moment.clock exchange.trace.timestamps new.moment.clock
-  pub responds : Responds end (end_by exchange new) (reply_of exchange.answer) old.written new.written
+  pub responds : Responds end (end_by exchange new) (written_reply exchange.answer) old.written new.written
   pub write_faults : CountsFault (end ≡ Some ends.WriteFault) old.write_faults new.write_faults

@@ -5,14 +5,14 @@ use Rattle.sc_hash.specs.declared.range.Range.{Range}
 use Rattle.sc_record.specs.declared.entry.Entry.{Entry}
 use Rattle.sc_record.specs.declared.entry.Entry.TheVariants as entry
 use Rattle.sc_cluster.specs.declared.plan.SplitPlan.{SplitPlan}
-use Rattle.sc_eval.specs.Conditions.{Condition}
+use Rattle.sc_eval.specs.Criteria.{Criterion}
 use Rattle.sc_journal.specs.Journal.{last_write}
 use Rattle.sc_journal.specs.Splits.{map_after}
 use Rattle.sc_seen.specs.Seen.{Layout, Seen, AreLegal}
 use Rattle.sc_seen.specs.declared.board.BoardEntry.{BoardEntry}
 use Rattle.sc_seen.specs.declared.stop.Stop.{Stop}
 use Rattle.sc_fanout.specs.Searches.{SearchPage}
-use Rattle.sc_board.specs.Splits.{Asked}
+use Rattle.sc_board.specs.Splits.{AskedSplit}
 use Rattle.sc_split.specs.declared.end.SplitEnd.{SplitEnd}
 use Rattle.sc_split.specs.declared.end.SplitEnd.TheVariants as ends
 use Rattle.sc_split.specs.Splits.{SplitMoment, Course, refused, given_up, done, noted_by, BeginsAt, is_of_split, IsSplit}
@@ -82,13 +82,13 @@ pub record AreAnsweredAlike (layout : Layout) (one other : Seen) : Type 0 where
   pub slices : (lock : ℕ) → lock < layout.buckets
       → map_after layout.first (one.journals lock) ≡ map_after layout.first (other.journals lock)
   pub gets : (lock : ℕ) → lock < layout.buckets → (id : List ℕ) → last_write (one.journals lock) id ≡ last_write (other.journals lock) id
-  pub searches : (condition : Condition) (route : Option Range) (page : SearchPage)
-      → ShowsOver layout one.journals condition route page ↔ ShowsOver layout other.journals condition route page
+  pub searches : (criterion : Criterion) (route : Option Range) (page : SearchPage)
+      → ShowsOver layout one.journals criterion route page ↔ ShowsOver layout other.journals criterion route page
 
 -- After a split that was refused all is answered as if it had not come, but for the commit of each bucket in which it had begun; there
 -- it failed.
 abbrev pub RefusedSplitsLeaveNothing : Type 0
-RefusedSplitsLeaveNothing = (layout : Layout) (asked : Asked) (old new : SplitMoment) (end : SplitEnd)
+RefusedSplitsLeaveNothing = (layout : Layout) (asked : AskedSplit) (old new : SplitMoment) (end : SplitEnd)
     → (split : IsSplit layout asked old new end) → is_done end ≡ false
     → ((lock : ℕ) → lock < layout.buckets → FailsWhereBegun split.course (old.view.seen.journals lock) (new.view.seen.journals lock))
     × ((later other : Seen) → AreLegal layout later → IsAsIfNotAsked layout split.course old.view.seen new.view.seen later other

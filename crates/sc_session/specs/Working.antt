@@ -16,7 +16,7 @@ use Rattle.sc_session.specs.declared.worker.WorkEnd.TheVariants as ends
 
 -- how a collection is laid out, and what the sources and sinks of its links report: the bytes that are still to come and those that
 -- were written, and how often each has failed
-pub record Setting (S W : Type 0) : Type 0 where
+pub record LinkSetting (S W : Type 0) : Type 0 where
   pub layout : Layout
   pub rest : S → Option (List ℕ)
   pub read_faults : S → ℕ
@@ -30,7 +30,7 @@ pub record Surroundings (C : Type 0) : Type 0 where
   pub outside : Outside
 
 -- what stands beside the connection over a link, by what its trail has kept
-abbrev pub over_link : {C S W : Type 0} → Setting S W → Surroundings C → Taken S W → ConnectionState C
+abbrev pub over_link : {C S W : Type 0} → LinkSetting S W → Surroundings C → Taken S W → ConnectionState C
 over_link setting around one = record {
   moment = moment_of around.seen one.trail.stops around.clock;
   outside = around.outside;
@@ -50,12 +50,12 @@ pub record ServedLink (C S W : Type 0) : Type 0 where
   pub after : Surroundings C
 
 -- it was served as every connection is, from what stood beside it when it was given, with an empty trail
-abbrev pub IsLinkServed : {C S W : Type 0} → (C → ℕ → C → Type 0) → Setting S W → Surroundings C → ServedLink C S W → Type 0
+abbrev pub IsLinkServed : {C S W : Type 0} → (C → ℕ → C → Type 0) → LinkSetting S W → Surroundings C → ServedLink C S W → Type 0
 IsLinkServed gives setting before x =
     IsServed gives setting.layout (over_link setting before (record { link = x.given; trail = nothing_kept })) (over_link setting x.after x.taken) x.end
 
 -- links one after another, from what stood before them to what stands after them: each begins with what the one before it left
-abbrev pub AreServed : {C S W : Type 0} → (C → ℕ → C → Type 0) → Setting S W → Surroundings C → List (ServedLink C S W) → Surroundings C → Type 0
+abbrev pub AreServed : {C S W : Type 0} → (C → ℕ → C → Type 0) → LinkSetting S W → Surroundings C → List (ServedLink C S W) → Surroundings C → Type 0
 AreServed gives setting before [] after = after ≡ before
 AreServed gives setting before (x ∷ links) after = IsLinkServed gives setting before x × AreServed gives setting x.after links after
 
@@ -83,7 +83,7 @@ pub record HasWorkEnd {C S W : Type 0} (most count : ℕ) (before after : WorkSt
 -- What one worker promises over a collection, from one moment to another: each link that it was given was served in turn, and taken
 -- back with the stops of its connection. Of the entries by which the journals that were seen before went on to those that are seen
 -- after, exactly those of these stops are the worker's own.
-pub record IsWorked {C S W : Type 0} (gives : C → ℕ → C → Type 0) (setting : Setting S W) (most : ℕ) (before after : WorkState C S W) (end : WorkEnd) : Type 0 where
+pub record IsWorked {C S W : Type 0} (gives : C → ℕ → C → Type 0) (setting : LinkSetting S W) (most : ℕ) (before after : WorkState C S W) (end : WorkEnd) : Type 0 where
   pub links : List (ServedLink C S W)
   pub each : AreServed gives setting before.around links after.around
   pub journals : Extends setting.layout before.around.seen after.around.seen (stops_of_links links)

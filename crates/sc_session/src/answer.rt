@@ -17,7 +17,7 @@ ghost use Rattle.sc_session.specs.Answering.{AnswersAsked, AnswersOfBuckets, IsO
 
 use crate::asked::Asked;
 use crate::command::{delete_reply, split_reply, status};
-use crate::query::condition;
+use crate::query::criterion;
 use crate::reply::Reply;
 use crate::select::Select;
 use sc_admin::{Admin, delete};
@@ -147,7 +147,7 @@ fn select<R: Threads + Sync, D: Desk>(
     ensures layout { D.layout desk.new ≡ D.layout desk.old }
     ensures requests { trail.new.requests ≡ trail.old.requests }
 {
-    let query = match condition(alloc, asked.queries.as_slice()) {
+    let query = match criterion(alloc, asked.queries.as_slice()) {
         Ok(query) => query,
         Err(fault) => return query_refusal(alloc, fault),
     };

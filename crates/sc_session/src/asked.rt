@@ -4,7 +4,7 @@ ghost use Rattle.sc_admin.specs.Commands.{asked_admin};
 ghost use Rattle.sc_model.specs.declared.message.Param.{Param};
 ghost use Rattle.sc_model.specs.Parameters as parameters;
 ghost use Rattle.sc_session.specs.Requests as asking;
-ghost use Rattle.sc_session.specs.Asking.{asked_of, refused_of, IsWithinLimits};
+ghost use Rattle.sc_session.specs.Asking.{asked_by_request, refused_of, IsWithinLimits};
 ghost use Rattle.sc_reply.specs.Causes.{refusal_of};
 
 use crate::path::Path;
@@ -109,7 +109,7 @@ impl Asked {
     /// What the request asks for, or the first cause to refuse it. The body is read only where nothing else refuses the request. An
     /// error means out of memory.
     pub(crate) fn of(alloc: Global, request: Incoming) -> Result<Asked, AllocError>
-        ensures asked { IfOk result (λ answer. asked_of answer ≡ asking.asked request) }
+        ensures asked { IfOk result (λ answer. asked_by_request answer ≡ asking.asked request) }
         ensures limits { IfOk result IsWithinLimits }
     {
         let Some(path) = Path::of(request.path.as_str()) else {
@@ -173,7 +173,7 @@ fn all_params(alloc: Global, request: Incoming) -> Result<List<Param>, AllocErro
 
 /// What a request to update asks for (Solr Reference Guide, "Indexing with Update Handlers").
 fn asked_update(alloc: Global, request: &Incoming) -> Result<Asked, AllocError>
-    ensures asked { IfOk result (λ answer. asked_of answer ≡ asking.asked_at Path.Update request.now) }
+    ensures asked { IfOk result (λ answer. asked_by_request answer ≡ asking.asked_at Path.Update request.now) }
     ensures limits { IfOk result IsWithinLimits }
 {
     let flags = flags_of(request.params.as_slice());
@@ -197,7 +197,7 @@ fn flags_of(params: &[Param]) -> Flags
 
 /// What the parameters of a get ask for (Solr Reference Guide, "RealTime Get").
 fn asked_get(alloc: Global, params: &List<Param>) -> Result<Asked, AllocError>
-    ensures asked { IfOk result (λ answer. asked_of answer ≡ asking.asked_params params.now) }
+    ensures asked { IfOk result (λ answer. asked_by_request answer ≡ asking.asked_params params.now) }
     ensures limits { IfOk result IsWithinLimits }
 {
     let params = params.as_slice();
@@ -211,7 +211,7 @@ fn asked_get(alloc: Global, params: &List<Param>) -> Result<Asked, AllocError>
 /// What a parameter that names an id asks for; a faulty one beside `ids` is told as `ids`.
 fn asked_id(alloc: Global, id: &Text, beside_ids: bool) -> Result<Asked, AllocError>
     ensures asked { IfOk result (λ answer. (params : List Param) → is_some (parameters.parameter (codes "ids") params) ≡ beside_ids
-        → asked_of answer ≡ asking.asked_id id.now params) }
+        → asked_by_request answer ≡ asking.asked_id id.now params) }
     ensures limits { IfOk result IsWithinLimits }
 {
     match id_of(alloc, id.as_str())? {
@@ -236,7 +236,7 @@ fn id_of(alloc: Global, text: &str) -> Result<Option<Id>, AllocError>
 
 /// What a parameter that lists ids asks for, each between two commas.
 fn asked_list(alloc: Global, text: &Text) -> Result<Asked, AllocError>
-    ensures asked { IfOk result (λ answer. asked_of answer ≡ asking.asked_list text.now) }
+    ensures asked { IfOk result (λ answer. asked_by_request answer ≡ asking.asked_list text.now) }
     ensures limits { IfOk result IsWithinLimits }
 {
     let mut ids = List::new(alloc);
@@ -254,7 +254,7 @@ fn asked_list(alloc: Global, text: &Text) -> Result<Asked, AllocError>
 
 /// What the parameters of a search ask for (Solr Reference Guide, "Common Query Parameters").
 fn asked_select(alloc: Global, params: &List<Param>) -> Result<Asked, AllocError>
-    ensures asked { IfOk result (λ answer. asked_of answer ≡ asking.asked_search params.now) }
+    ensures asked { IfOk result (λ answer. asked_by_request answer ≡ asking.asked_search params.now) }
     ensures limits { IfOk result IsWithinLimits }
 {
     match Select::of(alloc, params.as_slice()) {
@@ -266,7 +266,7 @@ fn asked_select(alloc: Global, params: &List<Param>) -> Result<Asked, AllocError
 
 /// What the parameters of a command to the collection ask for (Solr Reference Guide, "Collections API").
 fn asked_of_collection(alloc: Global, params: &List<Param>) -> Result<Asked, AllocError>
-    ensures asked { IfOk result (λ answer. asked_of answer ≡ asking.asked_command (asked_admin params.now)) }
+    ensures asked { IfOk result (λ answer. asked_by_request answer ≡ asking.asked_command (asked_admin params.now)) }
     ensures limits { IfOk result IsWithinLimits }
 {
     match read_admin(alloc, params) {

@@ -1,20 +1,20 @@
 ghost use Rattle.std.specs.Prelude.{◌≡◌, ◌<◌, ℕ, Err, IfOk, length};
-ghost use Rattle.sc_eval.specs.Conditions.{condition_of};
+ghost use Rattle.sc_eval.specs.Criteria.{criterion_of};
 ghost use Rattle.sc_eval.specs.declared.fault.BindFault.TheVariants.{At};
 ghost use Rattle.sc_query.specs.Grammar.{HasTree, HasFault};
 ghost use Rattle.sc_query.specs.Tree.{tree_of};
-ghost use Rattle.sc_session.specs.Queries.{HaveCondition, HaveFault, HaveJoined, HasTextFault};
+ghost use Rattle.sc_session.specs.Queries.{HaveCriterion, HaveFault, HaveJoined, HasTextFault};
 
 use sc_eval::{BindFault, Bound, bind};
 use sc_query::{Query, QueryFault, and, parse};
 use sc_record::Text;
 use std::alloc::Global;
 
-/// The condition that the texts of a search's queries are, all joined by AND; or the place of the first fault, in its own text. A
+/// The criterion that the texts of a search's queries are, all joined by AND; or the place of the first fault, in its own text. A
 /// text that is no query goes before a leaf that can't be bound.
-pub(crate) fn condition(alloc: Global, texts: &[Text]) -> Result<Bound, BindFault>
+pub(crate) fn criterion(alloc: Global, texts: &[Text]) -> Result<Bound, BindFault>
     requires { 0 < length texts.now }
-    ensures condition { IfOk result (λ found. HaveCondition texts.now (condition_of found)) }
+    ensures criterion { IfOk result (λ found. HaveCriterion texts.now (criterion_of found)) }
     ensures fault { (at : ℕ) → result ≡ Err (At at) → HaveFault texts.now at }
 {
     let query = joined(alloc, texts)?;

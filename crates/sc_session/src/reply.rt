@@ -1,7 +1,7 @@
 ghost use Rattle.std.specs.Prelude.{◌≡◌, IsSome, IfOk};
 ghost use Rattle.sc_model.specs.Replies as replies;
 ghost use Rattle.sc_reply.specs.Bodies.{error_text};
-ghost use Rattle.sc_reply.specs.Refusals.{status_of, message_of};
+ghost use Rattle.sc_reply.specs.Refusals.{refusal_status, message_of};
 ghost use Rattle.sc_reply.specs.Causes.{refusal_of};
 
 use sc_record::{Ack, List, Text};
@@ -77,7 +77,7 @@ impl Reply {
         versions: bool,
     ) -> Result<Reply, AllocError>
         ensures reply { let refusal = refusal_of cause.now in
-            IfOk result (λ reply. reply_of reply ≡ record { status = status_of refusal; body = error_text (status_of refusal) (message_of refusal) adds.now deletes.now versions }) }
+            IfOk result (λ reply. reply_of reply ≡ record { status = refusal_status refusal; body = error_text (refusal_status refusal) (message_of refusal) adds.now deletes.now versions }) }
         ensures status { IfOk result (λ reply. IsSome (replies.reason_of reply.status)) }
     {
         let status = cause.status();

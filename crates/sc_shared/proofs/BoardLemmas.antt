@@ -23,7 +23,7 @@ use Rattle.sc_shared.specs.Keepers.{BucketKeeper, BucketLocks, AreKeepers, keepi
 use Rattle.sc_shared.specs.Boards.{BoardName, board_name_of, layout_of_board, AreHome, IsSoundKept, BoardFollows}
 use Rattle.sc_shared.specs.Passes.{BucketPass, BoardPass, own_in, seen_by, seen_of}
 use Rattle.sc_shared.specs.Collections.{BucketLock, Locks, board_name, layout_of, ids_of, AreLocks}
-use Rattle.sc_shared.specs.Sharing.{SharedState, held_of, held_in, entries_in, Fit, IsTakenBoard, IsShared}
+use Rattle.sc_shared.specs.Sharing.{SharedState, held_of, held_in, handed_entries, Fit, IsTakenBoard, IsShared}
 
 -- no bucket is out where none is handed out
 none_is_out : (bucket : Option TakenBucket) → held_in bucket ≡ None → bucket ≡ None
@@ -31,7 +31,7 @@ none_is_out None none = refl
 none_is_out (Some taken) none = absurd (none-some (held_of taken) (sym none))
 
 -- a board is out where its entries are
-pub board_is_out : (board : Option TakenBoard) (entries : List BoardEntry) → entries_in board ≡ Some entries
+pub board_is_out : (board : Option TakenBoard) (entries : List BoardEntry) → handed_entries board ≡ Some entries
     → (taken : TakenBoard) × (board ≡ Some taken)
 board_is_out (Some taken) entries at = (taken, refl)
 board_is_out None entries at = absurd (none-some entries at)
@@ -178,7 +178,7 @@ not_longer entries one same =
 pub record MayGiveBoard (desk : SharedState) (board : Board Keepers) : Type 0 where
   pub sound : IsSoundBoard board
   pub is_of : IsBoardOf (layout_of desk.locks) board.first board.limit
-  pub is_out : (entries : List BoardEntry) × (entries_in desk.board ≡ Some entries)
+  pub is_out : (entries : List BoardEntry) × (handed_entries desk.board ≡ Some entries)
       × MayReplaceBoard (layout_of desk.locks) (seen_of desk.passes) entries board.journal.entries
   pub no_bucket : held_in desk.bucket ≡ None
   pub rest : (keepers : Keepers) → board.keepers ≡ Some keepers
@@ -200,8 +200,8 @@ module _ (desk : SharedState) (is : IsShared desk) (named : (board_name desk.loc
   was_taken = is.board taken out
 
   -- the entries that are out are those
-  are_held : (entries : List BoardEntry) → entries_in desk.board ≡ Some entries → held ≡ entries
-  are_held entries at = same_Some held entries (sym (ap entries_in out) ∙ at)
+  are_held : (entries : List BoardEntry) → handed_entries desk.board ≡ Some entries → held ≡ entries
+  are_held entries at = same_Some held entries (sym (ap handed_entries out) ∙ at)
 
   may_replace : MayReplaceBoard (layout_of desk.locks) (seen_of desk.passes) held board.journal.entries
   may_replace = subst
@@ -256,7 +256,7 @@ module _ (desk : SharedState) (is : IsShared desk) (named : (board_name desk.loc
   -- what is seen then
   given_is_seen : (pass : BoardPass) → seen pass ≡ board.journal.entries
       → own_places pass ≡ places_after (own_places desk.passes.board) held board.journal.entries
-      → (entries : List BoardEntry) → entries_in desk.board ≡ Some entries
+      → (entries : List BoardEntry) → handed_entries desk.board ≡ Some entries
       → SeesBoardGiven (layout_of desk.locks) entries board.journal.entries (seen_of desk.passes)
       (seen_by desk.passes.buckets.items pass)
   given_is_seen pass seen_is places entries at = subst
@@ -286,7 +286,7 @@ pub record IsBoardGive (was desk : SharedState) (taken : TakenBoard) (board : Bo
   pub sees : (pass : BoardPass) → seen pass ≡ board.journal.entries
       → own_places pass
       ≡ places_after (own_places was.passes.board) (handed taken.turn).board.journal.entries board.journal.entries
-      → (entries : List BoardEntry) → entries_in desk.board ≡ Some entries
+      → (entries : List BoardEntry) → handed_entries desk.board ≡ Some entries
       → SeesBoardGiven (layout_of desk.locks) entries board.journal.entries (seen_of desk.passes)
       (seen_by was.passes.buckets.items pass)
 
@@ -299,7 +299,7 @@ board_is_given locks first was desk taken board are opened view is out may = rec
   follows = given_follows was is named board may_give taken out;
   owner = given_by_owner was is named board may_give taken out;
   sees = λ pass seen_is places. subst
-      (λ (one : SharedState). (entries : List BoardEntry) → entries_in one.board ≡ Some entries
+      (λ (one : SharedState). (entries : List BoardEntry) → handed_entries one.board ≡ Some entries
       → SeesBoardGiven (layout_of one.locks) entries board.journal.entries (seen_of one.passes)
       (seen_by was.passes.buckets.items pass))
       view (given_is_seen was is named board may_give taken out pass seen_is places);

@@ -23,7 +23,7 @@ use Rattle.sc_shared.specs.Buckets.{BucketName, name_of, IsSoundNumbered, Follow
 use Rattle.sc_shared.specs.Keepers.{BucketKeeper}
 use Rattle.sc_shared.specs.Passes.{BucketPass}
 use Rattle.sc_shared.specs.Collections.{Locks, BucketLock, bucket_name, AreLocks}
-use Rattle.sc_shared.specs.Holding.{BucketTurn, IsPassAt, IsKeeperAt, IsHandedOut}
+use Rattle.sc_shared.specs.Holding.{BucketTurn, IsPassAt, IsKeeperAt, IsBucketHandedOut}
 
 -- what was read of a list is there
 pub found_in : {A : Type 0} (items all : List A) (i : ℕ) (one : A) → items ≡ all → i < length all → one ≡ get_or items i one
@@ -47,7 +47,7 @@ is_keeper_at locks number lock keeper there is other other_there =
 -- a sound value with the lock's name that was handed out is the bucket of this number
 pub is_handed_out : (locks : Locks) (first : List Slice) (number : ℕ) (lock : BucketLock) (kept : Numbered) (turn : BucketTurn)
     → AreLocks locks first → slice_get locks.buckets number ≡ Some lock → IsSoundNumbered kept → name_of kept ≡ lock_name name_of lock
-    → handed turn ≡ kept → IsHandedOut locks number kept.bucket turn
+    → handed turn ≡ kept → IsBucketHandedOut locks number kept.bucket turn
 is_handed_out locks first number lock kept turn are there sound named is = record {
   bucket_is = ap (λ (one : Numbered). one.bucket) is;
   sound = subst IsSoundNumbered (sym is) sound;

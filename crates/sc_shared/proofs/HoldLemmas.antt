@@ -28,8 +28,8 @@ use Rattle.sc_shared.specs.Boards.{board_name_of}
 use Rattle.sc_shared.specs.Keepers.{BucketKeeper}
 use Rattle.sc_shared.specs.Passes.{BucketPass, BoardPass, seen_in, own_in, seen_of}
 use Rattle.sc_shared.specs.Collections.{Locks, BucketLock, layout_of, bucket_name, AreOfLocks}
-use Rattle.sc_shared.specs.Holding.{BucketTurn, Changes, ChangesPass, IsFreeAt, IsHandedOut, IsHeld}
-use Rattle.sc_shared.specs.Sharing.{SharedState, shared_of, held_in, entries_in, out_of, IsOutTo, Fit, IsTakenBucket, IsTakenBoard, IsShared}
+use Rattle.sc_shared.specs.Holding.{BucketTurn, Changes, ChangesPass, IsFreeAt, IsBucketHandedOut, IsHeld}
+use Rattle.sc_shared.specs.Sharing.{SharedState, shared_of, held_in, handed_entries, out_of, IsOutTo, Fit, IsTakenBucket, IsTakenBoard, IsShared}
 
 -- one of a list was changed
 module _ {A : Type 0} {old new : List A} {number : ℕ} {before after : A} (changes : Changes old new number before after) where
@@ -172,7 +172,7 @@ pub record LeavesHold (old new : SharedState) (number : ℕ) (by_keeper : Bool) 
 -- where a bucket was handed out, and the pass knows what it knew, the desk has it out
 module _ (locks : Locks) (passes new : Passes) (board : Option TakenBoard) (number : ℕ) (by_keeper : Bool) (bucket : Bucket) (turn : BucketTurn)
     (before after : BucketPass) (changes : ChangesPass locks number passes new before after) (same : PassKnowsTheSame before after)
-    (handed_out : IsHandedOut locks number bucket turn) (extends : IsPrefix (seen before) bucket.journal.entries)
+    (handed_out : IsBucketHandedOut locks number bucket turn) (extends : IsPrefix (seen before) bucket.journal.entries)
     (is : IsShared (shared_of locks passes None board)) (within : number < length locks.buckets) where
   abbrev pub taken : TakenBucket
   taken = taken_of number by_keeper turn
@@ -215,7 +215,7 @@ module _ (locks : Locks) (passes new : Passes) (board : Option TakenBoard) (numb
   out_now : out_of new_desk ≡ record (out_of old_desk) { bucket = Some (record { number = number; bucket = bucket; by_keeper = by_keeper }) }
   out_now = ap out_with handed_out.bucket_is where
     out_with : Bucket → Out
-    out_with one = record { bucket = Some (record { number = number; bucket = one; by_keeper = by_keeper }); board = entries_in board }
+    out_with one = record { bucket = Some (record { number = number; bucket = one; by_keeper = by_keeper }); board = handed_entries board }
 
   pub leaves_hold : (by_keeper ≡ false → IsTurnOf name_of after turn) → ((IsOutTo false (Some taken) number → ⊥) → IsFree after)
       → LeavesHold old_desk new_desk number by_keeper bucket

@@ -9,7 +9,7 @@ use Rattle.sc_journal.specs.Legal.{IsLegal}
 use Rattle.sc_journal.proofs.ListLemmas.{slice_get-append_end, slice_get-append_left}
 use Rattle.sc_seen.specs.Board.{IsLegalBoard}
 use Rattle.sc_bucket.proofs.PlaceLemmas.{some_at}
-use Rattle.sc_lock.specs.Journal.{AreDisjoint, IsLongest, merged}
+use Rattle.sc_lock.specs.Journal.{AreDisjoint, IsLongest, merged_places}
 use Rattle.sc_lock.specs.Tokens.{lock_id, IsPassOf, IsFree, seen, own_places}
 use Rattle.sc_collection.proofs.SlotLemmas.{slice_get-set_same, slice_get-set_other}
 use Rattle.sc_shared.specs.declared.passes.Passes.{Passes}
@@ -162,8 +162,8 @@ module _ (locks : Locks) (into from new : Passes) (are_into : ArePasses locks in
       (λ number lock was other now at_lock at is. is.disjoint)
 
   own_is : (number : ℕ) → passes.own_in (slice_get new.buckets.items number)
-      ≡ merged (passes.own_in (slice_get into.buckets.items number)) (passes.own_in (slice_get from.buckets.items number))
-  own_is = by_number (λ was other now. passes.own_in now ≡ merged (passes.own_in was) (passes.own_in other)) refl
+      ≡ merged_places (passes.own_in (slice_get into.buckets.items number)) (passes.own_in (slice_get from.buckets.items number))
+  own_is = by_number (λ was other now. passes.own_in now ≡ merged_places (passes.own_in was) (passes.own_in other)) refl
       (λ number lock was other now at_lock at is. is.own_is)
 
   -- what is known of each pass that came of it
@@ -199,7 +199,7 @@ module _ (locks : Locks) (into from new : Passes) (are_into : ArePasses locks in
     }
 
     pub joined_sees : AreDisjoint (own_places into.board) (own_places from.board)
-        → own_places new.board ≡ merged (own_places into.board) (own_places from.board) → SeesBoth (seen_of into) (seen_of from) (seen_of new)
+        → own_places new.board ≡ merged_places (own_places into.board) (own_places from.board) → SeesBoth (seen_of into) (seen_of from) (seen_of new)
     joined_sees board_disjoint board_own = record {
       journals = longest;
       board = board_seen;
@@ -218,7 +218,7 @@ module _ (locks : Locks) (into from new : Passes) (are_into : ArePasses locks in
 
       own_by : (number : ℕ) (a b d : Bool) → a ≡ b → d ≡ a
           → cond d (own_places new.board) (passes.own_in (slice_get new.buckets.items number))
-          ≡ merged (cond a (own_places into.board) (passes.own_in (slice_get into.buckets.items number)))
+          ≡ merged_places (cond a (own_places into.board) (passes.own_in (slice_get into.buckets.items number)))
           (cond b (own_places from.board) (passes.own_in (slice_get from.buckets.items number)))
       own_by number true true true same also = board_own
       own_by number false false false same also = own_is number

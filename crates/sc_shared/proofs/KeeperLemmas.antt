@@ -21,7 +21,7 @@ use Rattle.sc_collection.proofs.PlaceLemmas.{place_added-none, place_added-push}
 use Rattle.sc_shared.specs.declared.passes.Passes.{Passes}
 use Rattle.sc_shared.specs.declared.shared.TakenBucket.{TakenBucket}
 use Rattle.sc_shared.specs.declared.shared.TakenBoard.{TakenBoard}
-use Rattle.sc_shared.specs.Keepers.{BucketKeeper, with_entry, entries_at, no_part, part_in, own_in, keeping_of}
+use Rattle.sc_shared.specs.Keepers.{BucketKeeper, with_entry, entries_at_places, no_part, part_of_keeper, own_of_keeper, keeping_of}
 use Rattle.sc_shared.specs.Passes.{seen_of}
 use Rattle.sc_shared.specs.Collections.{Locks, BucketLock, layout_of}
 use Rattle.sc_shared.specs.Holding.{BucketTurn, IsFreeAt, HasKeeperAt, IsFreeKeeperAt, IsTurnAtKeeper, IsHeldByKeeper, IsGivenByKeeper}
@@ -37,13 +37,13 @@ one_there (x ∷ xs) (suc i) within = one_there xs i (omega arith)
 
 -- the entries at places of a journal's beginning are those of the journal
 entries_at_same : {E : Type 0} (begun journal : List E) (places : List ℕ) → All (λ (p : ℕ). p < length begun) places → IsPrefix begun journal
-    → entries_at journal places ≡ entries_at begun places
+    → entries_at_places journal places ≡ entries_at_places begun places
 entries_at_same begun journal [] inside begins = refl
 entries_at_same {E = E} begun journal (place ∷ places) inside begins =
     let here : slice_get journal place ≡ slice_get begun place =
     ap (λ (all : List E). slice_get all place) (sym begins.1)
     ∙ slice_get-append_left begun begins.0 place (All-head (λ (p : ℕ). p < length begun) place places inside) in
-    ap (λ (one : Option E). with_entry one (entries_at journal places)) here
+    ap (λ (one : Option E). with_entry one (entries_at_places journal places)) here
     ∙ ap (with_entry (slice_get begun place))
     (entries_at_same begun journal places (All-tail (λ (p : ℕ). p < length begun) place places inside) begins)
 
@@ -53,34 +53,34 @@ with_entry-append (Some x) xs ys = refl
 
 -- those at more places follow
 entries_at-append : {E : Type 0} (journal : List E) (places more : List ℕ)
-    → entries_at journal (places ++ more) ≡ entries_at journal places ++ entries_at journal more
+    → entries_at_places journal (places ++ more) ≡ entries_at_places journal places ++ entries_at_places journal more
 entries_at-append journal [] more = refl
 entries_at-append journal (place ∷ places) more =
     ap (with_entry (slice_get journal place)) (entries_at-append journal places more)
-    ∙ with_entry-append (slice_get journal place) (entries_at journal places) (entries_at journal more)
+    ∙ with_entry-append (slice_get journal place) (entries_at_places journal places) (entries_at_places journal more)
 
 -- an event of a keeper adds what it makes to the keeper's own entries
 own_given_by_keeper : (begun held given : List Entry) (places : List ℕ) → ArePlacesIn places begun → IsPrefix begun held
     → AddsAtMost true held given
-    → (made : List Entry) × (given ≡ held ++ made) × (entries_at given (places_after places held given) ≡ entries_at begun places ++ made)
+    → (made : List Entry) × (given ≡ held ++ made) × (entries_at_places given (places_after places held given) ≡ entries_at_places begun places ++ made)
 own_given_by_keeper begun held given places are begins (inl same) = (
   [],
   same ∙ sym (append-nil held),
-  ap (λ (all : List Entry). entries_at all (places_after places held all)) same
-      ∙ ap (entries_at held)
+  ap (λ (all : List Entry). entries_at_places all (places_after places held all)) same
+      ∙ ap (entries_at_places held)
       (places_after_added places held held ∙ ap (λ (more : List ℕ). places ++ more) (place_added-none held) ∙ append-nil places)
-      ∙ entries_at_same begun held places are.inside begins ∙ sym (append-nil (entries_at begun places)),
+      ∙ entries_at_same begun held places are.inside begins ∙ sym (append-nil (entries_at_places begun places)),
 )
 own_given_by_keeper begun held given places are begins (inr (one, by_keeper, is)) = (
   one ∷ [],
   is,
-  ap (λ (all : List Entry). entries_at all (places_after places held all)) is
-      ∙ ap (entries_at (held ++ one ∷ []))
+  ap (λ (all : List Entry). entries_at_places all (places_after places held all)) is
+      ∙ ap (entries_at_places (held ++ one ∷ []))
       (places_after_added places held (held ++ one ∷ []) ∙ ap (λ (more : List ℕ). places ++ more) (place_added-push held one))
       ∙ entries_at-append (held ++ one ∷ []) places (length held ∷ [])
-      ∙ ap (λ (own : List Entry). own ++ entries_at (held ++ one ∷ []) (length held ∷ []))
+      ∙ ap (λ (own : List Entry). own ++ entries_at_places (held ++ one ∷ []) (length held ∷ []))
       (entries_at_same begun (held ++ one ∷ []) places are.inside (IsPrefix-then begun held (held ++ one ∷ []) begins (one ∷ [], refl)))
-      ∙ ap (λ (last : Option Entry). entries_at begun places ++ with_entry last []) (slice_get-append_end held one []),
+      ∙ ap (λ (last : Option Entry). entries_at_places begun places ++ with_entry last []) (slice_get-append_end held one []),
 )
 
 -- the keeper of this number is there, and of its lock
@@ -99,7 +99,7 @@ is_free_keeper_at desk keepers number fit none keeper at =
 
 -- the part that a keeper left, or that of which there is nothing
 part_left : Option BucketKeeper → Part
-part_left keeper = unwrap_or (part_in keeper) no_part
+part_left keeper = unwrap_or (part_of_keeper keeper) no_part
 
 -- the bucket's keeper took it
 module _ (locks : Locks) (passes new : Passes) (board : Option TakenBoard) (number : ℕ) (bucket : Bucket) (turn : BucketTurn)
@@ -117,17 +117,17 @@ module _ (locks : Locks) (passes new : Passes) (board : Option TakenBoard) (numb
 
   pub held_keeps : KeepsOn (keeping_of keepers) (keeping_of keepers_new)
   held_keeps = record {
-    part = changed_same held.keeper.bucket (λ (one : Option BucketKeeper). unwrap_or (part_in one) no_part)
+    part = changed_same held.keeper.bucket (λ (one : Option BucketKeeper). unwrap_or (part_of_keeper one) no_part)
         (ap (λ (part : Option Part). unwrap_or part no_part) held.part);
-    own = changed_same held.keeper.bucket own_in
-        (ap (entries_at (keeper_seen held.keeper_after)) held.places
+    own = changed_same held.keeper.bucket own_of_keeper
+        (ap (entries_at_places (keeper_seen held.keeper_after)) held.places
         ∙ entries_at_same (keeper_seen held.keeper_before) (keeper_seen held.keeper_after) (keeper_places held.keeper_before)
         places_inside.inside held.learns);
   }
 
   pub held_part : part_of bucket ≡ (keeping_of keepers).part number
   held_part =
-      sym (ap (λ (one : Option BucketKeeper). unwrap_or (part_in one) no_part) held.keeper.bucket.was
+      sym (ap (λ (one : Option BucketKeeper). unwrap_or (part_of_keeper one) no_part) held.keeper.bucket.was
       ∙ ap (λ (part : Option Part). unwrap_or part no_part) held.left)
 
   taken_by : (keeper : BucketKeeper) → slice_get keepers_new number ≡ Some keeper → IsTakenBy keeper taken
@@ -224,16 +224,16 @@ module _ (locks : Locks) (passes new : Passes) (board : Option TakenBoard) (take
       (keeper_places gives.keeper_before) (fit.each taken.number lock.0 gives.keeper_before lock.1 gives.keeper.bucket.was).seat.own
       (fit.taken taken gives.keeper_before refl by_keeper gives.keeper.bucket.was).extends adds in
       record {
-        part = ap (λ (one : Option BucketKeeper). unwrap_or (part_in one) no_part) (changed_at gives.keeper.bucket)
+        part = ap (λ (one : Option BucketKeeper). unwrap_or (part_of_keeper one) no_part) (changed_at gives.keeper.bucket)
             ∙ ap (λ (part : Option Part). unwrap_or part no_part) gives.part;
-        others = λ k other. ap (λ (one : Option BucketKeeper). unwrap_or (part_in one) no_part) (unchanged_at gives.keeper.bucket k other);
+        others = λ k other. ap (λ (one : Option BucketKeeper). unwrap_or (part_of_keeper one) no_part) (unchanged_at gives.keeper.bucket k other);
         made = own.0;
         added = own.1;
-        own = ap own_in (changed_at gives.keeper.bucket)
-            ∙ ap (λ (all : List Entry). entries_at all (keeper_places gives.keeper_after)) gives.keeper_seen_is
-            ∙ ap (entries_at given.journal.entries) gives.keeper_places_are ∙ own.2
-            ∙ ap (λ (before : List Entry). before ++ own.0) (sym (ap own_in gives.keeper.bucket.was));
-        others_own = λ k other. ap own_in (unchanged_at gives.keeper.bucket k other);
+        own = ap own_of_keeper (changed_at gives.keeper.bucket)
+            ∙ ap (λ (all : List Entry). entries_at_places all (keeper_places gives.keeper_after)) gives.keeper_seen_is
+            ∙ ap (entries_at_places given.journal.entries) gives.keeper_places_are ∙ own.2
+            ∙ ap (λ (before : List Entry). before ++ own.0) (sym (ap own_of_keeper gives.keeper.bucket.was));
+        others_own = λ k other. ap own_of_keeper (unchanged_at gives.keeper.bucket k other);
       }
 
   given_by_keeper_fits : Fit (shared_of locks new None board) keepers_new

@@ -32,7 +32,7 @@ use Rattle.sc_shared.specs.declared.passes.Passes.{Passes}
 use Rattle.sc_shared.specs.declared.collection.NewLock.{NewLock}
 use Rattle.sc_shared.specs.declared.collection.NewLocks.{NewLocks}
 use Rattle.sc_shared.specs.Buckets.{BucketName, name_of}
-use Rattle.sc_shared.specs.Keepers.{BucketKeeper, entries_at, no_part, part_in, own_in, keeping_of, AreKeepers}
+use Rattle.sc_shared.specs.Keepers.{BucketKeeper, entries_at_places, no_part, part_of_keeper, own_of_keeper, keeping_of, AreKeepers}
 use Rattle.sc_shared.specs.Boards.{BoardName, board_name_of, AreHome, IsSoundKept}
 use Rattle.sc_shared.specs.Passes.{BucketPass, BoardPass, seen_in, seen_by, CanSplit}
 use Rattle.sc_shared.specs.Passes as passes
@@ -219,10 +219,10 @@ module _ (buckets : ℕ) (first : List Slice) (limit : ℕ) (made : NewLocks) (n
       let one = found number within in
       let is = new.each number one.0 one.1 in
       let part : (keeping_of made.keepers.items).part number ≡ is.left.0 =
-      ap (λ (keeper : Option BucketKeeper). unwrap_or (part_in keeper) no_part) one.1.keeper
+      ap (λ (keeper : Option BucketKeeper). unwrap_or (part_of_keeper keeper) no_part) one.1.keeper
       ∙ ap (λ (part : Option Part). unwrap_or part no_part) is.left.1 in
       let own : (keeping_of made.keepers.items).own number ≡ [] =
-      ap own_in one.1.keeper ∙ ap (entries_at (keeper_seen one.0.keeper)) is.no_entries in
+      ap own_of_keeper one.1.keeper ∙ ap (entries_at_places (keeper_seen one.0.keeper)) is.no_entries in
       subst (λ (entries : List Entry). IsAtRest [] first ((keeping_of made.keepers.items).part number) entries) (sym own)
       (subst (λ (left : Part). IsAtRest [] first left []) (sym part) is.left.2)
 

@@ -7,7 +7,7 @@ use Rattle.sc_seen.specs.declared.board.BoardEntry.{BoardEntry}
 use Rattle.sc_seen.specs.Seen.{Layout, Seen, AreLegal}
 use Rattle.sc_keeper.specs.declared.part.Part.{Part}
 use Rattle.sc_lock.specs.declared.lock.Lock.{Lock}
-use Rattle.sc_lock.specs.Journal.{AreDisjoint, IsLongest, merged}
+use Rattle.sc_lock.specs.Journal.{AreDisjoint, IsLongest, merged_places}
 use Rattle.sc_lock.specs.Tokens.{lock_id, lock_name, IsPassOf, IsFree}
 use Rattle.sc_shared.specs.declared.numbered.Numbered.{Numbered}
 use Rattle.sc_shared.specs.declared.board.KeptBoard.{KeptBoard}
@@ -90,4 +90,4 @@ pub record SeesBoth (one other both : Seen) : Type 0 where
   pub journals : (lock : ℕ) → IsLongest (one.journals lock) (other.journals lock) (both.journals lock)
   pub board : IsLongest one.board other.board both.board
   pub disjoint : (lock : ℕ) → AreDisjoint (one.own lock) (other.own lock)
-  pub own : (lock : ℕ) → both.own lock ≡ merged (one.own lock) (other.own lock)
+  pub own : (lock : ℕ) → both.own lock ≡ merged_places (one.own lock) (other.own lock)

@@ -77,14 +77,14 @@ pub record ChangesKeeper (locks : Locks) (number : ℕ) (old new : List BucketKe
   pub of_lock : IsKeeperAt locks number after
 
 -- this bucket was handed out with the turn: it is sound, and the one of this number
-pub record IsHandedOut (locks : Locks) (number : ℕ) (bucket : Bucket) (turn : BucketTurn) : Type 0 where
+pub record IsBucketHandedOut (locks : Locks) (number : ℕ) (bucket : Bucket) (turn : BucketTurn) : Type 0 where
   pub bucket_is : (handed turn).bucket ≡ bucket
   pub sound : IsSoundNumbered (handed turn)
   pub name : name_of (handed turn) ≡ bucket_name (layout_of locks) number
 
 -- What a hold leaves: the bucket extends what its pass has seen, whose turn it is, and which knows what it knew.
 pub record IsHeld (locks : Locks) (number : ℕ) (old new : Passes) (bucket : Bucket) (turn : BucketTurn) : Type 0 where
-  pub out : IsHandedOut locks number bucket turn
+  pub out : IsBucketHandedOut locks number bucket turn
   pub before : BucketPass
   pub after : BucketPass
   pub pass : ChangesPass locks number old new before after
@@ -104,7 +104,7 @@ pub record IsGiven (locks : Locks) (number : ℕ) (old new : Passes) (turn : Buc
 -- What a hold by a keeper leaves: the bucket has the part that the keeper left, and extends what the keeper has seen and what the pass
 -- has; the keeper may have seen more than it had, and keeps the rest.
 pub record IsHeldByKeeper (locks : Locks) (number : ℕ) (old new : Hands) (bucket : Bucket) (turn : BucketTurn) : Type 0 where
-  pub out : IsHandedOut locks number bucket turn
+  pub out : IsBucketHandedOut locks number bucket turn
   pub before : BucketPass
   pub after : BucketPass
   pub pass : ChangesPass locks number old.passes new.passes before after

@@ -19,31 +19,31 @@ with_entry None entries = entries
 with_entry (Some entry) entries = entry ∷ entries
 
 -- the entries of a journal at these places
-abbrev pub entries_at : {E : Type 0} → List E → List ℕ → List E
-entries_at journal [] = []
-entries_at journal (place ∷ places) = with_entry (slice_get journal place) (entries_at journal places)
+abbrev pub entries_at_places : {E : Type 0} → List E → List ℕ → List E
+entries_at_places journal [] = []
+entries_at_places journal (place ∷ places) = with_entry (slice_get journal place) (entries_at_places journal places)
 
 -- the part of a bucket of which there is nothing
 abbrev pub no_part : Part
 no_part = record { map = []; phase = phases.Idle; cores = []; feeds = []; entries = [] }
 
 -- the part that this keeper left
-abbrev pub part_in : Option BucketKeeper → Option Part
-part_in None = None
-part_in (Some keeper) = keeper_part keeper
+abbrev pub part_of_keeper : Option BucketKeeper → Option Part
+part_of_keeper None = None
+part_of_keeper (Some keeper) = keeper_part keeper
 
 -- the entries that this keeper made
-abbrev pub own_in : Option BucketKeeper → List Entry
-own_in None = []
-own_in (Some keeper) = entries_at (keeper_seen keeper) (keeper_places keeper)
+abbrev pub own_of_keeper : Option BucketKeeper → List Entry
+own_of_keeper None = []
+own_of_keeper (Some keeper) = entries_at_places (keeper_seen keeper) (keeper_places keeper)
 
 -- the part that the keeper of this number left
 abbrev pub part_at : List BucketKeeper → ℕ → Option Part
-part_at keepers number = part_in (slice_get keepers number)
+part_at keepers number = part_of_keeper (slice_get keepers number)
 
 -- the entries that the keeper of this number made
 abbrev pub own_at : List BucketKeeper → ℕ → List Entry
-own_at keepers number = own_in (slice_get keepers number)
+own_at keepers number = own_of_keeper (slice_get keepers number)
 
 -- what they keep
 abbrev pub keeping_of : List BucketKeeper → Keeping

@@ -1,6 +1,6 @@
 -- What comes of the passes of the buckets as they are split and joined.
 use Rattle.std.specs.Prelude.{◌≡◌, ◌≤◌, ◌<◌, ℕ, ◌+◌, List, length, slice_get, Some}
-use Rattle.sc_lock.specs.Journal.{AreDisjoint, IsLongest, merged}
+use Rattle.sc_lock.specs.Journal.{AreDisjoint, IsLongest, merged_places}
 use Rattle.sc_lock.specs.Tokens.{lock_id, IsPassOf, IsFree, seen, own_places, splits_left}
 use Rattle.sc_lock.specs.Calls.{IsNewPassOf}
 use Rattle.sc_shared.specs.Passes.{BucketPass}
@@ -37,7 +37,7 @@ pub record IsPassJoined (lock : BucketLock) (old from new : BucketPass) : Type 0
   pub free : IsFree new
   pub seen_is : IsLongest (seen old) (seen from) (seen new)
   pub disjoint : AreDisjoint (own_places old) (own_places from)
-  pub own_is : own_places new ≡ merged (own_places old) (own_places from)
+  pub own_is : own_places new ≡ merged_places (own_places old) (own_places from)
 
 -- those from this number on were joined, and those before are as they were
 pub record ArePassesJoined (count : ℕ) (locks : List BucketLock) (old from new : List BucketPass) : Type 0 where

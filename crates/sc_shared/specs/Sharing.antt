@@ -38,13 +38,13 @@ held_in None = None
 held_in (Some taken) = Some (held_of taken)
 
 -- the entries of the board that was handed out, as they were then
-abbrev pub entries_in : Option TakenBoard → Option (List BoardEntry)
-entries_in None = None
-entries_in (Some taken) = Some (handed taken.turn).board.journal.entries
+abbrev pub handed_entries : Option TakenBoard → Option (List BoardEntry)
+handed_entries None = None
+handed_entries (Some taken) = Some (handed taken.turn).board.journal.entries
 
 -- what is out of the desk
 abbrev pub out_of : SharedState → Out
-out_of shared = record { bucket = held_in shared.bucket; board = entries_in shared.board }
+out_of shared = record { bucket = held_in shared.bucket; board = handed_entries shared.board }
 
 -- the bucket of this number is out to a pass, or to its keeper
 abbrev pub IsOutTo : Bool → Option TakenBucket → ℕ → Type 0

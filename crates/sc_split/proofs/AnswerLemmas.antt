@@ -6,7 +6,7 @@ use Rattle.sc_record.specs.declared.slice.SubSlice.{SubSlice}
 use Rattle.sc_record.specs.declared.entry.Entry.{Entry}
 use Rattle.sc_cluster.specs.Plans.{IsPlan}
 use Rattle.sc_journal.specs.Splits.{open_split, map_after, entries_of_split, IsFullFor}
-use Rattle.sc_journal.specs.Legal.{MayBegin}
+use Rattle.sc_journal.specs.Legal.{MayBeSplit}
 use Rattle.sc_seen.specs.Seen.{Layout}
 use Rattle.sc_bucket.specs.declared.bucket.Bucket.{Bucket}
 use Rattle.sc_bucket.specs.Room.{BucketIsFull}
@@ -49,7 +49,7 @@ no_room layout number bucket given parent subs journal is_of sound can same is f
 pub may_still_begin : (layout : Layout) (number : ℕ) (bucket given : Bucket) (parent : SliceId) (subs : List SubSlice)
     (journal : List Entry)
     → IsBucketOf layout number bucket → IsSound bucket → CanBegin bucket parent subs → IsSameButRoom bucket given
-    → journal ≡ given.journal.entries → MayBegin layout.first journal parent subs
+    → journal ≡ given.journal.entries → MayBeSplit layout.first journal parent subs
 may_still_begin layout number bucket given parent subs journal is_of sound can same is =
     let idle = subst (IsInPhase bucket) can.idle sound.phase in
     let same_journal : bucket.journal.entries ≡ journal = sym (is ∙ same.entries) in

@@ -22,13 +22,14 @@ use Rattle.sc_seen.proofs.ExtendsLemmas.{IsPrefix-self, IsPrefix-then, IsPrefix-
 use Rattle.sc_io.specs.declared.hosts.Host.{Host}
 use Rattle.sc_keeper.specs.Conditions.{MayBegin}
 use Rattle.sc_collection.specs.Desks.{KeepsOn, OwnsSplit}
+use Rattle.sc_collection.specs.Known.{Known, OfBuckets}
 use Rattle.sc_split.specs.declared.end.Fault.{Fault}
 use Rattle.sc_split.specs.declared.end.Fault.TheVariants as faults
-use Rattle.sc_split.specs.Buckets.{Known, part_in, HasNoRoomFor}
-use Rattle.sc_split.specs.Stages.{OpenSplit, Stage, OfBuckets, IsOpenIn, IsAtStage, IsUnbegun, KeepsBoard, whole}
+use Rattle.sc_split.specs.Buckets.{part_in, HasNoRoomFor}
+use Rattle.sc_split.specs.Stages.{OpenSplit, Stage, IsOpenIn, IsAtStage, IsUnbegun, KeepsKnownBoard, whole}
 use Rattle.sc_split.specs.Steps.{NotesOne}
 use Rattle.sc_split.specs.Splits.{SplitMoment, HadNoRoom}
-use Rattle.sc_split.specs.Driving.{HasBegunOnBoard, IsWhole, Builds, IsFault, NotesMore}
+use Rattle.sc_split.specs.Driving.{HasBegunOnBoard, IsWholeSplit, Builds, IsFault, NotesMore}
 use Rattle.sc_split.proofs.OpenLemmas.{stage-same}
 use Rattle.sc_split.proofs.OwnLemmas.{owns-split, may-note-recovering}
 
@@ -66,7 +67,7 @@ journals-went-on layout split begun new legal opened unbegun lock = by (nat_lt l
       (new.seen.journals lock, ap (λ (journal : List Entry). journal ++ new.seen.journals lock) (legal.others lock past))
 
 -- what was seen went on, and the board stayed
-extends-kept : (layout : Layout) (old new : Known) → KeepsBoard old new
+extends-kept : (layout : Layout) (old new : Known) → KeepsKnownBoard old new
     → ((lock : ℕ) → IsPrefix (old.seen.journals lock) (new.seen.journals lock)) → Extends layout old.seen new.seen []
 extends-kept layout old new keeps went_on = record {
   seen = went_on;
@@ -100,8 +101,8 @@ extends-noted layout one old new unnoted notes others went_on = record {
 }
 
 -- an entry came to the board while buckets were held before and after it
-noted-between : (layout : Layout) (one : BoardEntry) (base before noted new : Known) → KeepsBoard base before
-    → NotesOne layout one before.seen noted.seen → KeepsBoard noted new → NotesMore layout (one ∷ []) base.seen new.seen
+noted-between : (layout : Layout) (one : BoardEntry) (base before noted new : Known) → KeepsKnownBoard base before
+    → NotesOne layout one before.seen noted.seen → KeepsKnownBoard noted new → NotesMore layout (one ∷ []) base.seen new.seen
 noted-between layout one base before noted new first notes last = record {
   board = last.board ∙ notes.board ∙ ap (λ (entries : List BoardEntry). entries ++ one ∷ []) first.board;
   own = last.own layout.buckets ∙ notes.own
@@ -111,7 +112,7 @@ noted-between layout one base before noted new first notes last = record {
 
 -- where buckets were held since the split began, it is one's own still
 pub led-owns : (layout layout' : Layout) (plan : SplitPlan) (entries : List BoardEntry) (base now : Known) → layout' ≡ layout
-    → KeepsBoard base now → HasBegunOnBoard layout plan entries base → OwnsSplit layout' now.seen
+    → KeepsKnownBoard base now → HasBegunOnBoard layout plan entries base → OwnsSplit layout' now.seen
 led-owns layout layout' plan entries base now same keeps begun =
     subst (λ (l : Layout). OwnsSplit l now.seen) (sym same)
     (owns-split layout now.seen entries plan false (keeps.board ∙ begun.board)
@@ -119,7 +120,7 @@ led-owns layout layout' plan entries base now same keeps begun =
 
 -- and its slices may be recovered
 pub led-may-recover : (layout layout' : Layout) (plan : SplitPlan) (entries : List BoardEntry) (base now : Known)
-    → AreLegal layout' now.seen → KeepsBoard base now → HasBegunOnBoard layout plan entries base
+    → AreLegal layout' now.seen → KeepsKnownBoard base now → HasBegunOnBoard layout plan entries base
     → MayNote layout'.first now.seen.board (board.Recovering plan.parent)
 led-may-recover layout layout' plan entries base now legal keeps begun =
     may-note-recovering layout' now.seen entries plan legal (keeps.board ∙ begun.board)
@@ -138,7 +139,7 @@ stage-noted layout one split stage old new n notes keeps at b low below =
 
 -- the leaders were made, as far as that went
 pub builds-led : (layout : Layout) (plan : SplitPlan) (entries : List BoardEntry) (begun : ℕ) (base new : Known) → AreLegal layout base.seen
-    → HasBegunOnBoard layout plan entries base → KeepsBoard base new
+    → HasBegunOnBoard layout plan entries base → KeepsKnownBoard base new
     → OfBuckets 0 begun (IsOpenIn (record { plan = plan; base = base }) new)
     → OfBuckets begun layout.buckets (IsUnbegun (record { plan = plan; base = base }) layout.first new)
     → Builds layout (record { plan = plan; base = base }) entries begun base new
@@ -194,8 +195,8 @@ fault-led layout split begun new cores was now faults.Memory first last unbegun 
 
 -- The slices of a split were recovered, and further replicas joined after that, as far as that went.
 module _ (layout : Layout) (plan : SplitPlan) (entries : List BoardEntry) (base before noted new : Known)
-    (legal : AreLegal layout base.seen) (on_board : HasBegunOnBoard layout plan entries base) (first : KeepsBoard base before)
-    (notes : NotesOne layout (board.Recovering plan.parent) before.seen noted.seen) (last : KeepsBoard noted new) where
+    (legal : AreLegal layout base.seen) (on_board : HasBegunOnBoard layout plan entries base) (first : KeepsKnownBoard base before)
+    (notes : NotesOne layout (board.Recovering plan.parent) before.seen noted.seen) (last : KeepsKnownBoard noted new) where
   abbrev split : OpenSplit
   split = record { plan = plan; base = base }
 
@@ -226,5 +227,5 @@ module _ (layout : Layout) (plan : SplitPlan) (entries : List BoardEntry) (base 
     none_left : OfBuckets begun layout.buckets (IsUnbegun split layout.first new)
     none_left b low below = absurd (omega (arith, low, below, everywhere))
 
-  pub whole-followed : OfBuckets 0 layout.buckets (IsAtStage split (whole plan) new) → IsWhole layout split entries new
+  pub whole-followed : OfBuckets 0 layout.buckets (IsAtStage split (whole plan) new) → IsWholeSplit layout split entries new
   whole-followed all = record { rest = on_board.rest; board = board_is; own = own_is; whole = all }

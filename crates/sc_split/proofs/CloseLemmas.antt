@@ -27,16 +27,16 @@ use Rattle.sc_seen.proofs.ExtendsLemmas.{IsPrefix-length, NotesBoard-same, Exten
 use Rattle.sc_seen.proofs.RoundLemmas.{GoTogether-more}
 use Rattle.sc_collection.specs.Desks.{AreAtRest, OwnsSplit}
 use Rattle.sc_collection.specs.Committing.{CommitsAll, commit_outcome}
+use Rattle.sc_collection.specs.Known.{Known, OfBuckets}
 use Rattle.sc_bucket.specs.declared.commit.CommitFault.{CommitFault}
 use Rattle.sc_keeper.specs.Part.{keeper_entries}
 use Rattle.sc_split.specs.declared.end.SplitEnd.{SplitEnd}
 use Rattle.sc_split.specs.declared.end.SplitEnd.TheVariants as ends
-use Rattle.sc_split.specs.Buckets.{Known}
-use Rattle.sc_split.specs.Stages.{OpenSplit, OfBuckets, IsDoneIn, HasEnded, KeepsBoard}
+use Rattle.sc_split.specs.Stages.{OpenSplit, IsDoneIn, HasEndedSplit, KeepsKnownBoard}
 use Rattle.sc_split.specs.Steps.{NotesOne}
 use Rattle.sc_split.specs.Splits.{is_of_split, IsSwitchedIn}
-use Rattle.sc_collection.specs.Committing.{committed}
-use Rattle.sc_split.specs.Driving.{NotesMore, IsWhole, Closes, Finishes}
+use Rattle.sc_collection.specs.Committing.{commits_told}
+use Rattle.sc_split.specs.Driving.{NotesMore, IsWholeSplit, Closes, Finishes}
 use Rattle.sc_split.proofs.LoopLemmas.{apart-below}
 use Rattle.sc_split.proofs.OwnLemmas.{owns-split, may-note-done}
 
@@ -92,7 +92,7 @@ find-past (entry.Dropped slice ∷ later) more none = absurd (cc)
 find-past (entry.Up core ∷ later) more none = absurd (cc)
 find-past (entry.Led core ∷ later) more none = absurd (cc)
 
-pub switched-here : (plan : SplitPlan) (seen journal : List Entry) → HasEnded plan (entry.Switched plan.parent) seen journal
+pub switched-here : (plan : SplitPlan) (seen journal : List Entry) → HasEndedSplit plan (entry.Switched plan.parent) seen journal
     → IsSwitchedIn plan (length seen) journal
 switched-here plan seen journal ended = (
   length ended.before,
@@ -124,7 +124,7 @@ switched-later plan seen journal longer begins (place, later, at, low, found) = 
 -- ---- what is seen goes on, by no stop
 -- what keepers do is seen of the buckets alone
 pub extends-buckets : (layout : Layout) (old new : Known) → ((lock : ℕ) → IsPrefix (old.seen.journals lock) (new.seen.journals lock))
-    → KeepsBoard old new → Extends layout old.seen new.seen []
+    → KeepsKnownBoard old new → Extends layout old.seen new.seen []
 extends-buckets layout old new went_on keeps = record {
   seen = went_on;
   board = ([], append-nil old.seen.board ∙ sym keeps.board);
@@ -155,7 +155,7 @@ extends-board layout one old new none notes = record {
 }
 
 -- it comes to the end of the board, after what keepers did
-pub notes-after : (layout : Layout) (one : BoardEntry) (old between : Known) (new : Seen) → KeepsBoard old between
+pub notes-after : (layout : Layout) (one : BoardEntry) (old between : Known) (new : Seen) → KeepsKnownBoard old between
     → NotesOne layout one between.seen new → NotesMore layout (one ∷ []) old.seen new
 notes-after layout one old between new keeps notes = record {
   board = notes.board ∙ ap (λ (entries : List BoardEntry). entries ++ one ∷ []) keeps.board;
@@ -165,7 +165,7 @@ notes-after layout one old between new keeps notes = record {
 
 -- the split is closed once it is switched in each bucket and noted as done
 pub closes-by : (layout : Layout) (split : OpenSplit) (old between : Known) (new : Seen)
-    → ((lock : ℕ) → IsPrefix (old.seen.journals lock) (between.seen.journals lock)) → KeepsBoard old between
+    → ((lock : ℕ) → IsPrefix (old.seen.journals lock) (between.seen.journals lock)) → KeepsKnownBoard old between
     → OfBuckets 0 layout.buckets (IsDoneIn split between) → NotesOne layout (board.Done split.plan.parent) between.seen new
     → Closes layout split.plan split.base.seen old.seen new
 closes-by layout split old between new went_on keeps done notes = record {
@@ -180,14 +180,14 @@ closes-by layout split old between new went_on keeps done notes = record {
 
 -- ---- the last steps of a split
 -- the board was left as it is while the buckets are switched
-board-closing : (layout : Layout) (split : OpenSplit) (entries : List BoardEntry) (old new : Known) → KeepsBoard old new
-    → IsWhole layout split entries old
+board-closing : (layout : Layout) (split : OpenSplit) (entries : List BoardEntry) (old new : Known) → KeepsKnownBoard old new
+    → IsWholeSplit layout split entries old
     → new.seen.board ≡ entries ++ board.Begun split.plan ∷ board.Recovering split.plan.parent ∷ []
 board-closing layout split entries old new keeps was = keeps.board ∙ was.board
 
 -- the split on the board is one's own then
 pub owns-closing : (layout layout' : Layout) (split : OpenSplit) (entries : List BoardEntry) (old new : Known) → layout' ≡ layout
-    → KeepsBoard old new → IsWhole layout split entries old → OwnsSplit layout' new.seen
+    → KeepsKnownBoard old new → IsWholeSplit layout split entries old → OwnsSplit layout' new.seen
 owns-closing layout layout' split entries old new same keeps was =
     subst (λ (l : Layout). OwnsSplit l new.seen) (sym same)
     (owns-split layout new.seen entries split.plan true (board-closing layout split entries old new keeps was)
@@ -195,7 +195,7 @@ owns-closing layout layout' split entries old new same keeps was =
 
 -- it may be noted as done, with the keepers of buckets that are at rest
 pub may-close : (layout layout' : Layout) (split : OpenSplit) (entries : List BoardEntry) (old new : Known) → layout' ≡ layout
-    → AreLegal layout' new.seen → KeepsBoard old new → IsWhole layout split entries old → OfBuckets 0 layout.buckets (IsDoneIn split new)
+    → AreLegal layout' new.seen → KeepsKnownBoard old new → IsWholeSplit layout split entries old → OfBuckets 0 layout.buckets (IsDoneIn split new)
     → MayNote layout'.first new.seen.board (board.Done split.plan.parent)
     × AreAtRest layout' (new.seen.board ++ board.Done split.plan.parent ∷ []) new.keeping
 may-close layout layout' split entries old new same legal keeps was done =
@@ -209,7 +209,7 @@ may-close layout layout' split entries old new same legal keeps was done =
 pub finishes-by : (layout layout' : Layout) (split : OpenSplit) (old : View) (between : Seen) (new : View) (fault : Option CommitFault)
     (end : SplitEnd) → layout' ≡ layout → Closes layout split.plan split.base.seen old.seen between
     → CommitsAll layout' layout'.buckets (view_of between old.stops) new fault
-    → end ≡ ends.Done (map (λ (sub : SubSlice). sub.name) split.plan.subs) (committed (commit_outcome fault))
+    → end ≡ ends.Done (map (λ (sub : SubSlice). sub.name) split.plan.subs) (commits_told (commit_outcome fault))
     → Finishes layout split.plan split.base.seen old new end
 finishes-by layout layout' split old between new fault end same closes commits' end_is =
     let commits : CommitsAll layout layout.buckets (view_of between old.stops) new fault =
@@ -224,5 +224,5 @@ finishes-by layout layout' split old between new fault end same closes commits' 
       noted = record { board = goes.board ∙ closes.noted.board; own = goes.board_own ∙ closes.noted.own };
       switched = λ lock below. switched-later split.plan (length (split.base.seen.journals lock)) (between.journals lock) (new.seen.journals lock)
           (goes.extends.seen lock) (closes.switched lock below);
-      end_is = end_is ∙ ap (λ outcome. ends.Done (map (λ (sub : SubSlice). sub.name) split.plan.subs) (committed outcome)) (sym commits.worst_is);
+      end_is = end_is ∙ ap (λ outcome. ends.Done (map (λ (sub : SubSlice). sub.name) split.plan.subs) (commits_told outcome)) (sym commits.worst_is);
     }

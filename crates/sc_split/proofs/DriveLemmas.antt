@@ -21,12 +21,12 @@ use Rattle.sc_seen.proofs.ExtendsLemmas.{IsPrefix-then, Extends-then}
 use Rattle.sc_split.specs.declared.end.Fault.{Fault}
 use Rattle.sc_split.specs.declared.end.Fault.TheVariants as faults
 use Rattle.sc_split.specs.declared.end.SplitEnd.{SplitEnd}
-use Rattle.sc_split.specs.Buckets.{Known}
+use Rattle.sc_collection.specs.Known.{Known}
 use Rattle.sc_cores.specs.Cores.{Outside, CountsGoUp}
-use Rattle.sc_split.specs.Outside.{StartsCores, LeavesCores}
+use Rattle.sc_split.specs.Outside.{StartsCoresOfPlan, LeavesCores}
 use Rattle.sc_split.specs.Stages.{OpenSplit}
 use Rattle.sc_split.specs.Splits.{split_moment, IsCoreOfSub, HadNoRoom, IsCause}
-use Rattle.sc_split.specs.Driving.{HasBegunOnBoard, recovering_entries, IsWhole, NotesMore, Builds, IsFault, GivesUp, Finishes, IsDone, IsGivenUpOnBoard, IsEndOf}
+use Rattle.sc_split.specs.Driving.{HasBegunOnBoard, recovering_entries, IsWholeSplit, NotesMore, Builds, IsFault, GivesUp, Finishes, IsSplitDone, IsGivenUpOnBoard, IsEndOf}
 
 -- a split that has begun on the board is one into at most 256 subs
 pub few-subs : (layout : Layout) (plan : SplitPlan) (entries : List BoardEntry) (known : Known) → AreLegal layout known.seen
@@ -74,9 +74,9 @@ is-recovered entries plan false is =
 -- all its cores were made, and then it was finished
 pub done-by : (layout layout' : Layout) (split : OpenSplit) (entries : List BoardEntry) (begun : ℕ) (between : Known) (stops : List Stop)
     (new : View) (end : SplitEnd) (before later : Outside) → layout' ≡ layout → Builds layout split entries begun split.base between
-    → IsWhole layout split entries between → Finishes layout' split.plan split.base.seen (view_of between.seen stops) new end
-    → StartsCores layout.nodes split.plan before later
-    → IsDone layout split.plan (split_moment (view_of split.base.seen stops) before) (split_moment new later) end
+    → IsWholeSplit layout split entries between → Finishes layout' split.plan split.base.seen (view_of between.seen stops) new end
+    → StartsCoresOfPlan layout.nodes split.plan before later
+    → IsSplitDone layout split.plan (split_moment (view_of split.base.seen stops) before) (split_moment new later) end
 done-by layout layout' split entries begun between stops new end before later same built is_whole finished' starts = record {
   answers = finished.answers;
   stops = finished.stops;

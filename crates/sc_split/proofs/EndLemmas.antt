@@ -25,8 +25,9 @@ use Rattle.sc_keeper.specs.declared.part.Part.{Part}
 use Rattle.sc_keeper.specs.Part.{is_of_keeper, keeper_entries}
 use Rattle.sc_keeper.specs.Conditions.{MayBeReady, MaySwitch, MayAbort}
 use Rattle.sc_keeper.specs.Events.{PartGetsReady, PartSwitches}
-use Rattle.sc_split.specs.Buckets.{Known, part_in, IsAllSeen, LeavesOthers, KeeperHeld, IsUnderway, IsFilled, KeepsSeats, IsGivenUp, first_cores}
-use Rattle.sc_split.specs.Stages.{OpenSplit, Stage, HasOpened, HasEnded, IsOpenIn, IsAtStage, IsEndedIn, IsFailedIn, IsSameIn, OfBuckets, filled, led, recovering, whole, further_cores_of, further_names, follower_of}
+use Rattle.sc_collection.specs.Known.{Known, OfBuckets, IsSameIn}
+use Rattle.sc_split.specs.Buckets.{part_in, IsAllSeen, LeavesOthers, KeeperHeld, IsUnderway, IsFilled, KeepsSeats, IsGivenUp, first_cores}
+use Rattle.sc_split.specs.Stages.{OpenSplit, Stage, HasOpened, HasEndedSplit, IsOpenIn, IsAtStage, IsEndedIn, IsFailedIn, filled, leaders_filled, recovering, whole, further_cores_of, further_names, follower_of}
 use Rattle.sc_split.proofs.StageLemmas.{sub_cores-seats, sub_cores-ready, to_fill-ready, may_be_ready, may_switch}
 use Rattle.sc_split.proofs.OpenLemmas.{open-held, open-same, same-other}
 use Rattle.sc_split.proofs.LoopLemmas.{apart-below, same-after, in-all}
@@ -43,7 +44,7 @@ stage-filled split stage old new b held seen seats underway full was = record {
 }
 
 -- the bucket whose leaders are filled may be ready
-pub may-be-ready : (split : OpenSplit) (known : Known) (b : ℕ) → IsAtStage split (led split.plan) known b
+pub may-be-ready : (split : OpenSplit) (known : Known) (b : ℕ) → IsAtStage split (leaders_filled split.plan) known b
     → MayBeReady (part_in known b) split.plan.parent
 may-be-ready split known b was =
     may_be_ready (part_in split.base b) (part_in known b) split.plan was.opened.underway was.phase_is was.to_fill was.there
@@ -51,7 +52,7 @@ may-be-ready split known b was =
 -- it is ready
 pub stage-ready : (split : OpenSplit) (old new : Known) (b : ℕ) → KeeperHeld b old new [] → IsAllSeen b new
     → PartGetsReady (part_in old b) split.plan.parent (part_in new b) → IsUnderway (part_in split.base b) split.plan (part_in new b)
-    → IsAtStage split (led split.plan) old b → IsAtStage split (recovering split.plan) new b
+    → IsAtStage split (leaders_filled split.plan) old b → IsAtStage split (recovering split.plan) new b
 stage-ready split old new b held seen ready underway was = record {
   opened = open-held split old new b held seen underway was.opened;
   phase_is = ready.phase_is;
@@ -110,7 +111,7 @@ pub failed-same : (split : OpenSplit) (old new : Known) (b : ℕ) → IsSameIn o
 failed-same split old new b same was = record {
   ended = record {
     own = same.own ∙ was.ended.own;
-    journal = subst (HasEnded split.plan (entry.Failed split.plan.parent) (split.base.seen.journals b)) (sym same.journal) was.ended.journal;
+    journal = subst (HasEndedSplit split.plan (entry.Failed split.plan.parent) (split.base.seen.journals b)) (sym same.journal) was.ended.journal;
   };
   given_up = subst (IsGivenUp (part_in split.base b) split.plan) (sym same.part_is) was.given_up;
 }

@@ -23,15 +23,15 @@ use Rattle.sc_cluster.proofs.StateLemmas.{forming-begun}
 use Rattle.sc_cluster.proofs.SplitLemmas.{some_forming}
 use Rattle.sc_cluster.proofs.HistoryLemmas.{uses_no_id_again}
 use Rattle.sc_journal.specs.Splits.{map_change_of, map_after, open_split}
-use Rattle.sc_journal.specs.Legal.{MayBegin, MayFollow, IsLegal}
+use Rattle.sc_journal.specs.Legal.{MayBeSplit, MayFollow, IsLegal}
 use Rattle.sc_journal.proofs.ListLemmas.{append-cons, split_last}
 use Rattle.sc_journal.proofs.SplitLemmas.{map_after-append, map_after-push, map_after-left, open_split-push, open_split-left, LeavesSlices, LeavesSlices-write, LeavesSlices-settled, LeavesSlices-committed, LeavesSlices-down, LeavesSlices-up, LeavesSlices-led}
 use Rattle.sc_journal.proofs.LegalLemmas.{IsLegal-prefix, MayFollow_end}
 use Rattle.sc_journal.proofs.MapLemmas.{FitsSplit, legal_fits}
 use Rattle.sc_keeper.specs.Part.{is_of_keeper, keeper_entries}
-use Rattle.sc_split.specs.Buckets.{Known}
-use Rattle.sc_split.specs.Stages.{OpenSplit, HasEnded, IsUnbegun}
-use Rattle.sc_split.specs.Splits.{is_of_split, IsFailedIn}
+use Rattle.sc_collection.specs.Known.{Known}
+use Rattle.sc_split.specs.Stages.{OpenSplit, HasEndedSplit, IsUnbegun}
+use Rattle.sc_split.specs.Splits.{is_of_split, IsFailedIfBegun}
 use Rattle.sc_split.proofs.OwnLemmas.{open-once-begun}
 use Rattle.sc_split.proofs.CloseLemmas.{find-past}
 
@@ -258,7 +258,7 @@ not-again first journal between rest plan is_map idle legal same again = absurd 
 
 -- where the split of a plan may begin, each earlier one of the plan failed
 pub earlier-failed : (first : List Slice) (journal : List Entry) (plan : SplitPlan) → IsMap first → forming first ≡ []
-    → IsLegal first journal → MayBegin first journal plan.parent plan.subs → (before later : List Entry)
+    → IsLegal first journal → MayBeSplit first journal plan.parent plan.subs → (before later : List Entry)
     → journal ≡ before ++ entry.Begun plan.parent plan.subs ∷ later → find is_of_split later ≡ Some (entry.Failed plan.parent)
 earlier-failed first journal plan is_map idle legal may before later is =
     by (goes-on first begun later plan.parent (subst (IsLegal first) joined legal)
@@ -318,7 +318,7 @@ none-begins plan before after none =
 
 -- where it began and failed
 pub failed-here : (first : List Slice) (plan : SplitPlan) (seen journal : List Entry) (n : ℕ) → IsMap first → forming first ≡ []
-    → IsLegal first journal → HasEnded plan (entry.Failed plan.parent) seen journal → IsFailedIn plan n journal
+    → IsLegal first journal → HasEndedSplit plan (entry.Failed plan.parent) seen journal → IsFailedIfBegun plan n journal
 failed-here first plan seen journal n is_map idle legal ended place later at low =
     by (places ended.before one (ended.later ++ end ∷ []) at.before one later (sym joined ∙ at.journal_is)) where
       one : Entry
@@ -346,12 +346,12 @@ failed-here first plan seen journal n is_map idle legal ended place later at low
 -- and where it had not begun
 pub failed-unbegun : (first : List Slice) (split : OpenSplit) (known : Known) (b : ℕ) → IsMap first → forming first ≡ []
     → IsLegal first (known.seen.journals b) → IsUnbegun split first known b
-    → IsFailedIn split.plan (length (split.base.seen.journals b)) (known.seen.journals b)
+    → IsFailedIfBegun split.plan (length (split.base.seen.journals b)) (known.seen.journals b)
 failed-unbegun first split known b is_map idle legal was place later at low = by was.journal where
   plan : SplitPlan
   plan = split.plan
 
-  by : (known.seen.journals b ≡ split.base.seen.journals b) ⊎ MayBegin first (known.seen.journals b) plan.parent plan.subs
+  by : (known.seen.journals b ≡ split.base.seen.journals b) ⊎ MayBeSplit first (known.seen.journals b) plan.parent plan.subs
       → find is_of_split later ≡ Some (entry.Failed plan.parent)
   by (inl same) = absurd (omega (
     arith,

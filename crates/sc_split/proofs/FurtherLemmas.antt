@@ -22,7 +22,8 @@ use Rattle.sc_bucket.proofs.FollowerLemmas.{IsDistinct-append, All-from_contains
 use Rattle.sc_handover.specs.Made.{first_core}
 use Rattle.sc_handover.proofs.PlanLemmas.{leader_number, leaders_rise}
 use Rattle.sc_keeper.specs.Conditions.{MayGrow}
-use Rattle.sc_split.specs.Buckets.{Known, part_in, IsAllSeen, KeeperHeld, IsUnderway, HasSubCores, HasGrown, first_cores}
+use Rattle.sc_collection.specs.Known.{Known}
+use Rattle.sc_split.specs.Buckets.{part_in, IsAllSeen, KeeperHeld, IsUnderway, HasSubCores, HasGrown, first_cores}
 use Rattle.sc_split.specs.Stages.{OpenSplit, Stage, IsAtStage, filled, recovering, whole, further_cores_of, further_names, follower_of}
 use Rattle.sc_split.proofs.StageLemmas.{may_grow}
 use Rattle.sc_split.proofs.OpenLemmas.{open-held}

@@ -21,8 +21,9 @@ use Rattle.sc_seen.proofs.RoundLemmas.{GoTogether-more}
 use Rattle.sc_keeper.specs.declared.part.CorePart.{CorePart}
 use Rattle.sc_keeper.specs.declared.part.Part.{Part}
 use Rattle.sc_collection.specs.Desks.{OwnsSplit, IsAtRest, AreAtRest}
-use Rattle.sc_split.specs.Buckets.{Known, part_in}
-use Rattle.sc_split.specs.Stages.{OpenSplit, OfBuckets, IsUnbegun, IsFailedIn, IsSameIn, KeepsBoard}
+use Rattle.sc_collection.specs.Known.{Known, OfBuckets, IsSameIn}
+use Rattle.sc_split.specs.Buckets.{part_in}
+use Rattle.sc_split.specs.Stages.{OpenSplit, IsUnbegun, IsFailedIn, KeepsKnownBoard}
 use Rattle.sc_split.specs.Steps.{NotesOne}
 use Rattle.sc_split.specs.Splits as course
 use Rattle.sc_split.specs.Driving.{HasBegunOnBoard, IsHalted, GivesUp, recovering_entries}
@@ -35,7 +36,7 @@ use Rattle.sc_split.proofs.FailedLemmas.{failed-here, failed-unbegun}
 -- ---- the board is as it was left
 -- once it was given up in its buckets the board is as it was, and the split that runs there is one's own
 pub halted-owns : (layout layout' : Layout) (split : OpenSplit) (entries : List BoardEntry) (recovered : Bool) (begun : ℕ) (old new : Known)
-    → layout' ≡ layout → KeepsBoard old new → IsHalted layout split entries recovered begun old → OwnsSplit layout' new.seen
+    → layout' ≡ layout → KeepsKnownBoard old new → IsHalted layout split entries recovered begun old → OwnsSplit layout' new.seen
 halted-owns layout layout' split entries recovered begun old new same-layout keeps halted =
     subst (λ (l : Layout). OwnsSplit l new.seen) (sym same-layout)
     (owns-split layout new.seen entries split.plan recovered (keeps.board ∙ halted.board)
@@ -43,7 +44,7 @@ halted-owns layout layout' split entries recovered begun old new same-layout kee
 
 -- and it may fail there
 pub halted-may-fail : (layout layout' : Layout) (split : OpenSplit) (entries : List BoardEntry) (recovered : Bool) (begun : ℕ) (old new : Known)
-    → layout' ≡ layout → AreLegal layout' new.seen → KeepsBoard old new → IsHalted layout split entries recovered begun old
+    → layout' ≡ layout → AreLegal layout' new.seen → KeepsKnownBoard old new → IsHalted layout split entries recovered begun old
     → MayNote layout'.first new.seen.board (board.Failed split.plan.parent)
 halted-may-fail layout layout' split entries recovered begun old new same-layout legal keeps halted =
     may-note-failed layout' new.seen entries split.plan recovered legal (keeps.board ∙ halted.board)
@@ -102,7 +103,7 @@ rest-unbegun first split entries recovered old new b may base unbegun same = rec
   part_is = same.part_is ∙ unbegun.part_is
 
 pub rest-failed : (layout layout' : Layout) (split : OpenSplit) (entries : List BoardEntry) (recovered : Bool) (begun : ℕ) (old new : Known)
-    → layout' ≡ layout → AreLegal layout' new.seen → KeepsBoard old new → IsHalted layout split entries recovered begun old
+    → layout' ≡ layout → AreLegal layout' new.seen → KeepsKnownBoard old new → IsHalted layout split entries recovered begun old
     → OfBuckets 0 begun (IsFailedIn split new) → OfBuckets begun layout.buckets (IsSameIn old new)
     → AreAtRest layout' (new.seen.board ++ board.Failed split.plan.parent ∷ []) new.keeping
 rest-failed layout layout' split entries recovered begun old new same-layout legal keeps halted failed same =
@@ -131,7 +132,7 @@ rest-failed layout layout' split entries recovered begun old new same-layout leg
 -- ---- the split is given up
 pub gives-up-by : (layout : Layout) (split : OpenSplit) (entries : List BoardEntry) (recovered : Bool) (begun : ℕ) (old between : Known) (new : Seen)
     → IsMap layout.first → forming layout.first ≡ [] → AreLegal layout between.seen
-    → ((lock : ℕ) → IsPrefix (old.seen.journals lock) (between.seen.journals lock)) → KeepsBoard old between
+    → ((lock : ℕ) → IsPrefix (old.seen.journals lock) (between.seen.journals lock)) → KeepsKnownBoard old between
     → IsHalted layout split entries recovered begun old → OfBuckets 0 begun (IsFailedIn split between)
     → OfBuckets begun layout.buckets (IsSameIn old between) → NotesOne layout (board.Failed split.plan.parent) between.seen new
     → GivesUp layout split.plan split.base.seen old.seen new
@@ -149,7 +150,7 @@ gives-up-by layout split entries recovered begun old between new is_map idle leg
       lock below below);
 } where
   FailedIn : ℕ → List Entry → Type 0
-  FailedIn b journal = course.IsFailedIn split.plan (length (split.base.seen.journals b)) journal
+  FailedIn b journal = course.IsFailedIfBegun split.plan (length (split.base.seen.journals b)) journal
 
 -- ---- a split that began in no bucket
 -- it has just begun on the board
@@ -169,7 +170,7 @@ halted-at-once layout plan entries known begun = record {
 }
 
 -- nothing more is known
-keeps-same : (known : Known) → KeepsBoard known known
+keeps-same : (known : Known) → KeepsKnownBoard known known
 keeps-same known = record { board = refl; own = λ lock. refl }
 
 -- it is in no bucket of the first none of them

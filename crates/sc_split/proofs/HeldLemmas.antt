@@ -9,7 +9,8 @@ use Rattle.sc_bucket.specs.declared.bucket.Bucket.{Bucket}
 use Rattle.sc_keeper.specs.declared.part.Part.{Part}
 use Rattle.sc_keeper.specs.Part.{part_of, keeper_entries}
 use Rattle.sc_collection.specs.Desks.{Held, Out, Keeping, KeepsOn, KeepsGiven, SeesKeeperGiven, IsDeskAtRest, nothing_out}
-use Rattle.sc_split.specs.Buckets.{Known, known_of, part_in, IsAllSeen, LeavesOthers, KeeperHeld}
+use Rattle.sc_collection.specs.Known.{Known, known_of}
+use Rattle.sc_split.specs.Buckets.{part_in, IsAllSeen, LeavesOthers, KeeperHeld}
 
 -- the bucket of this number, handed out to its keeper
 abbrev pub held_of : ℕ → Bucket → Held

@@ -3,8 +3,9 @@ use Rattle.std.proofs.Common.{◌≡◌, ◌≢◌, ◌⊎◌, inl, inr, ℕ, �
 use Rattle.std.proofs.lemmas.Bool.Decides.{nat_tests}
 use Rattle.sc_cluster.specs.declared.slice.Slice.{Slice}
 use Rattle.sc_cluster.specs.declared.plan.SplitPlan.{SplitPlan}
-use Rattle.sc_split.specs.Buckets.{Known, LeavesOthers}
-use Rattle.sc_split.specs.Stages.{Stage, OfBuckets, IsAtStage, IsUnbegun, IsSameIn}
+use Rattle.sc_collection.specs.Known.{Known, OfBuckets, IsSameIn}
+use Rattle.sc_split.specs.Buckets.{LeavesOthers}
+use Rattle.sc_split.specs.Stages.{Stage, IsAtStage, IsUnbegun}
 use Rattle.sc_split.proofs.OpenLemmas.{same-other, same-then, stage-same, stage-from, unbegun-from, unbegun-yet}
 
 pub apart-below : (k b : ℕ) → k < b → k ≢ b

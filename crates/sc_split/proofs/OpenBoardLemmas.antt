@@ -16,8 +16,8 @@ use Rattle.sc_seen.specs.declared.stop.Stop.{Stop}
 use Rattle.sc_board.specs.declared.board.Board.{Board}
 use Rattle.sc_board.specs.declared.fault.BoardFault.{BoardFault}
 use Rattle.sc_board.specs.Boards.{IsSoundBoard}
-use Rattle.sc_board.specs.Events.{Notes, IsSameButRoom}
-use Rattle.sc_board.specs.Splits.{Asked, IsPlanOf, IsRefusal}
+use Rattle.sc_board.specs.Events.{Notes, IsSameBoardButRoom}
+use Rattle.sc_board.specs.Splits.{AskedSplit, IsPlanOf, IsRefusal}
 use Rattle.sc_collection.specs.Desks.{Keeping, KeepsOn, IsBoardOf, MayReplaceBoard, SeesBoardGiven, AreAtRest, place_added}
 use Rattle.sc_split.specs.Steps.{NotesOne, Opens, Refuses}
 use Rattle.sc_split.proofs.BoardLemmas.{notes-one, at-rest-still}
@@ -34,7 +34,7 @@ none-runs keepers one running there has place found =
 pub may-replace-begun : {K : Type 0} (old new : Board K) (answer : Result (SplitPlan × K) BoardFault) (layout : Layout) (seen : Seen)
     → is_some old.keepers ≡ not (is_some (running_split old.journal.entries))
     → IfOk answer (λ begun. Notes old (board.Begun begun.0) new) → IfOk answer (λ begun. old.keepers ≡ Some begun.1)
-    → OnErr answer (IsSameButRoom old new) → MayReplaceBoard layout seen old.journal.entries new.journal.entries
+    → OnErr answer (IsSameBoardButRoom old new) → MayReplaceBoard layout seen old.journal.entries new.journal.entries
 may-replace-begun old new (Ok begun) layout seen there notes has same =
     inr (
       board.Begun begun.0,
@@ -45,7 +45,7 @@ may-replace-begun old new (Err fault) layout seen there notes has same = inl sam
 
 -- the keepers that it has are those that were handed out with it
 pub keepers-still : {K : Type 0} (old new : Board K) (answer : Result (SplitPlan × K) BoardFault) → OnOk answer (new.keepers ≡ None)
-    → OnErr answer (IsSameButRoom old new) → (keepers : K) → new.keepers ≡ Some keepers
+    → OnErr answer (IsSameBoardButRoom old new) → (keepers : K) → new.keepers ≡ Some keepers
     → (old.keepers ≡ Some keepers) × (new.journal.entries ≡ old.journal.entries)
 keepers-still old new (Ok begun) none same keepers has = absurd (impossible keepers (sym none ∙ has)) where
   impossible : {K : Type 0} (k : K) → None ≡ Some k → ⊥
@@ -68,7 +68,7 @@ pub if-err-at : {T F : Type 0} (answer : Result T F) (IsSo : F → Type 0) (faul
 if-err-at answer IsSo fault is so = subst (λ a. IfErr a IsSo) is so
 
 -- a split began on the board that was handed out
-pub opens-by : {K : Type 0} (old new : Board K) (asked : Asked) (plan : SplitPlan) (layout layout' : Layout) (seen seen' final : Seen)
+pub opens-by : {K : Type 0} (old new : Board K) (asked : AskedSplit) (plan : SplitPlan) (layout layout' : Layout) (seen seen' final : Seen)
     (stops stops' : List Stop) → IsBoardOf layout old.first old.limit → IsPrefix seen.board old.journal.entries → layout' ≡ layout → seen' ≡ seen
     → IsPlanOf old.first old.journal.entries asked plan → Notes old (board.Begun plan) new
     → SeesBoardGiven layout' old.journal.entries new.journal.entries seen' final
@@ -108,9 +108,9 @@ none-added : {A : Type 0} (entries : List A) → place_added entries entries ≡
 none-added entries = ap (λ b. cond b (length entries ∷ []) []) (le-ltb (length entries) (length entries) (omega arith))
 
 -- a split was refused on the board that was handed out
-pub refuses-by : {K : Type 0} (old new : Board K) (asked : Asked) (fault : BoardFault) (layout layout' : Layout) (seen seen' final : Seen)
+pub refuses-by : {K : Type 0} (old new : Board K) (asked : AskedSplit) (fault : BoardFault) (layout layout' : Layout) (seen seen' final : Seen)
     (stops stops' : List Stop) → IsBoardOf layout old.first old.limit → IsPrefix seen.board old.journal.entries → layout' ≡ layout → seen' ≡ seen
-    → IsRefusal old.first old.limit old.journal.entries asked fault → IsSameButRoom old new
+    → IsRefusal old.first old.limit old.journal.entries asked fault → IsSameBoardButRoom old new
     → SeesBoardGiven layout' old.journal.entries new.journal.entries seen' final
     → stops' ≡ stops ++ record { lock = layout.buckets; place = length old.journal.entries; made = false } ∷ []
     → Refuses layout asked (record { seen = seen; stops = stops }) (record { seen = final; stops = stops' }) fault

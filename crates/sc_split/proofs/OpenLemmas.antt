@@ -8,12 +8,13 @@ use Rattle.sc_record.specs.declared.entry.Entry.{Entry}
 use Rattle.sc_record.specs.declared.entry.Entry.TheVariants as entry
 use Rattle.sc_cluster.specs.declared.slice.Slice.{Slice}
 use Rattle.sc_cluster.specs.declared.plan.SplitPlan.{SplitPlan}
-use Rattle.sc_journal.specs.Legal.{MayBegin}
+use Rattle.sc_journal.specs.Legal.{MayBeSplit}
 use Rattle.sc_seen.proofs.ExtendsLemmas.{IsPrefix-self, IsPrefix-then}
 use Rattle.sc_keeper.specs.declared.part.Part.{Part}
 use Rattle.sc_keeper.specs.Part.{is_of_keeper, keeper_entries}
-use Rattle.sc_split.specs.Buckets.{Known, part_in, IsAllSeen, LeavesOthers, KeeperHeld, IsUnderway, IsToFill, HasSubCores}
-use Rattle.sc_split.specs.Stages.{OpenSplit, Stage, HasOpened, IsOpenIn, IsAtStage, IsUnbegun, IsSameIn, KeepsBoard}
+use Rattle.sc_collection.specs.Known.{Known, IsSameIn}
+use Rattle.sc_split.specs.Buckets.{part_in, IsAllSeen, LeavesOthers, KeeperHeld, IsUnderway, IsToFill, HasSubCores}
+use Rattle.sc_split.specs.Stages.{OpenSplit, Stage, HasOpened, IsOpenIn, IsAtStage, IsUnbegun, KeepsKnownBoard}
 
 -- where the keeper's entries stayed, none of those that came is one of them
 none-came : (journal rest : List Entry) → keeper_entries (journal ++ rest) ≡ keeper_entries journal → keeper_entries rest ≡ []
@@ -102,7 +103,7 @@ unbegun-same split first old new b same was = record {
   part_is = same.part_is ∙ was.part_is;
   own = same.own ∙ was.own;
   went_on = subst (λ (journal : List Entry). IsPrefix (split.base.seen.journals b) journal) (sym same.journal) was.went_on;
-  journal = subst (λ (journal : List Entry). (journal ≡ split.base.seen.journals b) ⊎ MayBegin first journal split.plan.parent split.plan.subs)
+  journal = subst (λ (journal : List Entry). (journal ≡ split.base.seen.journals b) ⊎ MayBeSplit first journal split.plan.parent split.plan.subs)
       (sym same.journal) was.journal;
 }
 
@@ -127,7 +128,7 @@ unbegun-from plan first base now new b same was = record {
   part_is = was.part_is ∙ same.part_is;
   own = was.own ∙ same.own;
   went_on = subst (λ (journal : List Entry). IsPrefix journal (new.seen.journals b)) same.journal was.went_on;
-  journal = subst (λ (journal : List Entry). (new.seen.journals b ≡ journal) ⊎ MayBegin first (new.seen.journals b) plan.parent plan.subs)
+  journal = subst (λ (journal : List Entry). (new.seen.journals b ≡ journal) ⊎ MayBeSplit first (new.seen.journals b) plan.parent plan.subs)
       same.journal was.journal;
 }
 
@@ -143,7 +144,7 @@ unbegun-yet plan first base new b same = record {
 
 -- a split has not begun where a hold refused it
 pub unbegun-held : (plan : SplitPlan) (first : List Slice) (old new : Known) (b : ℕ) → KeeperHeld b old new [] → part_in new b ≡ part_in old b
-    → MayBegin first (new.seen.journals b) plan.parent plan.subs → IsUnbegun (record { plan = plan; base = old }) first new b
+    → MayBeSplit first (new.seen.journals b) plan.parent plan.subs → IsUnbegun (record { plan = plan; base = old }) first new b
 unbegun-held plan first old new b held same may = record {
   part_is = same;
   own = held.own ∙ append-nil (old.keeping.own b);
@@ -152,10 +153,10 @@ unbegun-held plan first old new b held same may = record {
 }
 
 -- the holds of a bucket leave the board
-pub board-kept : (b : ℕ) (old new : Known) → LeavesOthers b old new → KeepsBoard old new
+pub board-kept : (b : ℕ) (old new : Known) → LeavesOthers b old new → KeepsKnownBoard old new
 board-kept b old new leaves = record { board = leaves.board; own = leaves.own }
 
-pub board-then : (old between new : Known) → KeepsBoard old between → KeepsBoard between new → KeepsBoard old new
+pub board-then : (old between new : Known) → KeepsKnownBoard old between → KeepsKnownBoard between new → KeepsKnownBoard old new
 board-then old between new one two = record { board = two.board ∙ one.board; own = λ lock. two.own lock ∙ one.own lock }
 
 -- a hold leaves each journal with what was seen of it as its prefix

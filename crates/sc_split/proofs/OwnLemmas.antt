@@ -8,7 +8,7 @@ use Rattle.sc_cluster.specs.declared.plan.SplitPlan.{SplitPlan}
 use Rattle.sc_cluster.specs.Slices.{greatest_id}
 use Rattle.sc_cluster.specs.Map.{IsSubOf}
 use Rattle.sc_cluster.specs.Plans.{IsPlan}
-use Rattle.sc_cluster.specs.Changes.{Change, MayChange, IsSplit, after, begun_slice}
+use Rattle.sc_cluster.specs.Changes.{Change, MayChange, IsBeingSplit, after, begun_slice}
 use Rattle.sc_cluster.proofs.IdLemmas.{id_of, greatest_id-bounds}
 use Rattle.sc_cluster.proofs.StateLemmas.{forming-begun}
 use Rattle.sc_cluster.proofs.SplitLemmas.{TileRangeOf, begun_are_subs, begun_tile}
@@ -40,7 +40,7 @@ owns-split layout seen entries plan recovered is own = (length entries, ap runni
 
 -- a split is open once it has begun, whatever the slices are
 pub open-once-begun : (slices : List Slice) (parent : SliceId) (subs : List SubSlice) → IsPlan slices parent subs
-    → IsSplit (after slices (Change.Begun parent subs)) parent
+    → IsBeingSplit (after slices (Change.Begun parent subs)) parent
 open-once-begun slices parent subs may =
     let slice : Slice = may.cut.0 in
     let may_cut = may.cut.1 in

@@ -15,15 +15,15 @@ use Rattle.sc_seen.specs.declared.board.BoardEntry.{BoardEntry}
 use Rattle.sc_seen.specs.declared.board.BoardEntry.TheVariants as board
 use Rattle.sc_seen.specs.declared.stop.Stop.{Stop}
 use Rattle.sc_seen.proofs.ExtendsLemmas.{IsPrefix-self, IsPrefix-then, IsPrefix-length, Extends-then}
-use Rattle.sc_board.specs.Splits.{Asked, IsPlanOf, IsRefusal}
+use Rattle.sc_board.specs.Splits.{AskedSplit, IsPlanOf, IsRefusal}
 use Rattle.sc_board.specs.declared.fault.BoardFault.{BoardFault}
 use Rattle.sc_split.specs.declared.end.SplitEnd.{SplitEnd}
 use Rattle.sc_split.specs.declared.end.SplitEnd.TheVariants as ends
 use Rattle.sc_cores.specs.Cores.{Outside, CountsGoUp}
-use Rattle.sc_split.specs.Outside.{StartsCores}
+use Rattle.sc_split.specs.Outside.{StartsCoresOfPlan}
 use Rattle.sc_split.specs.Steps.{Opens, Refuses}
-use Rattle.sc_split.specs.Splits.{split_moment, Course, refused, given_up, done, noted_by, IsSwitchedIn, IsFailedIn, LeavesBoard, IsCause, BeginsOnBoard, IsSplit, refusal}
-use Rattle.sc_split.specs.Driving.{NotesMore, recovering_entries, IsDone, IsGivenUpOnBoard}
+use Rattle.sc_split.specs.Splits.{split_moment, Course, refused, given_up, done, noted_by, IsSwitchedIn, IsFailedIfBegun, LeavesBoard, IsCause, BeginsOnBoard, IsSplit, refusal}
+use Rattle.sc_split.specs.Driving.{NotesMore, recovering_entries, IsSplitDone, IsGivenUpOnBoard}
 use Rattle.sc_split.proofs.DriveLemmas.{NotesMore-then}
 
 -- a stop of the board, after so many entries
@@ -98,7 +98,7 @@ before-stop entries later begins = ap (take (length entries)) (sym begins.1) ∙
 stays-up : (outside : Outside) → CountsGoUp outside outside
 stays-up outside = record { starting = omega arith; stopping = omega arith; pace = omega arith }
 
-starts-up : (nodes : ℕ) (plan : SplitPlan) (old new : Outside) → StartsCores nodes plan old new → CountsGoUp old new
+starts-up : (nodes : ℕ) (plan : SplitPlan) (old new : Outside) → StartsCoresOfPlan nodes plan old new → CountsGoUp old new
 starts-up nodes plan old new starts = record {
   starting = omega (arith, starts.start_faults);
   stopping = omega (arith, starts.stop_faults);
@@ -106,7 +106,7 @@ starts-up nodes plan old new starts = record {
 }
 
 -- a split that the board refused
-pub split-refused : (layout : Layout) (asked : Asked) (old new : View) (outside : Outside) (fault : BoardFault)
+pub split-refused : (layout : Layout) (asked : AskedSplit) (old new : View) (outside : Outside) (fault : BoardFault)
     → Refuses layout asked old new fault → IsSplit layout asked (split_moment old outside) (split_moment new outside) (refusal fault)
 split-refused layout asked old new outside fault refuses = record {
   first = board_stop layout place false;
@@ -150,7 +150,7 @@ split-refused layout asked old new outside fault refuses = record {
 
 -- ---- a split that began on the board, at its stop
 -- what it was seen to leave there
-opens-extends : (layout : Layout) (asked : Asked) (old new : View) (plan : SplitPlan) (opens : Opens layout asked old new plan)
+opens-extends : (layout : Layout) (asked : AskedSplit) (old new : View) (plan : SplitPlan) (opens : Opens layout asked old new plan)
     → Extends layout old.seen new.seen (board_stop layout (length opens.between.board) true ∷ [])
 opens-extends layout asked old new plan opens =
     extends-stop layout old.seen new.seen place true
@@ -187,7 +187,7 @@ opens-extends layout asked old new plan opens =
     apart lock below is = omega arith
 
 -- the board says so still
-opens-begins : (layout : Layout) (asked : Asked) (old new : View) (plan : SplitPlan) (opens : Opens layout asked old new plan) (later : Seen)
+opens-begins : (layout : Layout) (asked : AskedSplit) (old new : View) (plan : SplitPlan) (opens : Opens layout asked old new plan) (later : Seen)
     → IsPrefix new.seen.board later.board → BeginsOnBoard layout later asked (board_stop layout (length opens.between.board) true) plan
 opens-begins layout asked old new plan opens later begins = record {
   lock = refl;
@@ -204,7 +204,7 @@ opens-begins layout asked old new plan opens later begins = record {
   is = sym (append-cons entered (board.Begun plan) begins.0) ∙ ap (λ (entries : List BoardEntry). entries ++ begins.0) (sym opens.notes.board) ∙ begins.1
 
 -- what came after its stop is the last of the board
-opens-board : (layout : Layout) (asked : Asked) (old between : View) (new : Seen) (plan : SplitPlan) (opens : Opens layout asked old between plan)
+opens-board : (layout : Layout) (asked : AskedSplit) (old between : View) (new : Seen) (plan : SplitPlan) (opens : Opens layout asked old between plan)
     (more : List BoardEntry) (course : Course) → NotesMore layout more between.seen new → board.Begun plan ∷ more ≡ noted_by course
     → LeavesBoard layout (board_stop layout (length opens.between.board) true) course old.seen new
 opens-board layout asked old between new plan opens more course noted is = record {
@@ -220,13 +220,13 @@ opens-board layout asked old between new plan opens more course noted is = recor
       (record { board = opens.notes.board; own = opens.notes.own }) noted
 
 -- the journals are those from before
-opens-journals : (layout : Layout) (asked : Asked) (old between : View) (plan : SplitPlan) → Opens layout asked old between plan → (lock : ℕ)
+opens-journals : (layout : Layout) (asked : AskedSplit) (old between : View) (plan : SplitPlan) → Opens layout asked old between plan → (lock : ℕ)
     → length (between.seen.journals lock) ≡ length (old.seen.journals lock)
 opens-journals layout asked old between plan opens lock = ap length (opens.notes.journals lock ∙ opens.journals lock)
 
 -- a split that was done
-split-done : (layout : Layout) (asked : Asked) (old between new : View) (plan : SplitPlan) (before later : Outside) (end : SplitEnd)
-    → Opens layout asked old between plan → IsDone layout plan (split_moment between before) (split_moment new later) end
+split-done : (layout : Layout) (asked : AskedSplit) (old between new : View) (plan : SplitPlan) (before later : Outside) (end : SplitEnd)
+    → Opens layout asked old between plan → IsSplitDone layout plan (split_moment between before) (split_moment new later) end
     → IsSplit layout asked (split_moment old before) (split_moment new later) end
 split-done layout asked old between new plan before later end opens went = record {
   first = first;
@@ -285,7 +285,7 @@ noted-failed plan true = refl
 noted-failed plan false = refl
 
 -- a split that was given up
-split-given-up : (layout : Layout) (asked : Asked) (old between new : View) (plan : SplitPlan) (before later : Outside) (end : SplitEnd)
+split-given-up : (layout : Layout) (asked : AskedSplit) (old between new : View) (plan : SplitPlan) (before later : Outside) (end : SplitEnd)
     → Opens layout asked old between plan → IsGivenUpOnBoard layout plan (split_moment between before) (split_moment new later) end
     → IsSplit layout asked (split_moment old before) (split_moment new later) end
 split-given-up layout asked old between new plan before later end opens went = record {
@@ -299,7 +299,7 @@ split-given-up layout asked old between new plan before later end opens went = r
   cause = cause-of-all layout plan old between new before later end (opens-journals layout asked old between plan opens) went.cause;
   board = opens-board layout asked old between new.seen plan opens (recovering_entries plan.parent went.recovered ++ board.Failed plan.parent ∷ [])
       (given_up plan went.recovered) went.noted (noted-failed plan went.recovered);
-  buckets = λ lock below. subst (λ (n : ℕ). IsFailedIn plan n (new.seen.journals lock)) (opens-journals layout asked old between plan opens lock)
+  buckets = λ lock below. subst (λ (n : ℕ). IsFailedIfBegun plan n (new.seen.journals lock)) (opens-journals layout asked old between plan opens lock)
       (went.failed lock below);
   outside = went.outside;
   counts = went.counts;
@@ -308,14 +308,14 @@ split-given-up layout asked old between new plan before later end opens went = r
   first = board_stop layout (length opens.between.board) true
 
 -- a split that began on the board, however it went from there
-pub split-went : (layout layout' : Layout) (asked : Asked) (old between new : View) (plan : SplitPlan) (before later : Outside) (end : SplitEnd)
+pub split-went : (layout layout' : Layout) (asked : AskedSplit) (old between new : View) (plan : SplitPlan) (before later : Outside) (end : SplitEnd)
     → layout' ≡ layout → Opens layout asked old between plan
-    → IsDone layout' plan (split_moment between before) (split_moment new later) end
+    → IsSplitDone layout' plan (split_moment between before) (split_moment new later) end
     ⊎ IsGivenUpOnBoard layout' plan (split_moment between before) (split_moment new later) end
     → IsSplit layout asked (split_moment old before) (split_moment new later) end
 split-went layout layout' asked old between new plan before later end same opens (inl went) =
     split-done layout asked old between new plan before later end opens
-    (subst (λ (l : Layout). IsDone l plan (split_moment between before) (split_moment new later) end) same went)
+    (subst (λ (l : Layout). IsSplitDone l plan (split_moment between before) (split_moment new later) end) same went)
 split-went layout layout' asked old between new plan before later end same opens (inr went) =
     split-given-up layout asked old between new plan before later end opens
     (subst (λ (l : Layout). IsGivenUpOnBoard l plan (split_moment between before) (split_moment new later) end) same went)

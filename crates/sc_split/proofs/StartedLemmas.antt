@@ -10,11 +10,11 @@ use Rattle.std.proofs.lemmas.List.FromFn.{length-map-range_with_len}
 use Rattle.std.proofs.lemmas.List.Elements.{All-nil, All-head, All-tail, All-append, All-map, All-take, All-weaker, All-contains_itself, filter-append}
 use Rattle.sc_record.specs.declared.slice.SubSlice.{SubSlice}
 use Rattle.sc_io.specs.declared.hosts.Host.{Host}
-use Rattle.sc_io.specs.Hosts.{is_core, with_core, without_core}
+use Rattle.sc_io.specs.Hosts.{is_core_on, with_core, without_core}
 use Rattle.sc_cluster.specs.declared.plan.SplitPlan.{SplitPlan}
 use Rattle.sc_cluster.proofs.ListLemmas.{filter-all}
 use Rattle.sc_cores.specs.Cores.{Outside, with_cores, without_cores, HasStarted, IsNew, CountsGoUp}
-use Rattle.sc_split.specs.Outside.{core_at, further_cores, cores_of, StartsCores, LeavesCores}
+use Rattle.sc_split.specs.Outside.{sub_core_at, further_cores, cores_of, StartsCoresOfPlan, LeavesCores}
 use Rattle.sc_split.specs.Splits.{IsCoreOfSub}
 use Rattle.sc_split.proofs.SwitchLemmas.{in-range}
 
@@ -22,14 +22,14 @@ use Rattle.sc_split.proofs.SwitchLemmas.{in-range}
 without-append : (gone xs ys : List Host) → without_cores gone (xs ++ ys) ≡ without_cores gone xs ++ without_cores gone ys
 without-append [] xs ys = refl
 without-append (core ∷ gone) xs ys =
-    ap (without_cores gone) (filter-append (λ (host : Host). not (is_core core.node core.core host)) xs ys)
+    ap (without_cores gone) (filter-append (λ (host : Host). not (is_core_on core.node core.core host)) xs ys)
     ∙ without-append gone (without_core core.node core.core xs) (without_core core.node core.core ys)
 
 without-nothing : (gone : List Host) → without_cores gone [] ≡ []
 without-nothing [] = refl
 without-nothing (core ∷ gone) = without-nothing gone
 
-core-itself : (core : Host) → is_core core.node core.core core ≡ true
+core-itself : (core : Host) → is_core_on core.node core.core core ≡ true
 core-itself core =
     let number : (core.node == core.node) ≡ true = grind (arith, nat_tests) in
     ap (λ b. b && bytes_eq core.core core.core) number ∙ nat_list_eq_equiv.refl core.core
@@ -39,7 +39,7 @@ without-one : (before after : List Host) (core : Host) → without_cores (before
 without-one [] after core =
     ap (λ b. without_cores after (cond b (core ∷ []) [])) (ap not (core-itself core)) ∙ without-nothing after
 without-one (other ∷ before) after core =
-    by (not (is_core other.node other.core core)) (without-one before after core) where
+    by (not (is_core_on other.node other.core core)) (without-one before after core) where
       by : (b : Bool) → without_cores (before ++ core ∷ after) (core ∷ []) ≡ []
           → without_cores (before ++ core ∷ after) (cond b (core ∷ []) []) ≡ []
       by true gone = gone
@@ -53,7 +53,7 @@ started-gone before (core ∷ cores) all =
     subst (λ (gone : List Host). without_cores gone (with_cores cores (with_core core.node core.core all))
     ≡ without_cores gone (with_core core.node core.core all)) (append_assoc before (core ∷ []) cores)
     (started-gone (before ++ core ∷ []) cores (with_core core.node core.core all))
-    ∙ by (list_any (is_core core.node core.core) all)
+    ∙ by (list_any (is_core_on core.node core.core) all)
   where
     by : (b : Bool) → without_cores (before ++ core ∷ cores) (cond b all (all ++ core ∷ [])) ≡ without_cores (before ++ core ∷ cores) all
     by true = refl
@@ -65,8 +65,8 @@ started-gone before (core ∷ cores) all =
 without-new : (cores all : List Host) → All (IsNew all) cores → without_cores cores all ≡ all
 without-new [] all new = refl
 without-new (core ∷ cores) all new =
-    ap (without_cores cores) (filter-all (λ (host : Host). not (is_core core.node core.core host)) all
-    (All-weaker (λ (host : Host). is_core core.node core.core host ≡ false) (λ (host : Host). not (is_core core.node core.core host) ≡ true)
+    ap (without_cores cores) (filter-all (λ (host : Host). not (is_core_on core.node core.core host)) all
+    (All-weaker (λ (host : Host). is_core_on core.node core.core host ≡ false) (λ (host : Host). not (is_core_on core.node core.core host) ≡ true)
     (λ host other. ap not other) all (All-head (IsNew all) core cores new)))
     ∙ without-new cores all (All-tail (IsNew all) core cores new)
 
@@ -104,7 +104,7 @@ cores-on nodes nodes' plan cores are same = are ∙ ap (λ (n : ℕ). cores_of n
 pub starts-by : (nodes nodes' : ℕ) (plan : SplitPlan) (cores : List Host) (count : ℕ) (before later : Outside) → cores ≡ cores_of nodes' plan
     → nodes' ≡ nodes → count ≡ length cores → HasStarted cores count before.started later.started
     → later.start_faults ≡ before.start_faults → later.stop_faults ≡ before.stop_faults → later.stops ≡ before.stops
-    → StartsCores nodes plan before later
+    → StartsCoresOfPlan nodes plan before later
 starts-by nodes nodes' plan cores count before later are same each started starting stopping pace = record {
   started = subst (λ (hosts : List Host). IfSome before.started (λ all. later.started ≡ Some (with_cores hosts all)))
       (cores-on nodes nodes' plan cores are same) (started-all cores count before.started later.started each started);
@@ -144,7 +144,7 @@ few-further nodes [] few = let none : 0 ≤ 255 * 0 = omega arith in none
 few-further nodes (sub ∷ subs) few =
     let first : sub.replicas < 256 = All-head HasFewReplicas sub subs few in
     let rest : length (flat_map (further_cores nodes) subs) ≤ 255 * length subs = few-further nodes subs (All-tail HasFewReplicas sub subs few) in
-    let here : length (further_cores nodes sub) ≡ sub.replicas - 1 = length-map-range_with_len (core_at nodes sub) 2 (sub.replicas - 1) in
+    let here : length (further_cores nodes sub) ≡ sub.replicas - 1 = length-map-range_with_len (sub_core_at nodes sub) 2 (sub.replicas - 1) in
     let all : length (further_cores nodes sub) + length (flat_map (further_cores nodes) subs) ≤ 255 * suc (length subs) = omega arith in
     subst (λ (n : ℕ). n ≤ 255 * suc (length subs)) (sym (length-append (further_cores nodes sub) (flat_map (further_cores nodes) subs))) all
 
@@ -152,8 +152,8 @@ few-further nodes (sub ∷ subs) few =
 count-cores : (nodes : ℕ) (plan : SplitPlan)
     → length (cores_of nodes plan) ≡ length plan.subs + length (flat_map (further_cores nodes) plan.subs)
 count-cores nodes plan =
-    length-append (map (λ (sub : SubSlice). core_at nodes sub 1) plan.subs) (flat_map (further_cores nodes) plan.subs)
-    ∙ ap (λ (n : ℕ). n + length (flat_map (further_cores nodes) plan.subs)) (length-map plan.subs (λ (sub : SubSlice). core_at nodes sub 1))
+    length-append (map (λ (sub : SubSlice). sub_core_at nodes sub 1) plan.subs) (flat_map (further_cores nodes) plan.subs)
+    ∙ ap (λ (n : ℕ). n + length (flat_map (further_cores nodes) plan.subs)) (length-map plan.subs (λ (sub : SubSlice). sub_core_at nodes sub 1))
 
 -- the cores of a split are few
 pub few-cores : (nodes : ℕ) (plan : SplitPlan) → All (λ (sub : SubSlice). sub.replicas < 256) plan.subs → length plan.subs ≤ 256
@@ -173,22 +173,22 @@ all-flat_map IsSo f (x ∷ xs) each =
 -- each core is one of a sub
 pub cores-of-subs : (nodes : ℕ) (plan : SplitPlan) → All (λ (host : Host). IsCoreOfSub plan host.core) (cores_of nodes plan)
 cores-of-subs nodes plan =
-    All-append IsOfSub (map (λ (sub : SubSlice). core_at nodes sub 1) plan.subs) (flat_map (further_cores nodes) plan.subs)
-    (All-map IsOfSub (λ (sub : SubSlice). core_at nodes sub 1) plan.subs
-    (All-weaker (Contains plan.subs) (λ (sub : SubSlice). IsOfSub (core_at nodes sub 1)) first plan.subs (All-contains_itself plan.subs)))
+    All-append IsOfSub (map (λ (sub : SubSlice). sub_core_at nodes sub 1) plan.subs) (flat_map (further_cores nodes) plan.subs)
+    (All-map IsOfSub (λ (sub : SubSlice). sub_core_at nodes sub 1) plan.subs
+    (All-weaker (Contains plan.subs) (λ (sub : SubSlice). IsOfSub (sub_core_at nodes sub 1)) first plan.subs (All-contains_itself plan.subs)))
     (all-flat_map IsOfSub (further_cores nodes) plan.subs
     (All-weaker (Contains plan.subs) (λ (sub : SubSlice). All IsOfSub (further_cores nodes sub)) further plan.subs (All-contains_itself plan.subs)))
   where
     IsOfSub : Host → Type 0
     IsOfSub host = IsCoreOfSub plan host.core
 
-    first : (sub : SubSlice) → Contains plan.subs sub → IsOfSub (core_at nodes sub 1)
+    first : (sub : SubSlice) → Contains plan.subs sub → IsOfSub (sub_core_at nodes sub 1)
     first sub there = let some : 0 < sub.replicas = sub.replicated in (sub, 1, there, omega arith, omega arith, refl)
 
     further : (sub : SubSlice) → Contains plan.subs sub → All IsOfSub (further_cores nodes sub)
     further sub there =
-        All-map IsOfSub (core_at nodes sub) (range_with_len 2 (sub.replicas - 1))
-        (All-weaker (Contains (range_with_len 2 (sub.replicas - 1))) (λ (k : ℕ). IsOfSub (core_at nodes sub k))
+        All-map IsOfSub (sub_core_at nodes sub) (range_with_len 2 (sub.replicas - 1))
+        (All-weaker (Contains (range_with_len 2 (sub.replicas - 1))) (λ (k : ℕ). IsOfSub (sub_core_at nodes sub k))
         (λ k among.
         let (j, below, is) = in-range 2 (sub.replicas - 1) k among in
         let some : 0 < sub.replicas = sub.replicated in

@@ -21,8 +21,9 @@ use Rattle.sc_keeper.specs.declared.part.Part.{Part}
 use Rattle.sc_keeper.specs.Conditions.{MaySwitch}
 use Rattle.sc_keeper.specs.Events.{PartSwitches}
 use Rattle.sc_handover.specs.Made.{first_core}
-use Rattle.sc_split.specs.Buckets.{Known, part_in, IsAllSeen, KeeperHeld, first_cores}
-use Rattle.sc_split.specs.Stages.{OpenSplit, IsAtStage, IsDoneIn, IsSameIn, HasEnded, whole, further_cores_of, further_names, follower_of}
+use Rattle.sc_collection.specs.Known.{Known, IsSameIn}
+use Rattle.sc_split.specs.Buckets.{part_in, IsAllSeen, KeeperHeld, first_cores}
+use Rattle.sc_split.specs.Stages.{OpenSplit, IsAtStage, IsDoneIn, HasEndedSplit, whole, further_cores_of, further_names, follower_of}
 use Rattle.sc_split.proofs.StageLemmas.{may_switch}
 use Rattle.sc_split.proofs.EndLemmas.{ended-held}
 
@@ -115,7 +116,7 @@ pub done-same : (split : OpenSplit) (old new : Known) (b : ℕ) → IsSameIn old
 done-same split old new b same was = record {
   ended = record {
     own = same.own ∙ was.ended.own;
-    journal = subst (HasEnded split.plan (entry.Switched split.plan.parent) (split.base.seen.journals b)) (sym same.journal) was.ended.journal;
+    journal = subst (HasEndedSplit split.plan (entry.Switched split.plan.parent) (split.base.seen.journals b)) (sym same.journal) was.ended.journal;
   };
   map_is = ap (λ (part : Part). part.map) same.part_is ∙ was.map_is;
   idle = ap (λ (part : Part). part.phase) same.part_is ∙ was.idle;

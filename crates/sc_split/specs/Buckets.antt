@@ -14,7 +14,7 @@ use Rattle.sc_cluster.specs.Changes.{Change, after}
 use Rattle.sc_ulog.specs.declared.mode.Mode.{Mode}
 use Rattle.sc_ulog.specs.declared.mode.Mode.TheVariants.{Active, Buffering}
 use Rattle.sc_journal.specs.Splits.{open_split, entries_of_split, IsFullFor}
-use Rattle.sc_seen.specs.Seen.{Layout, Seen}
+use Rattle.sc_seen.specs.Seen.{Layout}
 use Rattle.sc_bucket.specs.Cores.{is_of_one}
 use Rattle.sc_bucket.specs.declared.phase.Phase.TheVariants as phases
 use Rattle.sc_handover.specs.Conditions.{split_of}
@@ -24,16 +24,7 @@ use Rattle.sc_keeper.specs.declared.part.FeedPart.{FeedPart}
 use Rattle.sc_keeper.specs.declared.part.Part.{Part}
 use Rattle.sc_keeper.specs.Part.{keeper_entries}
 use Rattle.sc_keeper.specs.Events.{KeepsPartRest}
-use Rattle.sc_collection.specs.Desks.{Keeping}
-
--- what is known of a collection: what was seen of it, and what the keepers of its buckets keep
-pub record Known : Type 0 where
-  pub seen : Seen
-  pub keeping : Keeping
-
--- what is known by what was seen and by what is kept
-abbrev pub known_of : Seen → Keeping → Known
-known_of seen keeping = record { seen = seen; keeping = keeping }
+use Rattle.sc_collection.specs.Known.{Known}
 
 -- the part of the bucket of this number
 abbrev pub part_in : Known → ℕ → Part

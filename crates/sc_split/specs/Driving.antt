@@ -12,16 +12,16 @@ use Rattle.sc_seen.specs.Commits.{CommitAnswer, AnswersCommits, commit_stops, wo
 use Rattle.sc_seen.specs.declared.board.BoardEntry.{BoardEntry}
 use Rattle.sc_seen.specs.declared.board.BoardEntry.TheVariants as board
 use Rattle.sc_collection.specs.Desks.{AreAtRest}
+use Rattle.sc_collection.specs.Known.{Known, OfBuckets}
 use Rattle.sc_split.specs.declared.end.Fault.{Fault}
 use Rattle.sc_split.specs.declared.end.Fault.TheVariants as faults
 use Rattle.sc_split.specs.declared.end.SplitEnd.{SplitEnd}
 use Rattle.sc_split.specs.declared.end.SplitEnd.TheVariants as ends
-use Rattle.sc_split.specs.Buckets.{Known}
 use Rattle.sc_cores.specs.Cores.{Outside, CountsGoUp}
-use Rattle.sc_split.specs.Outside.{StartsCores, LeavesCores}
-use Rattle.sc_split.specs.Stages.{OpenSplit, OfBuckets, IsOpenIn, IsAtStage, IsUnbegun, whole}
-use Rattle.sc_split.specs.Splits.{SplitMoment, IsSwitchedIn, IsFailedIn, HadNoRoom, IsCause}
-use Rattle.sc_collection.specs.Committing.{committed}
+use Rattle.sc_split.specs.Outside.{StartsCoresOfPlan, LeavesCores}
+use Rattle.sc_split.specs.Stages.{OpenSplit, IsOpenIn, IsAtStage, IsUnbegun, whole}
+use Rattle.sc_split.specs.Splits.{SplitMoment, IsSwitchedIn, IsFailedIfBegun, HadNoRoom, IsCause}
+use Rattle.sc_collection.specs.Committing.{commits_told}
 
 -- The split of the plan has begun on the board, after these entries: that is the last of them, and one's own. Each bucket is at rest as
 -- they say.
@@ -46,7 +46,7 @@ pub record IsHalted (layout : Layout) (split : OpenSplit) (entries : List BoardE
 
 -- The split that began on the board after these entries runs there, its slices are recovered, and in each bucket all its cores are
 -- there and filled.
-pub record IsWhole (layout : Layout) (split : OpenSplit) (entries : List BoardEntry) (known : Known) : Type 0 where
+pub record IsWholeSplit (layout : Layout) (split : OpenSplit) (entries : List BoardEntry) (known : Known) : Type 0 where
   pub rest : AreAtRest layout entries split.base.keeping
   pub board : known.seen.board ≡ entries ++ board.Begun split.plan ∷ board.Recovering split.plan.parent ∷ []
   pub own : Contains (known.seen.own layout.buckets) (length entries)
@@ -76,7 +76,7 @@ IsFault layout plan cores old new faults.Memory = ⊤
 pub record GivesUp (layout : Layout) (plan : SplitPlan) (base old new : Seen) : Type 0 where
   pub extends : Extends layout old new []
   pub noted : NotesMore layout (board.Failed plan.parent ∷ []) old new
-  pub failed : (lock : ℕ) → lock < layout.buckets → IsFailedIn plan (length (base.journals lock)) (new.journals lock)
+  pub failed : (lock : ℕ) → lock < layout.buckets → IsFailedIfBegun plan (length (base.journals lock)) (new.journals lock)
 
 -- the split was closed: in each bucket it was switched, the board says so, and no stop was kept
 pub record Closes (layout : Layout) (plan : SplitPlan) (base old new : Seen) : Type 0 where
@@ -93,10 +93,10 @@ pub record Finishes (layout : Layout) (plan : SplitPlan) (base : Seen) (old new 
   pub answered : FromNowOn new.seen (λ later. AnswersCommits layout later layout.buckets answers)
   pub noted : NotesMore layout (board.Done plan.parent ∷ []) old.seen new.seen
   pub switched : (lock : ℕ) → lock < layout.buckets → IsSwitchedIn plan (length (base.journals lock)) (new.seen.journals lock)
-  pub end_is : end ≡ ends.Done (map (λ (sub : SubSlice). sub.name) plan.subs) (committed (worst answers))
+  pub end_is : end ≡ ends.Done (map (λ (sub : SubSlice). sub.name) plan.subs) (commits_told (worst answers))
 
 -- A split that had begun on the board was done, and its cores are started.
-pub record IsDone (layout : Layout) (plan : SplitPlan) (old new : SplitMoment) (end : SplitEnd) : Type 0 where
+pub record IsSplitDone (layout : Layout) (plan : SplitPlan) (old new : SplitMoment) (end : SplitEnd) : Type 0 where
   pub answers : List CommitAnswer
   pub stops : new.view.stops ≡ old.view.stops ++ commit_stops answers
   pub extends : Extends layout old.view.seen new.view.seen (commit_stops answers)
@@ -104,8 +104,8 @@ pub record IsDone (layout : Layout) (plan : SplitPlan) (old new : SplitMoment) (
   pub answered : FromNowOn new.view.seen (λ later. AnswersCommits layout later layout.buckets answers)
   pub noted : NotesMore layout (board.Recovering plan.parent ∷ board.Done plan.parent ∷ []) old.view.seen new.view.seen
   pub switched : (lock : ℕ) → lock < layout.buckets → IsSwitchedIn plan (length (old.view.seen.journals lock)) (new.view.seen.journals lock)
-  pub end_is : end ≡ ends.Done (map (λ (sub : SubSlice). sub.name) plan.subs) (committed (worst answers))
-  pub outside : StartsCores layout.nodes plan old.outside new.outside
+  pub end_is : end ≡ ends.Done (map (λ (sub : SubSlice). sub.name) plan.subs) (commits_told (worst answers))
+  pub outside : StartsCoresOfPlan layout.nodes plan old.outside new.outside
 
 -- A split that had begun on the board was given up, after its slices were recovered or before, and its cores are stopped.
 pub record IsGivenUpOnBoard (layout : Layout) (plan : SplitPlan) (old new : SplitMoment) (end : SplitEnd) : Type 0 where
@@ -113,7 +113,7 @@ pub record IsGivenUpOnBoard (layout : Layout) (plan : SplitPlan) (old new : Spli
   pub stops : new.view.stops ≡ old.view.stops
   pub extends : Extends layout old.view.seen new.view.seen []
   pub noted : NotesMore layout (recovering_entries plan.parent recovered ++ board.Failed plan.parent ∷ []) old.view.seen new.view.seen
-  pub failed : (lock : ℕ) → lock < layout.buckets → IsFailedIn plan (length (old.view.seen.journals lock)) (new.view.seen.journals lock)
+  pub failed : (lock : ℕ) → lock < layout.buckets → IsFailedIfBegun plan (length (old.view.seen.journals lock)) (new.view.seen.journals lock)
   pub cause : IsCause layout plan old new end
   pub outside : LeavesCores layout.nodes plan old.outside new.outside
   pub counts : CountsGoUp old.outside new.outside

@@ -16,14 +16,14 @@ use Rattle.sc_seen.specs.Commits.{CommitAnswer, AnswersCommits, commit_stops, wo
 use Rattle.sc_seen.specs.declared.board.BoardEntry.{BoardEntry}
 use Rattle.sc_seen.specs.declared.board.BoardEntry.TheVariants as board
 use Rattle.sc_seen.specs.declared.stop.Stop.{Stop}
-use Rattle.sc_board.specs.Splits.{Asked, IsPlanOf, IsRefusal}
+use Rattle.sc_board.specs.Splits.{AskedSplit, IsPlanOf, IsRefusal}
 use Rattle.sc_board.specs.declared.fault.BoardFault.{BoardFault}
 use Rattle.sc_board.specs.declared.fault.BoardFault.TheVariants as faults
-use Rattle.sc_collection.specs.Committing.{committed}
+use Rattle.sc_collection.specs.Committing.{commits_told}
 use Rattle.sc_split.specs.declared.end.SplitEnd.{SplitEnd}
 use Rattle.sc_split.specs.declared.end.SplitEnd.TheVariants as ends
 use Rattle.sc_cores.specs.Cores.{Outside, CountsGoUp}
-use Rattle.sc_split.specs.Outside.{StartsCores, LeavesCores}
+use Rattle.sc_split.specs.Outside.{StartsCoresOfPlan, LeavesCores}
 
 -- what stands at one moment of a split: what was looked at so far, and what is outside
 pub record SplitMoment : Type 0 where
@@ -75,8 +75,8 @@ IsSwitchedIn plan seen journal = (place : ℕ) × (later : List Entry) × Begins
     × (find is_of_split later ≡ Some (entry.Switched plan.parent))
 
 -- where the journal has the beginning of the split, not among those entries, the next that begins or ends a split says that it failed
-abbrev pub IsFailedIn : SplitPlan → ℕ → List Entry → Type 0
-IsFailedIn plan seen journal = (place : ℕ) (later : List Entry) → BeginsAt plan journal place later → seen ≤ place
+abbrev pub IsFailedIfBegun : SplitPlan → ℕ → List Entry → Type 0
+IsFailedIfBegun plan seen journal = (place : ℕ) (later : List Entry) → BeginsAt plan journal place later → seen ≤ place
     → find is_of_split later ≡ Some (entry.Failed plan.parent)
 
 -- what a split leaves in the buckets: one that did not begin leaves them as they were, one that was given up failed wherever it began, and
@@ -84,7 +84,7 @@ IsFailedIn plan seen journal = (place : ℕ) (later : List Entry) → BeginsAt p
 abbrev pub LeavesBuckets : ℕ → Course → Seen → Seen → Type 0
 LeavesBuckets buckets refused old new = (lock : ℕ) → new.journals lock ≡ old.journals lock
 LeavesBuckets buckets (given_up plan recovered) old new =
-    (lock : ℕ) → lock < buckets → IsFailedIn plan (length (old.journals lock)) (new.journals lock)
+    (lock : ℕ) → lock < buckets → IsFailedIfBegun plan (length (old.journals lock)) (new.journals lock)
 LeavesBuckets buckets (done plan answers) old new =
     (lock : ℕ) → lock < buckets → IsSwitchedIn plan (length (old.journals lock)) (new.journals lock)
 
@@ -101,7 +101,7 @@ pub record LeavesBoard (layout : Layout) (first : Stop) (course : Course) (old n
 abbrev pub LeavesOutside : ℕ → Course → Outside → Outside → Type 0
 LeavesOutside nodes refused old new = new ≡ old
 LeavesOutside nodes (given_up plan recovered) old new = LeavesCores nodes plan old new
-LeavesOutside nodes (done plan answers) old new = StartsCores nodes plan old new
+LeavesOutside nodes (done plan answers) old new = StartsCoresOfPlan nodes plan old new
 
 -- the name is that of a core of one of the plan's subs
 abbrev pub IsCoreOfSub : SplitPlan → List ℕ → Type 0
@@ -142,14 +142,14 @@ refusal faults.LogFull = ends.LogFull
 refusal faults.Memory = ends.Memory
 
 -- A split began at its stop of the board, by this plan of what was asked there.
-pub record BeginsOnBoard (layout : Layout) (seen : Seen) (asked : Asked) (first : Stop) (plan : SplitPlan) : Type 0 where
+pub record BeginsOnBoard (layout : Layout) (seen : Seen) (asked : AskedSplit) (first : Stop) (plan : SplitPlan) : Type 0 where
   pub lock : first.lock ≡ layout.buckets
   pub made : first.made ≡ true
   pub made_is : slice_get seen.board first.place ≡ Some (board.Begun plan)
   pub plan_is : IsPlanOf layout.first (take first.place seen.board) asked plan
 
 -- the board refused a split at its stop, for what is so there
-pub record IsRefusedOnBoard (layout : Layout) (seen : Seen) (asked : Asked) (first : Stop) (end : SplitEnd) : Type 0 where
+pub record IsRefusedOnBoard (layout : Layout) (seen : Seen) (asked : AskedSplit) (first : Stop) (end : SplitEnd) : Type 0 where
   pub lock : first.lock ≡ layout.buckets
   pub made : first.made ≡ false
   pub fault : BoardFault
@@ -157,15 +157,15 @@ pub record IsRefusedOnBoard (layout : Layout) (seen : Seen) (asked : Asked) (fir
   pub cause : IsRefusal layout.first layout.limit (take first.place seen.board) asked fault
 
 -- a split that went so is answered so, by its stop of the board and by its commits
-abbrev pub IsAnswered : Layout → Seen → Asked → Stop → Course → SplitEnd → Type 0
+abbrev pub IsAnswered : Layout → Seen → AskedSplit → Stop → Course → SplitEnd → Type 0
 IsAnswered layout seen asked first refused end = IsRefusedOnBoard layout seen asked first end
 IsAnswered layout seen asked first (given_up plan recovered) end = BeginsOnBoard layout seen asked first plan
 IsAnswered layout seen asked first (done plan answers) end =
     BeginsOnBoard layout seen asked first plan × AnswersCommits layout seen layout.buckets answers
-    × (end ≡ ends.Done (map (λ (sub : SubSlice). sub.name) plan.subs) (committed (worst answers)))
+    × (end ≡ ends.Done (map (λ (sub : SubSlice). sub.name) plan.subs) (commits_told (worst answers)))
 
 -- What a split leaves, and what it is answered: by its stop of the board, which is the first, and by how it went from there.
-pub record IsSplit (layout : Layout) (asked : Asked) (old new : SplitMoment) (end : SplitEnd) : Type 0 where
+pub record IsSplit (layout : Layout) (asked : AskedSplit) (old new : SplitMoment) (end : SplitEnd) : Type 0 where
   pub first : Stop
   pub course : Course
   pub kept : new.view.stops ≡ old.view.stops ++ split_stops first course

@@ -1,5 +1,5 @@
 -- How far a split has come in each bucket, and what it leaves of what is known of a collection.
-use Rattle.std.specs.Prelude.{◌≡◌, ◌≤◌, ◌<◌, ◌⊎◌, ℕ, suc, ◌+◌, ◌-◌, List, [], ◌∷◌, ◌++◌, map, All}
+use Rattle.std.specs.Prelude.{◌≡◌, ◌⊎◌, ℕ, suc, ◌+◌, ◌-◌, List, [], ◌∷◌, ◌++◌, map, All}
 use Rattle.std.specs.List.{flat_map, range_with_len}
 use mathlib.Core.List.{IsPrefix}
 use Rattle.std.proofs.Math.Nat.{zero-lt-suc}
@@ -11,13 +11,14 @@ use Rattle.sc_cluster.specs.declared.slice.Slice.{Slice}
 use Rattle.sc_cluster.specs.declared.plan.SplitPlan.{SplitPlan}
 use Rattle.sc_cluster.specs.Changes.{Change}
 use Rattle.sc_cluster.specs.Histories.{after_all}
-use Rattle.sc_journal.specs.Legal.{MayBegin}
+use Rattle.sc_journal.specs.Legal.{MayBeSplit}
 use Rattle.sc_bucket.specs.declared.phase.Phase.{Phase}
 use Rattle.sc_bucket.specs.declared.phase.Phase.TheVariants as phases
 use Rattle.sc_ulog.specs.declared.mode.Mode.TheVariants.{Active}
 use Rattle.sc_keeper.specs.declared.part.CorePart.{CorePart}
 use Rattle.sc_keeper.specs.Part.{keeper_entries}
-use Rattle.sc_split.specs.Buckets.{Known, part_in, IsAllSeen, IsToFill, HasSubCores, IsUnderway, IsGivenUp, first_cores}
+use Rattle.sc_collection.specs.Known.{Known, KeepsBoard}
+use Rattle.sc_split.specs.Buckets.{part_in, IsAllSeen, IsToFill, HasSubCores, IsUnderway, IsGivenUp, first_cores}
 
 -- the name of a sub's further replica k, from 0
 abbrev pub follower_of : SubSlice → ℕ → CoreId
@@ -47,8 +48,8 @@ abbrev pub filled : Stage → Stage
 filled stage = record stage { to_fill = [] }
 
 -- the leaders of its subs are filled
-abbrev pub led : SplitPlan → Stage
-led plan = filled (building plan)
+abbrev pub leaders_filled : SplitPlan → Stage
+leaders_filled plan = filled (building plan)
 
 -- the further replicas of its subs may join
 abbrev pub recovering : SplitPlan → Stage
@@ -90,11 +91,11 @@ pub record IsUnbegun (split : OpenSplit) (first : List Slice) (known : Known) (b
   pub own : known.keeping.own b ≡ split.base.keeping.own b
   pub went_on : IsPrefix (split.base.seen.journals b) (known.seen.journals b)
   pub journal : (known.seen.journals b ≡ split.base.seen.journals b)
-      ⊎ MayBegin first (known.seen.journals b) split.plan.parent split.plan.subs
+      ⊎ MayBeSplit first (known.seen.journals b) split.plan.parent split.plan.subs
 
 -- The journal has the entry that begins the split, after these that were seen before, and at its end the one that ends it; the keeper
 -- made none between.
-pub record HasEnded (plan : SplitPlan) (end : Entry) (seen journal : List Entry) : Type 0 where
+pub record HasEndedSplit (plan : SplitPlan) (end : Entry) (seen journal : List Entry) : Type 0 where
   pub before : List Entry
   pub later : List Entry
   pub went_on : IsPrefix seen before
@@ -104,7 +105,7 @@ pub record HasEnded (plan : SplitPlan) (end : Entry) (seen journal : List Entry)
 -- the split was ended in the bucket by this entry
 pub record IsEndedIn (split : OpenSplit) (end : Entry) (known : Known) (b : ℕ) : Type 0 where
   pub own : known.keeping.own b ≡ split.base.keeping.own b ++ entry.Begun split.plan.parent split.plan.subs ∷ end ∷ []
-  pub journal : HasEnded split.plan end (split.base.seen.journals b) (known.seen.journals b)
+  pub journal : HasEndedSplit split.plan end (split.base.seen.journals b) (known.seen.journals b)
 
 -- the subs have taken their parent's place in the bucket
 pub record IsDoneIn (split : OpenSplit) (known : Known) (b : ℕ) : Type 0 where
@@ -120,17 +121,6 @@ pub record IsFailedIn (split : OpenSplit) (known : Known) (b : ℕ) : Type 0 whe
   pub ended : IsEndedIn split (entry.Failed split.plan.parent) known b
   pub given_up : IsGivenUp (part_in split.base b) split.plan (part_in known b)
 
--- nothing was seen or done of the bucket
-pub record IsSameIn (old new : Known) (b : ℕ) : Type 0 where
-  pub journal : new.seen.journals b ≡ old.seen.journals b
-  pub part_is : part_in new b ≡ part_in old b
-  pub own : new.keeping.own b ≡ old.keeping.own b
-
--- it is so of each bucket from one on, and before another
-abbrev pub OfBuckets : (from to : ℕ) → (ℕ → Type 0) → Type 0
-OfBuckets from to IsSo = (b : ℕ) → from ≤ b → b < to → IsSo b
-
 -- of what was seen the board stayed, and no entry more is one's own
-pub record KeepsBoard (old new : Known) : Type 0 where
-  pub board : new.seen.board ≡ old.seen.board
-  pub own : (lock : ℕ) → new.seen.own lock ≡ old.seen.own lock
+abbrev pub KeepsKnownBoard : Known → Known → Type 0
+KeepsKnownBoard old new = KeepsBoard old.seen new.seen

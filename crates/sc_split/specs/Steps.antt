@@ -10,7 +10,7 @@ use Rattle.sc_handover.specs.declared.beginning.BeginFault.{BeginFault}
 use Rattle.sc_handover.specs.declared.beginning.BeginFault.TheVariants as begins
 use Rattle.sc_split.specs.declared.end.Fault.{Fault}
 use Rattle.sc_split.specs.declared.end.Fault.TheVariants as faults
-use Rattle.sc_board.specs.Splits.{Asked, IsPlanOf, IsRefusal}
+use Rattle.sc_board.specs.Splits.{AskedSplit, IsPlanOf, IsRefusal}
 use Rattle.sc_board.specs.declared.fault.BoardFault.{BoardFault}
 
 -- why a split is given up, by why it did not begin in a bucket
@@ -26,7 +26,7 @@ pub record NotesOne (layout : Layout) (one : BoardEntry) (old new : Seen) : Type
   pub others_own : (lock : ℕ) → lock ≢ layout.buckets → new.own lock ≡ old.own lock
 
 -- A split began on the board by this plan, at a stop: the entry that says so is one's own, and comes after what the board had then.
-pub record Opens (layout : Layout) (asked : Asked) (old new : View) (plan : SplitPlan) : Type 0 where
+pub record Opens (layout : Layout) (asked : AskedSplit) (old new : View) (plan : SplitPlan) : Type 0 where
   pub between : Seen
   pub went_on : IsPrefix old.seen.board between.board
   pub journals : (lock : ℕ) → between.journals lock ≡ old.seen.journals lock
@@ -36,7 +36,7 @@ pub record Opens (layout : Layout) (asked : Asked) (old new : View) (plan : Spli
   pub stops : new.stops ≡ old.stops ++ record { lock = layout.buckets; place = length between.board; made = true } ∷ []
 
 -- The board refused a split, at a stop: what was seen of it may have gone on, and all else that was seen stayed.
-pub record Refuses (layout : Layout) (asked : Asked) (old new : View) (fault : BoardFault) : Type 0 where
+pub record Refuses (layout : Layout) (asked : AskedSplit) (old new : View) (fault : BoardFault) : Type 0 where
   pub went_on : IsPrefix old.seen.board new.seen.board
   pub journals : (lock : ℕ) → new.seen.journals lock ≡ old.seen.journals lock
   pub own : (lock : ℕ) → new.seen.own lock ≡ old.seen.own lock

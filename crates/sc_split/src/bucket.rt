@@ -7,12 +7,13 @@ ghost use Rattle.sc_record.specs.declared.slice.CoreId.{CoreId};
 ghost use Rattle.sc_record.specs.declared.entry.Entry.TheVariants as entry;
 ghost use Rattle.sc_cluster.specs.declared.slice.Slice.{Slice};
 ghost use Rattle.sc_cluster.specs.declared.plan.SplitPlan.{SplitPlan};
-ghost use Rattle.sc_journal.specs.Legal.{MayBegin as JournalMayBegin};
+ghost use Rattle.sc_journal.specs.Legal.{MayBeSplit};
 ghost use Rattle.sc_keeper.specs.declared.part.Part.{Part};
 ghost use Rattle.sc_keeper.specs.Conditions.{MayBegin, MayFeed, MayStartReplay, MayReplay, MayBeReady, MayGrow, MaySwitch, MayAbort};
 ghost use Rattle.sc_keeper.specs.Events.{PartFeeds, PartStartsReplay, PartReplays, PartGetsReady, PartSwitches};
 ghost use Rattle.sc_collection.specs.Desks.{IsDeskAtRest};
-ghost use Rattle.sc_split.specs.Buckets.{known_of, IsAllSeen, KeeperHeld, IsUnderway, HasBegun, HasGrown, IsGivenUp, HasNoRoomFor};
+ghost use Rattle.sc_collection.specs.Known.{known_of};
+ghost use Rattle.sc_split.specs.Buckets.{IsAllSeen, KeeperHeld, IsUnderway, HasBegun, HasGrown, IsGivenUp, HasNoRoomFor};
 
 use sc_cluster::SplitPlan;
 use sc_collection::Desk;
@@ -45,7 +46,7 @@ pub(crate) fn begin_in<D: Desk>(
         (known_of (D.seen desk.new) (D.keeping desk.new keepers.new)) []) }
     ensures refused { OnErr result ((D.keeping desk.new keepers.new).part b ≡ (D.keeping desk.old keepers.old).part b) }
     ensures may_still { OnErr result
-        (JournalMayBegin (D.layout desk.new).first ((D.seen desk.new).journals b) plan.now.parent plan.now.subs) }
+        (MayBeSplit (D.layout desk.new).first ((D.seen desk.new).journals b) plan.now.parent plan.now.subs) }
     ensures full { result ≡ Err BeginFault.LogFull → HasNoRoomFor (D.layout desk.new) plan.now.subs ((D.seen desk.new).journals b) }
 {
     let mut bucket = desk.hold_keeper(keepers, b);

@@ -6,8 +6,9 @@ ghost use Rattle.sc_cluster.specs.declared.plan.SplitPlan.{SplitPlan};
 ghost use Rattle.sc_keeper.specs.declared.part.Part.{Part};
 ghost use Rattle.sc_keeper.specs.Conditions.{MayBegin, MayGrow};
 ghost use Rattle.sc_collection.specs.Desks.{IsDeskAtRest};
-ghost use Rattle.sc_split.specs.Buckets.{known_of, LeavesOthers, IsAllSeen, KeeperHeld, IsUnderway, HasGrown, HasNoRoomFor, first_cores};
-ghost use Rattle.sc_split.specs.Stages.{OpenSplit, OfBuckets, IsOpenIn, IsAtStage, IsUnbegun, KeepsBoard, Stage, filled, building, led, recovering, whole, further_cores_of};
+ghost use Rattle.sc_collection.specs.Known.{known_of, OfBuckets};
+ghost use Rattle.sc_split.specs.Buckets.{LeavesOthers, IsAllSeen, KeeperHeld, IsUnderway, HasGrown, HasNoRoomFor, first_cores};
+ghost use Rattle.sc_split.specs.Stages.{OpenSplit, IsOpenIn, IsAtStage, IsUnbegun, KeepsKnownBoard, Stage, filled, building, leaders_filled, recovering, whole, further_cores_of};
 ghost use Rattle.sc_split.specs.declared.end.Fault.TheVariants as faults;
 
 use crate::bucket::{begin_in, grow_in, ready_in};
@@ -36,7 +37,7 @@ fn begin_all<D: Desk, P: Pace>(
     ensures layout { D.layout desk.new ≡ D.layout desk.old }
     ensures rest { IsDeskAtRest (D.layout desk.new) (D.out desk.new) (D.seen desk.new) }
     ensures fits { D.fits desk.new keepers.new }
-    ensures board { KeepsBoard (known_of (D.seen desk.old) (D.keeping desk.old keepers.old)) (known_of (D.seen desk.new) (D.keeping desk.new keepers.new)) }
+    ensures board { KeepsKnownBoard (known_of (D.seen desk.old) (D.keeping desk.old keepers.old)) (known_of (D.seen desk.new) (D.keeping desk.new keepers.new)) }
     ensures count { begun.new ≤ (D.layout desk.old).buckets }
     ensures opened { OfBuckets 0 begun.new (IsAtStage
         (record { plan = plan.now; base = known_of (D.seen desk.old) (D.keeping desk.old keepers.old) })
@@ -111,7 +112,7 @@ fn fill_all<D: Desk, P: Pace>(
     ensures layout { D.layout desk.new ≡ D.layout desk.old }
     ensures rest { IsDeskAtRest (D.layout desk.new) (D.out desk.new) (D.seen desk.new) }
     ensures fits { D.fits desk.new keepers.new }
-    ensures board { KeepsBoard (known_of (D.seen desk.old) (D.keeping desk.old keepers.old)) (known_of (D.seen desk.new) (D.keeping desk.new keepers.new)) }
+    ensures board { KeepsKnownBoard (known_of (D.seen desk.old) (D.keeping desk.old keepers.old)) (known_of (D.seen desk.new) (D.keeping desk.new keepers.new)) }
     ensures opened { (split : OpenSplit) (stage : Stage) → stage.to_fill ≡ cores.now → OfBuckets 0 (D.layout desk.old).buckets
         (IsAtStage split stage (known_of (D.seen desk.old) (D.keeping desk.old keepers.old)))
         → OfBuckets 0 (D.layout desk.old).buckets (IsOpenIn split (known_of (D.seen desk.new) (D.keeping desk.new keepers.new))) }
@@ -135,13 +136,13 @@ fn ready_all<D: Desk>(desk: &mut D, keepers: &mut D::Keepers)
     requires rest { IsDeskAtRest (D.layout desk.old) (D.out desk.old) (D.seen desk.old) }
     requires fits { D.fits desk.old keepers.old }
     requires stage { (split : OpenSplit) × OfBuckets 0 (D.layout desk.old).buckets
-        (IsAtStage split (led split.plan) (known_of (D.seen desk.old) (D.keeping desk.old keepers.old))) }
+        (IsAtStage split (leaders_filled split.plan) (known_of (D.seen desk.old) (D.keeping desk.old keepers.old))) }
     ensures layout { D.layout desk.new ≡ D.layout desk.old }
     ensures rest { IsDeskAtRest (D.layout desk.new) (D.out desk.new) (D.seen desk.new) }
     ensures fits { D.fits desk.new keepers.new }
-    ensures board { KeepsBoard (known_of (D.seen desk.old) (D.keeping desk.old keepers.old)) (known_of (D.seen desk.new) (D.keeping desk.new keepers.new)) }
+    ensures board { KeepsKnownBoard (known_of (D.seen desk.old) (D.keeping desk.old keepers.old)) (known_of (D.seen desk.new) (D.keeping desk.new keepers.new)) }
     ensures ready { (split : OpenSplit) → OfBuckets 0 (D.layout desk.old).buckets
-        (IsAtStage split (led split.plan) (known_of (D.seen desk.old) (D.keeping desk.old keepers.old)))
+        (IsAtStage split (leaders_filled split.plan) (known_of (D.seen desk.old) (D.keeping desk.old keepers.old)))
         → OfBuckets 0 (D.layout desk.old).buckets (IsAtStage split (recovering split.plan) (known_of (D.seen desk.new) (D.keeping desk.new keepers.new))) }
 {
     for b in 0..desk.buckets() {
@@ -168,7 +169,7 @@ pub(crate) fn lead_all<D: Desk, P: Pace>(
     ensures layout { D.layout desk.new ≡ D.layout desk.old }
     ensures rest { IsDeskAtRest (D.layout desk.new) (D.out desk.new) (D.seen desk.new) }
     ensures fits { D.fits desk.new keepers.new }
-    ensures board { KeepsBoard (known_of (D.seen desk.old) (D.keeping desk.old keepers.old)) (known_of (D.seen desk.new) (D.keeping desk.new keepers.new)) }
+    ensures board { KeepsKnownBoard (known_of (D.seen desk.old) (D.keeping desk.old keepers.old)) (known_of (D.seen desk.new) (D.keeping desk.new keepers.new)) }
     ensures count { begun.new ≤ (D.layout desk.old).buckets }
     ensures opened { OfBuckets 0 begun.new (IsOpenIn
         (record { plan = plan.now; base = known_of (D.seen desk.old) (D.keeping desk.old keepers.old) })
@@ -208,7 +209,7 @@ pub(crate) fn follow_all<D: Desk, P: Pace>(
     ensures layout { D.layout desk.new ≡ D.layout desk.old }
     ensures rest { IsDeskAtRest (D.layout desk.new) (D.out desk.new) (D.seen desk.new) }
     ensures fits { D.fits desk.new keepers.new }
-    ensures board { KeepsBoard (known_of (D.seen desk.old) (D.keeping desk.old keepers.old)) (known_of (D.seen desk.new) (D.keeping desk.new keepers.new)) }
+    ensures board { KeepsKnownBoard (known_of (D.seen desk.old) (D.keeping desk.old keepers.old)) (known_of (D.seen desk.new) (D.keeping desk.new keepers.new)) }
     ensures opened { (split : OpenSplit) → further_cores_of split.plan ≡ cores.now → OfBuckets 0 (D.layout desk.old).buckets
         (IsAtStage split (recovering split.plan) (known_of (D.seen desk.old) (D.keeping desk.old keepers.old)))
         → OfBuckets 0 (D.layout desk.old).buckets (IsOpenIn split (known_of (D.seen desk.new) (D.keeping desk.new keepers.new))) }

@@ -5,7 +5,7 @@ ghost use Rattle.std.specs.List.{flat_map};
 ghost use Rattle.sc_record.specs.declared.slice.SubSlice.{SubSlice};
 ghost use Rattle.sc_handover.specs.Made.{first_core};
 ghost use Rattle.sc_cores.specs.Cores.{HasStarted, without_cores};
-ghost use Rattle.sc_split.specs.Outside.{core_at, further_cores, cores_of};
+ghost use Rattle.sc_split.specs.Outside.{sub_core_at, further_cores, cores_of};
 ghost use Rattle.sc_split.specs.Stages.{further_names};
 ghost use Rattle.sc_split.specs.declared.end.Fault.TheVariants as faults;
 
@@ -101,7 +101,7 @@ fn push_followers(sub: &SubSlice, cores: &mut Vec<CoreId>) -> Result<(), AllocEr
 fn host(alloc: Global, nodes: u32, sub: &SubSlice, k: u8) -> Result<Host, AllocError>
     requires nodes { 1 ≤ nodes }
     requires replica { 1 ≤ k }
-    ensures { IfOk result (λ host. host ≡ core_at nodes sub.now k) }
+    ensures { IfOk result (λ host. host ≡ sub_core_at nodes sub.now k) }
 {
     core_of(alloc, nodes, sub.name.as_str(), sub.node, k)
 }
@@ -109,7 +109,7 @@ fn host(alloc: Global, nodes: u32, sub: &SubSlice, k: u8) -> Result<Host, AllocE
 // The first core of each sub.
 fn first_hosts(alloc: Global, nodes: u32, subs: &[SubSlice]) -> Result<Vec<Host>, AllocError>
     requires nodes { 1 ≤ nodes }
-    ensures { IfOk result (λ hosts. hosts.items ≡ map (λ sub. core_at nodes sub 1) subs.now) }
+    ensures { IfOk result (λ hosts. hosts.items ≡ map (λ sub. sub_core_at nodes sub 1) subs.now) }
 {
     let mut hosts = Vec::with_capacity(alloc, subs.len())?;
     for sub in subs {

@@ -12,13 +12,14 @@ ghost use Rattle.sc_seen.specs.declared.board.BoardEntry.{BoardEntry};
 ghost use Rattle.sc_board.specs.Splits.{IsCut, asked_for};
 ghost use Rattle.sc_collection.specs.Desks.{IsDeskAtRest};
 ghost use Rattle.sc_collection.specs.Kept.{trail_room};
+ghost use Rattle.sc_collection.specs.Known.{known_of, OfBuckets};
 ghost use Rattle.sc_split.specs.declared.end.Fault.TheVariants as faults;
-ghost use Rattle.sc_split.specs.Buckets.{known_of, HasNoRoomFor};
+ghost use Rattle.sc_split.specs.Buckets.{HasNoRoomFor};
 ghost use Rattle.sc_cores.specs.Cores.{Outside, outside_of, HasStarted, without_cores};
 ghost use Rattle.sc_split.specs.Outside.{cores_of};
-ghost use Rattle.sc_split.specs.Stages.{OpenSplit, OfBuckets, IsOpenIn, IsUnbegun, IsAtStage, KeepsBoard, recovering, whole, further_cores_of};
+ghost use Rattle.sc_split.specs.Stages.{OpenSplit, IsOpenIn, IsUnbegun, IsAtStage, KeepsKnownBoard, recovering, whole, further_cores_of};
 ghost use Rattle.sc_split.specs.Splits.{IsSplit, split_moment};
-ghost use Rattle.sc_split.specs.Driving.{HasBegunOnBoard, IsHalted, IsWhole, Builds, IsFault, GivesUp, Closes, Finishes, IsDone, IsGivenUpOnBoard, IsEndOf};
+ghost use Rattle.sc_split.specs.Driving.{HasBegunOnBoard, IsHalted, IsWholeSplit, Builds, IsFault, GivesUp, Closes, Finishes, IsSplitDone, IsGivenUpOnBoard, IsEndOf};
 
 use crate::board::{note_done, note_failed, note_recovering, open};
 use crate::building::{ask, follow_all, lead_all};
@@ -92,7 +93,7 @@ fn run<D: Desk, H: Hosts, P: Pace>(
         (outside_of (H.started hosts.old) (H.start_faults hosts.old) (H.stop_faults hosts.old) (P.stops pace.old)) in
         let new = split_moment (view_of (D.seen desk.new) trail.new.stops)
         (outside_of (H.started hosts.new) (H.start_faults hosts.new) (H.stop_faults hosts.new) (P.stops pace.new)) in
-        IsDone (D.layout desk.old) plan.now old new result ⊎ IsGivenUpOnBoard (D.layout desk.old) plan.now old new result }
+        IsSplitDone (D.layout desk.old) plan.now old new result ⊎ IsGivenUpOnBoard (D.layout desk.old) plan.now old new result }
     ensures layout { D.layout desk.new ≡ D.layout desk.old }
     ensures rest { IsDeskAtRest (D.layout desk.new) (D.out desk.new) (D.seen desk.new) }
     ensures requests { trail.new.requests ≡ trail.old.requests }
@@ -153,7 +154,7 @@ fn build<D: Desk, H: Hosts, P: Pace>(
         (known_of (D.seen desk.old) (D.keeping desk.old keepers.old)) (known_of (D.seen desk.new) (D.keeping desk.new keepers.new)) }
     ensures whole { OnOk result ((entries : List BoardEntry)
         → HasBegunOnBoard (D.layout desk.old) plan.now entries (known_of (D.seen desk.old) (D.keeping desk.old keepers.old))
-        → IsWhole (D.layout desk.old) (record { plan = plan.now; base = known_of (D.seen desk.old) (D.keeping desk.old keepers.old) }) entries
+        → IsWholeSplit (D.layout desk.old) (record { plan = plan.now; base = known_of (D.seen desk.old) (D.keeping desk.old keepers.old) }) entries
         (known_of (D.seen desk.new) (D.keeping desk.new keepers.new))) }
     ensures some { progress.new.started ≤ length cores.now.hosts }
     ensures all { OnOk result (progress.new.started ≡ length cores.now.hosts) }
@@ -203,7 +204,7 @@ fn lead<D: Desk, H: Hosts, P: Pace>(
     ensures layout { D.layout desk.new ≡ D.layout desk.old }
     ensures rest { IsDeskAtRest (D.layout desk.new) (D.out desk.new) (D.seen desk.new) }
     ensures fits { D.fits desk.new keepers.new }
-    ensures board { KeepsBoard (known_of (D.seen desk.old) (D.keeping desk.old keepers.old)) (known_of (D.seen desk.new) (D.keeping desk.new keepers.new)) }
+    ensures board { KeepsKnownBoard (known_of (D.seen desk.old) (D.keeping desk.old keepers.old)) (known_of (D.seen desk.new) (D.keeping desk.new keepers.new)) }
     ensures count { progress.new.begun ≤ (D.layout desk.old).buckets }
     ensures opened { OfBuckets 0 progress.new.begun (IsOpenIn
         (record { plan = plan.now; base = known_of (D.seen desk.old) (D.keeping desk.old keepers.old) })
@@ -265,7 +266,7 @@ fn follow<D: Desk, H: Hosts, P: Pace>(
     ensures layout { D.layout desk.new ≡ D.layout desk.old }
     ensures rest { IsDeskAtRest (D.layout desk.new) (D.out desk.new) (D.seen desk.new) }
     ensures fits { D.fits desk.new keepers.new }
-    ensures board { KeepsBoard (known_of (D.seen desk.old) (D.keeping desk.old keepers.old)) (known_of (D.seen desk.new) (D.keeping desk.new keepers.new)) }
+    ensures board { KeepsKnownBoard (known_of (D.seen desk.old) (D.keeping desk.old keepers.old)) (known_of (D.seen desk.new) (D.keeping desk.new keepers.new)) }
     ensures opened { (split : OpenSplit) → further_cores_of split.plan ≡ cores.now.followers → OfBuckets 0 (D.layout desk.old).buckets
         (IsAtStage split (recovering split.plan) (known_of (D.seen desk.old) (D.keeping desk.old keepers.old)))
         → OfBuckets 0 (D.layout desk.old).buckets (IsOpenIn split (known_of (D.seen desk.new) (D.keeping desk.new keepers.new))) }
@@ -303,10 +304,10 @@ fn finish<D: Desk>(
     requires rest { IsDeskAtRest (D.layout desk.old) (D.out desk.old) (D.seen desk.old) }
     requires fits { D.fits desk.old keepers }
     requires whole { (split : OpenSplit) × (entries : List BoardEntry)
-        × IsWhole (D.layout desk.old) split entries (known_of (D.seen desk.old) (D.keeping desk.old keepers)) }
+        × IsWholeSplit (D.layout desk.old) split entries (known_of (D.seen desk.old) (D.keeping desk.old keepers)) }
     requires room { length trail.old.stops + (D.layout desk.old).buckets ≤ trail_room }
     ensures finished { (split : OpenSplit) (entries : List BoardEntry)
-        → IsWhole (D.layout desk.old) split entries (known_of (D.seen desk.old) (D.keeping desk.old keepers))
+        → IsWholeSplit (D.layout desk.old) split entries (known_of (D.seen desk.old) (D.keeping desk.old keepers))
         → subs ≡ map (λ (sub : SubSlice). sub.name) split.plan.subs
         → Finishes (D.layout desk.old) split.plan split.base.seen (view_of (D.seen desk.old) trail.old.stops)
         (view_of (D.seen desk.new) trail.new.stops) result }
@@ -326,9 +327,9 @@ fn close<D: Desk>(desk: &mut D, mut keepers: D::Keepers)
     requires rest { IsDeskAtRest (D.layout desk.old) (D.out desk.old) (D.seen desk.old) }
     requires fits { D.fits desk.old keepers }
     requires whole { (split : OpenSplit) × (entries : List BoardEntry)
-        × IsWhole (D.layout desk.old) split entries (known_of (D.seen desk.old) (D.keeping desk.old keepers)) }
+        × IsWholeSplit (D.layout desk.old) split entries (known_of (D.seen desk.old) (D.keeping desk.old keepers)) }
     ensures closed { (split : OpenSplit) (entries : List BoardEntry)
-        → IsWhole (D.layout desk.old) split entries (known_of (D.seen desk.old) (D.keeping desk.old keepers))
+        → IsWholeSplit (D.layout desk.old) split entries (known_of (D.seen desk.old) (D.keeping desk.old keepers))
         → Closes (D.layout desk.old) split.plan split.base.seen (D.seen desk.old) (D.seen desk.new) }
     ensures layout { D.layout desk.new ≡ D.layout desk.old }
     ensures rest { IsDeskAtRest (D.layout desk.new) (D.out desk.new) (D.seen desk.new) }

@@ -3,8 +3,8 @@
 ghost use Rattle.std.specs.Prelude.{◌≡◌, ◌≤◌, ℕ};
 ghost use mathlib.Core.List.{IsPrefix};
 ghost use Rattle.sc_collection.specs.Desks.{IsDeskAtRest};
-ghost use Rattle.sc_split.specs.Buckets.{known_of};
-ghost use Rattle.sc_split.specs.Stages.{OpenSplit, OfBuckets, IsOpenIn, IsAtStage, IsDoneIn, IsFailedIn, IsSameIn, KeepsBoard, whole};
+ghost use Rattle.sc_collection.specs.Known.{known_of, OfBuckets, IsSameIn};
+ghost use Rattle.sc_split.specs.Stages.{OpenSplit, IsOpenIn, IsAtStage, IsDoneIn, IsFailedIn, KeepsKnownBoard, whole};
 
 use crate::bucket::{abort_in, switch_in};
 use sc_collection::Desk;
@@ -18,7 +18,7 @@ pub(crate) fn switch_all<D: Desk>(desk: &mut D, keepers: &mut D::Keepers)
     ensures layout { D.layout desk.new ≡ D.layout desk.old }
     ensures rest { IsDeskAtRest (D.layout desk.new) (D.out desk.new) (D.seen desk.new) }
     ensures fits { D.fits desk.new keepers.new }
-    ensures board { KeepsBoard (known_of (D.seen desk.old) (D.keeping desk.old keepers.old))
+    ensures board { KeepsKnownBoard (known_of (D.seen desk.old) (D.keeping desk.old keepers.old))
         (known_of (D.seen desk.new) (D.keeping desk.new keepers.new)) }
     ensures went_on { (lock : ℕ) → IsPrefix ((D.seen desk.old).journals lock) ((D.seen desk.new).journals lock) }
     ensures switched { (split : OpenSplit) → OfBuckets 0 (D.layout desk.old).buckets (IsAtStage split (whole split.plan)
@@ -39,7 +39,7 @@ pub(crate) fn abort_all<D: Desk>(desk: &mut D, keepers: &mut D::Keepers, begun: 
     ensures layout { D.layout desk.new ≡ D.layout desk.old }
     ensures rest { IsDeskAtRest (D.layout desk.new) (D.out desk.new) (D.seen desk.new) }
     ensures fits { D.fits desk.new keepers.new }
-    ensures board { KeepsBoard (known_of (D.seen desk.old) (D.keeping desk.old keepers.old))
+    ensures board { KeepsKnownBoard (known_of (D.seen desk.old) (D.keeping desk.old keepers.old))
         (known_of (D.seen desk.new) (D.keeping desk.new keepers.new)) }
     ensures went_on { (lock : ℕ) → IsPrefix ((D.seen desk.old).journals lock) ((D.seen desk.new).journals lock) }
     ensures failed { (split : OpenSplit) → OfBuckets 0 begun (IsOpenIn split (known_of (D.seen desk.old) (D.keeping desk.old keepers.old)))

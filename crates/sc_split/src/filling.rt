@@ -5,7 +5,8 @@ ghost use Rattle.sc_record.specs.declared.slice.CoreId.{CoreId};
 ghost use Rattle.sc_cluster.specs.declared.plan.SplitPlan.{SplitPlan};
 ghost use Rattle.sc_keeper.specs.declared.part.Part.{Part};
 ghost use Rattle.sc_collection.specs.Desks.{IsDeskAtRest};
-ghost use Rattle.sc_split.specs.Buckets.{known_of, fed_names, IsAllSeen, KeeperHeld, AreToFill, IsToFill, IsFirstFed, IsFilled};
+ghost use Rattle.sc_collection.specs.Known.{known_of};
+ghost use Rattle.sc_split.specs.Buckets.{fed_names, IsAllSeen, KeeperHeld, AreToFill, IsToFill, IsFirstFed, IsFilled};
 ghost use Rattle.sc_split.specs.Buckets.{IsUnderway, KeepsSeats, KeepsCores};
 
 use crate::bucket::{feed_in, replay_in, start_replay_in};

@@ -8,7 +8,7 @@
 //! Proved: each event of one bucket by what its keeper knows of it, and the filling of its cores (`IsFilled`); over all buckets in turn,
 //! that the split begins (`IsAtStage`, `IsUnbegun` where it did not), that its leaders are filled and ready, that its further replicas join
 //! and are filled, that it is switched (`IsDoneIn`) or given up (`IsFailedIn`); the steps on the board (`Opens`, `Refuses`, `NotesOne`); the
-//! names of its cores, and that these are started and stopped; and that all of them are made, or why not (`Builds`, `IsWhole`, `IsFault`). Above that
+//! names of its cores, and that these are started and stopped; and that all of them are made, or why not (`Builds`, `IsWholeSplit`, `IsFault`). Above that
 //! the whole of `split`: what it leaves of the desk, the hosts and the trail, what it answers and why (`IsSplit`).
 //!
 //! Tested alone: nothing here; `sc_scenarios` splits beside a stop of the pace and a fault of the hosts at each place.

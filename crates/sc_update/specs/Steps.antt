@@ -24,7 +24,7 @@ use Rattle.sc_update.specs.declared.end.BatchEnd.{BatchEnd}
 use Rattle.sc_update.specs.declared.order.Delivery.{Delivery}
 use Rattle.sc_update.specs.declared.order.Delivery.TheVariants as deliveries
 use Rattle.sc_update.specs.declared.shown.Shown.{Shown}
-use Rattle.sc_update.specs.Updated.{UpdateEnd, finished, OrdersEnd, Reports}
+use Rattle.sc_update.specs.Updated.{UpdateEnd, finished, OrdersEnd, ReportsEnd}
 
 -- Holds of the bucket of a lock made no entry. Of its journal more may be seen, which others made; all else that was seen stayed.
 pub record MakeNoEntry (old new : Seen) (lock : ℕ) : Type 0 where
@@ -139,4 +139,4 @@ pub record AnswersAll {C : Type 0} (gives : C → ℕ → C → Type 0) (layout 
   pub answered : Answered gives layout batch old new answers
   pub ends : OrdersEnd batch answers how
   pub uncommitted : (outcome : CommitOutcome) → how ≡ finished outcome → outcome ≡ committed_now
-  pub reports : Reports batch answers how end
+  pub reports : ReportsEnd batch answers how end

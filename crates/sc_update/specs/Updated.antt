@@ -70,7 +70,7 @@ Shows true answers end = (end.adds ≡ accepted_adds answers) × (end.deletes �
 Shows false answers end = (end.adds ≡ []) × (end.deletes ≡ [])
 
 -- an update that ended so after these answers reports this
-pub record Reports (batch : Batch) (answers : List OrderAnswer) (how : UpdateEnd) (end : BatchEnd) : Type 0 where
+pub record ReportsEnd (batch : Batch) (answers : List OrderAnswer) (how : UpdateEnd) (end : BatchEnd) : Type 0 where
   pub fault : end.fault ≡ reported answers how
   pub shown : Shows batch.flags.versions answers end
 
@@ -85,4 +85,4 @@ pub record IsUpdated {C : Type 0} (gives : C → ℕ → C → Type 0) (layout :
   pub answered : FromNowOn new.view.seen (λ later. AnswersOrders layout later batch.flags.fail_on_conflict batch.orders answers)
   pub ends : FromNowOn new.view.seen (λ later. Ends layout later batch answers commits how)
   pub once : FromNowOn new.view.seen (λ later. WritesOnce layout later (order_stops answers ++ commit_stops commits) answers)
-  pub reports : Reports batch answers how end
+  pub reports : ReportsEnd batch answers how end

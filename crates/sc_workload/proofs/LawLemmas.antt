@@ -7,7 +7,7 @@ use Rattle.std.proofs.lemmas.Bool.{eq-eqb, ne_eqb}
 use Rattle.std.proofs.lemmas.Fmt.{decimal_injective}
 use Rattle.std.proofs.lemmas.Slice.Eq.{bytes_eq-Decides}
 use Rattle.sc_schema.specs.Documents.{OrderContent}
-use Rattle.sc_workload.specs.Workload.{Workload, all_orders, documents, is_made_by, number_at, order_at, orders_of, places, workload_id}
+use Rattle.sc_workload.specs.Workload.{Workload, all_orders, documents, is_made_by, number_at, order_at, worker_orders, order_places, workload_id}
 use Rattle.sc_workload.specs.Laws.{LiesWithOne, LieWithOneWorker, on_document}
 
 -- a test of what a function gives
@@ -74,14 +74,14 @@ abbrev is_on : Workload → List ℕ → ℕ → Bool
 is_on workload id place = bytes_eq (workload_id (number_at workload place)) id
 
 on-orders : (workload : Workload) (id : List ℕ) (worker workers : ℕ)
-    → on_document id (orders_of workload worker workers)
-    ≡ map (order_at workload) (filter (is_on workload id) (filter (is_made_by workload worker workers) (places workload)))
+    → on_document id (worker_orders workload worker workers)
+    ≡ map (order_at workload) (filter (is_on workload id) (filter (is_made_by workload worker workers) (order_places workload)))
 on-orders workload id worker workers =
-    filter-map (λ (order : OrderContent). bytes_eq order.id id) (order_at workload) (filter (is_made_by workload worker workers) (places workload))
+    filter-map (λ (order : OrderContent). bytes_eq order.id id) (order_at workload) (filter (is_made_by workload worker workers) (order_places workload))
 
 on-all : (workload : Workload) (id : List ℕ)
-    → on_document id (all_orders workload) ≡ map (order_at workload) (filter (is_on workload id) (places workload))
-on-all workload id = filter-map (λ (order : OrderContent). bytes_eq order.id id) (order_at workload) (places workload)
+    → on_document id (all_orders workload) ≡ map (order_at workload) (filter (is_on workload id) (order_places workload))
+on-all workload id = filter-map (λ (order : OrderContent). bytes_eq order.id id) (order_at workload) (order_places workload)
 
 some_documents : (workload : Workload) → 1 ≤ workload.count → 0 < documents workload
 some_documents workload some = omega arith
@@ -97,15 +97,15 @@ number_fits workload place some few =
 
 module _ (workload : Workload) (some : 1 ≤ workload.count) (few : workload.count < 2 ^ 32) (workers : ℕ) (one : 1 ≤ workers) (id : List ℕ) where
   -- no order is on the document
-  none_is : filter (is_on workload id) (places workload) ≡ [] → LiesWithOne workload workers id
+  none_is : filter (is_on workload id) (order_places workload) ≡ [] → LiesWithOne workload workers id
   none_is none = record {
     worker = 0;
     is_one = one;
     all = on-orders workload id 0 workers
-        ∙ ap (map (order_at workload)) (none_left (is_on workload id) (is_made_by workload 0 workers) (places workload) none)
+        ∙ ap (map (order_at workload)) (none_left (is_on workload id) (is_made_by workload 0 workers) (order_places workload) none)
         ∙ ap (map (order_at workload)) (sym none) ∙ sym (on-all workload id);
     others = λ other ne. on-orders workload id other workers
-        ∙ ap (map (order_at workload)) (none_left (is_on workload id) (is_made_by workload other workers) (places workload) none);
+        ∙ ap (map (order_at workload)) (none_left (is_on workload id) (is_made_by workload other workers) (order_places workload) none);
   }
 
   -- the order at this place is on it
@@ -114,10 +114,10 @@ module _ (workload : Workload) (some : 1 ≤ workload.count) (few : workload.cou
     worker = worker;
     is_one = mod-lt (number_at workload place) one;
     all = on-orders workload id worker workers
-        ∙ ap (map (order_at workload)) (filter_implied (is_on workload id) (is_made_by workload worker workers) made (places workload))
+        ∙ ap (map (order_at workload)) (filter_implied (is_on workload id) (is_made_by workload worker workers) made (order_places workload))
         ∙ sym (on-all workload id);
     others = λ other ne. on-orders workload id other workers
-        ∙ ap (map (order_at workload)) (filter_apart (is_on workload id) (is_made_by workload other workers) (not_made other ne) (places workload));
+        ∙ ap (map (order_at workload)) (filter_apart (is_on workload id) (is_made_by workload other workers) (not_made other ne) (order_places workload));
   } where
     worker : ℕ
     worker = number_at workload place % workers
@@ -135,8 +135,8 @@ module _ (workload : Workload) (some : 1 ≤ workload.count) (few : workload.cou
         ne_eqb (number_at workload another % workers) other (λ e. ne (sym e ∙ ap (λ number. number % workers) (same another on)))
 
   lies : LiesWithOne workload workers id
-  lies = by (found (is_on workload id) (places workload)) where
-    by : IsFound (is_on workload id) (places workload) → LiesWithOne workload workers id
+  lies = by (found (is_on workload id) (order_places workload)) where
+    by : IsFound (is_on workload id) (order_places workload) → LiesWithOne workload workers id
     by (inl none) = none_is none
     by (inr (place, is)) = one_is place is
 

@@ -3,7 +3,7 @@ use Rattle.std.specs.Prelude.{◌≡◌, ◌≤◌, ℕ, false, List, [], ◌++�
 use Rattle.sc_commands.specs.declared.batch.Batch.{Batch}
 use Rattle.sc_commands.specs.declared.batch.Flags.{Flags}
 use Rattle.sc_schema.specs.Documents.{OrderContent, content_of}
-use Rattle.sc_workload.specs.Workload.{Workload, orders_of}
+use Rattle.sc_workload.specs.Workload.{Workload, worker_orders}
 use Rattle.sc_workload.specs.declared.batches.Batches.{Batches}
 
 -- the flags of a request that sets none
@@ -27,12 +27,12 @@ AreSmall batches = All IsSmall batches
 
 -- these are the batches of a worker, as one of so many
 pub record AreBatchesOf (workload : Workload) (worker workers : ℕ) (batches : List Batch) : Type 0 where
-  pub orders : contents batches ≡ orders_of workload worker workers
+  pub orders : contents batches ≡ worker_orders workload worker workers
   pub small : AreSmall batches
 
 -- the orders of batches that are being filled
-abbrev pub filled : Batches → List OrderContent
-filled batches = contents batches.full ++ map content_of batches.last
+abbrev pub filled_orders : Batches → List OrderContent
+filled_orders batches = contents batches.full ++ map content_of batches.last
 
 -- those that are full are as they are to be, and so can be the last one
 pub record IsFilling (batches : Batches) : Type 0 where

@@ -2,7 +2,7 @@
 use Rattle.std.specs.Prelude.{◌≡◌, ◌≢◌, ◌≤◌, ◌<◌, ◌^◌, ℕ, List, [], filter}
 use Rattle.std.specs.Str.{bytes_eq}
 use Rattle.sc_schema.specs.Documents.{OrderContent}
-use Rattle.sc_workload.specs.Workload.{Workload, all_orders, orders_of}
+use Rattle.sc_workload.specs.Workload.{Workload, all_orders, worker_orders}
 
 -- of orders, those on the document of an id
 abbrev pub on_document : List ℕ → List OrderContent → List OrderContent
@@ -12,8 +12,8 @@ on_document id orders = filter (λ (order : OrderContent). bytes_eq order.id id)
 pub record LiesWithOne (workload : Workload) (workers : ℕ) (id : List ℕ) : Type 0 where
   pub worker : ℕ
   pub is_one : worker < workers
-  pub all : on_document id (orders_of workload worker workers) ≡ on_document id (all_orders workload)
-  pub others : (other : ℕ) → other ≢ worker → on_document id (orders_of workload other workers) ≡ []
+  pub all : on_document id (worker_orders workload worker workers) ≡ on_document id (all_orders workload)
+  pub others : (other : ℕ) → other ≢ worker → on_document id (worker_orders workload other workers) ≡ []
 
 -- so it is with each workload, however many workers there are, and each document
 abbrev pub LieWithOneWorker : Type 0

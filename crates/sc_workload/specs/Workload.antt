@@ -40,17 +40,17 @@ abbrev pub order_at : Workload → ℕ → OrderContent
 order_at workload place = record { id = workload_id (number_at workload place); condition = pos 0; change = change_at place }
 
 -- the places of a workload's orders, in order
-abbrev pub places : Workload → List ℕ
-places workload = range_with_len 0 workload.count
+abbrev pub order_places : Workload → List ℕ
+order_places workload = range_with_len 0 workload.count
 
 -- all orders of a workload
 abbrev pub all_orders : Workload → List OrderContent
-all_orders workload = map (order_at workload) (places workload)
+all_orders workload = map (order_at workload) (order_places workload)
 
 -- the worker of this number makes the order at a place, as one of so many
 abbrev pub is_made_by : Workload → (worker workers : ℕ) → ℕ → Bool
 is_made_by workload worker workers place = nat_eq (number_at workload place % workers) worker
 
 -- the orders that a worker makes
-abbrev pub orders_of : Workload → (worker workers : ℕ) → List OrderContent
-orders_of workload worker workers = map (order_at workload) (filter (is_made_by workload worker workers) (places workload))
+abbrev pub worker_orders : Workload → (worker workers : ℕ) → List OrderContent
+worker_orders workload worker workers = map (order_at workload) (filter (is_made_by workload worker workers) (order_places workload))

@@ -1,7 +1,7 @@
 //! Orders in batches.
 ghost use Rattle.std.specs.Prelude.{◌≡◌, ◌<◌, [], ◌∷◌, ◌++◌, length, IfOk, OnOk};
 ghost use Rattle.sc_schema.specs.Documents.{content_of};
-ghost use Rattle.sc_workload.specs.Batches.{AreSmall, IsFilling, contents, filled, no_flags};
+ghost use Rattle.sc_workload.specs.Batches.{AreSmall, IsFilling, contents, filled_orders, no_flags};
 
 use sc_commands::{Batch, Flags};
 use sc_record::{List, Order};
@@ -22,7 +22,7 @@ pub(crate) struct Batches {
 
 impl Batches {
     pub(crate) fn new(alloc: Global) -> Batches
-        ensures none { filled result ≡ [] }
+        ensures none { filled_orders result ≡ [] }
         ensures filling { IsFilling result }
     {
         Batches {
@@ -34,7 +34,7 @@ impl Batches {
     /// Puts the order at the end. After an error nothing is said of the batches.
     pub(crate) fn push(&mut self, alloc: Global, order: Order) -> Result<(), AllocError>
         requires { IsFilling self.old }
-        ensures pushed { OnOk result (filled self.new ≡ filled self.old ++ content_of order ∷ []) }
+        ensures pushed { OnOk result (filled_orders self.new ≡ filled_orders self.old ++ content_of order ∷ []) }
         ensures filling { OnOk result (IsFilling self.new) }
     {
         self.make_room(alloc)?;
@@ -45,7 +45,7 @@ impl Batches {
     /// Puts the last batch among those that are full, where it is.
     fn make_room(&mut self, alloc: Global) -> Result<(), AllocError>
         requires { IsFilling self.old }
-        ensures same { OnOk result (filled self.new ≡ filled self.old) }
+        ensures same { OnOk result (filled_orders self.new ≡ filled_orders self.old) }
         ensures full { OnOk result (AreSmall self.new.full) }
         ensures room { OnOk result (length self.new.last < 100) }
     {
@@ -60,7 +60,7 @@ impl Batches {
     /// All batches.
     pub(crate) fn into_list(self) -> Result<List<Batch>, AllocError>
         requires { IsFilling self }
-        ensures orders { IfOk result (λ batches. contents batches ≡ filled self) }
+        ensures orders { IfOk result (λ batches. contents batches ≡ filled_orders self) }
         ensures small { IfOk result AreSmall }
     {
         let Batches { mut full, last } = self;

@@ -37,7 +37,7 @@ use Rattle.sc_bucket.proofs.DownLemmas.{follower_key}
 use Rattle.sc_bucket.proofs.FindLemmas.{take-next}
 use Rattle.sc_bucket.proofs.TakenLemmas.{Contains-slice_get}
 use Rattle.sc_handover.specs.Conditions.{IsInMode, IsUnfed, IsThereActive, CanFeed, CanGrow, CanSwitch}
-use Rattle.sc_world.specs.Checks.{IsRecovering, IsLedActively, IsWhole, MayJoin, IsMissing}
+use Rattle.sc_world.specs.Checks.{IsRecovering, IsLedActively, IsWholeSlice, MayJoin, IsMissing}
 
 -- ---- lists
 -- it is true of the first elements and the next
@@ -302,7 +302,7 @@ grow_test b name test (parent, recovering) says = (λ is. forth (says.0 is), λ 
   back (sub, grows) =
       (sub, record { there = grows.there; of_sub = grows.of_sub; joins = (grows.forming, grows.above, grows.planned); missing = grows.missing })
 
-pub switch_test : (b : Bucket) (test : Bool) → IsRecovering b → IsTrue test ↔ All (IsWhole b) b.map
+pub switch_test : (b : Bucket) (test : Bool) → IsRecovering b → IsTrue test ↔ All (IsWholeSlice b) b.map
     → IsTrue test ↔ ((parent : SliceId) × CanSwitch b parent)
 switch_test b test (parent, recovering) says = (
   λ is. (parent, record { recovering = recovering; whole = says.0 is }),

@@ -13,7 +13,7 @@ use Rattle.sc_cluster.specs.Changes.{Change, after, IsInactive}
 use Rattle.sc_journal.specs.Journal.{write_at, is_settled}
 use Rattle.sc_journal.specs.Splits.{map_after, open_split, owed}
 use Rattle.sc_journal.specs.Legal.{MayFollow, IsLegal}
-use Rattle.sc_journal.specs.Laws.{IsAtRest}
+use Rattle.sc_journal.specs.Laws.{IsJournalAtRest}
 use Rattle.sc_journal.proofs.LegalLemmas.{IsLegal-push}
 use Rattle.sc_journal.proofs.RestLemmas.{owed_to_rest, owed_is, OwesLess, owes_less, owes_nothing_at_rest}
 use Rattle.sc_journal.proofs.SplitLemmas.{map_after-push, map_after-left, open_split-push, open_split-left, LeavesSlices-settled}
@@ -25,7 +25,7 @@ use Rattle.sc_handover.specs.Conditions.{split_of}
 use Rattle.sc_world.specs.declared.event.Event.{Event}
 use Rattle.sc_world.specs.declared.event.Event.TheVariants as events
 use Rattle.sc_world.specs.Steps.{Can, IsDone, IsRefused, FindsNoMemory}
-use Rattle.sc_world.specs.Runs.{IsPassed, Runs, RunsOut}
+use Rattle.sc_world.specs.Runs.{IsPassed, Runs, EventsRunOut}
 use Rattle.sc_world.specs.Rests.{is_closing, BucketsComeToRest}
 
 -- the bucket has this journal, from this first map on, and its map and its phase are those after it
@@ -174,7 +174,7 @@ never_out old events.Switch new close out = out
 
 -- so a list of them doesn't run out of memory
 never_runs_out : (old : Bucket) (closing : List Event) (added : List Write) (new : Bucket)
-    → All (λ (event : Event). is_closing event ≡ true) closing → ¬ RunsOut old closing added new
+    → All (λ (event : Event). is_closing event ≡ true) closing → ¬ EventsRunOut old closing added new
 never_runs_out old closing added new close out =
     let here : Contains (out.before ++ out.event ∷ out.after) out.event =
     Contains-append_right out.before (out.event ∷ out.after) out.event (0, omega arith, refl) in
@@ -194,7 +194,7 @@ passed_makes first journal one event makes old added new has (inr (can, inr (non
 record IsRested (first : List Slice) (journal : List Entry) (count : ℕ) (new : Bucket) : Type 0 where
   pub first_is : new.first ≡ first
   pub longer : length new.journal.entries ≡ length journal + count
-  pub at_rest : IsAtRest first new.journal.entries
+  pub at_rest : IsJournalAtRest first new.journal.entries
 
 -- these events bring each bucket with this history to rest
 record Closing (first : List Slice) (journal : List Entry) (closing : List Event) : Type 0 where
@@ -213,7 +213,7 @@ none_closing first journal nothing = record {
       record {
         first_is = ap (λ (b : Bucket). b.first) runs.1 ∙ has.first_is;
         longer = let alike = ap length same in omega (arith, alike);
-        at_rest = subst (IsAtRest first) (sym same) ((owes_nothing_at_rest first journal).0 (omega (arith, nothing, owed_is first journal)));
+        at_rest = subst (IsJournalAtRest first) (sym same) ((owes_nothing_at_rest first journal).0 (omega (arith, nothing, owed_is first journal)));
       };
 }
 
@@ -269,6 +269,6 @@ buckets_come_to_rest old sound =
             omega (arith, longer, few, within, owes);
         at_rest = λ added new runs.
             let done = all.rested old added new has runs in
-            subst (λ first. IsAtRest first new.journal.entries) (sym done.first_is) done.at_rest;
+            subst (λ first. IsJournalAtRest first new.journal.entries) (sym done.first_is) done.at_rest;
       },
     )

@@ -13,7 +13,7 @@ use Rattle.sc_bucket.specs.declared.bucket.Bucket.{Bucket}
 use Rattle.sc_world.specs.declared.event.Event.{Event}
 use Rattle.sc_world.specs.declared.event.Event.TheVariants as events
 use Rattle.sc_world.specs.Steps.{IsDone, IsRefused, FindsNoMemory}
-use Rattle.sc_world.specs.Runs.{IsPassed, Runs, RunsOut}
+use Rattle.sc_world.specs.Runs.{IsPassed, Runs, EventsRunOut}
 use Rattle.sc_world.specs.Laws.{orders, KeepsTheTable, StaysWithoutOrders}
 
 -- the journal's writes are those that were there, and then these
@@ -122,7 +122,7 @@ Adds-run old (event ∷ run) added new (between, first, rest, passed, runs, is) 
     ∙ ap (λ more. writes old.journal.entries ++ more) (sym is)
 
 -- also up to the one at which memory runs out
-pub Adds-run_out : (old : Bucket) (run : List Event) (added : List Write) (new : Bucket) → RunsOut old run added new → Adds old added new
+pub Adds-run_out : (old : Bucket) (run : List Event) (added : List Write) (new : Bucket) → EventsRunOut old run added new → Adds old added new
 Adds-run_out old run added new ran =
     Adds-both old ran.between new added [] (Adds-run old ran.before added ran.between ran.runs)
     (Adds-out_of_memory ran.between ran.event new ran.out)

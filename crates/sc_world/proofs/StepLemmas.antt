@@ -22,7 +22,7 @@ use Rattle.sc_handover.specs.Events.{Grows}
 use Rattle.sc_world.specs.declared.event.Event.{Event}
 use Rattle.sc_world.specs.declared.event.Event.TheVariants as events
 use Rattle.sc_world.specs.Steps.{Can, FindsNoMemory}
-use Rattle.sc_world.specs.Runs.{IsStepped, Runs, RunsOut}
+use Rattle.sc_world.specs.Runs.{IsStepped, Runs, EventsRunOut}
 use Rattle.sc_world.specs.Checks.{lacks_memory}
 use Rattle.sc_world.proofs.RunLemmas.{Runs-push, Adds-run, Adds-run_out}
 
@@ -95,14 +95,14 @@ ran_all old run at new whole (added, runs) =
 -- or memory ran out at one
 pub ran_out_at : (old : Bucket) (run : List Event) (at : ℕ) (event : Event) (between new : Bucket) → slice_get run at ≡ Some event
     → HasRun old (take at run) between → Can between event → FindsNoMemory between event new
-    → (added : List Write) × RunsOut old run added new × (writes new.journal.entries ≡ writes old.journal.entries ++ added)
+    → (added : List Write) × EventsRunOut old run added new × (writes new.journal.entries ≡ writes old.journal.entries ++ added)
 ran_out_at old run at event between new there (added, runs) can out = (added, ran, Adds-run_out old run added new ran) where
   rest : drop at run ≡ event ∷ drop (at + 1) run
   rest =
       drop_more run at event (slice_get_within run at event there)
       ∙ ap (λ (e : Event). e ∷ drop (at + 1) run) (get_or_from_slice_get run at event event there)
 
-  ran : RunsOut old run added new
+  ran : EventsRunOut old run added new
   ran = record {
     before = take at run;
     event = event;

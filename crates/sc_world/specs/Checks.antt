@@ -29,8 +29,8 @@ abbrev pub IsLedActively : Bucket → Slice → Type 0
 IsLedActively b slice = is_forming slice ≡ true → IsThereActive b (slice.id.0, 1)
 
 -- where a split is making the slice each of its replicas is there, and active
-abbrev pub IsWhole : Bucket → Slice → Type 0
-IsWhole b slice = is_forming slice ≡ true → All (IsThereActive b) (slice_keys slice)
+abbrev pub IsWholeSlice : Bucket → Slice → Type 0
+IsWholeSlice b slice = is_forming slice ≡ true → All (IsThereActive b) (slice_keys slice)
 
 -- a split is making the slice, which is to have this replica beside its leader
 abbrev pub MayJoin : Slice → ℕ → Type 0

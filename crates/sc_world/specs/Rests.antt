@@ -2,12 +2,12 @@
 use Rattle.std.specs.Prelude.{◌≡◌, ◌≤◌, Bool, true, false, List, length, All}
 use Rattle.sc_record.specs.declared.write.Write.{Write}
 use Rattle.sc_journal.specs.Splits.{owed}
-use Rattle.sc_journal.specs.Laws.{IsAtRest}
+use Rattle.sc_journal.specs.Laws.{IsJournalAtRest}
 use Rattle.sc_bucket.specs.Sound.{IsSound}
 use Rattle.sc_bucket.specs.declared.bucket.Bucket.{Bucket}
 use Rattle.sc_world.specs.declared.event.Event.{Event}
 use Rattle.sc_world.specs.declared.event.Event.TheVariants as events
-use Rattle.sc_world.specs.Runs.{Runs, RunsOut}
+use Rattle.sc_world.specs.Runs.{Runs, EventsRunOut}
 
 -- the event settles a write, gives up a split or drops a slice
 abbrev pub is_closing : Event → Bool
@@ -21,9 +21,9 @@ is_closing _ = false
 pub record BringToRest (old : Bucket) (closing : List Event) : Type 0 where
   pub close : All (λ (event : Event). is_closing event ≡ true) closing
   pub few : length closing ≤ owed old.first old.journal.entries
-  pub in_memory : (added : List Write) (new : Bucket) → ¬ RunsOut old closing added new
+  pub in_memory : (added : List Write) (new : Bucket) → ¬ EventsRunOut old closing added new
   pub within : (added : List Write) (new : Bucket) → Runs old closing added new → length new.journal.entries ≤ old.limit
-  pub at_rest : (added : List Write) (new : Bucket) → Runs old closing added new → IsAtRest new.first new.journal.entries
+  pub at_rest : (added : List Write) (new : Bucket) → Runs old closing added new → IsJournalAtRest new.first new.journal.entries
 
 -- every sound bucket can be brought to rest, within the entries that it owes
 abbrev pub BucketsComeToRest : Type 0

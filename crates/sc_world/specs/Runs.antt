@@ -23,7 +23,7 @@ Runs old (event ∷ events) added new =
     × IsPassed old event first between × Runs between events rest new × (added ≡ first ++ rest)
 
 -- the events came up to one at which memory ran out
-pub record RunsOut (old : Bucket) (events : List Event) (added : List Write) (new : Bucket) : Type 0 where
+pub record EventsRunOut (old : Bucket) (events : List Event) (added : List Write) (new : Bucket) : Type 0 where
   pub before : List Event
   pub event : Event
   pub after : List Event

@@ -70,17 +70,17 @@ IsDone old (events.Accept order now) added new =
 IsDone old event added new = (added ≡ []) × IsDoneWithoutWrite old event new
 
 -- the outcome is a refusal that has nothing to do with memory
-abbrev pub IsRefusal : Outcome → Type 0
-IsRefusal (accepted version) = ⊥
-IsRefusal (conflict found) = ⊤
-IsRefusal (partial field) = ⊤
-IsRefusal log_full = ⊤
-IsRefusal out_of_memory = ⊥
+abbrev pub IsRefusingOutcome : Outcome → Type 0
+IsRefusingOutcome (accepted version) = ⊥
+IsRefusingOutcome (conflict found) = ⊤
+IsRefusingOutcome (partial field) = ⊤
+IsRefusingOutcome log_full = ⊤
+IsRefusingOutcome out_of_memory = ⊥
 
 -- the event was refused, and the bucket is as it was
 abbrev pub IsRefused : Bucket → Event → Bucket → Type 0
 IsRefused old (events.Accept order now) new =
-    (outcome : Outcome) × IsRefusal outcome
+    (outcome : Outcome) × IsRefusingOutcome outcome
     × IsOutcome (basis old) old.journal.entries order now outcome old.journal.entries × IsSameButRoom old new
 IsRefused old events.Commit new = IsSameButRoom old new × BucketIsFull 1 old
 IsRefused old (events.Rejoin core) new = IsSameButRoom old new × BucketIsFull 2 old

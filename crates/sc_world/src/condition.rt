@@ -10,7 +10,7 @@ ghost use Rattle.sc_bucket.specs.Cores.{CoresAscend, slice_keys};
 ghost use Rattle.sc_bucket.specs.Sound.{HasCores, AreLedActively, IsSound};
 ghost use Rattle.sc_handover.specs.Conditions.{IsInMode, IsUnfed, IsThereActive, CanBegin, CanFeed, CanRejoin, CanLead};
 ghost use Rattle.sc_world.specs.Steps.{Can};
-ghost use Rattle.sc_world.specs.Checks.{IsBuilding, IsRecovering, IsLedActively, IsWhole, MayJoin, IsMissing, IsActiveFollower, IsCaughtUp};
+ghost use Rattle.sc_world.specs.Checks.{IsBuilding, IsRecovering, IsLedActively, IsWholeSlice, MayJoin, IsMissing, IsActiveFollower, IsCaughtUp};
 
 use crate::event::Event;
 use sc_bucket::{Bucket, Phase};
@@ -206,7 +206,7 @@ fn may_join(slice: &Slice, replica: u8) -> bool
 // Every replica of every slice that a split is making is there, and active.
 fn are_whole(bucket: &Bucket) -> bool
     requires { CoresAscend bucket.now.replicas }
-    ensures { IsTrue result ↔ All (IsWhole bucket.now) bucket.now.map }
+    ensures { IsTrue result ↔ All (IsWholeSlice bucket.now) bucket.now.map }
 {
     for at in 0..bucket.map.len() {
         let slice = bucket.map.get(at).unwrap();
@@ -220,7 +220,7 @@ fn are_whole(bucket: &Bucket) -> bool
 // Where a split is making the slice each of its replicas is there, and active.
 fn is_whole(bucket: &Bucket, slice: &Slice) -> bool
     requires { CoresAscend bucket.now.replicas }
-    ensures { IsTrue result ↔ IsWhole bucket.now slice.now }
+    ensures { IsTrue result ↔ IsWholeSlice bucket.now slice.now }
 {
     !slice.state.is_forming() || has_all(bucket, slice)
 }

@@ -2,7 +2,7 @@ ghost use Rattle.std.specs.Prelude.{◌≡◌, ◌++◌, List, OnOk, OnErr};
 ghost use Rattle.sc_record.specs.declared.write.Write.{Write};
 ghost use Rattle.sc_journal.specs.Journal.{writes};
 ghost use Rattle.sc_bucket.specs.Sound.{IsSound};
-ghost use Rattle.sc_world.specs.Runs.{Runs, RunsOut};
+ghost use Rattle.sc_world.specs.Runs.{Runs, EventsRunOut};
 
 use crate::condition::can;
 use crate::event::Event;
@@ -22,7 +22,7 @@ pub fn run_events(
     ensures sound { IsSound bucket.new }
     ensures ran { OnOk result ((added : List Write) × Runs bucket.old events.now added bucket.new
         × (writes bucket.new.journal.entries ≡ writes bucket.old.journal.entries ++ added)) }
-    ensures ran_out { OnErr result ((added : List Write) × RunsOut bucket.old events.now added bucket.new
+    ensures ran_out { OnErr result ((added : List Write) × EventsRunOut bucket.old events.now added bucket.new
         × (writes bucket.new.journal.entries ≡ writes bucket.old.journal.entries ++ added)) }
 {
     for event in events.as_slice() {

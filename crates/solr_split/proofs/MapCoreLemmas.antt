@@ -14,16 +14,16 @@ use Rattle.sc_cluster.specs.Changes.{Change, begun_slice, after}
 use Rattle.sc_cluster.proofs.ListLemmas.{Contains-map}
 use Rattle.sc_cluster.proofs.PairLemmas.{Contains-from_map}
 use Rattle.sc_io.specs.declared.hosts.Host.{Host}
-use Rattle.sc_cores.specs.Cores.{Outside, cores_of_slice, cores_of_map, with_cores, without_cores, IsNew}
+use Rattle.sc_cores.specs.Cores.{Outside, cores_of_slice, cores_of_map, with_cores, without_cores, IsNew, StartsFirst}
 use Rattle.sc_cores.proofs.AmongLemmas.{none_among, joined, from_joined, in_range, range_has, core_of_slice, slice_has_core, same_named, is_new, among_with, before_with, more_with, among_without, stays_without}
 use Rattle.sc_cores.proofs.ChangeLemmas.{cores_dropped, cores_kept}
-use Rattle.sc_split.specs.Outside.{core_at, further_cores, cores_of, StartsCores, LeavesCores}
-use Rattle.solr_split.specs.Running.{AreStarted, StartsFirst}
+use Rattle.sc_split.specs.Outside.{sub_core_at, further_cores, cores_of, StartsCoresOfPlan, LeavesCores}
+use Rattle.solr_split.specs.Running.{AreStarted}
 
 -- ---- the cores of a split
 -- the first core of a sub
 abbrev first_core : ℕ → SubSlice → Host
-first_core nodes sub = core_at nodes sub 1
+first_core nodes sub = sub_core_at nodes sub 1
 
 -- the cores of the slices that a split makes
 abbrev made_cores : ℕ → SplitPlan → List Host
@@ -31,7 +31,7 @@ made_cores nodes plan = cores_of_map nodes (map begun_slice plan.subs)
 
 -- a core of one of the subs is one of those
 made_has : (nodes : ℕ) (plan : SplitPlan) (sub : SubSlice) (k : ℕ) (x : Host) → Contains plan.subs sub → 1 ≤ k → k ≤ sub.replicas
-    → core_at nodes sub k ≡ x → Contains (made_cores nodes plan) x
+    → sub_core_at nodes sub k ≡ x → Contains (made_cores nodes plan) x
 made_has nodes plan sub k x there least most is =
     joined (cores_of_slice nodes) (map begun_slice plan.subs) (begun_slice sub) x (Contains-map begun_slice plan.subs sub there)
     (subst (Contains (cores_of_slice nodes (begun_slice sub))) is (slice_has_core nodes (begun_slice sub) k least most))
@@ -48,7 +48,7 @@ of_slices nodes plan x there =
           made_has nodes plan sub 1 x among (omega arith) (omega arith) is
       by (inr further) =
           let (sub, among, inside) = from_joined (further_cores nodes) plan.subs x further in
-          let (k, ranged, is) = Contains-from_map (core_at nodes sub) (range_with_len 2 (sub.replicas - 1)) x inside in
+          let (k, ranged, is) = Contains-from_map (sub_core_at nodes sub) (range_with_len 2 (sub.replicas - 1)) x inside in
           let range = in_range 2 (sub.replicas - 1) k ranged in
           let least : 2 ≤ k = range.0 in
           let most : k < 2 + (sub.replicas - 1) = range.1 in
@@ -70,18 +70,18 @@ of_split nodes plan x there =
     furthers : List Host
     furthers = flat_map (further_cores nodes) plan.subs
 
-    by : (sub : SubSlice) (k : ℕ) → Contains plan.subs sub → 1 ≤ k → k ≤ sub.replicas → core_at nodes sub k ≡ x
+    by : (sub : SubSlice) (k : ℕ) → Contains plan.subs sub → 1 ≤ k → k ≤ sub.replicas → sub_core_at nodes sub k ≡ x
         → (k ≡ 1) ⊎ (k ≡ 1 → ⊥) → Contains (cores_of nodes plan) x
     by sub k is_sub least most is (inl one) =
         Contains-append_left firsts furthers x
-        (subst (Contains firsts) (ap (core_at nodes sub) (sym one) ∙ is) (Contains-map (first_core nodes) plan.subs sub is_sub))
+        (subst (Contains firsts) (ap (sub_core_at nodes sub) (sym one) ∙ is) (Contains-map (first_core nodes) plan.subs sub is_sub))
     by sub k is_sub least most is (inr other) =
         let two : 2 ≤ k = omega (arith, other) in
         let below : k < 2 + (sub.replicas - 1) = omega arith in
         Contains-append_right firsts furthers x
         (joined (further_cores nodes) plan.subs sub x is_sub
         (subst (Contains (further_cores nodes sub)) is
-        (Contains-map (core_at nodes sub) (range_with_len 2 (sub.replicas - 1)) k (range_has 2 (sub.replicas - 1) k two below))))
+        (Contains-map (sub_core_at nodes sub) (range_with_len 2 (sub.replicas - 1)) k (range_has 2 (sub.replicas - 1) k two below))))
 
 -- no core of a map is one of those that a split of it makes
 apart : (nodes : ℕ) (slices : List Slice) (plan : SplitPlan) (x : Host) → IsPlan slices plan.parent plan.subs
@@ -111,7 +111,7 @@ given_up_leaves nodes slices plan old new is_plan leaves steady was =
         (cores_of nodes plan) (All-contains_itself (cores_of nodes plan))
 
 -- one that was done adds those of its subs
-pub done_adds : (nodes : ℕ) (slices later : List Slice) (plan : SplitPlan) (old new : Outside) → StartsCores nodes plan old new
+pub done_adds : (nodes : ℕ) (slices later : List Slice) (plan : SplitPlan) (old new : Outside) → StartsCoresOfPlan nodes plan old new
     → cores_of_map nodes later ≡ cores_of_map nodes slices ++ made_cores nodes plan → AreStarted nodes slices old → AreStarted nodes later new
 done_adds nodes slices later plan old new starts is was = (
   with_cores (cores_of nodes plan) was.0,

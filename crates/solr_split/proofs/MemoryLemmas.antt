@@ -6,7 +6,7 @@ use Rattle.sc_arguments.specs.declared.asked.Demo.{Demo}
 use Rattle.sc_server.specs.Reports as serving
 use Rattle.sc_server.specs.Serving.{Front, AreGivenAndBack, WritesNothing, EndsServer, IsEnd}
 use Rattle.sc_server.proofs.FrontLemmas.{none_given_and_back}
-use Rattle.sc_demo.specs.Making.{Reports}
+use Rattle.sc_demo.specs.Making.{MakerReports}
 use Rattle.sc_demo.specs.Demos as demos
 use Rattle.solr_split.specs.Scripts.{CrewReports, Beside, EndsScript, LendsNone}
 
@@ -44,9 +44,9 @@ module _ {C H P L : Type 0} where
     open_fault = λ more. absurd (omega (arith, more));
   }
 
-  pub demo_without_memory : (reports : Reports C H P) (front : Front C H P L) (demo : Demo) → demos.EndsDemo reports demo front front 6
+  pub demo_without_memory : (reports : MakerReports C H P) (front : Front C H P L) (demo : Demo) → demos.EndsDemo reports demo front front 6
   demo_without_memory reports front demo = record {
-    end = demos.IsEnd.no_memory (record {
+    end = demos.IsDemoEnd.no_memory (record {
       count = 0;
       at_most = omega arith;
       crews = none_given front;

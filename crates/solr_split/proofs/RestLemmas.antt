@@ -15,7 +15,7 @@ use Rattle.sc_seen.specs.Board.{running_after, running_split}
 use Rattle.sc_seen.specs.Seen.{Layout, Seen, Extends}
 use Rattle.sc_seen.proofs.BoardLemmas.{running_split-push}
 use Rattle.sc_seen.proofs.ExtendsLemmas.{IsPrefix-length}
-use Rattle.sc_collection.specs.Alone.{AloneState, seen_of, places, entries_of, pass_places, journal_of}
+use Rattle.sc_collection.specs.Alone.{AloneState, seen_alone, places, entries_alone, pass_places, journal_of}
 use Rattle.sc_collection.specs.Shapes.{SeesNothing}
 use Rattle.sc_split.specs.Splits.{Course, refused, given_up, done, noted_by}
 use Rattle.sc_admin.specs.Deletes as deletes
@@ -115,7 +115,7 @@ notes_only layout old new before noted place owned owns begins is own =
 abbrev pub noted_of : CommandEnd → List BoardEntry
 noted_of no_command = []
 noted_of (split_ended asked first course end) = noted_by course
-noted_of (delete_ended shard first course end) = deletes.noted_by course
+noted_of (delete_ended shard first course end) = deletes.noted_by_delete course
 
 -- so the board goes on by that and by nothing else
 pub board_after_request : (layout : Layout) (stops : List Stop) (end : CommandEnd) (old new : Situation) → Leaves layout stops end old new
@@ -127,7 +127,7 @@ board_after_request layout stops no_command old new leaves begins owned owns =
 board_after_request layout stops (split_ended asked first course end) old new leaves begins owned owns =
     notes_only layout old.seen new.seen leaves.board.before (noted_by course) first.place owned owns begins leaves.board.board_is leaves.board.own
 board_after_request layout stops (delete_ended shard first course end) old new leaves begins owned owns =
-    notes_only layout old.seen new.seen (take first.place new.seen.board) (deletes.noted_by course) first.place owned owns begins leaves.board leaves.own
+    notes_only layout old.seen new.seen (take first.place new.seen.board) (deletes.noted_by_delete course) first.place owned owns begins leaves.board leaves.own
 
 -- ---- which split runs then
 -- an entry after which none runs comes last
@@ -149,7 +149,7 @@ over_after_split entries (done plan answers) none =
 
 -- nor after a deletion
 over_after_delete : (entries : List BoardEntry) (course : deletes.DeleteCourse) → running_split entries ≡ None
-    → running_split (entries ++ deletes.noted_by course) ≡ None
+    → running_split (entries ++ deletes.noted_by_delete course) ≡ None
 over_after_delete entries deletes.kept none = ap running_split (append-nil entries) ∙ none
 over_after_delete entries (deletes.dropped slice) none = running_split-push entries (board.Dropped slice.id) ∙ none
 
@@ -195,9 +195,9 @@ over_after_connection gives layout before after end served nothing owns =
     (ap running_split nothing.board)
 
 -- a desk for one thread sees all entries of the board as its own
-pub owns_all : (desk : AloneState) (layout : Layout) → desk.layout ≡ layout → OwnsAll layout (seen_of desk)
-owns_all desk layout same = subst (λ (l : Layout). OwnsAll l (seen_of desk)) same here where
-  here : OwnsAll desk.layout (seen_of desk)
+pub owns_all : (desk : AloneState) (layout : Layout) → desk.layout ≡ layout → OwnsAll layout (seen_alone desk)
+owns_all desk layout same = subst (λ (l : Layout). OwnsAll l (seen_alone desk)) same here where
+  here : OwnsAll desk.layout (seen_alone desk)
   here =
       let itself : (desk.layout.buckets == desk.layout.buckets) ≡ true = grind (arith, nat_tests) in
-      ap (λ b. cond b (places (entries_of desk)) (pass_places (journal_of desk desk.layout.buckets))) itself
+      ap (λ b. cond b (places (entries_alone desk)) (pass_places (journal_of desk desk.layout.buckets))) itself

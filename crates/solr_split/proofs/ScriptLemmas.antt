@@ -5,10 +5,10 @@ use Rattle.sc_io.specs.declared.hosts.Host.{Host}
 use Rattle.sc_cluster.specs.declared.slice.Slice.{Slice}
 use Rattle.sc_cluster.specs.Map.{IsMap}
 use Rattle.sc_cluster.proofs.MapLemmas.{first_is_map}
-use Rattle.sc_cores.specs.Cores.{Outside, outside_of, cores_of_map, with_cores}
+use Rattle.sc_cores.specs.Cores.{Outside, outside_of, cores_of_map, with_cores, StartsFirst}
 use Rattle.sc_seen.specs.Board.{running_split}
 use Rattle.sc_collection.specs.Kept.{Kept}
-use Rattle.sc_collection.specs.Alone.{AloneState, seen_of, entries_of, keeping_of}
+use Rattle.sc_collection.specs.Alone.{AloneState, seen_alone, entries_alone, keeping_alone}
 use Rattle.sc_collection.specs.Desks.{AreAtRest}
 use Rattle.sc_collection.specs.declared.shape.Shape.{Shape}
 use Rattle.sc_collection.specs.Shapes.{IsShape, HasShape, SeesNothing}
@@ -17,7 +17,7 @@ use Rattle.sc_seen.specs.Seen.{Layout}
 use Rattle.sc_session.specs.Served.{IsServed}
 use Rattle.sc_session.specs.declared.end.End.{End}
 use Rattle.sc_arguments.specs.declared.asked.Script.{Script}
-use Rattle.solr_split.specs.Running.{Machine, StartsFirst, RunsScript, clock_of, state_of, none_kept, exit_status}
+use Rattle.solr_split.specs.Running.{Machine, RunsScript, clock_of, state_of, none_kept, exit_status}
 use Rattle.solr_split.proofs.MapCoreLemmas.{first_are_started}
 use Rattle.solr_split.proofs.RestLemmas.{over_after_connection, owns_all}
 use Rattle.solr_split.proofs.StartedLemmas.{started_after_connection}
@@ -51,17 +51,17 @@ first_is_a_map shape layout is_shape has =
 
 -- a script was run where these are so of its collection before and after it
 pub script_runs : {C : Type 0} (script : Script) (gives : C → ℕ → C → Type 0) (before after : Machine C) (began ended : AloneState)
-    (hosted : Outside) (trail kept : Kept) (end : End) (status : ℕ) → HasShape script.shape began.layout → SeesNothing (seen_of began)
+    (hosted : Outside) (trail kept : Kept) (end : End) (status : ℕ) → HasShape script.shape began.layout → SeesNothing (seen_alone began)
     → ended.layout ≡ began.layout → StartsFirst began.layout.nodes began.layout.first before.outside hosted → trail ≡ none_kept
-    → IsServed (clock_of script.clock gives) began.layout (state_of (seen_of began) trail (record before { outside = hosted }))
-    (state_of (seen_of ended) kept after) end
-    → (running_split (entries_of ended) ≡ None → AreAtRest ended.layout (entries_of ended) (keeping_of ended))
+    → IsServed (clock_of script.clock gives) began.layout (state_of (seen_alone began) trail (record before { outside = hosted }))
+    (state_of (seen_alone ended) kept after) end
+    → (running_split (entries_alone ended) ≡ None → AreAtRest ended.layout (entries_alone ended) (keeping_alone ended))
     → status ≡ exit_status end → IsShape script.shape → RunsScript script gives before after status
 script_runs script gives before after began ended hosted trail kept end status shape empty layout hosts none served rest status_is is_shape =
-    let first = state_of (seen_of began) none_kept (record before { outside = hosted }) in
-    let last = state_of (seen_of ended) kept after in
+    let first = state_of (seen_alone began) none_kept (record before { outside = hosted }) in
+    let last = state_of (seen_alone ended) kept after in
     let connection : IsServed (clock_of script.clock gives) began.layout first last end =
-    subst (λ (k : Kept). IsServed (clock_of script.clock gives) began.layout (state_of (seen_of began) k (record before { outside = hosted })) last end)
+    subst (λ (k : Kept). IsServed (clock_of script.clock gives) began.layout (state_of (seen_alone began) k (record before { outside = hosted })) last end)
     none served in
     let owns = owns_all ended began.layout layout in
     let over = over_after_connection (clock_of script.clock gives) began.layout first last end connection empty owns in
@@ -77,7 +77,7 @@ script_runs script gives before after began ended hosted trail kept end status s
       layout = layout;
       hosts = hosts;
       served = connection;
-      rest = subst (λ (l : Layout). AreAtRest l (entries_of ended) (keeping_of ended)) layout (rest over);
+      rest = subst (λ (l : Layout). AreAtRest l (entries_alone ended) (keeping_alone ended)) layout (rest over);
       cores = λ none steady. started_after_connection (clock_of script.clock gives) began.layout first last end connection empty owns is_map
           (steady ∙ sym hosts.stop_faults) (first_are_started began.layout.nodes began.layout.first before.outside hosted none hosts);
       status_is = status_is;

@@ -1,13 +1,13 @@
 -- What a run of the program leaves.
-use Rattle.std.specs.Prelude.{◌≡◌, ◌<◌, ◌⊎◌, ◌↔◌, ℕ, List, [], Option, Some, None, IfSome, Contains}
+use Rattle.std.specs.Prelude.{◌≡◌, ◌<◌, ◌⊎◌, ◌↔◌, ℕ, List, [], Option, Some, None, Contains}
 use Rattle.sc_cluster.specs.declared.slice.Slice.{Slice}
 use Rattle.sc_io.specs.declared.hosts.Host.{Host}
-use Rattle.sc_cores.specs.Cores.{Outside, cores_of_map, with_cores}
+use Rattle.sc_cores.specs.Cores.{Outside, cores_of_map, StartsFirst}
 use Rattle.sc_seen.specs.Board.{board_map}
 use Rattle.sc_seen.specs.Seen.{Seen}
 use Rattle.sc_seen.specs.Moments.{moment_of}
 use Rattle.sc_collection.specs.Kept.{Kept}
-use Rattle.sc_collection.specs.Alone.{AloneState, seen_of, keeping_of}
+use Rattle.sc_collection.specs.Alone.{AloneState, seen_alone, keeping_alone}
 use Rattle.sc_collection.specs.Desks.{AreAtRest}
 use Rattle.sc_collection.specs.Shapes.{HasShape, SeesNothing}
 use Rattle.sc_session.specs.declared.end.End.{End}
@@ -29,8 +29,8 @@ script_in (Some (asking.Demo demo)) = None
 script_in None = None
 
 -- the script that arguments ask for
-abbrev pub script_of : List (List ℕ) → Option Script
-script_of arguments = script_in (asked_of arguments)
+abbrev pub script_asked : List (List ℕ) → Option Script
+script_asked arguments = script_in (asked_of arguments)
 
 -- the server, where one is asked for
 abbrev pub server_in : Option Asked → Option Server
@@ -40,8 +40,8 @@ server_in (Some (asking.Demo demo)) = None
 server_in None = None
 
 -- the server that arguments ask for
-abbrev pub server_of : List (List ℕ) → Option Server
-server_of arguments = server_in (asked_of arguments)
+abbrev pub server_asked : List (List ℕ) → Option Server
+server_asked arguments = server_in (asked_of arguments)
 
 -- the workload, where one is asked for
 abbrev pub demo_in : Option Asked → Option Demo
@@ -51,8 +51,8 @@ demo_in (Some (asking.Serve server)) = None
 demo_in None = None
 
 -- the workload that arguments ask for
-abbrev pub demo_of : List (List ℕ) → Option Demo
-demo_of arguments = demo_in (asked_of arguments)
+abbrev pub demo_asked : List (List ℕ) → Option Demo
+demo_asked arguments = demo_in (asked_of arguments)
 
 -- the exit status by how the connection ended
 abbrev pub exit_status : End → ℕ
@@ -97,13 +97,6 @@ state_of seen kept machine = record {
 abbrev pub none_kept : Kept
 none_kept = record { stops = []; requests = 0 }
 
--- Each core of the first map was started, slice by slice, and no call failed.
-pub record StartsFirst (nodes : ℕ) (first : List Slice) (old new : Outside) : Type 0 where
-  pub started : IfSome old.started (λ cores. new.started ≡ Some (with_cores (cores_of_map nodes first) cores))
-  pub start_faults : new.start_faults ≡ old.start_faults
-  pub stop_faults : new.stop_faults ≡ old.stop_faults
-  pub stops : new.stops ≡ old.stops
-
 -- The hosts report their cores, and those that are started are exactly those of these slices: each is among the ones where it is among
 -- the others.
 abbrev pub AreStarted : ℕ → List Slice → Outside → Type 0
@@ -121,16 +114,16 @@ pub record RunsScript {C : Type 0} (script : Script) (gives : C → ℕ → C �
   pub kept : Kept
   pub end : End
   pub shape : HasShape script.shape began.layout
-  pub empty : SeesNothing (seen_of began)
+  pub empty : SeesNothing (seen_alone began)
   pub layout : ended.layout ≡ began.layout
   pub hosts : StartsFirst began.layout.nodes began.layout.first before.outside hosted
-  pub served : IsServed (clock_of script.clock gives) began.layout (state_of (seen_of began) none_kept (record before { outside = hosted }))
-      (state_of (seen_of ended) kept after) end
-  pub rest : AreAtRest began.layout (seen_of ended).board (keeping_of ended)
+  pub served : IsServed (clock_of script.clock gives) began.layout (state_of (seen_alone began) none_kept (record before { outside = hosted }))
+      (state_of (seen_alone ended) kept after) end
+  pub rest : AreAtRest began.layout (seen_alone ended).board (keeping_alone ended)
   -- Where the hosts report their cores, none was started before and stopping one never failed, those that are started in the end are
   -- exactly those of the board's map.
   pub cores : before.outside.started ≡ Some [] → after.outside.stop_faults ≡ before.outside.stop_faults
-      → AreStarted began.layout.nodes (board_map began.layout.first (seen_of ended).board) after.outside
+      → AreStarted began.layout.nodes (board_map began.layout.first (seen_alone ended).board) after.outside
   pub status_is : status ≡ exit_status end
 
 -- two facts of what a script was handed: that its hosts are as they were, and that all others are
@@ -139,7 +132,7 @@ pub record ScriptUntouched : Type 1 where
   pub others : Type 0
 
 -- All but the hosts was left as it was, and starting one of the first cores failed.
-pub record FailsToStart (before after : Outside) (untouched : Type 0) : Type 0 where
+pub record ScriptFailsToStart (before after : Outside) (untouched : Type 0) : Type 0 where
   pub untouched_is : untouched
   pub fault : before.start_faults < after.start_faults
 
@@ -147,4 +140,4 @@ pub record FailsToStart (before after : Outside) (untouched : Type 0) : Type 0 w
 abbrev pub RunsOrFails : {C : Type 0} → Script → (C → ℕ → C → Type 0) → (before after : Machine C) → ScriptUntouched → ℕ → Type 0
 RunsOrFails script gives before after untouched status =
     RunsScript script gives before after status ⊎ ((status ≡ 6) × untouched.others × untouched.hosts)
-    ⊎ ((status ≡ 8) × FailsToStart before.outside after.outside untouched.others)
+    ⊎ ((status ≡ 8) × ScriptFailsToStart before.outside after.outside untouched.others)

@@ -2,7 +2,7 @@
 ghost use Rattle.std.specs.Prelude.{◌≡◌, ◌≢◌, ◌<◌, ◌↔◌, IfOk, OnOk, OnErr, None};
 ghost use Rattle.sc_cores.specs.Cores.{outside_of, cores_of_map};
 ghost use Rattle.sc_session.specs.Served.{IsServed};
-ghost use Rattle.sc_collection.specs.Alone.{seen_of};
+ghost use Rattle.sc_collection.specs.Alone.{seen_alone};
 ghost use Rattle.sc_collection.specs.Desks.{nothing_out};
 ghost use Rattle.sc_collection.specs.Shapes.{IsShape, HasShape, SeesNothing};
 ghost use Rattle.solr_split.specs.Running.{RunsOrFails, clock_of, state_of, none_kept, exit_status};
@@ -156,7 +156,7 @@ fn serve_script<R: Threads + Sync, D: Desk, S: Source, W: Sink, C: Clock, H: Hos
 fn needs_of(alloc: Global, shape: &Shape) -> Result<Needs, AllocError>
     requires shape { IsShape shape.now }
     ensures layout { IfOk result (λ needs. HasShape shape.now needs.desk.layout) }
-    ensures seen { IfOk result (λ needs. SeesNothing (seen_of needs.desk)) }
+    ensures seen { IfOk result (λ needs. SeesNothing (seen_alone needs.desk)) }
     ensures out { IfOk result (λ needs. needs.desk.out ≡ None) }
     ensures board_out { IfOk result (λ needs. needs.desk.board_out ≡ None) }
     ensures trail { IfOk result (λ needs. needs.trail ≡ none_kept) }

@@ -1,7 +1,7 @@
 -- proofs/dropping/drop_all/Answers.antt
 -- The slice is dropped from the bucket that comes next; of the others nothing changes.
 use Rattle.std.proofs.Common.{◌≡◌, ◌∙◌, ◌<◌, arith}
-use Rattle.sc_admin.specs.Dropping.{known_of}
+use Rattle.sc_collection.specs.Known.{known_of}
 use Rattle.sc_admin.proofs.DropLoopLemmas.{board_then, may_here, one_more, rest_same}
 use Rattle.sc_admin.proofs.dropping.drop_all.Goals as goal
 

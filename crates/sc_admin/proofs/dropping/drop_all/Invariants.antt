@@ -1,7 +1,8 @@
 -- The slice is dropped from the buckets so far, and nothing was done of the others.
 use Rattle.std.proofs.Common.{◌≡◌}
 use Rattle.sc_seen.specs.Seen.{AreLegal}
-use Rattle.sc_admin.specs.Dropping.{known_of, OfBuckets, IsSameIn, IsDroppedIn, KeepsBoard}
+use Rattle.sc_collection.specs.Known.{known_of, OfBuckets, IsSameIn, KeepsBoard}
+use Rattle.sc_admin.specs.Dropping.{IsDroppedIn}
 use Rattle.sc_admin.proofs.dropping.drop_all.Given as goal
 
 abbrev pub invariant-loop-b : goal.invariant-loop-b

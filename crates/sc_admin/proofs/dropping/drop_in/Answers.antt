@@ -5,8 +5,8 @@ use Rattle.sc_seen.specs.Seen.{Layout}
 use Rattle.sc_bucket.specs.declared.bucket.Bucket.{Bucket}
 use Rattle.sc_handover.specs.AnyEvent.{IsKeeperEvent}
 use Rattle.sc_collection.specs.Desks.{Out, KeeperMayReplace}
+use Rattle.sc_collection.specs.Known.{known_of}
 use Rattle.sc_collection.proofs.KeeperReplaceLemmas.{keeper_may_replace}
-use Rattle.sc_admin.specs.Dropping.{known_of}
 use Rattle.sc_admin.proofs.DropLemmas.{can_drop, held_of, held_by_desk, others_same, board_same, dropped_in, out_same}
 use Rattle.sc_admin.proofs.dropping.drop_in.Goals as goal
 

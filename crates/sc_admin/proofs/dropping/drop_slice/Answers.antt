@@ -6,7 +6,7 @@ use Rattle.std.proofs.lemmas.Option.{same_Some}
 use Rattle.sc_seen.specs.Seen.{Layout}
 use Rattle.sc_cluster.proofs.FindLemmas.{found_is}
 use Rattle.sc_collection.specs.Desks.{AreAtRest}
-use Rattle.sc_admin.specs.Dropping.{known_of}
+use Rattle.sc_collection.specs.Known.{known_of}
 use Rattle.sc_admin.proofs.DropBoardLemmas.{idle_at_drop, may_at_rest, rest_dropped, drops_slice}
 use Rattle.sc_admin.proofs.dropping.drop_slice.Goals as goal
 

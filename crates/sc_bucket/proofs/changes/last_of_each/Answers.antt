@@ -4,7 +4,7 @@ use Rattle.std.specs.Arc.{arc_value}
 use Rattle.sc_record.specs.declared.write.Write.{Write}
 use Rattle.sc_record.specs.Writes.{is_of}
 use Rattle.sc_journal.specs.Journal.{last_of}
-use Rattle.sc_bucket.specs.Pending.{is_within}
+use Rattle.sc_snapshot.specs.Rows.{is_within}
 use Rattle.sc_bucket.specs.Taking.{LentCells, lent_of}
 use Rattle.sc_bucket.proofs.ChangesLemmas.{writes-next, last_of-push_within, within-push_out, lent_of-insert}
 use Rattle.sc_bucket.proofs.changes.last_of_each.Goals as goal

@@ -3,7 +3,7 @@ use Rattle.std.proofs.Common.{◌≡◌, ℕ, List, map, take, filter}
 use Rattle.std.specs.Arc.{arc_value}
 use Rattle.sc_record.specs.Writes.{is_of}
 use Rattle.sc_journal.specs.Journal.{last_of}
-use Rattle.sc_bucket.specs.Pending.{is_within}
+use Rattle.sc_snapshot.specs.Rows.{is_within}
 use Rattle.sc_bucket.specs.Taking.{lent_of}
 use Rattle.sc_bucket.proofs.changes.last_of_each.Given as goal
 

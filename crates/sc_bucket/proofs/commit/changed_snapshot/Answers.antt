@@ -5,7 +5,7 @@ use Rattle.std.proofs.lemmas.Bool.{eqb-true}
 use Rattle.sc_record.specs.declared.write.Write.{Write}
 use Rattle.sc_record.specs.Writes.{AscendById}
 use Rattle.sc_bucket.specs.Entries.{uncommitted}
-use Rattle.sc_bucket.specs.Pending.{is_within}
+use Rattle.sc_snapshot.specs.Rows.{is_within}
 use Rattle.sc_bucket.specs.Taking.{AreLastOf}
 use Rattle.sc_bucket.proofs.NextLemmas.{no_cells, AreChangesOf-none}
 use Rattle.sc_bucket.proofs.commit.changed_snapshot.Goals as goal

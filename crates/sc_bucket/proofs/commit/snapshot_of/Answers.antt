@@ -1,7 +1,6 @@
 -- The rows of the last searcher are what was committed of the slice, or else those of them that are in its range.
 use Rattle.std.proofs.Common.{◌∙◌, filter, All, sym, ap, subst}
-use Rattle.sc_snapshot.specs.Rows.{SnapshotState}
-use Rattle.sc_bucket.specs.Pending.{is_within}
+use Rattle.sc_snapshot.specs.Rows.{SnapshotState, is_within}
 use Rattle.sc_bucket.specs.Sound.{IsInRange}
 use Rattle.sc_bucket.specs.Taking.{AreCommittedOf}
 use Rattle.sc_bucket.proofs.NextLemmas.{AreCommittedOf-last, AreCommittedOf-within}

@@ -1,7 +1,7 @@
 -- The commits come first, and then the searches.
 use Rattle.std.proofs.Common.{◌≡◌, ◌∙◌, ℕ, ap, subst, refl, codes}
 use Rattle.sc_seen.specs.Seen.{Layout}
-use Rattle.sc_demo.specs.Finding.{AreFound, FindsBy}
+use Rattle.sc_demo.specs.Finding.{CommitsAndFinds, FindsBy}
 use Rattle.sc_demo.proofs.counting.count_on.Goals as goal
 
 pub returns-clause-found : goal.returns-clause-found

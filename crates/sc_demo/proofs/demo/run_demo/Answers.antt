@@ -6,7 +6,7 @@ use Rattle.sc_shared.specs.Passes.{seen_of}
 use Rattle.sc_shared.specs.Collections.{layout_of}
 use Rattle.sc_server.proofs.EndLemmas.{same_items, same_length, as_served, told_of}
 use Rattle.sc_demo.specs.declared.task.Outcome.{Outcome}
-use Rattle.sc_demo.specs.Makers.{IsHome, IsReady, IsReadyToMake, MakesAll}
+use Rattle.sc_demo.specs.Makers.{IsMakerHome, IsMakerReady, IsReadyToMake, MakesAll}
 use Rattle.sc_demo.specs.Telling.{TellsOutcome, after_makers}
 use Rattle.sc_demo.proofs.NumberLemmas.{numbers}
 use Rattle.sc_demo.proofs.MakerLemmas.{all_home, ready_to_make}
@@ -29,7 +29,7 @@ make_all-outcome-requires-clause-ready g c κs within =
     let locks = c.in-Ok.needs.collection in
     let makers = c.enlist.new.makers.items in
     subst (All IsReadyToMake) (sym c.as_mut_slice.ensures.value)
-    (All-weaker (IsReady locks) IsReadyToMake (ready_to_make locks) makers
+    (All-weaker (IsMakerReady locks) IsReadyToMake (ready_to_make locks) makers
     (all_ready c.args.demo.now locks (g.T.Station.crews c.args.station.now) makers c.requires.demo c.enlist.ensures.have.enlisted))
 
 pub make_all-outcome-requires-clause-some : goal.make_all-outcome-requires-clause-some
@@ -63,12 +63,12 @@ dismiss-requires-clause-makers g c κs within =
     let each = all_ready c.args.demo.now locks (g.T.Station.crews c.args.station.now) c.enlist.new.makers.items c.requires.demo c.enlist.ensures.have.enlisted in
     elim c.match-enlist.branch [
       | in-Ok-enlist w ↦
-          subst (All (IsHome locks))
+          subst (All (IsMakerHome locks))
           (sym (as_served c.enlist.new.makers c.match-enlist.makers w.make_all-outcome.new.makers w.as_mut_slice.result.now w.makers-is
           w.make_all-outcome.ensures.count w.as_mut_slice.ensures.value c.enlist.new.makers.ok.0))
-          (w.make_all-outcome.ensures.home locks (subst (All (IsReady locks)) (sym w.as_mut_slice.ensures.value) each))
+          (w.make_all-outcome.ensures.home locks (subst (All (IsMakerReady locks)) (sym w.as_mut_slice.ensures.value) each))
       | in-Err-enlist w ↦
-          subst (All (IsHome locks)) (sym (same_items c.match-enlist.makers c.enlist.new.makers w.makers-is)) (all_home locks c.enlist.new.makers.items each)
+          subst (All (IsMakerHome locks)) (sym (same_items c.match-enlist.makers c.enlist.new.makers w.makers-is)) (all_home locks c.enlist.new.makers.items each)
     ]
 
 pub dismiss-requires-clause-out : goal.dismiss-requires-clause-out

@@ -3,7 +3,7 @@ use Rattle.std.proofs.Common.{◌≡◌, ◌∙◌, ℕ, ◌++◌, ◌∷◌, tr
 use Rattle.sc_demo.specs.declared.needs.Kit.{Kit}
 use Rattle.sc_session.specs.Stations.{SetsAt, SetsReported}
 use Rattle.sc_server.specs.Crews.{SetsReportedBelow}
-use Rattle.sc_demo.specs.Makers.{IsKit}
+use Rattle.sc_demo.specs.Makers.{IsMakerKit}
 use Rattle.sc_demo.specs.Making.{task_at}
 use Rattle.sc_server.proofs.CrewLemmas.{as_at_first}
 use Rattle.sc_server.proofs.MatchLemmas.{element_of}
@@ -36,7 +36,7 @@ loop-kit-preserved g c =
     let now = g.T.Station.crews c.loop-kit.station in
     let number : c.len-number.result ≡ length makers = c.len-number.ensures ∙ c.loop-kit.makers.ok.0 in
     let left = append_assoc yielded (kit ∷ []) rest ∙ ap (λ (end : List Kit). yielded ++ end) (sym (c.in-Some.ensures.steps).0) ∙ i.left in
-    let is = element_of (IsKit c.args.collection.now) c.args.kits.items yielded kit rest c.requires.kits
+    let is = element_of (IsMakerKit c.args.collection.now) c.args.kits.items yielded kit rest c.requires.kits
     (sym i.left ∙ ap (λ (end : List Kit). yielded ++ end) (c.in-Some.ensures.steps).0) in
     let given = subst (λ (n : ℕ). IfSome now (λ all. all n ≡ Some c.in_ok-crew.crew)) number c.in_ok-crew.ensures.given in
     record {

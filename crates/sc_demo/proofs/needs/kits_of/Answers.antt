@@ -5,7 +5,7 @@ use Rattle.std.proofs.lemmas.List.{length_push}
 use Rattle.std.proofs.lemmas.List.Elements.{All-push}
 use Rattle.sc_shared.specs.Passes.{CanSplit}
 use Rattle.sc_demo.specs.declared.needs.Kit.{Kit}
-use Rattle.sc_demo.specs.Makers.{IsKit}
+use Rattle.sc_demo.specs.Makers.{IsMakerKit}
 use Rattle.sc_server.proofs.NeedsLemmas.{still_new, new_too}
 use Rattle.sc_demo.proofs.needs.kits_of.Goals as goal
 
@@ -21,8 +21,8 @@ loop-preserved c =
       new = still_new locks c.loop.passes c.split_passes.new.passes c.loop.invariant.new c.split_passes.ensures.passes c.split_passes.ensures.same;
       splits = c.split_passes.ensures.splits (c.args.makers - (c.loop.counter + 1))
           (subst (λ (n : ℕ). CanSplit n c.loop.passes) left c.loop.invariant.splits);
-      kits = subst (λ (kits : List Kit). All (IsKit locks) kits) (sym c.push_reserved.ensures.items)
-          (All-push (IsKit locks) c.loop.kits.items kit c.loop.invariant.kits (record {
+      kits = subst (λ (kits : List Kit). All (IsMakerKit locks) kits) (sym c.push_reserved.ensures.items)
+          (All-push (IsMakerKit locks) c.loop.kits.items kit c.loop.invariant.kits (record {
             passes = new_too locks c.loop.passes c.in_ok-split_passes.field-0 c.loop.invariant.new split.0 split.1;
             trail = c.in_ok-new.ensures;
           }));

@@ -3,7 +3,7 @@ use Rattle.std.proofs.Common.{◌≡◌, ◌-◌, length, vec_capacity}
 use Rattle.std.specs.List.{All}
 use Rattle.sc_shared.specs.Passes.{CanSplit}
 use Rattle.sc_server.specs.Needs.{AreNew}
-use Rattle.sc_demo.specs.Makers.{IsKit}
+use Rattle.sc_demo.specs.Makers.{IsMakerKit}
 use Rattle.sc_demo.proofs.needs.kits_of.Given as goal
 
 abbrev pub invariant-loop : goal.invariant-loop
@@ -12,5 +12,5 @@ invariant-loop l = record {
   count : length l.kits.items ≡ l.counter;
   new : AreNew l.collection l.passes;
   splits : CanSplit (l.makers - l.counter) l.passes;
-  kits : All (IsKit l.collection) l.kits.items;
+  kits : All (IsMakerKit l.collection) l.kits.items;
 }

@@ -1,7 +1,7 @@
 -- A right operand and that of a NOT have fewer nodes, and what is bound so far is bound with what waits to the whole.
 use Rattle.std.proofs.Common.{◌≡◌, ◌<◌, Ok, vec_len}
 use Rattle.sc_query.specs.Tree.{tree_of}
-use Rattle.sc_eval.specs.Conditions.{condition_of}
+use Rattle.sc_eval.specs.Criteria.{criterion_of}
 use Rattle.sc_eval.specs.Binding.{bound}
 use Rattle.sc_eval.specs.Spine.{bound_with, nodes, waiting_nodes}
 use Rattle.sc_eval.proofs.binder.+bind.Given as goal
@@ -11,7 +11,7 @@ decreases-bind l = nodes (tree_of l.query.now)
 
 abbrev pub invariant-loop-link : goal.invariant-loop-link
 invariant-loop-link l = record {
-  bound : bound (tree_of l.query) ≡ bound_with l.waiting.items (Ok (condition_of l.found));
+  bound : bound (tree_of l.query) ≡ bound_with l.waiting.items (Ok (criterion_of l.found));
   smaller : waiting_nodes l.waiting.items < nodes (tree_of l.query);
 }
 

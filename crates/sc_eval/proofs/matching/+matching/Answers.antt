@@ -1,7 +1,7 @@
 -- What is found of each operand is joined to what was found to the left of it.
 use Rattle.std.proofs.Common.{◌-◌, ◌∙◌, ap, refl, arith}
-use Rattle.sc_eval.specs.Conditions.{Condition, condition_of}
-use Rattle.sc_eval.specs.Operands.{operand_condition, condition_with}
+use Rattle.sc_eval.specs.Criteria.{Criterion, criterion_of}
+use Rattle.sc_eval.specs.Operands.{operand_criterion, criterion_with}
 use Rattle.sc_eval.specs.Numbers.{numbers_of}
 use Rattle.sc_eval.specs.declared.operand.Operand.{Operand}
 use Rattle.sc_eval.proofs.OperandLemmas.{not-smaller, all-numbers}
@@ -11,65 +11,65 @@ use Rattle.sc_eval.proofs.matching.+matching.Goals as goal
 
 pub matching-requires : goal.matching-requires
 matching-requires g t c κs within =
-    let whole = condition_of c.args.query.now in
+    let whole = criterion_of c.args.query.now in
     let waiting = c.first_operand.new.waiting.items in
-    let less = not-smaller waiting whole (condition_of c.in-Not.operand.now)
-    (c.in_ok-first_operand.ensures ∙ ap (λ (o : Operand). condition_with waiting (operand_condition o)) c.in-Not.is) in
+    let less = not-smaller waiting whole (criterion_of c.in-Not.operand.now)
+    (c.in_ok-first_operand.ensures ∙ ap (λ (o : Operand). criterion_with waiting (operand_criterion o)) c.in-Not.is) in
     (omega (arith, less, c.decreases), (within, c.requires))
 
 pub returns-in_err-left_out-in-Not-clause-bound : goal.returns-in_err-left_out-in-Not-clause-bound
 returns-in_err-left_out-in-Not-clause-bound g t c =
     let waiting = c.first_operand.new.waiting.items in
-    first-steps c.args.snapshot.now.rows (condition_of c.args.query.now) (Condition.Not (condition_of c.in-Not.operand.now)) waiting
+    first-steps c.args.snapshot.now.rows (criterion_of c.args.query.now) (Criterion.Not (criterion_of c.in-Not.operand.now)) waiting
     (c.matching.new.steps - c.args.steps.now)
-    (c.in_ok-first_operand.ensures ∙ ap (λ (o : Operand). condition_with waiting (operand_condition o)) c.in-Not.is)
+    (c.in_ok-first_operand.ensures ∙ ap (λ (o : Operand). criterion_with waiting (operand_criterion o)) c.in-Not.is)
     c.matching.ensures.bound
 
 pub returns-in_err-found-in-Not-clause-bound : goal.returns-in_err-found-in-Not-clause-bound
 returns-in_err-found-in-Not-clause-bound g t c =
     let waiting = c.first_operand.new.waiting.items in
-    first-steps c.args.snapshot.now.rows (condition_of c.args.query.now) (Condition.Not (condition_of c.in-Not.operand.now)) waiting
+    first-steps c.args.snapshot.now.rows (criterion_of c.args.query.now) (Criterion.Not (criterion_of c.in-Not.operand.now)) waiting
     (c.matching.new.steps - c.args.steps.now)
-    (c.in_ok-first_operand.ensures ∙ ap (λ (o : Operand). condition_with waiting (operand_condition o)) c.in-Not.is)
+    (c.in_ok-first_operand.ensures ∙ ap (λ (o : Operand). criterion_with waiting (operand_criterion o)) c.in-Not.is)
     c.matching.ensures.bound
 
 pub returns-in_err-found-in-Leaf-clause-bound : goal.returns-in_err-found-in-Leaf-clause-bound
 returns-in_err-found-in-Leaf-clause-bound g t c =
     let waiting = c.first_operand.new.waiting.items in
-    first-steps c.args.snapshot.now.rows (condition_of c.args.query.now) (Condition.Leaf c.in-Leaf.term.now) waiting
+    first-steps c.args.snapshot.now.rows (criterion_of c.args.query.now) (Criterion.Leaf c.in-Leaf.term.now) waiting
     (c.numbers_with.new.steps - c.args.steps.now)
-    (c.in_ok-first_operand.ensures ∙ ap (λ (o : Operand). condition_with waiting (operand_condition o)) c.in-Leaf.is)
+    (c.in_ok-first_operand.ensures ∙ ap (λ (o : Operand). criterion_with waiting (operand_criterion o)) c.in-Leaf.is)
     c.numbers_with.ensures.bound
 
 pub loop-how-init : goal.loop-how-init
 loop-how-init g t c =
     let rows = c.args.snapshot.now.rows in
-    let whole = condition_of c.args.query.now in
+    let whole = criterion_of c.args.query.now in
     let waiting = c.first_operand.new.waiting.items in
     let start = c.args.steps.now in
     let after = c.match-branch-2.steps in
     let found = numbers_of c.match-branch-2.found in
     elim c.match-branch-2.branch [
       | in-All w ↦ record {
-        far = first-found rows whole Condition.All waiting w.live.result.now found start start after
-            (c.in_ok-first_operand.ensures ∙ ap (λ (o : Operand). condition_with waiting (operand_condition o)) w.in-All.is)
+        far = first-found rows whole Criterion.All waiting w.live.result.now found start start after
+            (c.in_ok-first_operand.ensures ∙ ap (λ (o : Operand). criterion_with waiting (operand_criterion o)) w.in-All.is)
             (all-numbers rows w.live.result.now w.live.ensures.members w.live.ensures.ascending)
-            (ap numbers_of w.found-is) (no-steps rows Condition.All start start refl) w.steps-is;
+            (ap numbers_of w.found-is) (no-steps rows Criterion.All start start refl) w.steps-is;
         counted = omega (arith, w.steps-is);
       }
       | in-Leaf+in_ok-found-in-Leaf w ↦ record {
-        far = first-found rows whole (Condition.Leaf w.in-Leaf.term.now) waiting (numbers_of w.in_ok-found-in-Leaf.found) found
+        far = first-found rows whole (Criterion.Leaf w.in-Leaf.term.now) waiting (numbers_of w.in_ok-found-in-Leaf.found) found
             start w.numbers_with.new.steps after
-            (c.in_ok-first_operand.ensures ∙ ap (λ (o : Operand). condition_with waiting (operand_condition o)) w.in-Leaf.is)
+            (c.in_ok-first_operand.ensures ∙ ap (λ (o : Operand). criterion_with waiting (operand_criterion o)) w.in-Leaf.is)
             w.in_ok-found-in-Leaf.ensures.numbers (ap numbers_of w.found-is) w.numbers_with.ensures.bound w.steps-is;
         counted = omega (arith, w.steps-is, w.numbers_with.ensures.counted);
       }
       | in-Not+in_ok-left_out-in-Not+in_ok-found-in-Not w ↦
-          let operand = condition_of w.in-Not.operand.now in
+          let operand = criterion_of w.in-Not.operand.now in
           record {
-            far = first-found rows whole (Condition.Not operand) waiting (numbers_of w.in_ok-found-in-Not.found) found
+            far = first-found rows whole (Criterion.Not operand) waiting (numbers_of w.in_ok-found-in-Not.found) found
                 start w.matching.new.steps after
-                (c.in_ok-first_operand.ensures ∙ ap (λ (o : Operand). condition_with waiting (operand_condition o)) w.in-Not.is)
+                (c.in_ok-first_operand.ensures ∙ ap (λ (o : Operand). criterion_with waiting (operand_criterion o)) w.in-Not.is)
                 (w.in_ok-found-in-Not.ensures operand w.in_ok-left_out-in-Not.ensures.numbers)
                 (ap numbers_of w.found-is) w.matching.ensures.bound w.steps-is;
             counted = omega (arith, w.steps-is, w.matching.ensures.counted);
@@ -79,28 +79,28 @@ loop-how-init g t c =
 pub matching-requires-in-Some : goal.matching-requires-in-Some
 matching-requires-in-Some g t c κs within =
     let rows = c.args.snapshot.now.rows in
-    let whole = condition_of c.args.query.now in
+    let whole = criterion_of c.args.query.now in
     let far = c.loop-how.invariant.far in
     let less = right-less rows whole c.loop-how.waiting.items c.pop.new.self.items c.in-Some.field-0 (numbers_of c.loop-how.found)
     c.args.steps.now c.loop-how.steps c.loop-how.steps far c.in-Some.ensures.items
-    c.loop-how.invariant.counted (omega arith) (no-steps rows (condition_of c.in-Some.field-0.operand.now) c.loop-how.steps c.loop-how.steps refl) in
+    c.loop-how.invariant.counted (omega arith) (no-steps rows (criterion_of c.in-Some.field-0.operand.now) c.loop-how.steps c.loop-how.steps refl) in
     (omega (arith, less, c.decreases), (within, c.requires))
 
 pub returns-in_err-others-clause-bound : goal.returns-in_err-others-clause-bound
 returns-in_err-others-clause-bound g t c =
-    right-steps c.args.snapshot.now.rows (condition_of c.args.query.now) c.loop-how.waiting.items c.pop.new.self.items c.in-Some.field-0
+    right-steps c.args.snapshot.now.rows (criterion_of c.args.query.now) c.loop-how.waiting.items c.pop.new.self.items c.in-Some.field-0
     (numbers_of c.loop-how.found) c.args.steps.now c.loop-how.steps c.matching-in-Some.new.steps c.loop-how.invariant.far
     c.in-Some.ensures.items c.loop-how.invariant.counted c.matching-in-Some.ensures.counted c.matching-in-Some.ensures.bound
 
 pub returns-in_err-found-clause-bound : goal.returns-in_err-found-clause-bound
 returns-in_err-found-clause-bound g t c =
-    right-steps c.args.snapshot.now.rows (condition_of c.args.query.now) c.loop-how.waiting.items c.pop.new.self.items c.in-Some.field-0
+    right-steps c.args.snapshot.now.rows (criterion_of c.args.query.now) c.loop-how.waiting.items c.pop.new.self.items c.in-Some.field-0
     (numbers_of c.loop-how.found) c.args.steps.now c.loop-how.steps c.matching-in-Some.new.steps c.loop-how.invariant.far
     c.in-Some.ensures.items c.loop-how.invariant.counted c.matching-in-Some.ensures.counted c.matching-in-Some.ensures.bound
 
 pub loop-how-preserved : goal.loop-how-preserved
 loop-how-preserved g t c = record {
-  far = right-found c.args.snapshot.now.rows (condition_of c.args.query.now) c.loop-how.waiting.items c.pop.new.self.items c.in-Some.field-0
+  far = right-found c.args.snapshot.now.rows (criterion_of c.args.query.now) c.loop-how.waiting.items c.pop.new.self.items c.in-Some.field-0
       (numbers_of c.loop-how.found) c.args.steps.now c.loop-how.steps c.matching-in-Some.new.steps c.loop-how.invariant.far
       c.in-Some.ensures.items c.loop-how.invariant.counted c.matching-in-Some.ensures.counted c.matching-in-Some.ensures.bound
       (numbers_of c.in_ok-others.others) (numbers_of c.in_ok-found.found) c.in_ok-others.ensures.numbers c.in_ok-found.ensures;

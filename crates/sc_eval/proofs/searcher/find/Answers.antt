@@ -2,7 +2,7 @@
 use Rattle.std.proofs.Common.{◌≤◌, ◌+◌, ℕ, List, length, slice_get, is_some, ◌∙◌, ap, arith}
 use Rattle.std.specs.List.{filter}
 use Rattle.std.proofs.lemmas.Result.{IfOk-weaker}
-use Rattle.sc_eval.specs.Conditions.{condition_of}
+use Rattle.sc_eval.specs.Criteria.{criterion_of}
 use Rattle.sc_eval.specs.Numbers.{numbers_of, row_in}
 use Rattle.sc_eval.proofs.NumberLemmas.{numbers-in}
 use Rattle.sc_eval.proofs.StepLemmas.{search-steps}
@@ -12,10 +12,10 @@ pub returns-clause-members : goal.returns-clause-members
 returns-clause-members g c =
     let rows = c.args.snapshot.now.rows in
     let range = c.args.range.now in
-    let condition = condition_of c.args.query.now in
+    let criterion = criterion_of c.args.query.now in
     IfOk-weaker c.numbers_in.result _ _
     (λ found is.
-    (numbers-in range condition rows (numbers_of c.in_ok-numbers.numbers) found.items c.in_ok-numbers.ensures.numbers
+    (numbers-in range criterion rows (numbers_of c.in_ok-numbers.numbers) found.items c.in_ok-numbers.ensures.numbers
     (is ∙ ap (filter (λ number. is_some (row_in range (slice_get rows number)))) c.as_slice.ensures)).members)
     c.numbers_in.ensures.found
 
@@ -23,10 +23,10 @@ pub returns-clause-ascending : goal.returns-clause-ascending
 returns-clause-ascending g c =
     let rows = c.args.snapshot.now.rows in
     let range = c.args.range.now in
-    let condition = condition_of c.args.query.now in
+    let criterion = criterion_of c.args.query.now in
     IfOk-weaker c.numbers_in.result _ _
     (λ found is.
-    (numbers-in range condition rows (numbers_of c.in_ok-numbers.numbers) found.items c.in_ok-numbers.ensures.numbers
+    (numbers-in range criterion rows (numbers_of c.in_ok-numbers.numbers) found.items c.in_ok-numbers.ensures.numbers
     (is ∙ ap (filter (λ number. is_some (row_in range (slice_get rows number)))) c.as_slice.ensures)).ascending)
     c.numbers_in.ensures.found
 
@@ -34,6 +34,6 @@ pub returns-clause-bound : goal.returns-clause-bound
 returns-clause-bound g c =
     let few : c.numbers_in.new.steps ≤ c.matching.new.steps + length (numbers_of c.in_ok-numbers.numbers) =
     omega (arith, c.numbers_in.ensures.bound, ap (λ (ns : List ℕ). length ns) c.as_slice.ensures) in
-    search-steps (condition_of c.args.query.now) c.args.snapshot.now.rows (numbers_of c.in_ok-numbers.numbers)
+    search-steps (criterion_of c.args.query.now) c.args.snapshot.now.rows (numbers_of c.in_ok-numbers.numbers)
     c.args.steps.now c.matching.new.steps c.numbers_in.new.steps c.in_ok-numbers.ensures.numbers c.matching.ensures.bound
     c.matching.ensures.counted few

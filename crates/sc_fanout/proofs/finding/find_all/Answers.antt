@@ -2,10 +2,10 @@
 use Rattle.std.proofs.Common.{◌≡◌, ◌+◌, ◌≤◌, ◌^◌, List, [], ◌∷◌, ◌++◌, length, map, take, sym, ap, ◌∙◌, subst, All, arith}
 use Rattle.std.proofs.lemmas.List.{map-append, length-append, take_more}
 use Rattle.std.proofs.lemmas.List.Elements.{All-push}
-use Rattle.sc_eval.specs.Conditions.{condition_of}
+use Rattle.sc_eval.specs.Criteria.{criterion_of}
 use Rattle.sc_bucket.specs.declared.standing.Searcher.{Searcher}
 use Rattle.sc_fanout.specs.Pages.{all_of}
-use Rattle.sc_fanout.specs.Steps.{rows_in, found_in}
+use Rattle.sc_fanout.specs.Steps.{searcher_rows, found_in}
 use Rattle.sc_fanout.specs.Hits.{AreHits, searchers_of}
 use Rattle.sc_fanout.specs.declared.hits.Hits.{Hits}
 use Rattle.sc_fanout.proofs.BucketLemmas.{is-found}
@@ -16,26 +16,26 @@ use Rattle.sc_fanout.proofs.finding.find_all.Goals as goal
 pub loop-searcher-preserved : goal.loop-searcher-preserved
 loop-searcher-preserved c =
     let i = c.loop-searcher.invariant in
-    let condition = condition_of c.args.query.now in
+    let criterion = criterion_of c.args.query.now in
     let searcher : Searcher = c.searcher-item.result in
     let before = take c.loop-searcher.searcher-index c.args.searchers.now in
     let next : take (c.loop-searcher.searcher-index + 1) c.args.searchers.now ≡ before ++ searcher ∷ [] =
     take_more c.args.searchers.now c.loop-searcher.searcher-index searcher c.loop-searcher-test.true
     ∙ ap (λ (s : Searcher). before ++ s ∷ []) (sym c.searcher-item.is) in
     let numbers = c.in_ok-numbers.numbers in
-    let many = stand-count (rows_in searcher) numbers.items (found_in condition searcher) c.in_ok-numbers.ensures.found in
-    let more : c.len.result ≡ length (found_in condition searcher) = omega (arith, c.len.ensures, numbers.ok.0, many) in
-    let bound : length (found_in condition searcher) ≤ 2 ^ 24 = (is-found condition searcher c.in_ok-numbers.ensures.rows).bounded in
+    let many = stand-count (searcher_rows searcher) numbers.items (found_in criterion searcher) c.in_ok-numbers.ensures.found in
+    let more : c.len.result ≡ length (found_in criterion searcher) = omega (arith, c.len.ensures, numbers.ok.0, many) in
+    let bound : length (found_in criterion searcher) ≤ 2 ^ 24 = (is-found criterion searcher c.in_ok-numbers.ensures.rows).bounded in
     record {
-      count = count-next (found_in condition) before searcher c.loop-searcher.count c.len.result i.count more
-          ∙ ap (λ (ss : List Searcher). length (all_of (map (found_in condition) ss))) (sym next);
+      count = count-next (found_in criterion) before searcher c.loop-searcher.count c.len.result i.count more
+          ∙ ap (λ (ss : List Searcher). length (all_of (map (found_in criterion) ss))) (sym next);
       few = omega (arith, i.few, more, bound, length-append before (searcher ∷ []), ap (λ (ss : List Searcher). length ss) next);
       searchers_are = ap searchers_of c.in_ok-push.ensures.items
           ∙ map-append (λ (h : Hits). h.searcher.now) c.loop-searcher.hits.items (c.hits_of.result ∷ [])
           ∙ ap (λ (s : Searcher). searchers_of c.loop-searcher.hits.items ++ s ∷ []) c.hits_of.ensures.searcher
           ∙ ap (λ (ss : List Searcher). ss ++ searcher ∷ []) i.searchers_are
           ∙ sym next;
-      kept = subst (All (AreHits condition c.args.most)) (sym c.in_ok-push.ensures.items)
-          (All-push (AreHits condition c.args.most) c.loop-searcher.hits.items c.hits_of.result i.kept
-          (first-hits condition c.args.most searcher numbers.items c.hits_of.result c.in_ok-numbers.ensures.found c.hits_of.ensures.searcher c.hits_of.ensures.numbers));
+      kept = subst (All (AreHits criterion c.args.most)) (sym c.in_ok-push.ensures.items)
+          (All-push (AreHits criterion c.args.most) c.loop-searcher.hits.items c.hits_of.result i.kept
+          (first-hits criterion c.args.most searcher numbers.items c.hits_of.result c.in_ok-numbers.ensures.found c.hits_of.ensures.searcher c.hits_of.ensures.numbers));
     }

@@ -4,7 +4,7 @@ use Rattle.std.specs.Arc.{arc_value}
 use Rattle.std.specs.Cmp.Lexicographic.{slice_cmp}
 use Rattle.sc_record.specs.declared.write.Write.{Write}
 use Rattle.sc_fanout.specs.Merging.{goes_before}
-use Rattle.sc_fanout.specs.Hits.{lent}
+use Rattle.sc_bucket.specs.Taking.{lent}
 use Rattle.sc_fanout.proofs.RowLemmas.{before-more}
 use Rattle.sc_fanout.proofs.merging.count_before.Goals as goal
 

@@ -3,7 +3,7 @@ use Rattle.std.proofs.Common.{◌≡◌, ◌≤◌, ◌-◌, true, length, map, 
 use Rattle.std.specs.Arc.{arc_value}
 use Rattle.sc_record.specs.declared.write.Write.{Write}
 use Rattle.sc_fanout.specs.Merging.{goes_before}
-use Rattle.sc_fanout.specs.Hits.{lent}
+use Rattle.sc_bucket.specs.Taking.{lent}
 use Rattle.sc_fanout.proofs.merging.count_before.Given as goal
 
 abbrev pub invariant-loop-count : goal.invariant-loop-count

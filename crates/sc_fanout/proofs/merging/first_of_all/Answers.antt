@@ -6,7 +6,8 @@ use Rattle.std.proofs.lemmas.List.{get_or-map, length-map}
 use Rattle.sc_record.specs.declared.write.Write.{Write}
 use Rattle.sc_fanout.specs.Pages.{all_of}
 use Rattle.sc_fanout.specs.Merging.{goes_before, merged}
-use Rattle.sc_fanout.specs.Hits.{hit_rows, lent, lent_in}
+use Rattle.sc_bucket.specs.Taking.{lent}
+use Rattle.sc_fanout.specs.Hits.{hit_rows, lent_in}
 use Rattle.sc_fanout.proofs.StartLemmas.{first-cut, first-more, first-sorted, first-start}
 use Rattle.sc_fanout.proofs.merging.first_of_all.Goals.{then-may_come_in+in_ok-merge, else-may_come_in}
 use Rattle.sc_fanout.proofs.merging.first_of_all.Goals as goal

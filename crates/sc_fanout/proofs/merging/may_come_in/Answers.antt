@@ -6,8 +6,8 @@ use Rattle.std.proofs.lemmas.List.{length-map}
 use Rattle.sc_record.specs.declared.write.Write.{Write}
 use Rattle.sc_snapshot.specs.Rows.{SnapshotState}
 use Rattle.sc_fanout.specs.Merging.{goes_before, merged}
-use Rattle.sc_fanout.specs.Steps.{rows_in}
-use Rattle.sc_fanout.specs.Hits.{lent}
+use Rattle.sc_fanout.specs.Steps.{searcher_rows}
+use Rattle.sc_bucket.specs.Taking.{lent}
 use Rattle.sc_fanout.proofs.OrderLemmas.{le-not_gt}
 use Rattle.sc_fanout.proofs.RowLemmas.{last-value, none-comes, rows-first, rows_of}
 use Rattle.sc_fanout.proofs.merging.may_come_in.Goals as goal
@@ -16,7 +16,7 @@ pub returns-in-Some-row : goal.returns-in-Some-row
 returns-in-Some-row g c = λ is sorted.
     let most = c.args.most in
     let kept = map lent c.args.kept.now in
-    let rows = rows_in c.args.hits.now.searcher.now in
+    let rows = searcher_rows c.args.hits.now.searcher.now in
     let numbers = c.args.hits.now.numbers.items in
     let number = c.in-Some.number.now in
     let last = lent c.in-Some-last.last.now in

@@ -5,8 +5,9 @@ use Rattle.std.proofs.lemmas.Result.{IfOk-weaker}
 use Rattle.std.proofs.lemmas.List.{length-drop, take_rest}
 use Rattle.sc_snapshot.specs.Rows.{SnapshotState}
 use Rattle.sc_fanout.specs.Merging.{goes_before, merged}
-use Rattle.sc_fanout.specs.Steps.{rows_in}
-use Rattle.sc_fanout.specs.Hits.{hit_rows, lent, lent_in}
+use Rattle.sc_fanout.specs.Steps.{searcher_rows}
+use Rattle.sc_bucket.specs.Taking.{lent}
+use Rattle.sc_fanout.specs.Hits.{hit_rows, lent_in}
 use Rattle.sc_fanout.proofs.RowLemmas.{put-next, put-none, put-rest}
 use Rattle.sc_fanout.proofs.merging.merge.Goals.{in-Some+in_ok-passed, in_default}
 use Rattle.sc_fanout.proofs.merging.merge.Goals as goal
@@ -16,7 +17,7 @@ loop-number-preserved g c =
     let most = c.args.most in
     let kept = c.args.kept.now in
     let whole = take most (merged goes_before (map lent kept) (hit_rows c.args.hits.now)) in
-    let rows = rows_in c.args.hits.now.searcher.now in
+    let rows = searcher_rows c.args.hits.now.searcher.now in
     let k = c.loop-number.number-index in
     let passed = c.loop-number.passed in
     let i = c.loop-number.invariant in
@@ -48,6 +49,6 @@ returns g c =
     let passed = c.loop-number.passed in
     let whole = take most (merged goes_before (map lent kept) (hit_rows c.args.hits.now)) in
     let rest = put-rest lent most c.loop-number.number-index passed kept (take (length kept - passed) (drop passed kept))
-    (lent_in c.loop-number.both) whole (rows_in c.args.hits.now.searcher.now) c.as_slice-number-items.result.now c.loop-number-test.false
+    (lent_in c.loop-number.both) whole (searcher_rows c.args.hits.now.searcher.now) c.as_slice-number-items.result.now c.loop-number-test.false
     (take_rest kept passed) c.loop-number.invariant.same in
     IfOk-weaker c.put_first.result _ _ (λ x is. is ∙ rest) c.put_first.ensures.put

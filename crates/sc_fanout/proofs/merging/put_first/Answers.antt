@@ -1,6 +1,6 @@
 -- As many cells are put as there is room for.
 use Rattle.std.proofs.Common.{arith}
-use Rattle.sc_fanout.specs.Hits.{lent}
+use Rattle.sc_bucket.specs.Taking.{lent}
 use Rattle.sc_fanout.proofs.RowLemmas.{on-ok, put-cells}
 use Rattle.sc_fanout.proofs.merging.put_first.Goals as goal
 

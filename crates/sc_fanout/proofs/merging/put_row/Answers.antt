@@ -2,7 +2,8 @@
 use Rattle.std.proofs.Common.{arith}
 use Rattle.std.specs.Arc.{arc_value}
 use Rattle.std.proofs.lemmas.List.{length-map, length-take-le}
-use Rattle.sc_fanout.specs.Hits.{lent, lent_in}
+use Rattle.sc_bucket.specs.Taking.{lent}
+use Rattle.sc_fanout.specs.Hits.{lent_in}
 use Rattle.sc_fanout.proofs.RowLemmas.{put-row}
 use Rattle.sc_fanout.proofs.merging.put_row.Goals as goal
 

@@ -1,6 +1,6 @@
 -- The places are cut to the end of the cells.
 use Rattle.std.proofs.Common.{arith}
-use Rattle.sc_fanout.specs.Hits.{lent}
+use Rattle.sc_bucket.specs.Taking.{lent}
 use Rattle.sc_fanout.proofs.HitLemmas.{between-part}
 use Rattle.sc_fanout.proofs.pages.between.Goals as goal
 

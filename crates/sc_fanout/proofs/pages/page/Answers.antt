@@ -1,22 +1,23 @@
 -- The start of all in order has the page's part of it.
 use Rattle.std.proofs.Common.{◌+◌, map, take, drop, sym, ap, ◌∙◌}
 use Rattle.std.proofs.lemmas.List.Sorted.{length_permutation}
-use Rattle.sc_eval.specs.Conditions.{condition_of}
+use Rattle.sc_eval.specs.Criteria.{criterion_of}
 use Rattle.sc_fanout.specs.Pages.{IsStartOf, all_of}
-use Rattle.sc_fanout.specs.Hits.{lent, lent_in, lists_of}
+use Rattle.sc_bucket.specs.Taking.{lent}
+use Rattle.sc_fanout.specs.Hits.{lent_in, lists_of}
 use Rattle.sc_fanout.proofs.HitLemmas.{hits-begin}
 use Rattle.sc_fanout.proofs.pages.page.Goals as goal
 
 pub returns : goal.returns
 returns c =
-    let condition = condition_of c.args.ask.now.query in
+    let criterion = criterion_of c.args.ask.now.query in
     let start = c.args.ask.now.start in
     let most = c.reach-most.result in
-    let wholes = lists_of condition c.args.all.now in
+    let wholes = lists_of criterion c.args.all.now in
     let kept = c.in_ok-kept.kept in
     let begins : IsStartOf (all_of wholes) most (lent_in kept) =
     c.in_ok-kept.ensures wholes c.requires.may_be
-    (hits-begin condition most (start + c.args.ask.now.rows) c.args.all.now c.reach-most.ensures.few c.requires.kept) in
+    (hits-begin criterion most (start + c.args.ask.now.rows) c.args.all.now c.reach-most.ensures.few c.requires.kept) in
     record {
       found = c.requires.counted;
       sorted = begins.sorted;

@@ -1,7 +1,7 @@
 -- So far the first cells.
 use Rattle.std.proofs.Common.{◌≡◌, map, take}
 use Rattle.std.specs.Arc.{arc_value}
-use Rattle.sc_fanout.specs.Hits.{lent}
+use Rattle.sc_bucket.specs.Taking.{lent}
 use Rattle.sc_fanout.proofs.pages.shared.Given as goal
 
 abbrev pub invariant-loop-cell : goal.invariant-loop-cell

@@ -2,8 +2,8 @@
 use Rattle.std.proofs.Common.{take, All}
 use Rattle.sc_snapshot.specs.Rows.{AreRows}
 use Rattle.sc_bucket.specs.declared.standing.Searcher.{Searcher}
-use Rattle.sc_fanout.specs.Steps.{rows_in}
+use Rattle.sc_fanout.specs.Steps.{searcher_rows}
 use Rattle.sc_fanout.proofs.searching.rows_of.Given as goal
 
 abbrev pub invariant-loop-searcher : goal.invariant-loop-searcher
-invariant-loop-searcher l = All (λ (searcher : Searcher). AreRows (rows_in searcher)) (take l.searcher-index l.searchers)
+invariant-loop-searcher l = All (λ (searcher : Searcher). AreRows (searcher_rows searcher)) (take l.searcher-index l.searchers)

@@ -9,10 +9,10 @@ use Rattle.sc_record.specs.declared.write.Write.{Write}
 use Rattle.sc_record.specs.declared.entry.Entry.{Entry}
 use Rattle.sc_snapshot.specs.Rows.{AreRows}
 use Rattle.sc_bucket.specs.declared.standing.Searcher.{Searcher}
-use Rattle.sc_eval.specs.Conditions.{condition_of}
+use Rattle.sc_eval.specs.Criteria.{criterion_of}
 use Rattle.sc_seen.specs.Seen.{Layout}
 use Rattle.sc_seen.specs.Moments.{view_of}
-use Rattle.sc_fanout.specs.Steps.{found_in, rows_in, HaveTerms, AreAsked, LooksAtOne}
+use Rattle.sc_fanout.specs.Steps.{found_in, searcher_rows, HaveTerms, AreAsked, LooksAtOne}
 use Rattle.sc_fanout.specs.Pages.{IsPageOf, all_of}
 use Rattle.sc_fanout.specs.Hits.{lists_of}
 use Rattle.sc_fanout.proofs.BucketLemmas.{asked-terms}
@@ -24,8 +24,8 @@ pub loop-b-init : goal.loop-b-init
 loop-b-init g c = record {
   looked = Looked-none (g.D.Desk.layout c.args.desk.now) (view_of (g.D.Desk.seen c.args.desk.now) c.args.trail.now.stops);
   far = λ rows. FoundSoFar-none (g.D.Desk.layout c.args.desk.now) (view_of (g.D.Desk.seen c.args.desk.now) c.args.trail.now.stops) c.args.ask.now
-      (map (found_in (condition_of c.args.ask.now.query)) c.new-searchers.result.items)
-      (ap (map (found_in (condition_of c.args.ask.now.query))) c.new-searchers.ensures.items);
+      (map (found_in (criterion_of c.args.ask.now.query)) c.new-searchers.result.items)
+      (ap (map (found_in (criterion_of c.args.ask.now.query))) c.new-searchers.ensures.items);
   terms = subst (All HaveTerms) (sym c.new-searchers.ensures.items) (All-nil HaveTerms);
   layout = refl;
   rest = record { nothing_out = c.requires.nothing_out; legal = c.buckets-b-end.ensures.legal };
@@ -54,10 +54,10 @@ loop-b-preserved g c =
     let old = view_of (g.D.Desk.seen c.args.desk.now) c.args.trail.now.stops in
     let between = view_of (g.D.Desk.seen c.loop-b.desk) c.loop-b.trail.stops in
     let new = view_of (g.D.Desk.seen c.take_searchers.new.desk) c.take_searchers.new.trail.stops in
-    let condition = condition_of c.args.ask.now.query in
+    let criterion = criterion_of c.args.ask.now.query in
     let route = c.args.ask.now.route in
     let before = c.loop-b.searchers.items in
-    let AreAll : List Searcher → Type 0 = All (λ (searcher : Searcher). AreRows (rows_in searcher)) in
+    let AreAll : List Searcher → Type 0 = All (λ (searcher : Searcher). AreRows (searcher_rows searcher)) in
     let taken = c.in_ok-take_searchers.ensures.looks in
     let more = taken.is_taken.more in
     let next = taken.is_taken.added in
@@ -75,10 +75,10 @@ loop-b-preserved g c =
       far = λ rows.
           let all : AreAll (before ++ more) = subst AreAll next rows in
           FoundSoFar-more layout old between new c.args.ask.now c.loop-b.b
-          (map (found_in condition) before) (map (found_in condition) c.take_searchers.new.searchers.items) more
-          (c.loop-b.invariant.far (all-left (λ (searcher : Searcher). AreRows (rows_in searcher)) before more all)) looks
-          (all-right (λ (searcher : Searcher). AreRows (rows_in searcher)) before more all)
-          (ap (map (found_in condition)) next ∙ map-append (found_in condition) before more);
+          (map (found_in criterion) before) (map (found_in criterion) c.take_searchers.new.searchers.items) more
+          (c.loop-b.invariant.far (all-left (λ (searcher : Searcher). AreRows (searcher_rows searcher)) before more all)) looks
+          (all-right (λ (searcher : Searcher). AreRows (searcher_rows searcher)) before more all)
+          (ap (map (found_in criterion)) next ∙ map-append (found_in criterion) before more);
       terms = subst (All HaveTerms) (sym next) (All-append HaveTerms before more c.loop-b.invariant.terms
           (asked-terms (g.D.Desk.layout c.loop-b.desk) c.loop-b.b taken.journal route more taken.is_taken.are));
       layout = c.take_searchers.ensures.layout ∙ c.loop-b.invariant.layout;
@@ -90,10 +90,10 @@ loop-b-preserved g c =
 pub find_in_parts-requires-clause-few : goal.find_in_parts-requires-clause-few
 find_in_parts-requires-clause-few g c =
     let searchers = c.loop-b.searchers.items in
-    let rows : All (λ (searcher : Searcher). AreRows (rows_in searcher)) searchers =
-    subst (All (λ (searcher : Searcher). AreRows (rows_in searcher))) c.as_slice.ensures.value c.rows_of.ensures in
+    let rows : All (λ (searcher : Searcher). AreRows (searcher_rows searcher)) searchers =
+    subst (All (λ (searcher : Searcher). AreRows (searcher_rows searcher))) c.as_slice.ensures.value c.rows_of.ensures in
     let few = (c.loop-b.invariant.far rows).few in
-    let many = length-map searchers (found_in (condition_of c.args.ask.now.query)) in
+    let many = length-map searchers (found_in (criterion_of c.args.ask.now.query)) in
     let same = ap (λ (ss : List Searcher). length ss) c.as_slice-2.ensures.value in
     let (k, small, is) = c.buckets-b-end.ensures.power in
     let most : 2 ^ k ≤ 256 = pow_mono {i = k} {j = 8} small in
@@ -104,15 +104,15 @@ returns-clause-searched g c =
     let low = c.loop-b-test.false in
     let high = c.loop-b.auto.b-end in
     let ask = c.args.ask.now in
-    let condition = condition_of ask.query in
+    let criterion = criterion_of ask.query in
     let searchers = c.loop-b.searchers.items in
-    let rows : All (λ (searcher : Searcher). AreRows (rows_in searcher)) searchers =
-    subst (All (λ (searcher : Searcher). AreRows (rows_in searcher))) c.as_slice.ensures.value c.rows_of.ensures in
-    let found : lists_of condition c.as_slice-3.result.now ≡ map (found_in condition) searchers =
-    ap (lists_of condition) c.as_slice-3.ensures.value
-    ∙ lists-found condition (ask.start + ask.rows) c.as_slice-2.result.now c.in_ok-found.found c.in_ok-found.ensures
-    ∙ ap (map (found_in condition)) c.as_slice-2.ensures.value in
+    let rows : All (λ (searcher : Searcher). AreRows (searcher_rows searcher)) searchers =
+    subst (All (λ (searcher : Searcher). AreRows (searcher_rows searcher))) c.as_slice.ensures.value c.rows_of.ensures in
+    let found : lists_of criterion c.as_slice-3.result.now ≡ map (found_in criterion) searchers =
+    ap (lists_of criterion) c.as_slice-3.ensures.value
+    ∙ lists-found criterion (ask.start + ask.rows) c.as_slice-2.result.now c.in_ok-found.found c.in_ok-found.ensures
+    ∙ ap (map (found_in criterion)) c.as_slice-2.ensures.value in
     searched (g.D.Desk.layout c.args.desk.now) (view_of (g.D.Desk.seen c.args.desk.now) c.args.trail.now.stops)
-    (view_of (g.D.Desk.seen c.loop-b.desk) c.loop-b.trail.stops) ask c.loop-b.b (map (found_in condition) searchers) c.page.result
+    (view_of (g.D.Desk.seen c.loop-b.desk) c.loop-b.trail.stops) ask c.loop-b.b (map (found_in criterion) searchers) c.page.result
     (omega (arith, low, high, c.buckets-b-end.ensures.count)) (c.loop-b.invariant.far rows)
     (subst (λ (lists : List (List Write)). IfOk c.page.result (IsPageOf (all_of lists) ask.start ask.rows)) found c.page.ensures)

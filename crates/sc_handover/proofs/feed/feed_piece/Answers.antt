@@ -4,7 +4,7 @@ use Rattle.std.proofs.lemmas.Option.{slice_get_within}
 use Rattle.sc_replica.specs.Core.{fed_all}
 use Rattle.sc_bucket.specs.Kept.{FeedState}
 use Rattle.sc_bucket.specs.Sound.{IsSound}
-use Rattle.sc_handover.specs.Feeding.{next_of, after_rows}
+use Rattle.sc_handover.specs.Feeding.{next_fed, after_rows}
 use Rattle.sc_handover.proofs.ChangedLemmas.{with_fed}
 use Rattle.sc_handover.proofs.FedLemmas.{IsSound-ended}
 use Rattle.sc_handover.proofs.PieceLemmas.{under_way, under_way_more, left_then, none_left, FeedsPiece-ended, FeedsPiece-goes_on}
@@ -23,7 +23,7 @@ pub feed_row-requires-clause-left : goal.feed_row-requires-clause-left
 feed_row-requires-clause-left c =
     let way = c.loop-row.invariant.way in (
       after_rows c.loop-row._row way.feed,
-      fed_all way.core (next_of c.loop-row._row way.feed),
+      fed_all way.core (next_fed c.loop-row._row way.feed),
       way.at,
       omega (arith, way.count_is, c.loop-row-test.true),
     )

@@ -5,7 +5,7 @@ use Rattle.std.specs.Prelude.{flat_map}
 use Rattle.sc_record.specs.Fields.{kind_of}
 use Rattle.sc_record.specs.declared.value.Value.{Value}
 use Rattle.sc_schema.specs.Terms.{by_words, keys_of}
-use Rattle.sc_schema.specs.Keys.{found_in, AreKeys}
+use Rattle.sc_schema.specs.Keys.{found_in_field, AreKeys}
 use Rattle.sc_schema.proofs.KeyLemmas.{AreKeys-one, Adds-one}
 use Rattle.sc_schema.proofs.terms.push_field.Goals as goal
 
@@ -31,4 +31,4 @@ returns-in_ok-whole_key-in-len1 c =
     let found : flat_map (keys_of (by_words (kind_of field.name))) field.values ≡ key ∷ [] =
     ap₂ (λ b vs. flat_map (keys_of b) vs) split values_are ∙ ap (λ (ks : List (List ℕ)). ks ++ []) c.in_ok-whole_key-in-len1.ensures in
     let are = subst (λ keys. AreKeys keys (key ∷ [])) (sym found) (AreKeys-one key) in
-    on_ok c.push_term.result (Adds-one (found_in field) (key ∷ []) c.args.terms.now.items c.push_term.new.terms.items are) c.push_term.ensures
+    on_ok c.push_term.result (Adds-one (found_in_field field) (key ∷ []) c.args.terms.now.items c.push_term.new.terms.items are) c.push_term.ensures

@@ -6,7 +6,7 @@ use Rattle.sc_record.specs.Fields.{IsDocument}
 use Rattle.sc_record.specs.declared.document.Field.{Field}
 use Rattle.sc_record.specs.declared.term.Term.{Term}
 use Rattle.sc_schema.specs.Terms.{AreTerms}
-use Rattle.sc_schema.specs.Keys.{found_in, Adds}
+use Rattle.sc_schema.specs.Keys.{found_in_field, AddsTerms}
 use Rattle.sc_schema.proofs.KeyLemmas.{Adds-more, Adds-one, AreKeys-one}
 use Rattle.sc_schema.proofs.PlaceLemmas.{terms-with_id}
 use Rattle.sc_schema.proofs.terms.terms_of.Goals as goal
@@ -21,11 +21,11 @@ returns c =
     let second = c.push_id.new.terms.items in
     let last = c.push_fields-2.new.terms.items in
     let one = Adds-one (codes "id", id ∷ []) (id ∷ []) first second (AreKeys-one id) c.in_ok-push_id.ensures in
-    let after = subst (λ (fs : List Field). Adds (map found_in fs) second last)
+    let after = subst (λ (fs : List Field). AddsTerms (map found_in_field fs) second last)
     (take_all (length fields - at) (drop at fields) (omega (arith, length-drop at fields))) c.in_ok-push_fields-2.ensures in
-    let whole = Adds-more (map found_in (take at fields)) ((codes "id", id ∷ []) ∷ map found_in (drop at fields)) before first last
+    let whole = Adds-more (map found_in_field (take at fields)) ((codes "id", id ∷ []) ∷ map found_in_field (drop at fields)) before first last
     c.in_ok-push_fields.ensures
-    (Adds-more ((codes "id", id ∷ []) ∷ []) (map found_in (drop at fields)) first second last one after) in
+    (Adds-more ((codes "id", id ∷ []) ∷ []) (map found_in_field (drop at fields)) first second last one after) in
     let document = subst IsDocument (sym c.fields-fields.ensures.value) c.fields-fields.ensures.document in
     let are = terms-with_id id at fields whole.terms document c.before_id-at.ensures.below c.before_id-at.ensures.next whole.are in
     let is : c.from_vec.result ≡ whole.terms =

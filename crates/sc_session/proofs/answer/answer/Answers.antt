@@ -7,7 +7,7 @@ use Rattle.sc_session.specs.Requests.{Asked, asked, refused, update, get, get_id
 use Rattle.sc_split.specs.Splits.{split_moment}
 use Rattle.sc_admin.specs.Commands.{pieces_of, split, status, delete}
 use Rattle.sc_session.specs.declared.asked.Asked.TheVariants as asks
-use Rattle.sc_session.specs.Asking.{asked_of, select_of, IsWithinLimits}
+use Rattle.sc_session.specs.Asking.{asked_by_request, select_of, IsWithinLimits}
 use Rattle.sc_session.specs.Answering.{AnswersAsked, answer_of}
 use Rattle.sc_cores.specs.Cores.{outside_of}
 use Rattle.sc_seen.specs.Moments.{view_of, moment_of}
@@ -46,7 +46,7 @@ returns-in-Refused-clause-answers g c =
     let refusal = causes.refusal_of c.cause.result in
     let answer = answer_of c.refusal.result in
     let asks : asked c.args.request ≡ refused refusal =
-    sym c.in_ok-refused.ensures.asked ∙ ap asked_of c.in-Refused.is ∙ ap refused (sym c.cause.ensures) in
+    sym c.in_ok-refused.ensures.asked ∙ ap asked_by_request c.in-Refused.is ∙ ap refused (sym c.cause.ensures) in
     subst (λ (a : Asked). AnswersAsked gives layout a (record { moment = now; outside = outside }) (record { moment = now; outside = outside }) answer) (sym asks)
     (of_buckets gives layout (refused refusal) now now outside answer (refused_at_once gives layout refusal now c.refusal.result c.refusal.ensures.reply))
 
@@ -62,7 +62,7 @@ returns-in-Get-clause-answers g c =
     let outside = outside_of (g.H.Hosts.started c.args.hosts.now) (g.H.Hosts.start_faults c.args.hosts.now) (g.H.Hosts.stop_faults c.args.hosts.now) (g.P.Pace.stops c.args.pace.now) in
     let answer = answer_of c.get.result in
     let what = get c.in-Get.id in
-    let asks : asked c.args.request ≡ what = sym c.in_ok-refused.ensures.asked ∙ ap asked_of c.in-Get.is in
+    let asks : asked c.args.request ≡ what = sym c.in_ok-refused.ensures.asked ∙ ap asked_by_request c.in-Get.is in
     subst (λ (a : Asked). AnswersAsked gives layout a (record { moment = moment_of seen stops clock; outside = outside }) (record { moment = moment_of then more clock; outside = outside }) answer) (sym asks)
     (of_buckets gives layout what (moment_of seen stops clock) (moment_of then more clock) outside answer
     (by_no_clock gives layout what seen then clock stops more answer c.get.ensures.answers))
@@ -79,7 +79,7 @@ returns-in-GetIds-clause-answers g c =
     let outside = outside_of (g.H.Hosts.started c.args.hosts.now) (g.H.Hosts.start_faults c.args.hosts.now) (g.H.Hosts.stop_faults c.args.hosts.now) (g.P.Pace.stops c.args.pace.now) in
     let answer = answer_of c.get_ids.result in
     let what = get_ids c.in-GetIds.ids in
-    let asks : asked c.args.request ≡ what = sym c.in_ok-refused.ensures.asked ∙ ap asked_of c.in-GetIds.is in
+    let asks : asked c.args.request ≡ what = sym c.in_ok-refused.ensures.asked ∙ ap asked_by_request c.in-GetIds.is in
     subst (λ (a : Asked). AnswersAsked gives layout a (record { moment = moment_of seen stops clock; outside = outside }) (record { moment = moment_of then more clock; outside = outside }) answer) (sym asks)
     (of_buckets gives layout what (moment_of seen stops clock) (moment_of then more clock) outside answer
     (by_no_clock gives layout what seen then clock stops more answer c.get_ids.ensures.answers))
@@ -96,7 +96,7 @@ returns-in-Select-clause-answers g c =
     let outside = outside_of (g.H.Hosts.started c.args.hosts.now) (g.H.Hosts.start_faults c.args.hosts.now) (g.H.Hosts.stop_faults c.args.hosts.now) (g.P.Pace.stops c.args.pace.now) in
     let answer = answer_of c.select.result in
     let what = select (select_of c.in-Select.asked) in
-    let asks : asked c.args.request ≡ what = sym c.in_ok-refused.ensures.asked ∙ ap asked_of c.in-Select.is in
+    let asks : asked c.args.request ≡ what = sym c.in_ok-refused.ensures.asked ∙ ap asked_by_request c.in-Select.is in
     subst (λ (a : Asked). AnswersAsked gives layout a (record { moment = moment_of seen stops clock; outside = outside }) (record { moment = moment_of then more clock; outside = outside }) answer) (sym asks)
     (of_buckets gives layout what (moment_of seen stops clock) (moment_of then more clock) outside answer
     (by_no_clock gives layout what seen then clock stops more answer c.select.ensures.answers))
@@ -110,7 +110,7 @@ returns-in-Update-clause-answers g c =
     let outside = outside_of (g.H.Hosts.started c.args.hosts.now) (g.H.Hosts.start_faults c.args.hosts.now) (g.H.Hosts.stop_faults c.args.hosts.now) (g.P.Pace.stops c.args.pace.now) in
     let batch = c.in-Update.batch in
     let answer = answer_of c.update_reply.result in
-    let asks : asked c.args.request ≡ update (update_of batch) = sym c.in_ok-refused.ensures.asked ∙ ap asked_of c.in-Update.is in
+    let asks : asked c.args.request ≡ update (update_of batch) = sym c.in_ok-refused.ensures.asked ∙ ap asked_by_request c.in-Update.is in
     subst (λ (a : Asked). AnswersAsked gives layout a (record { moment = old; outside = outside }) (record { moment = new; outside = outside }) answer) (sym asks)
     (of_buckets gives layout (update (update_of batch)) old new outside answer
     (updated_asked gives layout batch old new c.update-end.result c.update_reply.result c.update-end.ensures.updated c.update_reply.ensures.reply))
@@ -125,7 +125,7 @@ returns-in-Command-Status-clause-answers g c =
     let outside = outside_of (g.H.Hosts.started c.args.hosts.now) (g.H.Hosts.start_faults c.args.hosts.now) (g.H.Hosts.stop_faults c.args.hosts.now) (g.P.Pace.stops c.args.pace.now) in
     let answer = answer_of c.status.result in
     let what : asked c.args.request ≡ command status =
-    sym c.in_ok-refused.ensures.asked ∙ ap asked_of (c.in-Command-Status.is ∙ ap asks.Command c.in-Command-Status.field-0-is) in
+    sym c.in_ok-refused.ensures.asked ∙ ap asked_by_request (c.in-Command-Status.is ∙ ap asks.Command c.in-Command-Status.field-0-is) in
     subst (λ (a : Asked). AnswersAsked gives layout a (world_at old clock outside) (world_at new clock outside) answer) (sym what)
     (status_answered gives layout old new clock outside answer c.status.ensures.shows)
 
@@ -142,7 +142,7 @@ returns-in-Command-Split-clause-answers g c =
     let cut = c.in-Command-Split.cut in
     let answer = answer_of c.split_reply.result in
     let what : asked c.args.request ≡ command (split shard (pieces_of cut)) =
-    sym c.in_ok-refused.ensures.asked ∙ ap asked_of (c.in-Command-Split.is ∙ ap asks.Command c.in-Command-Split.field-0-is)
+    sym c.in_ok-refused.ensures.asked ∙ ap asked_by_request (c.in-Command-Split.is ∙ ap asks.Command c.in-Command-Split.field-0-is)
     ∙ ap (λ name. command (split name (pieces_of cut))) (sym c.as_str.ensures) in
     subst (λ (a : Asked). AnswersAsked gives layout a (world_at old clock before) (world_at new clock after) answer) (sym what)
     (split_answered gives layout shard cut (split_moment old before) (split_moment new after) clock c.split-end.result answer c.split-end.ensures.split c.split_reply.ensures.reply)
@@ -160,7 +160,7 @@ returns-in-Command-Delete-clause-answers g c =
     let shard = c.as_str-in-Command-Delete.result.now in
     let answer = answer_of c.delete_reply.result in
     let what : asked c.args.request ≡ command (delete shard) =
-    sym c.in_ok-refused.ensures.asked ∙ ap asked_of (c.in-Command-Delete.is ∙ ap asks.Command c.in-Command-Delete.field-0-is)
+    sym c.in_ok-refused.ensures.asked ∙ ap asked_by_request (c.in-Command-Delete.is ∙ ap asks.Command c.in-Command-Delete.field-0-is)
     ∙ ap (λ name. command (delete name)) (sym c.as_str-in-Command-Delete.ensures) in
     subst (λ (a : Asked). AnswersAsked gives layout a (world_at old clock before) (world_at new clock after) answer) (sym what)
     (deletion_answered gives layout shard old new before after clock c.delete-end.result answer (c.delete-end.ensures.delete pace) c.delete_reply.ensures.reply)

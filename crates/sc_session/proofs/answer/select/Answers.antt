@@ -2,12 +2,12 @@
 use Rattle.std.proofs.Common.{List, Result, Err, IfOk, refl, ap, ◌∙◌, subst}
 use Rattle.sc_eval.specs.declared.bound.Bound.{Bound}
 use Rattle.sc_eval.specs.declared.fault.BindFault.{BindFault}
-use Rattle.sc_eval.specs.Conditions.{condition_of}
+use Rattle.sc_eval.specs.Criteria.{criterion_of}
 use Rattle.std.proofs.lemmas.Result.{err_from_is_err_and}
 use Rattle.sc_seen.specs.Moments.{moment_of}
 use Rattle.sc_session.specs.Requests.{select}
 use Rattle.sc_fanout.specs.declared.ask.Ask.{Ask}
-use Rattle.sc_session.specs.Queries.{HaveCondition, HaveFault}
+use Rattle.sc_session.specs.Queries.{HaveCriterion, HaveFault}
 use Rattle.sc_session.specs.Answering.{unread, answer_of}
 use Rattle.sc_session.specs.Asking.{select_of}
 use Rattle.sc_session.proofs.AnswerLemmas.{with_error, query_refused}
@@ -18,7 +18,7 @@ pub returns-in-Err-clause-answers : goal.returns-in-Err-clause-answers
 returns-in-Err-clause-answers g c =
     query_refused (g.D.Desk.layout c.args.desk.now) (select_of c.args.asked.now) c.in-Err.fault (moment_of (g.D.Desk.seen c.args.desk.now) c.args.trail.now.stops tt)
     (answer_of c.query_refusal.result)
-    (λ at is. subst (λ (texts : List _). HaveFault texts at) c.as_slice.ensures (c.condition.ensures.fault at (c.in-Err.is ∙ ap Err is)))
+    (λ at is. subst (λ (texts : List _). HaveFault texts at) c.as_slice.ensures (c.criterion.ensures.fault at (c.in-Err.is ∙ ap Err is)))
     c.query_refusal.ensures.reply
 
 pub select_body-requires : goal.select_body-requires
@@ -57,9 +57,9 @@ returns-clause-answers g c =
     let new = moment_of (g.D.Desk.seen c.search.new.desk) c.search.new.trail.stops tt in
     let asked = c.args.asked.now in
     let ask : Ask = record { query = c.in-Ok.query; route = c.range_of.result; start = asked.start; rows = asked.rows } in
-    let asks : HaveCondition asked.queries (condition_of c.in-Ok.query) =
-    subst (λ (texts : List _). HaveCondition texts (condition_of c.in-Ok.query)) c.as_slice.ensures
-    (subst (λ (found : Result Bound BindFault). IfOk found (λ found. HaveCondition c.as_slice.result.now (condition_of found))) c.in-Ok.is c.condition.ensures.condition) in
+    let asks : HaveCriterion asked.queries (criterion_of c.in-Ok.query) =
+    subst (λ (texts : List _). HaveCriterion texts (criterion_of c.in-Ok.query)) c.as_slice.ensures
+    (subst (λ (found : Result Bound BindFault). IfOk found (λ found. HaveCriterion c.as_slice.result.now (criterion_of found))) c.in-Ok.is c.criterion.ensures.criterion) in
     rw c.made.ensures
     (searched layout (select_of asked) ask old new c.in_ok-page.page c.in_ok-select_body.field-0 asks c.range_of.ensures refl refl
     c.in_ok-page.ensures.searched

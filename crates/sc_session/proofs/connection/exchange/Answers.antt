@@ -22,9 +22,9 @@ returns-in-Ok-clause-exchange g c =
     let kept : Kept = record { stops = c.answer-answer.new.trail.stops; requests = c.answer-answer.new.trail.requests + 1 } in
     let new = beside (g.D.Desk.seen c.answer-answer.new.desk) c.answer-answer.new.clock (outside_of (g.H.Hosts.started c.answer-answer.new.hosts) (g.H.Hosts.start_faults c.answer-answer.new.hosts) (g.H.Hosts.stop_faults c.answer-answer.new.hosts) (g.P.Pace.stops c.answer-answer.new.pace)) kept None (g.W.Sink.written c.respond.new.sink) 0 (g.W.Sink.faults c.respond.new.sink) in
     let answer = answer_of c.answer-answer.result in
-    let reply : record { status = c.in-Ok.reply.status; body = c.as_str.result.now } ≡ answers.reply_of answer =
+    let reply : record { status = c.in-Ok.reply.status; body = c.as_str.result.now } ≡ answers.written_reply answer =
     ap (λ (text : List ℕ). record { status = c.in-Ok.reply.status; body = text }) c.as_str.ensures
-    ∙ sym (ap (λ (r : Result Reply AllocError). answers.reply_of (answer_of r)) c.in-Ok.is) in
+    ∙ sym (ap (λ (r : Result Reply AllocError). answers.written_reply (answer_of r)) c.in-Ok.is) in
     subst (λ (k : Kept). Exchanges gives layout request old (beside (g.D.Desk.seen c.answer-answer.new.desk) c.answer-answer.new.clock (outside_of (g.H.Hosts.started c.answer-answer.new.hosts) (g.H.Hosts.start_faults c.answer-answer.new.hosts) (g.H.Hosts.stop_faults c.answer-answer.new.hosts) (g.P.Pace.stops c.answer-answer.new.pace)) k None (g.W.Sink.written c.respond.new.sink) 0 (g.W.Sink.faults c.respond.new.sink)) c.respond.result) (sym c.count_request.ensures)
     (exchanged gives layout request old new answer c.respond.result c.end_after-end.result c.answer-answer.ensures.answers
     (ap (λ n. n + 1) c.answer-answer.ensures.requests)
@@ -41,9 +41,9 @@ returns-clause-exchange g c =
     let kept : Kept = record { stops = c.answer-answer.new.trail.stops; requests = c.answer-answer.new.trail.requests + 1 } in
     let new = beside (g.D.Desk.seen c.answer-answer.new.desk) c.answer-answer.new.clock (outside_of (g.H.Hosts.started c.answer-answer.new.hosts) (g.H.Hosts.start_faults c.answer-answer.new.hosts) (g.H.Hosts.stop_faults c.answer-answer.new.hosts) (g.P.Pace.stops c.answer-answer.new.pace)) kept None (g.W.Sink.written c.respond-in-Err.new.sink) 0 (g.W.Sink.faults c.respond-in-Err.new.sink) in
     let answer = answer_of c.answer-answer.result in
-    let reply : record { status = 503; body = c.memory_body.result.now } ≡ answers.reply_of answer =
+    let reply : record { status = 503; body = c.memory_body.result.now } ≡ answers.written_reply answer =
     ap (λ (text : List ℕ). record { status = 503; body = text }) c.memory_body.ensures
-    ∙ sym (ap (λ (r : Result Reply AllocError). answers.reply_of (answer_of r)) c.in-Err.is) in
+    ∙ sym (ap (λ (r : Result Reply AllocError). answers.written_reply (answer_of r)) c.in-Err.is) in
     subst (λ (k : Kept). Exchanges gives layout request old (beside (g.D.Desk.seen c.answer-answer.new.desk) c.answer-answer.new.clock (outside_of (g.H.Hosts.started c.answer-answer.new.hosts) (g.H.Hosts.start_faults c.answer-answer.new.hosts) (g.H.Hosts.stop_faults c.answer-answer.new.hosts) (g.P.Pace.stops c.answer-answer.new.pace)) k None (g.W.Sink.written c.respond-in-Err.new.sink) 0 (g.W.Sink.faults c.respond-in-Err.new.sink)) c.respond-in-Err.result) (sym c.count_request.ensures)
     (exchanged gives layout request old new answer c.respond-in-Err.result c.end_after-end.result c.answer-answer.ensures.answers
     (ap (λ n. n + 1) c.answer-answer.ensures.requests)

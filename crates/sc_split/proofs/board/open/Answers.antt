@@ -6,7 +6,7 @@ use Rattle.sc_seen.specs.Seen.{Layout}
 use Rattle.sc_seen.specs.declared.stop.Stop.{Stop}
 use Rattle.sc_collection.specs.Kept.{Kept}
 use Rattle.sc_seen.specs.declared.board.BoardEntry.TheVariants as board
-use Rattle.sc_board.specs.Events.{Notes, IsSameButRoom}
+use Rattle.sc_board.specs.Events.{Notes, IsSameBoardButRoom}
 use Rattle.sc_board.specs.Splits.{IsPlanOf, IsRefusal, asked_for}
 use Rattle.sc_collection.specs.Desks.{Out}
 use Rattle.sc_split.proofs.BoardLemmas.{at-rest-still}
@@ -65,7 +65,7 @@ returns-clause-refused g c = by-err c.begin_split-answer.result _ (λ fault is.
     c.hold_board-board.ensures.is_of c.hold_board-board.ensures.extends c.hold_board-board.ensures.layout c.hold_board-board.ensures.seen
     (if-err-at c.begin_split-answer.result (IsRefusal c.hold_board-board.result.first c.hold_board-board.result.limit c.hold_board-board.result.journal.entries (asked_for c.args.shard.now c.args.cut.now))
     fault is c.begin_split-answer.ensures.refused)
-    (if-err-at c.begin_split-answer.result (λ one. IsSameButRoom c.hold_board-board.result c.begin_split-answer.new.self) fault is c.begin_split-answer.ensures.same)
+    (if-err-at c.begin_split-answer.result (λ one. IsSameBoardButRoom c.hold_board-board.result c.begin_split-answer.new.self) fault is c.begin_split-answer.ensures.same)
     (c.give_board.ensures.seen c.hold_board-board.result.journal.entries (ap (λ (out : Out). out.board) c.hold_board-board.ensures.out))
     (ap (λ (kept : Kept). kept.stops) c.keep.ensures ∙ ap (λ (stop : Stop). c.args.trail.now.stops ++ stop ∷ [])
     (stop-is c.buckets.result (g.D.Desk.layout c.args.desk.now).buckets c.entries-place.result (length c.hold_board-board.result.journal.entries) c.is_ok.result false

@@ -6,12 +6,13 @@ use Rattle.sc_handover.specs.AnyEvent.{IsKeeperEvent}
 use Rattle.sc_keeper.specs.declared.part.Part.{Part}
 use Rattle.sc_keeper.specs.Part.{part_of}
 use Rattle.sc_collection.specs.Desks.{Out, KeeperMayReplace, IsBucketOf}
+use Rattle.sc_collection.specs.Known.{known_of}
 use Rattle.sc_collection.proofs.KeeperReplaceLemmas.{keeper_may_replace}
-use Rattle.sc_split.specs.Buckets.{known_of, KeeperHeld, HasBegun}
+use Rattle.sc_split.specs.Buckets.{KeeperHeld, HasBegun}
 use Rattle.sc_split.proofs.HeldLemmas.{held_of, held_by_desk, part-given, all_seen, rest-held, held-made, held-none, kept_parts}
 use Rattle.std.specs.Prelude.{Result, OnErr}
 use Rattle.sc_record.specs.declared.entry.Entry.TheVariants as entry
-use Rattle.sc_journal.specs.Legal.{MayBegin as JournalMayBegin}
+use Rattle.sc_journal.specs.Legal.{MayBeSplit}
 use Rattle.sc_bucket.specs.Events.{IsSameButRoom}
 use Rattle.sc_handover.specs.Events.{Begins}
 use Rattle.sc_keeper.proofs.PassLemmas.{part-refused}
@@ -101,7 +102,7 @@ returns g c =
       refused = on_err Refused (new.keeping.part c.args.b ≡ old.keeping.part c.args.b) c.begin-answer.result
           (λ same. now ∙ part-refused bucket given same ∙ part) c.begin-answer.ensures.refused;
       may_still = on_err Refused
-          (JournalMayBegin (g.D.Desk.layout c.give_keeper.new.self).first (new.seen.journals c.args.b) plan.parent plan.subs)
+          (MayBeSplit (g.D.Desk.layout c.give_keeper.new.self).first (new.seen.journals c.args.b) plan.parent plan.subs)
           c.begin-answer.result
           (λ same. may_still_begin (g.D.Desk.layout c.give_keeper.new.self) c.args.b bucket given plan.parent plan.subs
           (new.seen.journals c.args.b) is_of c.hold_keeper-bucket.ensures.sound can same is.sees.journal) c.begin-answer.ensures.refused;

@@ -5,8 +5,8 @@ use Rattle.sc_bucket.specs.declared.bucket.Bucket.{Bucket}
 use Rattle.sc_handover.specs.AnyEvent.{IsKeeperEvent}
 use Rattle.sc_keeper.specs.declared.part.Part.{Part}
 use Rattle.sc_collection.specs.Desks.{Out, KeeperMayReplace}
+use Rattle.sc_collection.specs.Known.{known_of}
 use Rattle.sc_collection.proofs.KeeperReplaceLemmas.{keeper_may_replace}
-use Rattle.sc_split.specs.Buckets.{known_of}
 use Rattle.sc_split.proofs.HeldLemmas.{held_of, held_by_desk, part-given, all_seen, rest-held, held-none, kept_parts}
 use Rattle.sc_keeper.specs.Conditions.{MayReplay}
 use Rattle.sc_keeper.specs.Events.{PartReplays}

@@ -1,7 +1,8 @@
 -- proofs/building/fill_all/Answers.antt
 -- The cores of the bucket that comes next are filled; of the others nothing changes.
 use Rattle.std.proofs.Common.{◌<◌, ◌≤◌, ◌∙◌, arith}
-use Rattle.sc_split.specs.Buckets.{known_of, part_in}
+use Rattle.sc_collection.specs.Known.{known_of}
+use Rattle.sc_split.specs.Buckets.{part_in}
 use Rattle.sc_split.specs.Stages.{IsAtStage, IsOpenIn, filled}
 use Rattle.sc_split.proofs.OpenLemmas.{board-kept, board-then, stage-same, open-held}
 use Rattle.sc_split.proofs.LoopLemmas.{one-more, same-after}

@@ -1,7 +1,7 @@
 -- proofs/building/follow_all/Answers.antt
 -- In the bucket that comes next all cores are there and filled; of the others nothing changes.
 use Rattle.std.proofs.Common.{◌<◌, ◌≤◌, ◌∙◌, arith}
-use Rattle.sc_split.specs.Buckets.{known_of}
+use Rattle.sc_collection.specs.Known.{known_of}
 use Rattle.sc_split.specs.Stages.{OpenSplit, IsAtStage, recovering, whole}
 use Rattle.sc_split.proofs.OpenLemmas.{board-kept, board-then, stage-same}
 use Rattle.sc_split.proofs.LoopLemmas.{one-more, same-after}

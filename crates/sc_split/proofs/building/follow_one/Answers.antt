@@ -2,7 +2,8 @@
 use Rattle.std.proofs.Common.{◌++◌, ◌∷◌, ◌∙◌, [], List, ap, sym, subst, take}
 use Rattle.std.proofs.lemmas.List.{take_all, take_more}
 use Rattle.sc_record.specs.declared.slice.CoreId.{CoreId}
-use Rattle.sc_split.specs.Buckets.{known_of, part_in, IsToFill}
+use Rattle.sc_collection.specs.Known.{known_of}
+use Rattle.sc_split.specs.Buckets.{part_in, IsToFill}
 use Rattle.sc_split.specs.Stages.{OpenSplit, IsAtStage}
 use Rattle.sc_split.proofs.HeldLemmas.{others-then}
 use Rattle.sc_split.proofs.OpenLemmas.{open-held}

@@ -1,7 +1,8 @@
 -- The first of the further cores have joined, and are to be filled.
 use Rattle.std.proofs.Common.{◌≡◌, take}
 use Rattle.sc_collection.specs.Desks.{IsDeskAtRest}
-use Rattle.sc_split.specs.Buckets.{known_of, LeavesOthers}
+use Rattle.sc_collection.specs.Known.{known_of}
+use Rattle.sc_split.specs.Buckets.{LeavesOthers}
 use Rattle.sc_split.specs.Stages.{OpenSplit, IsOpenIn, IsAtStage, recovering, further_cores_of}
 use Rattle.sc_split.proofs.FurtherLemmas.{joining}
 use Rattle.sc_split.proofs.building.follow_one.Given as goal

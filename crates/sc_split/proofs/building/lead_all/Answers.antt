@@ -1,8 +1,8 @@
 -- The split begins in each bucket; then its leaders are filled, and are ready.
 use Rattle.std.proofs.Common.{ap, sym, arith}
 use Rattle.sc_seen.specs.Seen.{Layout}
-use Rattle.sc_split.specs.Buckets.{known_of}
-use Rattle.sc_split.specs.Stages.{OpenSplit, OfBuckets, IsAtStage, building, led}
+use Rattle.sc_collection.specs.Known.{known_of, OfBuckets}
+use Rattle.sc_split.specs.Stages.{OpenSplit, IsAtStage, building, leaders_filled}
 use Rattle.sc_split.proofs.building.lead_all.Goals as goal
 
 pub fill_all-requires-clause-stage : goal.fill_all-requires-clause-stage
@@ -37,7 +37,7 @@ returns-clause-opened g c b low below =
     let split : OpenSplit = record { plan = c.args.plan.now; base = (known_of (g.D.Desk.seen c.args.desk.now) (g.D.Desk.keeping c.args.desk.now c.args.keepers.now)) } in
     let at : OfBuckets 0 (g.D.Desk.layout c.begin_all.new.desk).buckets (IsAtStage split (building c.args.plan.now) (known_of (g.D.Desk.seen c.begin_all.new.desk) (g.D.Desk.keeping c.begin_all.new.desk c.begin_all.new.keepers))) =
     λ b low below. c.begin_all.ensures.opened b low (omega (arith, below, ap (λ (layout : Layout). layout.buckets) c.begin_all.ensures.layout, c.in_ok-begin_all.ensures.all)) in
-    let ready : OfBuckets 0 (g.D.Desk.layout c.fill_all.new.desk).buckets (IsAtStage split (led c.args.plan.now) (known_of (g.D.Desk.seen c.fill_all.new.desk) (g.D.Desk.keeping c.fill_all.new.desk c.fill_all.new.keepers))) =
+    let ready : OfBuckets 0 (g.D.Desk.layout c.fill_all.new.desk).buckets (IsAtStage split (leaders_filled c.args.plan.now) (known_of (g.D.Desk.seen c.fill_all.new.desk) (g.D.Desk.keeping c.fill_all.new.desk c.fill_all.new.keepers))) =
     λ b low below. c.in_ok-fill_all.ensures.filled split (building c.args.plan.now) (sym c.requires.leaders) at b low (omega (arith, below, ap (λ (layout : Layout). layout.buckets) c.fill_all.ensures.layout)) in
     (c.ready_all.ensures.ready split ready b low
     (omega (arith, below, ap (λ (layout : Layout). layout.buckets) c.begin_all.ensures.layout, ap (λ (layout : Layout). layout.buckets) c.fill_all.ensures.layout, c.in_ok-begin_all.ensures.all))).opened
@@ -47,6 +47,6 @@ returns-clause-led g c b low below =
     let split : OpenSplit = record { plan = c.args.plan.now; base = (known_of (g.D.Desk.seen c.args.desk.now) (g.D.Desk.keeping c.args.desk.now c.args.keepers.now)) } in
     let at : OfBuckets 0 (g.D.Desk.layout c.begin_all.new.desk).buckets (IsAtStage split (building c.args.plan.now) (known_of (g.D.Desk.seen c.begin_all.new.desk) (g.D.Desk.keeping c.begin_all.new.desk c.begin_all.new.keepers))) =
     λ b low below. c.begin_all.ensures.opened b low (omega (arith, below, ap (λ (layout : Layout). layout.buckets) c.begin_all.ensures.layout, c.in_ok-begin_all.ensures.all)) in
-    let ready : OfBuckets 0 (g.D.Desk.layout c.fill_all.new.desk).buckets (IsAtStage split (led c.args.plan.now) (known_of (g.D.Desk.seen c.fill_all.new.desk) (g.D.Desk.keeping c.fill_all.new.desk c.fill_all.new.keepers))) =
+    let ready : OfBuckets 0 (g.D.Desk.layout c.fill_all.new.desk).buckets (IsAtStage split (leaders_filled c.args.plan.now) (known_of (g.D.Desk.seen c.fill_all.new.desk) (g.D.Desk.keeping c.fill_all.new.desk c.fill_all.new.keepers))) =
     λ b low below. c.in_ok-fill_all.ensures.filled split (building c.args.plan.now) (sym c.requires.leaders) at b low (omega (arith, below, ap (λ (layout : Layout). layout.buckets) c.fill_all.ensures.layout)) in
     c.ready_all.ensures.ready split ready b low (omega (arith, below, ap (λ (layout : Layout). layout.buckets) c.begin_all.ensures.layout, ap (λ (layout : Layout). layout.buckets) c.fill_all.ensures.layout))

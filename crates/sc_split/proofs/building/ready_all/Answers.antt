@@ -1,8 +1,9 @@
 -- proofs/building/ready_all/Answers.antt
 -- The bucket that comes next is ready; of the others nothing changes.
 use Rattle.std.proofs.Common.{◌<◌, ◌≤◌, ◌∙◌, arith}
-use Rattle.sc_split.specs.Buckets.{known_of, part_in}
-use Rattle.sc_split.specs.Stages.{OpenSplit, OfBuckets, IsAtStage, led, recovering}
+use Rattle.sc_collection.specs.Known.{known_of, OfBuckets}
+use Rattle.sc_split.specs.Buckets.{part_in}
+use Rattle.sc_split.specs.Stages.{OpenSplit, IsAtStage, leaders_filled, recovering}
 use Rattle.sc_split.proofs.OpenLemmas.{board-kept, board-then, stage-same}
 use Rattle.sc_split.proofs.LoopLemmas.{one-more, same-after}
 use Rattle.sc_split.proofs.EndLemmas.{may-be-ready, stage-ready}
@@ -14,10 +15,10 @@ ready_in-requires-clause-may g c =
     let here : c.loop-b.b ≤ c.loop-b.b = omega arith in
     let zero : 0 ≤ c.loop-b.b = omega arith in
     let split : OpenSplit = c.requires.stage.0 in
-    let at : OfBuckets 0 (g.D.Desk.layout c.args.desk.now).buckets (IsAtStage split (led split.plan) (known_of (g.D.Desk.seen c.args.desk.now) (g.D.Desk.keeping c.args.desk.now c.args.keepers.now))) = c.requires.stage.1 in (
+    let at : OfBuckets 0 (g.D.Desk.layout c.args.desk.now).buckets (IsAtStage split (leaders_filled split.plan) (known_of (g.D.Desk.seen c.args.desk.now) (g.D.Desk.keeping c.args.desk.now c.args.keepers.now))) = c.requires.stage.1 in (
       split.plan.parent,
       may-be-ready split (known_of (g.D.Desk.seen c.loop-b.desk) (g.D.Desk.keeping c.loop-b.desk c.loop-b.keepers)) c.loop-b.b
-          (stage-same split (led split.plan) (known_of (g.D.Desk.seen c.args.desk.now) (g.D.Desk.keeping c.args.desk.now c.args.keepers.now)) (known_of (g.D.Desk.seen c.loop-b.desk) (g.D.Desk.keeping c.loop-b.desk c.loop-b.keepers)) c.loop-b.b
+          (stage-same split (leaders_filled split.plan) (known_of (g.D.Desk.seen c.args.desk.now) (g.D.Desk.keeping c.args.desk.now c.args.keepers.now)) (known_of (g.D.Desk.seen c.loop-b.desk) (g.D.Desk.keeping c.loop-b.desk c.loop-b.keepers)) c.loop-b.b
           (c.loop-b.invariant.same c.loop-b.b here below) (at c.loop-b.b zero below)),
     )
 
@@ -34,7 +35,7 @@ loop-b-preserved g c =
           (known_of (g.D.Desk.seen c.ready_in.new.desk) (g.D.Desk.keeping c.ready_in.new.desk c.ready_in.new.keepers)) c.loop-b.invariant.board
           (board-kept c.loop-b.b (known_of (g.D.Desk.seen c.loop-b.desk) (g.D.Desk.keeping c.loop-b.desk c.loop-b.keepers)) (known_of (g.D.Desk.seen c.ready_in.new.desk) (g.D.Desk.keeping c.ready_in.new.desk c.ready_in.new.keepers)) c.ready_in.ensures.held.others);
       ready = λ split at.
-          let was : IsAtStage split (led split.plan) (known_of (g.D.Desk.seen c.loop-b.desk) (g.D.Desk.keeping c.loop-b.desk c.loop-b.keepers)) c.loop-b.b = stage-same split (led split.plan) (known_of (g.D.Desk.seen c.args.desk.now) (g.D.Desk.keeping c.args.desk.now c.args.keepers.now)) (known_of (g.D.Desk.seen c.loop-b.desk) (g.D.Desk.keeping c.loop-b.desk c.loop-b.keepers)) c.loop-b.b
+          let was : IsAtStage split (leaders_filled split.plan) (known_of (g.D.Desk.seen c.loop-b.desk) (g.D.Desk.keeping c.loop-b.desk c.loop-b.keepers)) c.loop-b.b = stage-same split (leaders_filled split.plan) (known_of (g.D.Desk.seen c.args.desk.now) (g.D.Desk.keeping c.args.desk.now c.args.keepers.now)) (known_of (g.D.Desk.seen c.loop-b.desk) (g.D.Desk.keeping c.loop-b.desk c.loop-b.keepers)) c.loop-b.b
           (c.loop-b.invariant.same c.loop-b.b here below) (at c.loop-b.b zero below) in
           one-more (IsAtStage split (recovering split.plan)) (known_of (g.D.Desk.seen c.loop-b.desk) (g.D.Desk.keeping c.loop-b.desk c.loop-b.keepers))
           (known_of (g.D.Desk.seen c.ready_in.new.desk) (g.D.Desk.keeping c.ready_in.new.desk c.ready_in.new.keepers)) 0 c.loop-b.b

@@ -4,9 +4,9 @@ use Rattle.std.proofs.lemmas.Result.{err_from_is_err_and, on_ok_weaker}
 use Rattle.sc_seen.specs.Seen.{Layout}
 use Rattle.sc_seen.specs.Moments.{view_of}
 use Rattle.sc_seen.specs.declared.board.BoardEntry.TheVariants as board
-use Rattle.sc_split.specs.Buckets.{known_of}
+use Rattle.sc_collection.specs.Known.{known_of, OfBuckets}
 use Rattle.sc_cores.specs.Cores.{outside_of}
-use Rattle.sc_split.specs.Stages.{OpenSplit, OfBuckets, IsOpenIn, IsAtStage, recovering, whole}
+use Rattle.sc_split.specs.Stages.{OpenSplit, IsOpenIn, IsAtStage, recovering, whole}
 use Rattle.sc_split.specs.Steps.{NotesOne}
 use Rattle.sc_split.specs.Splits.{split_moment}
 use Rattle.sc_split.proofs.BuildLemmas.{builds-led, fault-led, led-owns, led-may-recover, on-layout, stage-noted, builds-followed, whole-followed}

@@ -2,7 +2,7 @@
 use Rattle.std.proofs.Common.{subst}
 use Rattle.sc_seen.specs.Seen.{Layout}
 use Rattle.sc_seen.specs.declared.board.BoardEntry.TheVariants as board
-use Rattle.sc_split.specs.Buckets.{known_of}
+use Rattle.sc_collection.specs.Known.{known_of}
 use Rattle.sc_split.specs.Stages.{OpenSplit}
 use Rattle.sc_split.specs.Steps.{NotesOne}
 use Rattle.sc_split.proofs.CloseLemmas.{owns-closing, may-close, closes-by}

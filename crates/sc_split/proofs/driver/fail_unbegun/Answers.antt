@@ -1,5 +1,5 @@
 -- Nothing was done of the buckets, so the board may have the keepers back at once.
-use Rattle.sc_split.specs.Buckets.{known_of}
+use Rattle.sc_collection.specs.Known.{known_of}
 use Rattle.sc_split.proofs.GiveUpLemmas.{begun-owns, begun-may-fail, gives-up-at-once}
 use Rattle.sc_split.proofs.driver.fail_unbegun.Goals as goal
 

@@ -4,7 +4,7 @@ use Rattle.sc_cluster.specs.Slices.{forming}
 use Rattle.sc_cluster.specs.Map.{IsMap}
 use Rattle.sc_seen.specs.Seen.{Layout, AreLegal}
 use Rattle.sc_seen.specs.declared.board.BoardEntry.TheVariants as board
-use Rattle.sc_split.specs.Buckets.{Known, known_of}
+use Rattle.sc_collection.specs.Known.{Known, known_of}
 use Rattle.sc_split.specs.Stages.{OpenSplit}
 use Rattle.sc_split.specs.Steps.{NotesOne}
 use Rattle.sc_split.proofs.GiveUpLemmas.{halted-owns, halted-may-fail, rest-failed, gives-up-by}

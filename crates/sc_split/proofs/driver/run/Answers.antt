@@ -5,11 +5,11 @@ use Rattle.sc_io.specs.declared.hosts.Host.{Host}
 use Rattle.sc_seen.specs.Seen.{Layout}
 use Rattle.sc_seen.specs.Moments.{view_of}
 use Rattle.sc_seen.specs.declared.board.BoardEntry.{BoardEntry}
-use Rattle.sc_split.specs.Buckets.{Known, known_of}
+use Rattle.sc_collection.specs.Known.{Known, known_of}
 use Rattle.sc_cores.specs.Cores.{Outside, outside_of}
 use Rattle.sc_split.specs.Stages.{OpenSplit}
 use Rattle.sc_split.specs.Splits.{IsCoreOfSub}
-use Rattle.sc_split.specs.Driving.{IsHalted, IsWhole}
+use Rattle.sc_split.specs.Driving.{IsHalted, IsWholeSplit}
 use Rattle.sc_split.proofs.StartedLemmas.{started-none, starts-by, leaves-by, counts-by, few-cores, cores-of-subs}
 use Rattle.sc_split.proofs.DriveLemmas.{few-subs, done-by, given-up-by, cause-by}
 use Rattle.sc_split.proofs.driver.run.Goals as goal
@@ -30,11 +30,11 @@ returns-in-Ok-build-clause-went g c =
     let entries : List BoardEntry = c.requires.begun.0 in
     let before : Outside = outside_of (g.H.Hosts.started c.args.hosts.now) (g.H.Hosts.start_faults c.args.hosts.now) (g.H.Hosts.stop_faults c.args.hosts.now) (g.P.Pace.stops c.args.pace.now) in
     let later : Outside = outside_of (g.H.Hosts.started c.build.new.hosts) (g.H.Hosts.start_faults c.build.new.hosts) (g.H.Hosts.stop_faults c.build.new.hosts) (g.P.Pace.stops c.build.new.pace) in
-    let is_whole : IsWhole layout split entries between = c.in-Ok-build.ensures.whole entries c.requires.begun.1 in
+    let is_whole : IsWholeSplit layout split entries between = c.in-Ok-build.ensures.whole entries c.requires.begun.1 in
     inl (done-by layout (g.D.Desk.layout c.build.new.desk) split entries c.build.new.progress.begun between c.args.trail.now.stops
     (view_of (g.D.Desk.seen c.finish.new.desk) c.finish.new.trail.stops) c.finish.result before later
     c.build.ensures.layout (c.build.ensures.built entries c.requires.begun.1) is_whole
-    (c.finish.ensures.finished split entries (subst (λ (l : Layout). IsWhole l split entries between) (sym c.build.ensures.layout) is_whole)
+    (c.finish.ensures.finished split entries (subst (λ (l : Layout). IsWholeSplit l split entries between) (sym c.build.ensures.layout) is_whole)
     c.in-Ok.ensures.subs)
     (starts-by layout.nodes c.nodes.result c.args.plan.now c.in-Ok.cores.hosts c.build.new.progress.started before later
     c.in-Ok.ensures.hosts c.nodes.ensures.count c.in-Ok-build.ensures.all

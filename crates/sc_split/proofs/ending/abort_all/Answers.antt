@@ -2,8 +2,9 @@
 -- The split is given up in the bucket that comes next; of the others nothing changes.
 use Rattle.std.proofs.Common.{◌<◌, ◌≤◌, ◌∙◌, arith}
 use Rattle.sc_seen.proofs.ExtendsLemmas.{IsPrefix-then}
-use Rattle.sc_split.specs.Buckets.{known_of, part_in}
-use Rattle.sc_split.specs.Stages.{OpenSplit, OfBuckets, IsOpenIn, IsFailedIn}
+use Rattle.sc_collection.specs.Known.{known_of, OfBuckets}
+use Rattle.sc_split.specs.Buckets.{part_in}
+use Rattle.sc_split.specs.Stages.{OpenSplit, IsOpenIn, IsFailedIn}
 use Rattle.sc_split.proofs.OpenLemmas.{board-kept, board-then, open-same, went-on}
 use Rattle.sc_split.proofs.LoopLemmas.{one-more, same-after}
 use Rattle.sc_split.proofs.EndLemmas.{may-abort, failed-held, failed-same}

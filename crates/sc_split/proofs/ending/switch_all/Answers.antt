@@ -2,7 +2,7 @@
 -- The bucket that comes next is switched; of the others nothing changes.
 use Rattle.std.proofs.Common.{◌<◌, ◌≤◌, ◌∙◌, arith}
 use Rattle.sc_seen.proofs.ExtendsLemmas.{IsPrefix-then}
-use Rattle.sc_split.specs.Buckets.{known_of}
+use Rattle.sc_collection.specs.Known.{known_of}
 use Rattle.sc_split.specs.Stages.{OpenSplit, IsAtStage, IsDoneIn, whole}
 use Rattle.sc_split.proofs.OpenLemmas.{board-kept, board-then, stage-same, went-on}
 use Rattle.sc_split.proofs.LoopLemmas.{one-more, same-after}

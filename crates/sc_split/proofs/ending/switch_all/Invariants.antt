@@ -2,8 +2,8 @@
 use Rattle.std.proofs.Common.{◌≡◌, ℕ}
 use mathlib.Core.List.{IsPrefix}
 use Rattle.sc_collection.specs.Desks.{IsDeskAtRest}
-use Rattle.sc_split.specs.Buckets.{known_of}
-use Rattle.sc_split.specs.Stages.{OpenSplit, OfBuckets, IsAtStage, IsDoneIn, IsSameIn, KeepsBoard, whole}
+use Rattle.sc_collection.specs.Known.{known_of, OfBuckets, IsSameIn}
+use Rattle.sc_split.specs.Stages.{OpenSplit, IsAtStage, IsDoneIn, KeepsKnownBoard, whole}
 use Rattle.sc_split.proofs.ending.switch_all.Given as goal
 
 abbrev pub invariant-loop-b : goal.invariant-loop-b
@@ -11,7 +11,7 @@ invariant-loop-b g l = record {
   layout : g.D.Desk.layout l.desk ≡ g.D.Desk.layout l.fn.desk;
   rest : IsDeskAtRest (g.D.Desk.layout l.desk) (g.D.Desk.out l.desk) (g.D.Desk.seen l.desk);
   fits : g.D.Desk.fits l.desk l.keepers;
-  board : KeepsBoard (known_of (g.D.Desk.seen l.fn.desk) (g.D.Desk.keeping l.fn.desk l.fn.keepers))
+  board : KeepsKnownBoard (known_of (g.D.Desk.seen l.fn.desk) (g.D.Desk.keeping l.fn.desk l.fn.keepers))
       (known_of (g.D.Desk.seen l.desk) (g.D.Desk.keeping l.desk l.keepers));
   went_on : (lock : ℕ) → IsPrefix ((g.D.Desk.seen l.fn.desk).journals lock) ((g.D.Desk.seen l.desk).journals lock);
   switched : (split : OpenSplit)

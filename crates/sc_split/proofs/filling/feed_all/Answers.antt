@@ -4,7 +4,7 @@ use Rattle.std.specs.List.{IsDistinct}
 use Rattle.sc_record.specs.Names.{is_core}
 use Rattle.sc_seen.specs.Seen.{Layout}
 use Rattle.sc_keeper.specs.Events.{PartFeeds}
-use Rattle.sc_split.specs.Buckets.{known_of}
+use Rattle.sc_collection.specs.Known.{known_of}
 use Rattle.sc_split.proofs.HeldLemmas.{held-not, held-then}
 use Rattle.sc_split.proofs.FeedLemmas.{may_feed_first, fed_names-piece, fed_names-last, kept-fed}
 use Rattle.sc_split.proofs.MeasureLemmas.{fewer_rows}

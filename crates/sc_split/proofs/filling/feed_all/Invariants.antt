@@ -1,7 +1,8 @@
 -- The core is being fed.
 use Rattle.std.proofs.Common.{◌≡◌, []}
 use Rattle.sc_collection.specs.Desks.{IsDeskAtRest}
-use Rattle.sc_split.specs.Buckets.{known_of, fed_names, KeeperHeld, KeepsCores}
+use Rattle.sc_collection.specs.Known.{known_of}
+use Rattle.sc_split.specs.Buckets.{fed_names, KeeperHeld, KeepsCores}
 use Rattle.sc_split.proofs.MeasureLemmas.{rows_left_in}
 use Rattle.sc_split.proofs.filling.feed_all.Given as goal
 

@@ -2,7 +2,8 @@
 use Rattle.std.proofs.Common.{◌<◌, ◌≤◌, ◌+◌, [], drop, refl, sym, ◌∙◌, subst}
 use Rattle.std.proofs.Math.Nat.{le_refl}
 use Rattle.sc_seen.specs.Seen.{Layout}
-use Rattle.sc_split.specs.Buckets.{known_of, AreToFill}
+use Rattle.sc_collection.specs.Known.{known_of}
+use Rattle.sc_split.specs.Buckets.{AreToFill}
 use Rattle.sc_split.proofs.HeldLemmas.{held-not, held-then}
 use Rattle.sc_split.proofs.FillLemmas.{names_from, names_past, first_fed, unfed_by_names, kept-then, seats-kept, seats-then, to_fill-kept, underway-kept, is_filled}
 use Rattle.sc_split.proofs.filling.fill.Goals as goal

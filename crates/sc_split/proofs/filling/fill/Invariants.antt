@@ -3,7 +3,8 @@ use Rattle.std.proofs.Common.{◌≡◌, [], drop}
 use Rattle.sc_cluster.specs.declared.plan.SplitPlan.{SplitPlan}
 use Rattle.sc_keeper.specs.declared.part.Part.{Part}
 use Rattle.sc_collection.specs.Desks.{IsDeskAtRest}
-use Rattle.sc_split.specs.Buckets.{known_of, fed_names, IsAllSeen, KeeperHeld, KeepsCores, KeepsSeats, AreToFill, IsUnderway}
+use Rattle.sc_collection.specs.Known.{known_of}
+use Rattle.sc_split.specs.Buckets.{fed_names, IsAllSeen, KeeperHeld, KeepsCores, KeepsSeats, AreToFill, IsUnderway}
 use Rattle.sc_split.proofs.filling.fill.Given as goal
 
 -- the first ones are fed

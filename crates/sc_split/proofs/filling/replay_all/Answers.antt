@@ -5,7 +5,7 @@ use Rattle.sc_seen.specs.Seen.{Layout}
 use Rattle.sc_ulog.specs.declared.mode.Mode.{Mode}
 use Rattle.sc_ulog.specs.declared.mode.Mode.TheVariants.{Active, Replaying}
 use Rattle.sc_keeper.specs.Events.{PartReplays}
-use Rattle.sc_split.specs.Buckets.{known_of}
+use Rattle.sc_collection.specs.Known.{known_of}
 use Rattle.sc_split.proofs.HeldLemmas.{held-then}
 use Rattle.sc_split.proofs.ReplayLemmas.{HasPutMode, seats-put, put-started, put-replayed, starts_first, replays_first, filled_first, underway-put}
 use Rattle.sc_split.proofs.MeasureLemmas.{fewer_writes}

@@ -2,7 +2,8 @@
 use Rattle.std.proofs.Common.{◌≡◌, []}
 use Rattle.sc_ulog.specs.declared.mode.Mode.TheVariants.{Replaying}
 use Rattle.sc_collection.specs.Desks.{IsDeskAtRest}
-use Rattle.sc_split.specs.Buckets.{known_of, KeeperHeld}
+use Rattle.sc_collection.specs.Known.{known_of}
+use Rattle.sc_split.specs.Buckets.{KeeperHeld}
 use Rattle.sc_split.proofs.ReplayLemmas.{HasPutMode}
 use Rattle.sc_split.proofs.MeasureLemmas.{writes_left_in}
 use Rattle.sc_split.proofs.filling.replay_all.Given as goal

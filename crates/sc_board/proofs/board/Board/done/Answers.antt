@@ -4,7 +4,7 @@ use Rattle.std.specs.Prelude.{is_some}
 use Rattle.sc_record.specs.declared.slice.SliceId.{SliceId}
 use Rattle.sc_cluster.specs.Changes.{Change, after}
 use Rattle.sc_seen.specs.declared.board.BoardEntry.TheVariants as board
-use Rattle.sc_board.specs.Kept.{JournalState}
+use Rattle.sc_board.specs.Kept.{BoardJournalState}
 use Rattle.sc_board.proofs.SoundLemmas.{running_is, parent_is, sound_done, some_owed_done}
 use Rattle.sc_board.proofs.board.Board.done.Goals as goal
 
@@ -28,7 +28,7 @@ returns-clause-noted g c parent may =
     record {
       first_is = refl;
       limit_is = refl;
-      entries = ap (λ (j : JournalState). j.entries) c.append.ensures
+      entries = ap (λ (j : BoardJournalState). j.entries) c.append.ensures
           ∙ ap (λ (p : SliceId). old.journal.entries ++ board.Done p ∷ []) same;
       map_is = c.switched.ensures.change ∙ ap (λ (p : SliceId). after old.map (Change.Switched p)) same;
     }
@@ -45,7 +45,7 @@ returns-clause-sound g c =
     (record {
       first_is = refl;
       limit_is = refl;
-      entries = ap (λ (j : JournalState). j.entries) c.append.ensures
+      entries = ap (λ (j : BoardJournalState). j.entries) c.append.ensures
           ∙ ap (λ (p : SliceId). old.journal.entries ++ board.Done p ∷ []) same;
       map_is = c.switched.ensures.change ∙ ap (λ (p : SliceId). after old.map (Change.Switched p)) same;
-    }) refl (ap (λ (j : JournalState). j.room) c.append.ensures) refl
+    }) refl (ap (λ (j : BoardJournalState). j.room) c.append.ensures) refl

@@ -1,7 +1,7 @@
 -- A slice that is dropped leaves the board sound.
 use Rattle.std.proofs.Common.{refl, sym, ap, subst}
 use Rattle.sc_cluster.specs.Changes.{Change, MayChange}
-use Rattle.sc_board.specs.Kept.{JournalState}
+use Rattle.sc_board.specs.Kept.{BoardJournalState}
 use Rattle.sc_board.proofs.SoundLemmas.{sound_dropped}
 use Rattle.sc_board.proofs.board.Board.dropped.Goals as goal
 
@@ -14,6 +14,6 @@ returns-clause-sound g c =
     (record {
       first_is = refl;
       limit_is = refl;
-      entries = ap (λ (j : JournalState). j.entries) c.append.ensures;
+      entries = ap (λ (j : BoardJournalState). j.entries) c.append.ensures;
       map_is = c.dropped.ensures.change;
-    }) refl (ap (λ (j : JournalState). j.room) c.append.ensures) refl
+    }) refl (ap (λ (j : BoardJournalState). j.room) c.append.ensures) refl

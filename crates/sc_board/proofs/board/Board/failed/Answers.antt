@@ -4,7 +4,7 @@ use Rattle.std.specs.Prelude.{is_some}
 use Rattle.sc_record.specs.declared.slice.SliceId.{SliceId}
 use Rattle.sc_cluster.specs.Changes.{Change, after}
 use Rattle.sc_seen.specs.declared.board.BoardEntry.TheVariants as board
-use Rattle.sc_board.specs.Kept.{JournalState}
+use Rattle.sc_board.specs.Kept.{BoardJournalState}
 use Rattle.sc_board.proofs.SoundLemmas.{running_is, parent_is, sound_failed, some_owed_failed, some_owed_failed_split}
 use Rattle.sc_board.proofs.board.Board.failed.Goals as goal
 
@@ -25,7 +25,7 @@ returns-clause-noted g c parent may =
     record {
       first_is = refl;
       limit_is = refl;
-      entries = ap (λ (j : JournalState). j.entries) c.append.ensures
+      entries = ap (λ (j : BoardJournalState). j.entries) c.append.ensures
           ∙ ap (λ (p : SliceId). old.journal.entries ++ board.Failed p ∷ []) same;
       map_is = c.failed.ensures.change ∙ ap (λ (p : SliceId). after old.map (Change.Failed p)) same;
     }
@@ -42,7 +42,7 @@ returns-clause-sound g c =
     (record {
       first_is = refl;
       limit_is = refl;
-      entries = ap (λ (j : JournalState). j.entries) c.append.ensures
+      entries = ap (λ (j : BoardJournalState). j.entries) c.append.ensures
           ∙ ap (λ (p : SliceId). old.journal.entries ++ board.Failed p ∷ []) same;
       map_is = c.failed.ensures.change ∙ ap (λ (p : SliceId). after old.map (Change.Failed p)) same;
-    }) (some_owed_failed_split old parent c.requires.sound may) (ap (λ n. old.owed - n) is.1) (ap (λ (j : JournalState). j.room) c.append.ensures) refl
+    }) (some_owed_failed_split old parent c.requires.sound may) (ap (λ n. old.owed - n) is.1) (ap (λ (j : BoardJournalState). j.room) c.append.ensures) refl

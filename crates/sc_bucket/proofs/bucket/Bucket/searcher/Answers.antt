@@ -4,7 +4,7 @@ use Rattle.std.specs.Option.{option_copied}
 use Rattle.std.proofs.lemmas.List.Elements.{All-contains}
 use Rattle.sc_cluster.specs.declared.slice.Slice.{Slice}
 use Rattle.sc_snapshot.specs.Rows.{SnapshotState}
-use Rattle.sc_bucket.specs.Searchers.{rows_of, ShowsCommitted}
+use Rattle.sc_bucket.specs.Searchers.{standing_rows, ShowsCommitted}
 use Rattle.sc_bucket.specs.declared.standing.Standing.{Standing}
 use Rattle.sc_bucket.proofs.TakenLemmas.{Contains-slice_get, active_from_test, inactive_from_test, has_searcher, NoneIsActive-more, NoneIsActive-all}
 use Rattle.sc_bucket.proofs.bucket.Bucket.searcher.Goals as goal
@@ -25,7 +25,7 @@ returns-then-eq c =
     let there = sym c.get.ensures.slice ∙ ap option_copied c.unwrap-slice.ensures in
     let of_slice = c.searcher_for-standing.ensures.of_slice in
     let shown = All-contains (λ (s : Standing). (one : Slice) → Contains b.map one → one.id ≡ s.slice
-    → (s.range ≡ one.range) × ShowsCommitted b.journal.entries one (rows_of s))
+    → (s.range ≡ one.range) × ShowsCommitted b.journal.entries one (standing_rows s))
     b.searchers searcher c.requires.searchers.show c.searcher_for-standing.ensures.there slice
     (Contains-slice_get b.map c.loop-at.at slice there) (sym of_slice) in
     record {

@@ -3,9 +3,8 @@ use Rattle.std.proofs.Common.{◌≡◌, ◌∙◌, ◌+◌, Bool, Some, None, t
 use Rattle.std.specs.Option.{option_map, option_copied}
 use Rattle.std.specs.Arc.{arc_value}
 use Rattle.std.proofs.lemmas.Option.{same_Some}
-use Rattle.sc_snapshot.specs.Rows.{SnapshotState}
+use Rattle.sc_snapshot.specs.Rows.{SnapshotState, is_within}
 use Rattle.sc_bucket.specs.Kept.{FeedState}
-use Rattle.sc_bucket.specs.Pending.{is_within}
 use Rattle.sc_bucket.proofs.FeedLemmas.{left-passed, left-first, first_share}
 use Rattle.sc_bucket.proofs.feed.Feed.look.Goals as goal
 

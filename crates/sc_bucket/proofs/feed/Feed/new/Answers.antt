@@ -2,8 +2,7 @@
 use Rattle.std.proofs.Common.{◌≡◌, ◌∙◌, ◌++◌, ◌∷◌, [], Some, slice_get, ap, sym, filter}
 use Rattle.std.specs.Option.{option_map, option_copied}
 use Rattle.std.specs.Arc.{arc_value}
-use Rattle.sc_snapshot.specs.Rows.{SnapshotState}
-use Rattle.sc_bucket.specs.Pending.{is_within}
+use Rattle.sc_snapshot.specs.Rows.{SnapshotState, is_within}
 use Rattle.sc_bucket.proofs.FindLemmas.{filter_take-next}
 use Rattle.sc_bucket.proofs.feed.Feed.new.Goals as goal
 

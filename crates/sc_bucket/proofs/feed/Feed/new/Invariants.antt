@@ -1,7 +1,7 @@
 -- So far the first rows have their shares.
 use Rattle.std.proofs.Common.{◌≡◌, map, filter, take}
 use Rattle.std.specs.Arc.{arc_value}
-use Rattle.sc_bucket.specs.Pending.{is_within}
+use Rattle.sc_snapshot.specs.Rows.{is_within}
 use Rattle.sc_bucket.proofs.feed.Feed.new.Given as goal
 
 abbrev pub invariant-loop-at : goal.invariant-loop-at

@@ -4,7 +4,7 @@ use Rattle.sc_router.specs.Route.{IsBucketCount}
 use Rattle.sc_cluster.specs.declared.slice.Slice.{Slice}
 use Rattle.sc_cluster.specs.Slices.{greatest_id}
 use Rattle.sc_bucket.specs.Sound.{AreActive}
-use Rattle.sc_collection.specs.Alone.{layout_of}
+use Rattle.sc_collection.specs.Alone.{layout_alone}
 use Rattle.sc_collection.proofs.NewLemmas.{IsNewBoard, new_by_fields}
 use Rattle.sc_collection.proofs.FollowerLemmas.{first_active, first_followers, first_ids}
 use Rattle.sc_collection.proofs.ShapeLemmas.{ranges}
@@ -30,7 +30,7 @@ new_slots-requires-clause-least c =
 
 pub invariant_of-result : goal.invariant_of-result
 invariant_of-result c =
-    let board : IsNewBoard (layout_of c.in_ok-new_slots.field-0.items c.args.shape.now.nodes c.in_ok-first.first c.args.shape.now.log_limit)
+    let board : IsNewBoard (layout_alone c.in_ok-new_slots.field-0.items c.args.shape.now.nodes c.in_ok-first.first c.args.shape.now.log_limit)
     c.in_ok-board.board = record {
       sound = c.in_ok-board.ensures.sound;
       first = c.in_ok-board.ensures.first ∙ c.in_ok-clone_in.ensures;
@@ -44,7 +44,7 @@ invariant_of-result c =
 
 pub returns-clause-seen : goal.returns-clause-seen
 returns-clause-seen c =
-    let board : IsNewBoard (layout_of c.in_ok-new_slots.field-0.items c.args.shape.now.nodes c.in_ok-first.first c.args.shape.now.log_limit)
+    let board : IsNewBoard (layout_alone c.in_ok-new_slots.field-0.items c.args.shape.now.nodes c.in_ok-first.first c.args.shape.now.log_limit)
     c.in_ok-board.board = record {
       sound = c.in_ok-board.ensures.sound;
       first = c.in_ok-board.ensures.first ∙ c.in_ok-clone_in.ensures;

@@ -1,7 +1,7 @@
 -- What a keeper gives back stands in its slot.
 use Rattle.std.proofs.Common.{◌≡◌, None, subst}
 use Rattle.sc_collection.specs.Desks.{Held, SeesKeeperGiven, KeepsGiven}
-use Rattle.sc_collection.specs.Alone.{seen_of, keeping_of}
+use Rattle.sc_collection.specs.Alone.{seen_alone, keeping_alone}
 use Rattle.sc_collection.proofs.DeskLemmas.{out_is}
 use Rattle.sc_collection.proofs.GiveLemmas.{IsKeeperGive, may_stand_kept, put_is_keeper_give, one_is_out}
 use Rattle.sc_collection.proofs.alone.AloneDesk.give_keeper.Goals as goal
@@ -18,9 +18,9 @@ returns c =
     put_is_keeper_give c.args.self.now c.put_back.new.self out.0 c.args.b c.args.bucket c.put_back.ensures.is out.1 out.2 c.requires.fits out.3
     c.put_back.ensures.after in
     record {
-      seen = λ other is_other. subst (λ (held : Held). SeesKeeperGiven held c.args.bucket (seen_of c.args.self.now) (seen_of c.put_back.new.self))
+      seen = λ other is_other. subst (λ (held : Held). SeesKeeperGiven held c.args.bucket (seen_alone c.args.self.now) (seen_alone c.put_back.new.self))
           (one_is_out c.args.self.now out.0 other out.1 is_other) give.sees;
-      keeping = λ other is_other. subst (λ (held : Held). KeepsGiven held c.args.bucket (keeping_of c.args.self.now) (keeping_of c.put_back.new.self))
+      keeping = λ other is_other. subst (λ (held : Held). KeepsGiven held c.args.bucket (keeping_alone c.args.self.now) (keeping_alone c.put_back.new.self))
           (one_is_out c.args.self.now out.0 other out.1 is_other) give.keeping;
       fits = give.fits;
       out = out_is c.args.self.now c.put_back.new.self None give.out give.board_out;

@@ -1,7 +1,7 @@
 -- The board is taken back.
 use Rattle.std.proofs.Common.{inr, ap, ◌∙◌}
 use Rattle.sc_shared.specs.Collections.{Locks}
-use Rattle.sc_shared.specs.Sharing.{SharedState, entries_in}
+use Rattle.sc_shared.specs.Sharing.{SharedState, handed_entries}
 use Rattle.sc_shared.proofs.BoardLemmas.{MayGiveBoard, IsBoardGive, board_is_out, still_fit, board_is_given}
 use Rattle.sc_shared.proofs.shared.SharedDesk.give_board.Goals as goal
 
@@ -9,7 +9,7 @@ pub take-turn-requires : goal.take-turn-requires
 take-turn-requires g c = record {
   full =
       let out = c.requires.is_out in
-      board_is_out c.self.inside.board out.0 (ap (λ (desk : SharedState). entries_in desk.board) c.self.view_is ∙ out.1);
+      board_is_out c.self.inside.board out.0 (ap (λ (desk : SharedState). handed_entries desk.board) c.self.view_is ∙ out.1);
 }
 
 pub give-requires-clause-turn : goal.give-requires-clause-turn

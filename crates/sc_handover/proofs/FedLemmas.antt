@@ -27,7 +27,7 @@ use Rattle.sc_bucket.proofs.DeliveredLemmas.{IsSoundCore, fed_all_is_sound}
 use Rattle.sc_bucket.proofs.TakenLemmas.{Contains-slice_get}
 use Rattle.sc_bucket.proofs.InOrderLemmas.{in_order-fed_all}
 use Rattle.sc_handover.proofs.EachCoreLemmas.{core_in}
-use Rattle.sc_handover.specs.Feeding.{fed_core, IsFedAt, next_fed, after_rows}
+use Rattle.sc_handover.specs.Feeding.{fed_core_at, IsFedAt, next_fed, after_rows}
 use Rattle.sc_handover.proofs.ChangedLemmas.{with_fed, IsFeed-with_fed, IsSoundIn-parts, IsSound-core_changed, IsSound-other_feeds}
 
 -- writes that are applied change neither the name, nor the mark, nor the log
@@ -149,14 +149,14 @@ AreFeeds-removed b at feed are there = record {
 
 -- what a core is still to be fed is what its feed has left
 pub to_feed-at : (b : Bucket) (feed_at core_at : ℕ) (feed : FeedState) (core : Core) → IsSound b
-    → IsFedAt b (fed_core feed_at core_at feed core) → to_feed b.feeds core.core ≡ left_of feed
+    → IsFedAt b (fed_core_at feed_at core_at feed core) → to_feed b.feeds core.core ≡ left_of feed
 to_feed-at b feed_at core_at feed core sound is =
     to_feed-of b.feeds feed_at feed core.core sound.feeds.once is.feed_found
     ((is_core-Decides core.core feed.core).1 is.core_is)
 
 -- It is sound once the core was fed the next rows of its feed.
 pub IsSound-fed : (b : Bucket) (feed_at core_at n : ℕ) (feed : FeedState) (core : Core) → IsSound b
-    → IsFedAt b (fed_core feed_at core_at feed core) → feed.next + n ≤ length feed.rows
+    → IsFedAt b (fed_core_at feed_at core_at feed core) → feed.next + n ≤ length feed.rows
     → IsSound (with_fed b (set b.feeds feed_at (after_rows n feed))
     (set b.replicas core_at (fed_all core (next_fed n feed))))
 IsSound-fed b feed_at core_at n feed core sound is within =

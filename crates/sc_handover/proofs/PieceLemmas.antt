@@ -16,7 +16,7 @@ use Rattle.sc_bucket.proofs.CoreLemmas.{is_core-Decides, IsCoreFound}
 use Rattle.sc_bucket.proofs.DeliverLemmas.{place_of_core}
 use Rattle.sc_handover.specs.Made.{feed_limit, piece_of, moved_on}
 use Rattle.sc_handover.specs.Events.{FeedsPiece}
-use Rattle.sc_handover.specs.Feeding.{fed_core, IsFedAt, next_fed, after_rows, FeedsRows}
+use Rattle.sc_handover.specs.Feeding.{fed_core_at, IsFedAt, next_fed, after_rows, FeedsRows}
 use Rattle.sc_handover.proofs.ChangedLemmas.{with_fed, HasSameRest-with_fed}
 use Rattle.sc_handover.proofs.RowLemmas.{same_rest, FeedsRows-none, FeedsRows-more, IsFedAt-rows}
 
@@ -30,11 +30,11 @@ IsFeedFound feeds name found =
 pub record IsUnderWay (old : Bucket) (name : CoreId) (feed_at core_at count n : ℕ) (new : Bucket) : Type 0 where
   pub feed : FeedState
   pub core : Core
-  pub is : IsFedAt old (fed_core feed_at core_at feed core)
+  pub is : IsFedAt old (fed_core_at feed_at core_at feed core)
   pub named : feed.core ≡ name
   pub count_is : count ≡ min (length feed.rows - feed.next) 64
-  pub fed : FeedsRows old (fed_core feed_at core_at feed core) n new
-  pub at : IsFedAt new (fed_core feed_at core_at (after_rows n feed) (fed_all core (next_fed n feed)))
+  pub fed : FeedsRows old (fed_core_at feed_at core_at feed core) n new
+  pub at : IsFedAt new (fed_core_at feed_at core_at (after_rows n feed) (fed_all core (next_fed n feed)))
 
 -- how many rows are left of the feed at a place
 rows_left : (feeds : List FeedState) (at left : ℕ) (feed other : FeedState) → slice_get feeds at ≡ Some feed
@@ -54,9 +54,9 @@ under_way b name feed_found core_found feed_at core_at count left other is_feed 
     let (core, core_there, named) = place_of_core b.replicas name core_found core_at is_one core_is in
     let feeds_it : name ≡ feed.core = (is_core-Decides name feed.core).0 of_name in
     let is_it : name ≡ core.core = (is_core-Decides name core.core).0 named in
-    let is : IsFedAt b (fed_core feed_at core_at feed core) =
+    let is : IsFedAt b (fed_core_at feed_at core_at feed core) =
     record { feed_found = found; core_found = core_there; core_is = sym is_it ∙ feeds_it } in
-    let fed : FeedsRows b (fed_core feed_at core_at feed core) 0 b = FeedsRows-none b feed_at core_at feed core is in
+    let fed : FeedsRows b (fed_core_at feed_at core_at feed core) 0 b = FeedsRows-none b feed_at core_at feed core is in
     record {
       feed = feed;
       core = core;
@@ -70,13 +70,13 @@ under_way b name feed_found core_found feed_at core_at count left other is_feed 
 -- and goes on by one row
 pub under_way_more : (old mid new : Bucket) (name : CoreId) (feed_at core_at count n : ℕ)
     → IsUnderWay old name feed_at core_at count n mid
-    → ((feed : FeedState) (core : Core) → IsFedAt mid (fed_core feed_at core_at feed core)
-    → FeedsRows mid (fed_core feed_at core_at feed core) 1 new)
+    → ((feed : FeedState) (core : Core) → IsFedAt mid (fed_core_at feed_at core_at feed core)
+    → FeedsRows mid (fed_core_at feed_at core_at feed core) 1 new)
     → IsUnderWay old name feed_at core_at count (n + 1) new
 under_way_more old mid new name feed_at core_at count n way next =
     let looked : FeedState = after_rows n way.feed in
     let before : Core = fed_all way.core (next_fed n way.feed) in
-    let fed : FeedsRows old (fed_core feed_at core_at way.feed way.core) (n + 1) new =
+    let fed : FeedsRows old (fed_core_at feed_at core_at way.feed way.core) (n + 1) new =
     FeedsRows-more old mid new feed_at core_at n 1 way.feed way.core way.fed (next looked before way.at) in
     record {
       feed = way.feed;
@@ -105,7 +105,7 @@ next-piece feed n many =
 
 -- so the core was fed a piece
 fed_piece : (old mid : Bucket) (feed_at core_at n : ℕ) (feed : FeedState) (core : Core)
-    → FeedsRows old (fed_core feed_at core_at feed core) n mid → n ≡ min (length feed.rows - feed.next) 64
+    → FeedsRows old (fed_core_at feed_at core_at feed core) n mid → n ≡ min (length feed.rows - feed.next) 64
     → mid.replicas ≡ set old.replicas core_at (fed_all core (piece_of feed))
 fed_piece old mid feed_at core_at n feed core fed many =
     fed.cores ∙ ap (λ (these : List Write). set old.replicas core_at (fed_all core these)) (next-piece feed n many)

@@ -15,7 +15,7 @@ use Rattle.sc_bucket.proofs.PendingLemmas.{length-pending}
 use Rattle.sc_bucket.proofs.PlaceLemmas.{slice_get-set}
 use Rattle.sc_bucket.proofs.SoundLemmas.{All-slice_get}
 use Rattle.sc_handover.specs.Events.{HasSameRest}
-use Rattle.sc_handover.specs.Feeding.{fed_core, IsFedAt, next_fed, after_rows, FeedsRows}
+use Rattle.sc_handover.specs.Feeding.{fed_core_at, IsFedAt, next_fed, after_rows, FeedsRows}
 use Rattle.sc_handover.proofs.ChangedLemmas.{with_fed, HasSameRest-with_fed}
 use Rattle.sc_handover.proofs.FedLemmas.{name-fed_all, fed_all-append, left-next, to_feed-at, IsSound-fed}
 
@@ -45,7 +45,7 @@ looked-none feed row there looked =
 
 -- the core has room for a row that is to be fed
 pub room_to_feed : (b : Bucket) (feed_at core_at : ℕ) (feed : FeedState) (core : Core) (write : Write) → IsSound b
-    → IsFedAt b (fed_core feed_at core_at feed core) → next_fed 1 feed ≡ write ∷ [] → 0 < core.cell_spare
+    → IsFedAt b (fed_core_at feed_at core_at feed core) → next_fed 1 feed ≡ write ∷ [] → 0 < core.cell_spare
 room_to_feed b feed_at core_at feed core write sound is one =
     let spare = All-slice_get (HasSpare b.flight.messages b.feeds) b.replicas core_at core sound.room is.core_found
     in
@@ -59,8 +59,8 @@ set_itself xs k x there = ap (set xs k) (sym (get_or_from_slice_get xs k x x the
 
 -- the feed was not changed by no row
 pub FeedsRows-none : (b : Bucket) (feed_at core_at : ℕ) (feed : FeedState) (core : Core)
-    → IsFedAt b (fed_core feed_at core_at feed core)
-    → FeedsRows b (fed_core feed_at core_at feed core) 0 b
+    → IsFedAt b (fed_core_at feed_at core_at feed core)
+    → FeedsRows b (fed_core_at feed_at core_at feed core) 0 b
 FeedsRows-none b feed_at core_at feed core is =
     let same : feed.next + 0 ≡ feed.next = omega arith in
     record {
@@ -74,7 +74,7 @@ FeedsRows-none b feed_at core_at feed core is =
 pub FeedsRows-one : (b : Bucket) (feed_at core_at : ℕ) (feed : FeedState) (core : Core) (feeds : List FeedState)
     (cores : List Core) (writes : List Write) → next_fed 1 feed ≡ writes
     → feeds ≡ set b.feeds feed_at (after_rows 1 feed) → cores ≡ set b.replicas core_at (fed_all core writes)
-    → FeedsRows b (fed_core feed_at core_at feed core) 1 (with_fed b feeds cores)
+    → FeedsRows b (fed_core_at feed_at core_at feed core) 1 (with_fed b feeds cores)
 FeedsRows-one b feed_at core_at feed core feeds cores writes one moved fed = record {
   rest = HasSameRest-with_fed b feeds cores;
   cores = fed ∙ ap (λ (these : List Write). set b.replicas core_at (fed_all core these)) (sym one);
@@ -82,22 +82,22 @@ FeedsRows-one b feed_at core_at feed core feeds cores writes one moved fed = rec
 }
 
 -- where it was none the core stays
-pub unfed : (b : Bucket) (feed_at core_at : ℕ) (feed : FeedState) (core : Core) → IsFedAt b (fed_core feed_at core_at feed core)
+pub unfed : (b : Bucket) (feed_at core_at : ℕ) (feed : FeedState) (core : Core) → IsFedAt b (fed_core_at feed_at core_at feed core)
     → b.replicas ≡ set b.replicas core_at (fed_all core [])
 unfed b feed_at core_at feed core is = sym (set_itself b.replicas core_at core is.core_found)
 
 -- rows are left of a feed whose place has one with rows left
 pub left_at : (b : Bucket) (feed_at core_at : ℕ) (feed : FeedState) (core : Core)
-    → (other : FeedState) × (its : Core) × IsFedAt b (fed_core feed_at core_at other its) × (other.next < length other.rows)
-    → IsFedAt b (fed_core feed_at core_at feed core) → feed.next < length feed.rows
+    → (other : FeedState) × (its : Core) × IsFedAt b (fed_core_at feed_at core_at other its) × (other.next < length other.rows)
+    → IsFedAt b (fed_core_at feed_at core_at feed core) → feed.next < length feed.rows
 left_at b feed_at core_at feed core (other, its, there, left) is =
     subst (λ (f : FeedState). f.next < length f.rows) (same_Some other feed (sym there.feed_found ∙ is.feed_found))
     left
 
 -- it is sound once rows were fed
 pub IsSound-rows : (b : Bucket) (feed_at core_at n : ℕ) (feed : FeedState) (core : Core) (feeds : List FeedState)
-    (cores : List Core) → IsSound b → IsFedAt b (fed_core feed_at core_at feed core) → feed.next + n ≤ length feed.rows
-    → FeedsRows b (fed_core feed_at core_at feed core) n (with_fed b feeds cores) → IsSound (with_fed b feeds cores)
+    (cores : List Core) → IsSound b → IsFedAt b (fed_core_at feed_at core_at feed core) → feed.next + n ≤ length feed.rows
+    → FeedsRows b (fed_core_at feed_at core_at feed core) n (with_fed b feeds cores) → IsSound (with_fed b feeds cores)
 IsSound-rows b feed_at core_at n feed core feeds cores sound is within fed =
     subst (λ (these : List FeedState). IsSound (with_fed b these cores)) (sym fed.feeds_are)
     (subst (λ (these : List Core). IsSound (with_fed b (set b.feeds feed_at (after_rows n feed)) these))
@@ -106,8 +106,8 @@ IsSound-rows b feed_at core_at n feed core feeds cores sound is within fed =
 
 -- the feed and the core then
 pub IsFedAt-rows : (old : Bucket) (feed_at core_at n : ℕ) (feed : FeedState) (core : Core) (new : Bucket)
-    → IsFedAt old (fed_core feed_at core_at feed core) → FeedsRows old (fed_core feed_at core_at feed core) n new
-    → IsFedAt new (fed_core feed_at core_at (after_rows n feed) (fed_all core (next_fed n feed)))
+    → IsFedAt old (fed_core_at feed_at core_at feed core) → FeedsRows old (fed_core_at feed_at core_at feed core) n new
+    → IsFedAt new (fed_core_at feed_at core_at (after_rows n feed) (fed_all core (next_fed n feed)))
 IsFedAt-rows old feed_at core_at n feed core new is fed = record {
   feed_found = ap (λ (feeds : List FeedState). slice_get feeds feed_at) fed.feeds_are
       ∙ slice_get-set old.feeds feed_at (after_rows n feed) (slice_get_within old.feeds feed_at feed is.feed_found);
@@ -138,9 +138,9 @@ same_rest old mid new one other = record {
 
 -- so for rows that are fed one after another
 pub FeedsRows-more : (old mid new : Bucket) (feed_at core_at n m : ℕ) (feed : FeedState) (core : Core)
-    → FeedsRows old (fed_core feed_at core_at feed core) n mid
-    → FeedsRows mid (fed_core feed_at core_at (after_rows n feed) (fed_all core (next_fed n feed))) m new
-    → FeedsRows old (fed_core feed_at core_at feed core) (n + m) new
+    → FeedsRows old (fed_core_at feed_at core_at feed core) n mid
+    → FeedsRows mid (fed_core_at feed_at core_at (after_rows n feed) (fed_all core (next_fed n feed))) m new
+    → FeedsRows old (fed_core_at feed_at core_at feed core) (n + m) new
 FeedsRows-more old mid new feed_at core_at n m feed core one other =
     let first : Core = fed_all core (next_fed n feed) in
     let last : Core = fed_all first (next_fed m (after_rows n feed)) in

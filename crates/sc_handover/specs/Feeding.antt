@@ -14,8 +14,8 @@ pub record FedCore : Type 0 where
   pub feed : FeedState
   pub core : Core
 
-abbrev pub fed_core : (feed_at core_at : ℕ) → FeedState → Core → FedCore
-fed_core feed_at core_at feed core = record { feed_at = feed_at; core_at = core_at; feed = feed; core = core }
+abbrev pub fed_core_at : (feed_at core_at : ℕ) → FeedState → Core → FedCore
+fed_core_at feed_at core_at feed core = record { feed_at = feed_at; core_at = core_at; feed = feed; core = core }
 
 -- they are at these places of the bucket
 pub record IsFedAt (b : Bucket) (one : FedCore) : Type 0 where

@@ -4,7 +4,7 @@ ghost use Rattle.sc_bucket.specs.Kept.{FeedState};
 ghost use Rattle.sc_replica.specs.Core.{Core};
 ghost use Rattle.sc_handover.specs.Conditions.{CanFeed};
 ghost use Rattle.sc_handover.specs.Events.{FeedsPiece};
-ghost use Rattle.sc_handover.specs.Feeding.{fed_core, IsFedAt, FeedsRows};
+ghost use Rattle.sc_handover.specs.Feeding.{fed_core_at, IsFedAt, FeedsRows};
 
 use sc_bucket::Bucket;
 use sc_record::CoreId;
@@ -37,10 +37,10 @@ pub fn feed_piece(bucket: &mut Bucket, core: CoreId) -> bool
 // range.
 fn feed_row(bucket: &mut Bucket, at: usize, replica: usize)
     requires sound { IsSound bucket.old }
-    requires left { (feed : FeedState) × (core : Core) × IsFedAt bucket.old (fed_core at replica feed core) × (feed.next < length feed.rows) }
+    requires left { (feed : FeedState) × (core : Core) × IsFedAt bucket.old (fed_core_at at replica feed core) × (feed.next < length feed.rows) }
     ensures sound { IsSound bucket.new }
-    ensures fed { (feed : FeedState) (core : Core) → IsFedAt bucket.old (fed_core at replica feed core)
-        → FeedsRows bucket.old (fed_core at replica feed core) 1 bucket.new }
+    ensures fed { (feed : FeedState) (core : Core) → IsFedAt bucket.old (fed_core_at at replica feed core)
+        → FeedsRows bucket.old (fed_core_at at replica feed core) 1 bucket.new }
 {
     if let Some(write) = bucket.feeds.look(at) {
         bucket.replicas.feed(replica, write);

@@ -19,8 +19,8 @@ GoTogether-more round entries own (before, of_board, of_bucket) = (
 -- no round changes which cores serve
 none_changed : (rounds : List Round) → AllByRecursion (λ (one : Entry). changes_cores one ≡ false) (flat_map bucket_entries rounds)
 none_changed [] = tt
-none_changed (done plan ∷ rounds) = (refl, refl, none_changed rounds)
-none_changed (failed plan recovered true ∷ rounds) = (refl, refl, none_changed rounds)
+none_changed (done plan ∷ rounds) = (refl, (refl, none_changed rounds))
+none_changed (failed plan recovered true ∷ rounds) = (refl, (refl, none_changed rounds))
 none_changed (failed plan recovered false ∷ rounds) = none_changed rounds
 none_changed (dropped slice ∷ rounds) = (refl, none_changed rounds)
 

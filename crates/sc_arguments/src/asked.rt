@@ -141,7 +141,7 @@ fn server_in(found: &ArgMatches<'_>) -> Option<Server>
         port: within(number_or(8983, found, "port"), 1, GREATEST_PORT)? as u16,
         workers: within(number_or(4, found, "workers"), 1, MOST_WORKERS)?,
         max_connections: within(
-            number_or(u64::from(MOST_CONNECTIONS), found, "max-connections"),
+            number_or(4_294_967_295, found, "max-connections"),
             1,
             MOST_CONNECTIONS,
         )?,

@@ -1,13 +1,13 @@
 -- What becomes of the rows of a snapshot: of one row more.
-use Rattle.std.proofs.Common.{◌≡◌, ℕ, zero, suc, ◌+◌, ◌<◌, ◌≤◌, ◌==◌, Bool, true, false, true≢false, cond, ◌||◌, List, [], ◌∷◌, ◌++◌, take, length, slice_get, Option, Some, None, refl, sym, ap, subst, ◌∙◌, arith, append-nil, append_assoc, ◌⊎◌, ⊎_elim, inl, inr, length-append}
+use Rattle.std.proofs.Common.{◌≡◌, ℕ, zero, suc, ◌+◌, ◌<◌, ◌≤◌, ◌==◌, Bool, true, false, true≢false, cond, ◌||◌, List, [], ◌∷◌, ◌++◌, map, take, length, slice_get, Option, Some, None, refl, sym, ap, subst, ◌∙◌, arith, append-nil, append_assoc, ◌⊎◌, ⊎_elim, inl, inr, length-append}
 use Rattle.std.proofs.lemmas.Bool.Decides.{nat_tests}
-use Rattle.std.proofs.lemmas.List.{take_more, length-take-le}
+use Rattle.std.proofs.lemmas.List.{take_more, map-append, length-map, length-take-le}
 use Rattle.std.proofs.lemmas.List.Folds.{list_any-append}
 use Rattle.std.proofs.lemmas.Option.{slice_get_within, get_or_from_slice_get}
 use Rattle.sc_record.specs.declared.write.Write.{Write}
 use Rattle.sc_segment.specs.Index.{IsIndexOf}
 use Rattle.sc_snapshot.specs.Change.{moves_to, is_kept, keyed_new, IsChange}
-use Rattle.sc_snapshot.specs.Postings.{key_order, keyed, live_terms}
+use Rattle.sc_snapshot.specs.Postings.{key_order, keyed, live_terms, without_ids}
 use Rattle.sc_snapshot.specs.declared.change.Change.{Change}
 use Rattle.sc_snapshot.specs.declared.term_key.TermKey.{TermKey}
 
@@ -94,15 +94,16 @@ take-next rows number row is =
 
 -- the keys of the first rows, and those of the next
 keyed_new-next : (moved : List (Option ℕ)) (number : ℕ) (rows : List Write) (row : Write) → slice_get rows number ≡ Some row
-    → keyed_new moved 0 (take (number + 1) rows)
-    ≡ keyed_new moved 0 (take number rows) ++ cond (is_kept moved number) [] (keyed number (live_terms row))
+    → keyed_new moved 0 (map without_ids (take (number + 1) rows))
+    ≡ keyed_new moved 0 (map without_ids (take number rows)) ++ cond (is_kept moved number) [] (keyed number (live_terms (without_ids row)))
 keyed_new-next moved number rows row is =
     let within = slice_get_within rows number row is in
-    let long = length-take-le number rows (omega (arith, within)) in
-    ap (keyed_new moved 0) (take-next rows number row is)
-    ∙ keyed_new-push moved 0 number (take number rows) row (omega (arith, long))
+    let long = length-map (take number rows) without_ids ∙ length-take-le number rows (omega (arith, within)) in
+    ap (λ (ws : List Write). keyed_new moved 0 (map without_ids ws)) (take-next rows number row is)
+    ∙ ap (keyed_new moved 0) (map-append without_ids (take number rows) (row ∷ []))
+    ∙ keyed_new-push moved 0 number (map without_ids (take number rows)) (without_ids row) (omega (arith, long))
 
-few : (number : ℕ) (rows : List Write) → length (take number rows) ≤ number
+few : (number : ℕ) (rows : List Write) → length (map without_ids (take number rows)) ≤ number
 few zero rows = omega arith
 few (suc number) [] = omega arith
 few (suc number) (row ∷ rows) = let rest = few number rows in omega (arith, rest)
@@ -160,7 +161,7 @@ module _ (old new : List Write) (low high : ℕ) (change : Change) (is : IsChang
     told = told-push None next pushed;
     kept = kept-push None next pushed high (omega arith) (λ number h. cc);
     ascending = ascending-push None next pushed (λ number h. cc);
-    filed = rw (pushed, same, keyed_new-agree (moved ++ None ∷ []) moved 0 (take high new) (λ number _. same_kept moved None number refl)) is.filed;
+    filed = rw (pushed, same, keyed_new-agree (moved ++ None ∷ []) moved 0 (map without_ids (take high new)) (λ number _. same_kept moved None number refl)) is.filed;
     last_row = rw same is.last_row;
   }
 
@@ -176,25 +177,25 @@ module _ (old new : List Write) (low high : ℕ) (change : Change) (is : IsChang
     last_row = let last = is.last_row in rw same (omega (arith, last));
   }
     where
-      kept_filed : keyed_new (moved ++ Some high ∷ []) 0 (take (high + 1) new) ≡ keyed_new moved 0 (take high new)
+      kept_filed : keyed_new (moved ++ Some high ∷ []) 0 (map without_ids (take (high + 1) new)) ≡ keyed_new moved 0 (map without_ids (take high new))
       kept_filed =
           let short = few high new in
           let kept : is_kept (moved ++ Some high ∷ []) high ≡ true =
           is_kept-push moved (Some high) high ∙ ap (λ b. is_kept moved high || b) (itself high) ∙ or-true (is_kept moved high) in
           keyed_new-next (moved ++ Some high ∷ []) high new row at_new
-          ∙ ap (λ b. keyed_new (moved ++ Some high ∷ []) 0 (take high new) ++ cond b [] (keyed high (live_terms row))) kept
-          ∙ append-nil (keyed_new (moved ++ Some high ∷ []) 0 (take high new))
-          ∙ keyed_new-agree (moved ++ Some high ∷ []) moved 0 (take high new)
+          ∙ ap (λ b. keyed_new (moved ++ Some high ∷ []) 0 (map without_ids (take high new)) ++ cond b [] (keyed high (live_terms (without_ids row)))) kept
+          ∙ append-nil (keyed_new (moved ++ Some high ∷ []) 0 (map without_ids (take high new)))
+          ∙ keyed_new-agree (moved ++ Some high ∷ []) moved 0 (map without_ids (take high new))
           (λ number below. same_kept moved (Some high) number (apart number high (omega (arith, below, short))))
 
   -- the next new row is none of the old ones
   pub file-step : (row : Write) (next : Change) → next.moved ≡ change.moved → slice_get new high ≡ Some row → next.added.last_row ≤ high
-      → ((added : List (ℕ × TermKey)) → IsIndexOf key_order added change.added.index → IsIndexOf key_order (added ++ keyed high (live_terms row)) next.added.index)
+      → ((added : List (ℕ × TermKey)) → IsIndexOf key_order added change.added.index → IsIndexOf key_order (added ++ keyed high (live_terms (without_ids row))) next.added.index)
       → IsChange old new low (high + 1) next
   file-step row next same at_new last filed = record {
     told = rw same is.told;
     kept = rw same (λ at number h. let told = is.kept at number h in (let below = told.0 in omega (arith, below), told.1));
     ascending = rw same is.ascending;
-    filed = rw (same, keyed_new-next moved high new row at_new, later_not_kept high (omega arith)) (filed (keyed_new moved 0 (take high new)) is.filed);
+    filed = rw (same, keyed_new-next moved high new row at_new, later_not_kept high (omega arith)) (filed (keyed_new moved 0 (map without_ids (take high new))) is.filed);
     last_row = omega (arith, last);
   }

@@ -11,4 +11,6 @@ mod PlaceLemmas
 mod EditedLemmas
 mod PartLemmas
 mod SurveyLemmas
+mod IdLemmas
+mod IdSearchLemmas
 pub mod CountLemmas

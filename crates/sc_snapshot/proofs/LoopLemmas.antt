@@ -1,12 +1,12 @@
 -- What a loop over cells has of one cell more.
-use Rattle.std.proofs.Common.{◌≡◌, ℕ, ◌+◌, ◌<◌, List, [], ◌∷◌, ◌++◌, map, take, length, get_or, All, sym, ap, subst, ◌∙◌, arith, append_assoc}
+use Rattle.std.proofs.Common.{◌≡◌, ℕ, ◌+◌, ◌<◌, List, [], ◌∷◌, ◌++◌, map, take, length, get_or, not, All, refl, sym, ap, subst, ◌∙◌, arith, append_assoc}
 use Rattle.std.proofs.lemmas.List.{take_more, map-append, length-map, length-take-le}
-use Rattle.std.proofs.lemmas.List.Elements.{All-push}
+use Rattle.std.proofs.lemmas.List.Elements.{All-push, filter-append}
 use Rattle.sc_record.specs.declared.term.Term.{Term}
 use Rattle.sc_record.specs.declared.write.Write.{Write}
 use Rattle.sc_segment.specs.Index.{IsIndexOf}
 use Rattle.sc_snapshot.proofs.PostingLemmas.{keyed_rows-push}
-use Rattle.sc_snapshot.specs.Postings.{key_order, keyed, keyed_rows, live_terms}
+use Rattle.sc_snapshot.specs.Postings.{key_order, keyed, keyed_rows, live_terms, is_id_term, other_terms}
 use Rattle.sc_snapshot.specs.declared.term_key.TermKey.{TermKey}
 
 module _ {C : Type 0} (value : C → Write) (cells : List C) (i : ℕ) (cell : C) (within : i < length cells) (at : cell ≡ get_or cells i cell) where
@@ -54,3 +54,25 @@ terms-next added number i terms term key index within at is filed =
     subst (λ (ps : List (ℕ × TermKey)). IsIndexOf key_order ps index)
     (append_assoc added (keyed number (take i terms)) ((number, key) ∷ [])
     ∙ ap (λ (ps : List (ℕ × TermKey)). added ++ ps) (sym (keyed-term number i terms term key within at is))) filed
+
+-- the other ones of the first terms, and the next where it is one
+other-terms : (number i : ℕ) (terms : List Term) (term : Term) → i < length terms → term ≡ get_or terms i term
+    → keyed number (other_terms (take (i + 1) terms)) ≡ keyed number (other_terms (take i terms)) ++ keyed number (other_terms (term ∷ []))
+other-terms number i terms term within at =
+    ap (λ (ts : List Term). keyed number (other_terms ts)) (take_more terms i term within ∙ ap (λ (t : Term). take i terms ++ t ∷ []) (sym at))
+    ∙ ap (keyed number) (filter-append (λ (t : Term). not (is_id_term t)) (take i terms) (term ∷ []))
+    ∙ map-append (λ (t : Term). (number, record { term = t })) (other_terms (take i terms)) (other_terms (term ∷ []))
+
+pub others-next : (added : List (ℕ × TermKey)) (number i : ℕ) (terms : List Term) (term : Term) (index : List (TermKey × List ℕ))
+    → i < length terms → term ≡ get_or terms i term
+    → IsIndexOf key_order ((added ++ keyed number (other_terms (take i terms))) ++ keyed number (other_terms (term ∷ []))) index
+    → IsIndexOf key_order (added ++ keyed number (other_terms (take (i + 1) terms))) index
+others-next added number i terms term index within at filed =
+    subst (λ (ps : List (ℕ × TermKey)). IsIndexOf key_order ps index)
+    (append_assoc added (keyed number (other_terms (take i terms))) (keyed number (other_terms (term ∷ [])))
+    ∙ ap (λ (ps : List (ℕ × TermKey)). added ++ ps) (sym (other-terms number i terms term within at))) filed
+
+-- two maps, one after the other, are one
+pub map-twice : {X Y Z : Type 0} (f : Y → Z) (g : X → Y) (xs : List X) → map f (map g xs) ≡ map (λ x. f (g x)) xs
+map-twice f g [] = refl
+map-twice f g (x ∷ xs) = ap (λ zs. f (g x) ∷ zs) (map-twice f g xs)

@@ -1,12 +1,13 @@
 -- An index carried over from a snapshot to the next: it has for each key the new rows that have its term.
-use Rattle.std.proofs.Common.{◌≡◌, ℕ, zero, suc, ◌+◌, ◌<◌, ◌≤◌, ◌==◌, Bool, true, false, true≢false, not, ◌&&◌, ◌||◌, List, [], ◌∷◌, take, length, slice_get, Option, Some, None, refl, sym, ap, subst, ◌∙◌, arith, ⊎_elim}
+use Rattle.std.proofs.Common.{◌≡◌, ℕ, zero, suc, ◌+◌, ◌<◌, ◌≤◌, ◌==◌, Bool, true, false, true≢false, not, ◌&&◌, ◌||◌, List, [], ◌∷◌, map, take, length, slice_get, Option, Some, None, refl, sym, ap, subst, ◌∙◌, arith, ⊎_elim}
 use Rattle.std.proofs.Math.Seq.{take-length}
 use Rattle.std.proofs.Math.ListN.{get_or-eq_default}
 use Rattle.std.proofs.lemmas.Bool.{cases_lt}
 use Rattle.std.proofs.lemmas.Bool.Decides.{nat_tests}
-use Rattle.std.proofs.lemmas.Option.{slice_get-get_or, get_or_from_slice_get}
+use Rattle.std.proofs.lemmas.Option.{slice_get-get_or, slice_get-map, get_or_from_slice_get}
 use Rattle.std.specs.Cmp.{both_ways, IsTotalOrder}
 use Rattle.std.specs.List.{filter_map, cons_option}
+use Rattle.std.specs.Option.{option_map}
 use Rattle.sc_record.specs.declared.write.Write.{Write}
 use Rattle.sc_record.proofs.TermLemmas.{term_cmp-total}
 use Rattle.std.proofs.lemmas.Cmp.{on_total}
@@ -16,7 +17,7 @@ use Rattle.sc_segment.specs.Carrying.{new_number, new_numbers, KeepsOrder, IsCar
 use Rattle.sc_segment.specs.Index.{IsIndexOf, rows_at}
 use Rattle.sc_segment.specs.Joining.{has_row}
 use Rattle.sc_snapshot.specs.Change.{moves_to, is_kept, keyed_new, IsChange}
-use Rattle.sc_snapshot.specs.Postings.{key_order, keyed_rows, has_term}
+use Rattle.sc_snapshot.specs.Postings.{key_order, keyed_rows, has_term, without_ids}
 use Rattle.sc_snapshot.specs.declared.change.Change.{Change}
 use Rattle.sc_snapshot.specs.declared.term_key.TermKey.{TermKey}
 use Rattle.sc_snapshot.proofs.ChangeLemmas.{kept_at}
@@ -120,42 +121,56 @@ module _ (old new : List Write) (low high : ℕ) (change : Change) (is : IsChang
   abbrev moved : List (Option ℕ)
   moved = change.moved.items
 
+  -- the rows as they are filed
+  abbrev filed_old : List Write
+  filed_old = map without_ids old
+
+  abbrev filed_new : List Write
+  filed_new = map without_ids new
+
+  -- what is kept is filed alike
+  same_filed : (at number : ℕ) → slice_get old at ≡ slice_get new number → slice_get filed_old at ≡ slice_get filed_new number
+  same_filed at number same =
+      slice_get-map without_ids old at ∙ ap (option_map without_ids) same ∙ sym (slice_get-map without_ids new number)
+
   -- the kept rows of a key
-  kept_rows : (key : TermKey) (rows : List ℕ) → ((at : ℕ) → has_row rows at ≡ has_term key.term (slice_get old at)) → (number : ℕ)
-      → has_row (new_numbers moved rows) number ≡ (is_kept moved number && has_term key.term (slice_get new number))
+  kept_rows : (key : TermKey) (rows : List ℕ) → ((at : ℕ) → has_row rows at ≡ has_term key.term (slice_get filed_old at)) → (number : ℕ)
+      → has_row (new_numbers moved rows) number ≡ (is_kept moved number && has_term key.term (slice_get filed_new number))
   kept_rows key rows members number =
-      both_ways (has_row (new_numbers moved rows) number) (is_kept moved number && has_term key.term (slice_get new number)) there back
+      both_ways (has_row (new_numbers moved rows) number) (is_kept moved number && has_term key.term (slice_get filed_new number)) there back
     where
-      there : has_row (new_numbers moved rows) number ≡ true → (is_kept moved number && has_term key.term (slice_get new number)) ≡ true
+      there : has_row (new_numbers moved rows) number ≡ true → (is_kept moved number && has_term key.term (slice_get filed_new number)) ≡ true
       there h =
           let found = from_new moved rows number h in
           let spot = number_at moved found.0 number found.2 in
-          let has = ap (has_term key.term) (sym (is.kept found.0 number spot).1) ∙ sym (members found.0) ∙ found.1 in
-          ap (λ b. b && has_term key.term (slice_get new number)) (kept_from moved found.0 number spot) ∙ has
+          let same = same_filed found.0 number (is.kept found.0 number spot).1 in
+          let has = ap (has_term key.term) (sym same) ∙ sym (members found.0) ∙ found.1 in
+          ap (λ b. b && has_term key.term (slice_get filed_new number)) (kept_from moved found.0 number spot) ∙ has
 
-      back : (is_kept moved number && has_term key.term (slice_get new number)) ≡ true → has_row (new_numbers moved rows) number ≡ true
+      back : (is_kept moved number && has_term key.term (slice_get filed_new number)) ≡ true → has_row (new_numbers moved rows) number ≡ true
       back h =
-          let parts = and_true (is_kept moved number) (has_term key.term (slice_get new number)) h in
+          let parts = and_true (is_kept moved number) (has_term key.term (slice_get filed_new number)) h in
           let spot = kept_at moved number parts.0 in
+          let same = same_filed spot.0 number (is.kept spot.0 number spot.1).1 in
           to_new moved rows number spot.0
-          (members spot.0 ∙ ap (has_term key.term) (is.kept spot.0 number spot.1).1 ∙ parts.1)
+          (members spot.0 ∙ ap (has_term key.term) same ∙ parts.1)
           (get_or_from_slice_get moved spot.0 (Some number) None spot.1)
 
   -- the index that is carried is that of the new rows
-  pub carried_terms : (index carried : List (TermKey × List ℕ)) → length new ≡ high → IsIndexOf key_order (keyed_rows 0 old) index
-      → IsCarried key_order moved index change.added.index carried → IsIndexOf key_order (keyed_rows 0 new) carried
+  pub carried_terms : (index carried : List (TermKey × List ℕ)) → length new ≡ high → IsIndexOf key_order (keyed_rows 0 (map without_ids old)) index
+      → IsCarried key_order moved index change.added.index carried → IsIndexOf key_order (keyed_rows 0 (map without_ids new)) carried
   carried_terms index carried all terms moves =
-      IsIndexOf-from_rows keys_total (keyed_rows 0 new) carried moves.in_order
-      (λ key. rows_with-ascend key_order (keyed_rows 0 new) key (rows_ascend new))
+      IsIndexOf-from_rows keys_total (keyed_rows 0 filed_new) carried moves.in_order
+      (λ key. rows_with-ascend key_order (keyed_rows 0 filed_new) key (rows_ascend filed_new))
       (λ key number. moves.members key number
       ∙ ap (λ b. b || has_row (rows_at key_order change.added.index key) number)
       (kept_rows key (rows_at key_order index key)
-      (λ at. ap (λ (rs : List ℕ). has_row rs at) (rows_at-index keys_total (keyed_rows 0 old) index terms key) ∙ has_row-term old key at) number)
-      ∙ ap (λ b. (is_kept moved number && has_term key.term (slice_get new number)) || b)
-      (ap (λ (rs : List ℕ). has_row rs number) (rows_at-index keys_total (keyed_new moved 0 new) change.added.index filed key) ∙ has_row-new moved new key number)
-      ∙ by_kept (is_kept moved number) (has_term key.term (slice_get new number))
-      ∙ sym (has_row-term new key number))
+      (λ at. ap (λ (rs : List ℕ). has_row rs at) (rows_at-index keys_total (keyed_rows 0 filed_old) index terms key) ∙ has_row-term filed_old key at) number)
+      ∙ ap (λ b. (is_kept moved number && has_term key.term (slice_get filed_new number)) || b)
+      (ap (λ (rs : List ℕ). has_row rs number) (rows_at-index keys_total (keyed_new moved 0 filed_new) change.added.index filed key) ∙ has_row-new moved filed_new key number)
+      ∙ by_kept (is_kept moved number) (has_term key.term (slice_get filed_new number))
+      ∙ sym (has_row-term filed_new key number))
     where
-      filed : IsIndexOf key_order (keyed_new moved 0 new) change.added.index
-      filed = subst (λ (rows : List Write). IsIndexOf key_order (keyed_new moved 0 rows) change.added.index)
+      filed : IsIndexOf key_order (keyed_new moved 0 filed_new) change.added.index
+      filed = subst (λ (rows : List Write). IsIndexOf key_order (keyed_new moved 0 (map without_ids rows)) change.added.index)
           (ap (λ n. take n new) (sym all) ∙ take-length new) is.filed

@@ -19,7 +19,8 @@ module _ (p : Write → Bool) where
         | false ↦ omega (arith, rest)
       ]
 
-  each-passing : (P : Write → Type 0) (rows : List Write) → AllByRecursion P rows → AllByRecursion P (filter p rows)
+  -- what holds of each row holds of those that pass
+  pub each-passing : (P : Write → Type 0) (rows : List Write) → AllByRecursion P rows → AllByRecursion P (filter p rows)
   each-passing P [] all = tt
   each-passing P (row ∷ rows) all =
       let rest = each-passing P rows all.1 in

@@ -1,11 +1,11 @@
 -- What becomes of the rows of a snapshot in the next one.
-use Rattle.std.specs.Prelude.{◌≡◌, ℕ, ◌+◌, ◌<◌, ◌≤◌, ◌==◌, Bool, false, if◌then◌else◌, List, [], ◌∷◌, ◌++◌, length, take, slice_get, Option, None, Some}
+use Rattle.std.specs.Prelude.{◌≡◌, ℕ, ◌+◌, ◌<◌, ◌≤◌, ◌==◌, Bool, false, if◌then◌else◌, List, [], ◌∷◌, ◌++◌, length, map, take, slice_get, Option, None, Some}
 use Rattle.std.specs.List.{list_any}
 use Rattle.sc_record.specs.declared.write.Write.{Write}
 use Rattle.sc_segment.specs.Index.{IsIndexOf}
 use Rattle.sc_snapshot.specs.declared.change.Change.{Change}
 use Rattle.sc_snapshot.specs.declared.term_key.TermKey.{TermKey}
-use Rattle.sc_snapshot.specs.Postings.{key_order, keyed, live_terms}
+use Rattle.sc_snapshot.specs.Postings.{key_order, keyed, live_terms, without_ids}
 
 -- an old row's number in the next snapshot, where it is kept, is this one
 abbrev pub moves_to : ℕ → Option ℕ → Bool
@@ -22,11 +22,11 @@ keyed_new moved from [] = []
 keyed_new moved from (row ∷ rows) = (if is_kept moved from then [] else keyed from (live_terms row)) ++ keyed_new moved (from + 1) rows
 
 -- so many of the old rows and of the new ones are told: each old row that is kept is the new one of its number, the kept stay in
--- order, and the terms of all other new rows are filed
+-- order, and the terms of all other new rows are filed but for those of the field of ids
 pub record IsChange (old new : List Write) (low high : ℕ) (change : Change) : Type 0 where
   pub told : length change.moved.items ≡ low
   pub kept : (at number : ℕ) → slice_get change.moved.items at ≡ Some (Some number) → (number < high) × (slice_get old at ≡ slice_get new number)
   pub ascending : (at later number other : ℕ) → at < later → slice_get change.moved.items at ≡ Some (Some number)
       → slice_get change.moved.items later ≡ Some (Some other) → number < other
-  pub filed : IsIndexOf key_order (keyed_new change.moved.items 0 (take high new)) change.added.index
+  pub filed : IsIndexOf key_order (keyed_new change.moved.items 0 (map without_ids (take high new))) change.added.index
   pub last_row : change.added.last_row ≤ high

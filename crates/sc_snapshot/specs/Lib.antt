@@ -3,6 +3,7 @@ pub mod Rows
 pub mod Pieces
 pub mod Edits
 pub mod Postings
+pub mod Ids
 pub mod Surveying
 pub mod Change
 pub mod Laws

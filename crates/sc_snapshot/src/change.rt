@@ -4,7 +4,7 @@ ghost use Rattle.sc_snapshot.specs.Change.{IsChange};
 ghost use Rattle.sc_snapshot.specs.Edits.{edited, AreInOrder};
 
 use crate::edits::Edit;
-use crate::filing::{file_terms, live_terms};
+use crate::filing::{file_others, live_terms};
 use crate::pieces::Pieces;
 use crate::term_key::TermKey;
 use sc_record::Write;
@@ -16,7 +16,7 @@ use std::alloc::{AllocError, Global};
 pub(crate) struct Change {
     /// The new number of each old row; None where it is replaced.
     pub(crate) moved: Vec<Option<u32>>,
-    /// The terms of the new rows that are none of the old.
+    /// The terms of the new rows that are none of the old, but for those of the field of ids.
     pub(crate) added: Builder<TermKey>,
 }
 
@@ -99,7 +99,7 @@ impl Change {
             → slice_get new number ≡ Some row.now → IsChange old new low (number + 1) self.new) }
         ensures last_row { OnOk result (self.new.added.last_row ≤ number) }
     {
-        file_terms(&mut self.added, number, live_terms(row))?;
+        file_others(&mut self.added, number, live_terms(row))?;
         Ok(())
     }
 }

@@ -1,44 +1,59 @@
-ghost use Rattle.std.specs.Prelude.{◌≡◌, ◌≤◌, ◌^◌, List, map, length, IfOk};
+ghost use Rattle.std.specs.Prelude.{◌≡◌, ℕ, ◌+◌, ◌-◌, ◌*◌, ◌≤◌, ◌^◌, List, map, length, slice_get, true, IfOk};
 ghost use Rattle.std.specs.Arc.{arc_value};
+ghost use Rattle.std.specs.List.{list_all};
+ghost use Rattle.std.specs.List.Sorted.{IsStrictlyIncreasing};
 ghost use Rattle.sc_record.specs.declared.write.Write.{Write};
 ghost use Rattle.sc_segment.specs.Carrying.{KeepsOrder};
 ghost use Rattle.sc_segment.specs.Index.{IsIndexOf};
+ghost use Rattle.sc_segment.specs.Joining.{has_row};
 ghost use Rattle.sc_snapshot.specs.Change.{IsChange};
 ghost use Rattle.sc_snapshot.specs.Edits.{edited, AreInOrder};
 ghost use Rattle.sc_snapshot.specs.Rows.{AreRows};
-ghost use Rattle.sc_snapshot.specs.Postings.{key_order, keyed_rows, IsIndexed};
+ghost use Rattle.sc_snapshot.specs.Postings.{has_id_alone, has_term, key_order, keyed_rows, term_count, without_ids, IsIndexed};
 
 use crate::change::Change;
 use crate::edits::Edit;
-use crate::filing::{file_terms, live_terms};
+use crate::filing::{file_others, live_terms};
+use crate::ids::{is_id_term, row_of_id};
 use crate::pieces::Pieces;
 use crate::survey::Survey;
 use crate::term_key::TermKey;
+use crate::whole::{next_whole, whole_of, whole_of_part};
 use sc_record::Cell;
-use sc_segment::{Builder, Segment};
+use sc_segment::{Builder, Segment, Steps};
 use std::alloc::{AllocError, Global};
+use std::sync::ledger::Ledger;
 
 /// What a search needs in place of looking at each row: for each term the live rows that have it, which rows are live, and between
-/// which hashes the rows' are.
+/// which hashes the rows' are. The terms of the field of ids are not filed, since rows ascend by their ids: where each live row has of
+/// these terms that of its own id alone, a row is found by it among the live rows.
 #[derive(Drop)]
 pub(crate) struct Index {
+    /// For each term but those of the field of ids the live rows that have it.
     pub(crate) segment: Segment<TermKey>,
+    /// The same for all terms, where some live row has not just its own id among those of the field; else None.
+    pub(crate) whole: Option<Segment<TermKey>>,
     pub(crate) survey: Survey,
 }
 
 impl Index {
-    /// The index of these rows. Each row is looked at, and each of its terms is filed. The only error is that memory was refused.
+    /// The index of these rows. Each row is looked at, and each of its other terms is filed. The only error is that memory was refused.
     pub(crate) fn of(alloc: Global, rows: &[Cell]) -> Result<Index, AllocError>
         requires { AreRows (map arc_value rows.now) }
         ensures { IfOk result (IsIndexed (map arc_value rows.now)) }
     {
         let segment = segment_of(alloc, rows)?;
+        let whole = whole_of(alloc, rows)?;
         let survey = Survey::of(alloc, rows)?;
-        Ok(Index { segment, survey })
+        Ok(Index {
+            segment,
+            whole,
+            survey,
+        })
     }
 
     /// The index of the new rows, which these edits make of the old ones, from that of the old ones: only the terms of the edits' rows
-    /// are filed. No other row is looked at. The only error is that memory was refused.
+    /// are filed. No other row is looked at, where rows are found by their own ids alone. The only error is that memory was refused.
     pub(crate) fn next(
         &self,
         alloc: Global,
@@ -54,8 +69,13 @@ impl Index {
         ensures { IfOk result (IsIndexed new.now) }
     {
         let segment = next_segment(alloc, &self.segment, old, edits)?;
+        let whole = next_whole(alloc, &self.whole, new, edits)?;
         let survey = self.survey.next(alloc, old, new, edits)?;
-        Ok(Index { segment, survey })
+        Ok(Index {
+            segment,
+            whole,
+            survey,
+        })
     }
 
     /// The index of these rows, which this change makes of the old ones, from that of the old ones: no term is filed but those of the
@@ -70,47 +90,79 @@ impl Index {
         requires rows { AreRows (map arc_value rows.now) }
         ensures { IfOk result (λ index. (old : List Write) → IsIndexed old self.now
             → IsChange old (map arc_value rows.now) (length old) (length (map arc_value rows.now)) change
+            → (list_all has_id_alone old ≡ true → list_all has_id_alone (map arc_value rows.now) ≡ true)
             → IsIndexed (map arc_value rows.now) index) }
     {
         let segment = carried_segment(alloc, &self.segment, change)?;
+        let whole = whole_of_part(alloc, &self.whole, rows)?;
         let survey = Survey::of(alloc, rows)?;
-        Ok(Index { segment, survey })
+        Ok(Index {
+            segment,
+            whole,
+            survey,
+        })
+    }
+
+    /// The numbers of the live rows that have the term. A step is one comparison of terms or of ids.
+    pub(crate) fn postings<L: Ledger>(
+        &self,
+        rows: &Pieces,
+        key: &TermKey,
+        steps: &mut Steps<L>,
+    ) -> &[u32]
+        requires indexed { IsIndexed rows.now self.now }
+        requires rows { AreRows rows.now }
+        ensures members { (number : ℕ) → has_row result.now number ≡ has_term key.now.term (slice_get rows.now number) }
+        ensures ascending { IsStrictlyIncreasing result.now }
+        ensures counted { steps.old ≤ steps.new }
+        ensures bound { 2 ^ (steps.new - steps.old) ≤ 2 * term_count rows.now + 1 }
+    {
+        match &self.whole {
+            Some(whole) => whole.postings(key, steps),
+            None if is_id_term(&key.term) => row_of_id(
+                rows,
+                self.survey.live_rows.as_slice(),
+                &key.term.key,
+                steps,
+            ),
+            None => self.segment.postings(key, steps),
+        }
     }
 }
 
-// The live rows of each term.
+// The live rows of each term but those of the field of ids.
 fn segment_of(alloc: Global, rows: &[Cell]) -> Result<Segment<TermKey>, AllocError>
     requires { AreRows (map arc_value rows.now) }
-    ensures { IfOk result (λ segment. IsIndexOf key_order (keyed_rows 0 (map arc_value rows.now)) segment) }
+    ensures { IfOk result (λ segment. IsIndexOf key_order (keyed_rows 0 (map without_ids (map arc_value rows.now))) segment) }
 {
     let mut builder = Builder::new(alloc);
     let mut number: u32 = 0;
     for row in rows {
-        file_terms(&mut builder, number, live_terms(row))?;
+        file_others(&mut builder, number, live_terms(row))?;
         number += 1;
     }
     builder.finish()
 }
 
-// The live rows of each term after the edits, from those of the old rows.
+// The same after the edits, from those of the old rows.
 fn next_segment(
     alloc: Global,
     segment: &Segment<TermKey>,
     old: &Pieces,
     edits: &[Edit],
 ) -> Result<Segment<TermKey>, AllocError>
-    requires terms { IsIndexOf key_order (keyed_rows 0 old.now) segment.now }
+    requires terms { IsIndexOf key_order (keyed_rows 0 (map without_ids old.now)) segment.now }
     requires in_order { AreInOrder (length old.now) 0 edits.now }
     requires old { length old.now ≤ 2 ^ 24 }
     requires new { length (edited old.now 0 edits.now) ≤ 2 ^ 24 }
-    ensures { IfOk result (IsIndexOf key_order (keyed_rows 0 (edited old.now 0 edits.now))) }
+    ensures { IfOk result (IsIndexOf key_order (keyed_rows 0 (map without_ids (edited old.now 0 edits.now)))) }
 {
     let change = Change::of(alloc, old, edits)?;
     let next = carried_segment(alloc, segment, change)?;
     Ok(next)
 }
 
-// The live rows of each term after the change, from those of the old rows.
+// The same after the change, from those of the old rows.
 fn carried_segment(
     alloc: Global,
     segment: &Segment<TermKey>,
@@ -118,7 +170,8 @@ fn carried_segment(
 ) -> Result<Segment<TermKey>, AllocError>
     requires { KeepsOrder change.moved.items }
     ensures { IfOk result (λ carried. (old new : List Write) → IsChange old new (length old) (length new) change
-        → IsIndexOf key_order (keyed_rows 0 old) segment.now → IsIndexOf key_order (keyed_rows 0 new) carried) }
+        → IsIndexOf key_order (keyed_rows 0 (map without_ids old)) segment.now
+        → IsIndexOf key_order (keyed_rows 0 (map without_ids new)) carried) }
 {
     let Change { moved, added } = change;
     let added = added.finish()?;

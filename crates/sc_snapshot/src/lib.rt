@@ -3,7 +3,8 @@
 //! It depends on `sc_hash`, on `sc_record` and on `sc_segment` for posting lists, and does no input and no output. The layers above take
 //! a `Snapshot` of the cells of a core, which a searcher searches by `postings`, `live`, `is_live` and `row`, and whose `Rows` a feed
 //! reads by `row`. At the next commit `Snapshot::next` makes the new snapshot of the last one and of the cells that changed: it shares
-//! the pieces of rows that no change falls into, carries the index over under new numbers, and files only what changed.
+//! the pieces of rows that no change falls into, carries the index over under new numbers, and files only what changed. The terms of ids
+//! are not filed where each live row has that of its own id alone of their field, and a row is then found by its id among the live rows.
 //! `Snapshot::within` has the rows of a range of hashes: it looks at each row, and carries the index over likewise. Contracts see both
 //! types as a `SnapshotState`, whose rows ascend and are at most 2^24.
 //!
@@ -23,6 +24,7 @@ mod change;
 mod cutting;
 mod edits;
 mod filing;
+mod ids;
 mod index;
 mod laws;
 mod part;
@@ -31,6 +33,7 @@ mod plain;
 mod snapshot;
 mod survey;
 mod term_key;
+mod whole;
 
 pub use laws::rows_are_each_of_one_id;
 pub use plain::Rows;

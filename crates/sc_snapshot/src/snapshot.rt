@@ -144,14 +144,14 @@ impl Snapshot {
         self.rows.row(at)
     }
 
-    /// The numbers of the live rows that have the term. A step is one comparison of terms.
+    /// The numbers of the live rows that have the term. A step is one comparison of terms, or of ids where the term is of the field of ids.
     pub fn postings<L: Ledger>(&self, key: &TermKey, steps: &mut Steps<L>) -> &[u32]
         ensures members { (number : ℕ) → has_row result.now number ≡ has_term key.now.term (slice_get self.now.rows number) }
         ensures ascending { IsStrictlyIncreasing result.now }
         ensures counted { steps.old ≤ steps.new }
         ensures bound { 2 ^ (steps.new - steps.old) ≤ 2 * term_count self.now.rows + 1 }
     {
-        self.index.segment.postings(key, steps)
+        self.index.postings(self.rows.pieces(), key, steps)
     }
 
     /// The numbers of the live rows, ascending. It takes no step.

@@ -1,9 +1,14 @@
 -- The rows of the range are rows, and the index that is carried over is theirs.
-use Rattle.std.proofs.Common.{◌≡◌, ℕ, List, filter, length, map, sym, ap, subst, ◌∙◌, arith}
+use Rattle.std.proofs.Common.{◌≡◌, ℕ, List, true, filter, length, map, sym, ap, subst, ◌∙◌, arith}
 use Rattle.std.proofs.lemmas.List.{length-map}
 use Rattle.std.specs.Arc.{arc_value}
+use Rattle.std.specs.List.{list_all}
 use Rattle.sc_record.specs.declared.write.Write.{Write}
+use Rattle.sc_snapshot.specs.Change.{IsChange}
+use Rattle.sc_snapshot.specs.Postings.{has_id_alone, IsIndexed}
 use Rattle.sc_snapshot.specs.Rows.{SnapshotState, AreRows, is_within}
+use Rattle.sc_snapshot.specs.declared.index.Index.{Index}
+use Rattle.sc_snapshot.proofs.IdLemmas.{alone-passing}
 use Rattle.sc_snapshot.proofs.NextLemmas.{keeps_order}
 use Rattle.sc_snapshot.proofs.PartLemmas.{rows-passing}
 use Rattle.sc_snapshot.proofs.snapshot.Snapshot.within.Goals as goal
@@ -43,3 +48,21 @@ returns c =
     c.in_ok-from_pieces.ensures
     ∙ ap (λ (n : ℕ). record { place = n; rows = c.in_ok-pieces.pieces }) place
     ∙ ap (λ (these : List Write). record { place = now.place; rows = these }) rows
+
+pub invariant_of-result : goal.invariant_of-result
+invariant_of-result c =
+    let test = is_within c.args.range.now in
+    let all = c.pieces.result.now in
+    let cells = c.as_slice.result.now in
+    let change = c.in_ok-cells.field-0.change in
+    let value = c.as_slice.ensures.value in
+    let some : map arc_value cells ≡ filter test all = ap (map arc_value) value ∙ c.in_ok-cells.ensures.cells in
+    let before : IsIndexed all c.deref.result.now = subst (λ (rows : List Write). IsIndexed rows c.deref.result.now) (sym c.pieces.ensures.rows)
+    (subst (λ (index : Index). IsIndexed c.self.inside.rows.rows index) (sym c.deref.ensures) c.self.invariant) in
+    let told : IsChange all (map arc_value cells) (length all) (length (map arc_value cells)) change =
+    subst (λ (rows : List Write). IsChange all rows (length all) (length rows) change) (sym some) c.in_ok-cells.ensures.change in
+    let after = c.in_ok-index.ensures all before told
+    (λ alone. subst (λ (rows : List Write). list_all has_id_alone rows ≡ true) (sym some) (alone-passing test all alone)) in
+    let rows = ap (λ (s : SnapshotState). s.rows) c.in_ok-from_pieces.ensures ∙ c.in_ok-pieces.ensures ∙ sym (ap (map arc_value) value) in
+    subst (λ (index : Index). IsIndexed c.in_ok-from_pieces.field-0.rows index) (sym c.in_ok-new.ensures.ok)
+    (subst (λ (these : List Write). IsIndexed these c.in_ok-index.index) (sym rows) after)

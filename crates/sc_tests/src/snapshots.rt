@@ -1,7 +1,8 @@
-//! `sc_snapshot`: the live rows of each term, by the index of a snapshot.
+//! `sc_snapshot`: the live rows of each term, by the index of a snapshot, or of its rows in a range of hashes.
 
 ghost use Rattle.sc_segment.specs.Fresh.{IsFresh};
 
+use sc_hash::Range;
 use sc_record::{Cell, CoreId, Doc, Id, List, SliceId, Term, Text, Write};
 use sc_replica::Replica;
 use sc_segment::Steps;
@@ -23,7 +24,7 @@ fn term(alloc: Global, word: &str) -> Result<Term, AllocError> {
 }
 
 /// A write of the id: a document that is found by these words, or a deletion.
-fn write(alloc: Global, id: &str, words: Option<&str>) -> Result<Cell, Fail> {
+fn write(alloc: Global, id: &str, hash: i32, words: Option<&str>) -> Result<Cell, Fail> {
     let mut terms = List::new(alloc);
     let mut doc = None;
     if let Some(words) = words {
@@ -36,7 +37,7 @@ fn write(alloc: Global, id: &str, words: Option<&str>) -> Result<Cell, Fail> {
         alloc,
         Write {
             id: Id::new(alloc, id)?,
-            hash: 0,
+            hash,
             version: 1,
             doc,
             terms,
@@ -44,20 +45,20 @@ fn write(alloc: Global, id: &str, words: Option<&str>) -> Result<Cell, Fail> {
     )?)
 }
 
-/// A core to which three writes came: of documents `a` and `c`, and of `b`, which was deleted.
+/// A core to which three writes came: of documents `a` and `c`, and of `b`, which was deleted. Their hashes are 1, 3 and 2.
 fn core(alloc: Global) -> Result<Replica, Fail> {
     let core = CoreId {
         slice: SliceId(0),
         replica: 1,
     };
     let mut replica = Replica::new(alloc, core, Mode::Active);
-    for (id, words) in [
-        ("c", Some("rust")),
-        ("b", None),
-        ("a", Some("action in rust")),
+    for (id, hash, words) in [
+        ("c", 3, Some("rust")),
+        ("b", 2, None),
+        ("a", 1, Some("action in rust")),
     ] {
         replica.reserve(1)?;
-        replica.feed(write(alloc, id, words)?);
+        replica.feed(write(alloc, id, hash, words)?);
     }
     Ok(replica)
 }
@@ -106,4 +107,33 @@ fn assert_live(rt: &impl Abort, snapshot: &Snapshot) {
 #[test]
 fn terms_have_their_live_rows(rt: HostRuntime) -> Result<(), Fail> {
     finds_live_rows::<Brand>(&rt, rt.alloc(), Blank::new(1))
+}
+
+/// The deletion and the last document, of which one row is live.
+fn finds_rows_of_range<L: Ledger>(rt: &impl Abort, alloc: Global, blank: Blank) -> Result<(), Fail>
+    requires { IsFresh blank L.name L.parts }
+{
+    let mut steps = Steps::<L>::new(blank);
+    let whole = snapshot(rt, alloc, &core(alloc)?)?;
+    let part = whole.within(alloc, &Range { min: 2, max: 3 })?;
+    assert_rows(rt, alloc, &part, "rust", &[1], &mut steps)?;
+    assert_rows(rt, alloc, &part, "action", &[], &mut steps)?;
+    assert_part(rt, &part);
+    Ok(())
+}
+
+/// Two rows are there, of which the first is a deletion, between the hashes of both.
+fn assert_part(rt: &impl Abort, part: &Snapshot) {
+    assert_eq!(rt; part.place(), 3);
+    assert_eq!(rt; part.rows(), 2);
+    assert!(rt; !part.is_live(0) && part.is_live(1));
+    let numbers: &[u32] = &[1];
+    assert_eq!(rt; part.live(), numbers);
+    assert_eq!(rt; part.least_hash(), 2);
+    assert_eq!(rt; part.greatest_hash(), 3);
+}
+
+#[test]
+fn a_part_has_the_rows_of_its_range(rt: HostRuntime) -> Result<(), Fail> {
+    finds_rows_of_range::<Brand>(&rt, rt.alloc(), Blank::new(1))
 }

@@ -47,6 +47,11 @@ begin_before_end from [] n i are within = absurd (omega arith)
 begin_before_end from (e ∷ es) n zero are within = are.0
 begin_before_end from (e ∷ es) n (suc i) are within = rw (← begin-rest from e es i) (begin_before_end e es n i are.1 (omega arith))
 
+-- no key's rows begin past all rows
+pub begin_within : (from : ℕ) (ends : List ℕ) (n i : ℕ) → AreEnds from ends n → i ≤ length ends → begin from ends i ≤ n
+begin_within from ends n zero are within = from_within from ends n are
+begin_within from ends n (suc i) are within = end_within from ends n i are (omega arith)
+
 pub AreEnds-more : (from : ℕ) (ends : List ℕ) (n m : ℕ) → n ≤ m → AreEnds from ends n → AreEnds from ends m
 AreEnds-more from [] n m le are = omega (arith, are, le)
 AreEnds-more from (e ∷ es) n m le are = (are.0, AreEnds-more e es n m le are.1)
@@ -179,6 +184,29 @@ module _ {K : Type 0} where
       let later = rows_among-begin e ks es rows i (omega (arith, same)) are.1 (omega arith) in
       let sum : rows_among (take (suc i) (entries_from from (k ∷ ks) (e ∷ es) rows)) ≡ length (slice_range rows from e) + rows_among (take i (entries_from e ks es rows)) = refl in
       (omega (arith, here, later, sum)) ∙ begin-rest from e es i
+
+  -- where the rows of a key begin, counted among the entries, by the case of the first one
+  pub start_counted : (keys : List K) (ends rows : List ℕ) (state : FlatState K) (at start : ℕ) (ends' : List ℕ) → length keys ≡ length ends → AreEnds 0 ends (length rows) → flat keys ends rows ≡ state
+      → at ≤ length state.entries → ends' ≡ ends → (at ≡ 0 → start ≡ 0) → (0 < at → start ≡ get_or ends' (at - 1) 0) → start ≡ rows_among (take at state.entries)
+  start_counted keys ends rows state at start ends' same are seen within as_ends first later =
+      let all = length-entries 0 keys ends rows same in
+      let long = ap (λ (s : FlatState K). length s.entries) seen in
+      let inside : at ≤ length ends = omega (arith, all, long, within) in
+      let starts : start ≡ begin 0 ends at = rw as_ends at (begin_from_clauses ends' at start first later) in
+      let counted = rows_among-begin 0 keys ends rows at same are inside in
+      let entries = ap (λ (s : FlatState K). rows_among (take at s.entries)) seen in
+      omega (arith, starts, counted, entries)
+
+  pub counted_within : (keys : List K) (ends rows : List ℕ) (state : FlatState K) (at : ℕ) → length keys ≡ length ends → AreEnds 0 ends (length rows) → flat keys ends rows ≡ state
+      → at ≤ length state.entries → rows_among (take at state.entries) ≤ length rows
+  counted_within keys ends rows state at same are seen within =
+      let all = length-entries 0 keys ends rows same in
+      let long = ap (λ (s : FlatState K). length s.entries) seen in
+      let inside : at ≤ length ends = omega (arith, all, long, within) in
+      let counted = rows_among-begin 0 keys ends rows at same are inside in
+      let entries = ap (λ (s : FlatState K). rows_among (take at s.entries)) seen in
+      let low = begin_within 0 ends (length rows) at are inside in
+      omega (arith, counted, entries, low)
 
   -- more keys have no fewer rows
   pub rows_among-rises : (es : List (K × List ℕ)) (i j : ℕ) → i ≤ j → rows_among (take i es) ≤ rows_among (take j es)

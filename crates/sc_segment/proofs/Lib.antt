@@ -1,5 +1,6 @@
 -- The lemmas of posting lists and live rows.
 pub mod AddingLemmas
+pub mod AheadLemmas
 pub mod BitsLemmas
 pub mod BoundsLemmas
 pub mod CarryLemmas

@@ -1,5 +1,5 @@
 -- The entries of an index in the order of their keys: the same entries, which a sort gives too where no two keys are equal.
-use Rattle.std.proofs.Common.{◌≡◌, ℕ, ◌+◌, ◌<◌, ◌≤◌, zero, suc, Bool, true, false, cond, true≢false, List, [], ◌∷◌, map, length, get_or, All, Contains, ◌⊎◌, inl, inr, ⊎_elim, Some, IsPermutation, IsSortedBy, unwrap_or, is_some, refl, sym, ap, subst, ◌∙◌, arith}
+use Rattle.std.proofs.Common.{◌≡◌, ℕ, ◌+◌, ◌<◌, ◌≤◌, suc, Bool, true, false, cond, true≢false, List, [], ◌∷◌, length, All, Contains, ⊎_elim, Some, IsPermutation, IsSortedBy, refl, sym, ap, subst, ◌∙◌, arith}
 use Rattle.std.proofs.lemmas.Cmp.{eq_by_cmp_equiv, tied_itself}
 use Rattle.std.proofs.lemmas.List.{get_or-map}
 use Rattle.std.proofs.lemmas.List.Sorted.{IsPermutation-refl, IsPermutation-cons, IsPermutation-swap, IsPermutation-trans, IsPermutation-sym, IsPermutation-map, All-permutation, Contains-permutation, length_permutation}
@@ -13,7 +13,7 @@ use Rattle.std.specs.Ordering.{is_eq, is_lt, is_gt, eq_by_cmp, ordering_reverse}
 use Rattle.std.specs.declared.cmp.Ordering.{Ordering}
 use Rattle.std.specs.declared.cmp.Ordering.TheVariants.{Less, Equal, Greater}
 use Rattle.sc_segment.proofs.MembersLemmas.{Contains-cases, Equal-from_is_eq}
-use Rattle.sc_segment.specs.Filing.{FilesRow, NoRowAbove, put_in_order, sorted_entries}
+use Rattle.sc_segment.specs.Filing.{FilesRow, put_in_order, sorted_entries}
 
 -- two tests that don't pass together, in either order
 turned : {A : Type 0} (s t : Bool) (a b c : A) → (s ≡ true → t ≡ true → ⊥) → cond s a (cond t b c) ≡ cond t b (cond s a c)

@@ -15,6 +15,10 @@ new_number moved row = slice_index_or moved row None
 abbrev pub new_numbers : List (Option ℕ) → List ℕ → List ℕ
 new_numbers moved rows = filter_map (new_number moved) rows
 
+-- each of these rows has a new number
+abbrev pub AreKept : List (Option ℕ) → List ℕ → Type 0
+AreKept moved rows = length (new_numbers moved rows) ≡ length rows
+
 -- the new numbers ascend as the old ones do
 abbrev pub KeepsOrder : List (Option ℕ) → Type 0
 KeepsOrder moved = IsStrictlyIncreasing (filter_map (λ number. number) moved)

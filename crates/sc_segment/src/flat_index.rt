@@ -5,7 +5,7 @@ ghost use Rattle.sc_segment.specs.Flat.{FlatState, IsLaidOut, AreAllClosed, Puts
 ghost use Rattle.sc_segment.specs.Index.{IsInOrder};
 
 use crate::key::Key;
-use crate::moving::push_moved;
+use crate::moving::{push_ahead, push_moved};
 use std::alloc::{AllocError, Global};
 use std::marker::Model;
 
@@ -177,7 +177,8 @@ fn start_of(ends: &[usize], at: usize) -> usize
     if at == 0 { 0 } else { ends[at - 1] }
 }
 
-// Carries the keys of an index from one place up to another to the three lists of another index, which have room for all of them.
+// Carries the keys of an index from one place up to another to the three lists of another index, which have room for all of them. Rows
+// are put there ahead of their keys, up to the first that is gone, so that many short lists cost as much as a long one.
 fn carry_range<K: Key + Drop>(
     keys: &mut Vec<K>,
     ends: &mut Vec<usize>,
@@ -204,49 +205,39 @@ fn carry_range<K: Key + Drop>(
 {
     let old_keys = old.keys.as_slice();
     let old_ends = old.ends.as_slice();
-    let old_rows = old.rows.as_slice();
-    let mut start = start_of(old_ends, from);
+    let old_rows = &old.rows.as_slice()[..start_of(old_ends, to)];
+    let mut passed = start_of(old_ends, from);
+    let mut start = rows.len();
     'carrying: for at in from..to {
-        let end = old_ends[at];
-        carry_key(
-            keys,
-            ends,
-            rows,
-            &old_keys[at],
-            &old_rows[start..end],
-            moved,
-        )?;
+        let old_end = old_ends[at];
+        passed = push_ahead(rows, old_rows, moved, passed, old_end);
+        let end = rows.len() - (passed - old_end);
+        put_key(keys, ends, &old_keys[at], start, end)?;
         start = end;
     }
     Ok(())
 }
 
-// Puts the new numbers of a key's rows at the end, and where there are any the key and where they end.
+// Puts a key that compares equal at the end, and where its rows end, unless it has none.
 #[inline(always)]
-fn carry_key<K: Key + Drop>(
+fn put_key<K: Key + Drop>(
     keys: &mut Vec<K>,
     ends: &mut Vec<usize>,
-    rows: &mut Vec<u32>,
     key: &K,
-    of_key: &[u32],
-    moved: &[Option<u32>],
+    start: usize,
+    end: usize,
 ) -> Result<(), AllocError>
     requires room_for_key { vec_len keys.old < vec_capacity keys.old }
     requires room_for_end { vec_len ends.old < vec_capacity ends.old }
-    requires room_for_rows { vec_len rows.old + length of_key.now ≤ vec_capacity rows.old }
-    ensures rows { rows.new.items ≡ rows.old.items ++ new_numbers moved.now of_key.now }
-    ensures ok { OnOk result (PutsKey K.order key.now (new_numbers moved.now of_key.now) (length rows.new.items)
-        (key_ends keys.old.items ends.old.items) (key_ends keys.new.items ends.new.items)) }
+    ensures ok { OnOk result ((rows : List ℕ) → end ≡ start + length rows
+        → PutsKey K.order key.now rows end (key_ends keys.old.items ends.old.items) (key_ends keys.new.items ends.new.items)) }
     ensures err { OnErr result ((keys.new.items ≡ keys.old.items) × (ends.new.items ≡ ends.old.items)) }
     ensures key_room { (vec_capacity keys.new ≡ vec_capacity keys.old) × (vec_len keys.new ≤ vec_len keys.old + 1) }
     ensures end_room { (vec_capacity ends.new ≡ vec_capacity ends.old) × (vec_len ends.new ≤ vec_len ends.old + 1) }
-    ensures row_room { (vec_capacity rows.new ≡ vec_capacity rows.old) × (vec_len rows.new ≤ vec_len rows.old + length of_key.now) }
 {
-    let start = rows.len();
-    push_moved(rows, of_key, moved);
-    if start < rows.len() {
+    if start < end {
         let shared = key.share()?;
-        ends.push_reserved(rows.len());
+        ends.push_reserved(end);
         keys.push_reserved(shared);
     }
     Ok(())

@@ -1,6 +1,8 @@
 ghost use Rattle.std.specs.Prelude.{◌≡◌, ℕ, ◌+◌, ◌≤◌, ◌++◌, length, take, slice_range, vec_len, vec_capacity};
 ghost use Rattle.sc_segment.specs.Carrying.{new_number, new_numbers, AreKept};
 
+use std::mem;
+
 /// The new number of a row, None where it has none.
 pub(crate) fn new_number(moved: &[Option<u32>], row: u32) -> Option<u32>
     ensures { result ≡ new_number moved.now row }
@@ -24,6 +26,7 @@ pub(crate) fn push_moved(list: &mut Vec<u32>, rows: &[u32], moved: &[Option<u32>
 
 /// Puts the new numbers of rows at the end of a list, which has room for all rows, up to the first row that has none. Gives how many
 /// rows stand before it.
+#[inline(always)]
 pub(crate) fn push_kept(list: &mut Vec<u32>, rows: &[u32], moved: &[Option<u32>]) -> usize
     requires { vec_len list.old + length rows.now ≤ vec_capacity list.old }
     ensures within { result ≤ length rows.now }
@@ -32,14 +35,31 @@ pub(crate) fn push_kept(list: &mut Vec<u32>, rows: &[u32], moved: &[Option<u32>]
     ensures capacity { vec_capacity list.new ≡ vec_capacity list.old }
     ensures len { vec_len list.new ≡ vec_len list.old + result }
 {
-    let start = list.len();
-    for row in rows {
-        match new_number(moved, *row) {
+    let empty = Vec::new(*list.allocator());
+    let (longer, count) = with_kept(mem::replace(list, empty), rows, moved);
+    *list = longer;
+    count
+}
+
+// The list after `push_kept`, and how many rows have a number. The list is the function's own, so that the loop keeps its length in a
+// register: behind a reference it would be read and written for each row.
+#[inline(always)]
+fn with_kept(list: Vec<u32>, rows: &[u32], moved: &[Option<u32>]) -> (Vec<u32>, usize)
+    requires { vec_len list + length rows.now ≤ vec_capacity list }
+    ensures within { result.1 ≤ length rows.now }
+    ensures items { result.0.items ≡ list.items ++ new_numbers moved.now (take result.1 rows.now) }
+    ensures kept { AreKept moved.now (take result.1 rows.now) }
+    ensures capacity { vec_capacity result.0 ≡ vec_capacity list }
+    ensures len { vec_len result.0 ≡ vec_len list + result.1 }
+{
+    let mut list = list;
+    for at in 0..rows.len() {
+        match new_number(moved, rows[at]) {
             Some(number) => list.push_reserved(number),
-            None => return list.len() - start,
+            None => return (list, at),
         }
     }
-    rows.len()
+    (list, rows.len())
 }
 
 /// Puts the new numbers of rows from one place on at the end of a list, at least up to another place, and from there on up to the first row

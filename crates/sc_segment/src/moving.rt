@@ -62,8 +62,8 @@ fn with_kept(list: Vec<u32>, rows: &[u32], moved: &[Option<u32>]) -> (Vec<u32>, 
     (list, rows.len())
 }
 
-/// Puts the new numbers of rows from one place on at the end of a list, at least up to another place, and from there on up to the first row
-/// that has none. Gives the place of that row, and nothing is done where the first place is no lower than the other one.
+/// Puts the new numbers of rows from one place on at the end of a list, at least up to another place, and from there on up to the first
+/// row that has none. Gives the place of that row, and does nothing where the first place is no lower than the other one.
 #[inline(always)]
 pub(crate) fn push_ahead(
     list: &mut Vec<u32>,
@@ -85,8 +85,31 @@ pub(crate) fn push_ahead(
     ensures len { vec_len list.new + from ≤ vec_len list.old + result }
 {
     if to <= from {
-        return from;
+        from
+    } else {
+        push_past(list, rows, moved, from, to)
     }
+}
+
+// The same where the first place is lower. It stands apart, so that the loop over keys that have all their rows stays small.
+#[inline(never)]
+fn push_past(
+    list: &mut Vec<u32>,
+    rows: &[u32],
+    moved: &[Option<u32>],
+    from: usize,
+    to: usize,
+) -> usize
+    requires rises { from ≤ to }
+    requires to { to ≤ length rows.now }
+    requires room { vec_len list.old + length rows.now ≤ vec_capacity list.old + from }
+    ensures reaches { to ≤ result }
+    ensures within { result ≤ length rows.now }
+    ensures items { list.new.items ≡ list.old.items ++ new_numbers moved.now (slice_range rows.now from result) }
+    ensures kept { AreKept moved.now (slice_range rows.now to result) }
+    ensures capacity { vec_capacity list.new ≡ vec_capacity list.old }
+    ensures len { vec_len list.new + from ≤ vec_len list.old + result }
+{
     push_moved(list, &rows[from..to], moved);
     to + push_kept(list, &rows[to..], moved)
 }

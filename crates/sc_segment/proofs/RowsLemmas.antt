@@ -1,13 +1,14 @@
 -- Rows that ascend, and rows that come again.
-use Rattle.std.proofs.Common.{◌≡◌, ℕ, ◌-◌, ◌==◌, Bool, false, List, [], ◌∷◌, ◌++◌, length, slice_get, Option, Some, None, not, nat_eq, refl, ap, arith}
+use Rattle.std.proofs.Common.{◌≡◌, ℕ, suc, ◌+◌, ◌-◌, ◌<◌, ◌≤◌, ◌==◌, ◌≢◌, Bool, false, List, [], ◌∷◌, ◌++◌, length, All, slice_get, Option, Some, unwrap_or, refl, sym, ap, ◌∙◌, arith}
 use native.Mathlib.Numerals.{unary_clauses}
 use Rattle.std.proofs.lemmas.Bool.Decides.{nat_tests}
 use Rattle.std.proofs.lemmas.Map.Keys.{sorted_head, sorted_tail, sorted_from_strictly_increasing}
+use Rattle.std.proofs.lemmas.Option.{slice_get-get_or, slice_get_within, get_or_from_slice_get}
 use Rattle.std.specs.declared.cmp.Ordering.TheVariants.{Less}
 use Rattle.std.specs.List.{dedup, dedup_from}
 use Rattle.std.specs.List.Sorted.{IsStrictlyIncreasing, IsStrictlySortedBy}
-use Rattle.std.specs.Option.{option_eq}
 use Rattle.std.specs.Ordering.{nat_cmp}
+use Rattle.sc_segment.proofs.JoinLemmas.{AscendFrom, ascend_from_increasing, increasing_from_ascend}
 
 -- whether two rows are one
 abbrev pub same : ℕ → ℕ → Bool
@@ -42,7 +43,34 @@ dedup-again (x ∷ xs) row up last =
     let at_end : slice_get (x ∷ xs) (length xs) ≡ Some row = simp unary_clauses at last in
     dedup_from-again x xs row (sorted_from_strictly_increasing (x ∷ xs) up) at_end
 
--- an optional row that compares equal to one is that row
-pub row_from_equal : (o : Option ℕ) (row : ℕ) → not (option_eq nat_eq o (Some row)) ≡ false → o ≡ Some row
-row_from_equal None row equal = cc
-row_from_equal (Some x) row equal = grind (arith, nat_tests)
+-- the last row of a list whose first row is this one
+pub last_row : (x : ℕ) (xs : List ℕ) (r : Option ℕ) → slice_get xs (length xs - 1) ≡ r → slice_get (x ∷ xs) (length (x ∷ xs) - 1) ≡ Some (unwrap_or r x)
+last_row x [] r last = rw (← last) refl
+last_row x (y ∷ ys) r last =
+    let there = slice_get-get_or (y ∷ ys) (length ys) x (omega arith) in
+    let at_end : slice_get (y ∷ ys) (length ys) ≡ r = simp unary_clauses at last in
+    let whole : slice_get (x ∷ y ∷ ys) (suc (length ys)) ≡ Some (unwrap_or r x) = rw (sym at_end ∙ there) there in
+    simp unary_clauses whole
+
+ascend-push : (low : ℕ) (xs : List ℕ) (row last : ℕ) → AscendFrom low xs → slice_get xs (length xs - 1) ≡ Some last → last < row → AscendFrom low (xs ++ row ∷ [])
+ascend-push low [] row last up at_end above = cc
+ascend-push low (x ∷ []) row last up at_end above =
+    let one : Some x ≡ Some last = at_end in
+    let same : x ≡ last = cc in
+    (up.0, (omega (arith, same, above), tt))
+ascend-push low (x ∷ y ∷ ys) row last up at_end above =
+    let there : slice_get (y ∷ ys) (length ys) ≡ Some last = simp unary_clauses at at_end in
+    let later : slice_get (y ∷ ys) (length (y ∷ ys) - 1) ≡ Some last = simp unary_clauses there in
+    (up.0, ascend-push (x + 1) (y ∷ ys) row last up.1 later above)
+
+-- a row above the last one keeps them ascending
+pub increasing-push : (xs : List ℕ) (row last : ℕ) → IsStrictlyIncreasing xs → slice_get xs (length xs - 1) ≡ Some last → last < row → IsStrictlyIncreasing (xs ++ row ∷ [])
+increasing-push xs row last up at_end above = increasing_from_ascend 0 (xs ++ row ∷ []) (ascend-push 0 xs row last (ascend_from_increasing xs up) at_end above)
+
+-- where no row is above this one, and the last one is not it, the last one is below it
+pub last_below : (xs : List ℕ) (row last : ℕ) → All (λ r. r ≤ row) xs → slice_get xs (length xs - 1) ≡ Some last → last ≢ row → last < row
+last_below xs row last all at_end apart =
+    let within : length xs - 1 < length xs = slice_get_within xs (length xs - 1) last at_end in
+    let value = get_or_from_slice_get xs (length xs - 1) last last at_end in
+    let bound = all (length xs - 1) last within in
+    omega (arith, value, bound, apart)

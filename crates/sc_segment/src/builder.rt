@@ -99,7 +99,9 @@ fn flattened<K: Drop>(
 {
     let mut index = FlatIndex::with_room(alloc, entries.len(), 0)?;
     for (key, list) in entries {
-        index.add_rows(list.as_slice())?;
+        let (first, later) = list.parts();
+        index.add_row(first)?;
+        index.add_rows(later)?;
         index.close(key)?;
     }
     Ok(index)
@@ -118,8 +120,7 @@ fn file_row<K: Ord + Hash + Drop>(
     match lists.get_mut(&key) {
         Some(list) => list.add(row),
         None => {
-            let list = PostingList::with_row(alloc, row)?;
-            lists.insert(key, list)?;
+            lists.insert(key, PostingList::with_row(alloc, row))?;
             Ok(())
         }
     }

@@ -38,5 +38,5 @@ returns-in_ok-insert-in-None-clause-ok g c =
     let entries = rw (put.old, same, ← c.in-None.ensures.value) at put.entries in
     let missed = rw one at c.in-None.ensures.value in
     let lists = rw (same, one) at put.updates.0 in
-    FilesRow-inserted g.K.Ord.cmp c.args.row c.args.key c.args.lists.now.entries c.insert.new.self.entries c.in_ok-list-in-None.list missed
-    c.in_ok-list-in-None.ensures entries len lists c.requires
+    FilesRow-inserted g.K.Ord.cmp c.args.row c.args.key c.args.lists.now.entries c.insert.new.self.entries c.with_row.result missed
+    c.with_row.ensures entries len lists c.requires

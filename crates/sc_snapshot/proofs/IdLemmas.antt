@@ -10,19 +10,20 @@ use Rattle.std.proofs.lemmas.Slice.Eq.{bytes_eq-Decides}
 use Rattle.std.specs.List.{list_all, list_any, AllByRecursion}
 use Rattle.std.specs.Ordering.{is_eq}
 use Rattle.std.specs.Str.{bytes_eq}
-use Rattle.sc_record.specs.Terms.{term_cmp}
 use Rattle.sc_record.specs.declared.term.Term.{Term}
 use Rattle.sc_record.specs.declared.write.Write.{Write}
 use Rattle.sc_record.specs.Writes.{AscendById}
-use Rattle.sc_record.proofs.TermLemmas.{same_term, same_term-ties, same_term-equal}
+use Rattle.sc_record.proofs.TermLemmas.{same_term, same_term-equal}
 use Rattle.sc_segment.proofs.JoinLemmas.{AscendFrom, ascend_from_increasing}
 use Rattle.sc_segment.specs.Index.{distinct_keys}
 use Rattle.sc_segment.specs.Joining.{has_row}
 use Rattle.sc_snapshot.specs.Edits.{put_in, edited, AreAbove, AreInOrder}
+use Rattle.sc_snapshot.specs.Keys.{key_cmp}
 use Rattle.sc_snapshot.specs.Postings.{key_order, keyed, keyed_rows, live_terms, has_term, term_count, is_live_at, is_live_of, is_id_term, is_no_other_id, is_id_alone, has_id_alone, AreIdsFound, other_terms, without_ids, AreLiveRows}
 use Rattle.sc_snapshot.specs.declared.edits.Edit.{Edit}
 use Rattle.sc_snapshot.specs.declared.term_key.TermKey.{TermKey}
 use Rattle.sc_snapshot.proofs.EditedLemmas.{each-edited}
+use Rattle.sc_snapshot.proofs.KeyLemmas.{same_key-ties}
 use Rattle.sc_snapshot.proofs.PartLemmas.{each-passing}
 use Rattle.sc_snapshot.proofs.PlaceLemmas.{Ascend, ascend-from, higher_id}
 
@@ -174,7 +175,7 @@ count ps = distinct_keys key_order ps
 
 -- one of these keys is of the term
 abbrev any_key : Term → List (ℕ × TermKey) → Bool
-any_key term ps = list_any (λ (q : ℕ × TermKey). is_eq (term_cmp term q.1.term)) ps
+any_key term ps = list_any (λ (q : ℕ × TermKey). is_eq (key_cmp term q.1.term)) ps
 
 more_or_not : (b : Bool) (x y : ℕ) → x ≤ y → x ≤ cond b y (y + 1)
 more_or_not true x y le = le
@@ -189,11 +190,11 @@ any-filter term other [] = refl
 any-filter term other (p ∷ ps) = by_field (any-filter term other ps) (is_id_term p.1.term) refl
   where
     by_field : any_key term (filter is_other ps) ≡ any_key term ps → (b : Bool) → is_id_term p.1.term ≡ b
-        → any_key term (cond (not (is_id_term p.1.term)) (p ∷ filter is_other ps) (filter is_other ps)) ≡ (is_eq (term_cmp term p.1.term) || any_key term ps)
+        → any_key term (cond (not (is_id_term p.1.term)) (p ∷ filter is_other ps) (filter is_other ps)) ≡ (is_eq (key_cmp term p.1.term) || any_key term ps)
     by_field rest true here =
-        let apart : is_eq (term_cmp term p.1.term) ≡ false = sym (same_term-ties term p.1.term) ∙ two_terms term p.1.term false other here in
+        let apart : is_eq (key_cmp term p.1.term) ≡ false = sym (same_key-ties term p.1.term) ∙ two_terms term p.1.term false other here in
         rw (here, apart) rest
-    by_field rest false there = rw there (ap (λ b. is_eq (term_cmp term p.1.term) || b) rest)
+    by_field rest false there = rw there (ap (λ b. is_eq (key_cmp term p.1.term) || b) rest)
 
 fewer : (ps : List (ℕ × TermKey)) → count (filter is_other ps) ≤ count ps
 fewer [] = omega arith
@@ -217,25 +218,25 @@ no_fewer (x ∷ xs) ys = more_or_not (any_key x.1.term (xs ++ ys)) (count ys) (c
 
 one_more : (term : Term) (xs ys : List (ℕ × TermKey)) → any_key term xs ≡ true → any_key term ys ≡ false → count ys + 1 ≤ count (xs ++ ys)
 one_more term [] ys has none = absurd (true≢false (sym has))
-one_more term (x ∷ xs) ys has none = by_key (λ later. one_more term xs ys later none) (is_eq (term_cmp term x.1.term)) refl has
+one_more term (x ∷ xs) ys has none = by_key (λ later. one_more term xs ys later none) (is_eq (key_cmp term x.1.term)) refl has
   where
     by_rest : (any_key term xs ≡ true → count ys + 1 ≤ count (xs ++ ys)) → term ≡ x.1.term → (b : Bool) → any_key term xs ≡ b → count ys + 1 ≤ count (x ∷ xs ++ ys)
     by_rest rest same true later = more_or_not (any_key x.1.term (xs ++ ys)) (count ys + 1) (count (xs ++ ys)) (rest later)
     by_rest rest same false first =
         let none_after : any_key x.1.term (xs ++ ys) ≡ false =
         ap (λ t. any_key t (xs ++ ys)) (sym same)
-        ∙ list_any-append (λ (q : ℕ × TermKey). is_eq (term_cmp term q.1.term)) xs ys ∙ rw (first, none) refl in
+        ∙ list_any-append (λ (q : ℕ × TermKey). is_eq (key_cmp term q.1.term)) xs ys ∙ rw (first, none) refl in
         let all = no_fewer xs ys in
         rw none_after (omega (arith, all))
 
-    by_key : (any_key term xs ≡ true → count ys + 1 ≤ count (xs ++ ys)) → (b : Bool) → is_eq (term_cmp term x.1.term) ≡ b → (b || any_key term xs) ≡ true
+    by_key : (any_key term xs ≡ true → count ys + 1 ≤ count (xs ++ ys)) → (b : Bool) → is_eq (key_cmp term x.1.term) ≡ b → (b || any_key term xs) ≡ true
         → count ys + 1 ≤ count (x ∷ xs ++ ys)
-    by_key rest true here _ = by_rest rest (same_term-equal term x.1.term (same_term-ties term x.1.term ∙ here)) (any_key term xs) refl
+    by_key rest true here _ = by_rest rest (same_term-equal term x.1.term (same_key-ties term x.1.term ∙ here)) (any_key term xs) refl
     by_key rest false there later = more_or_not (any_key x.1.term (xs ++ ys)) (count ys + 1) (count (xs ++ ys)) (rest later)
 
 any-keyed : (term : Term) (number : ℕ) (terms : List Term) → any_key term (keyed number terms) ≡ list_any (same_term term) terms
 any-keyed term number [] = refl
-any-keyed term number (t ∷ terms) = rw (any-keyed term number terms, ← same_term-ties term t) refl
+any-keyed term number (t ∷ terms) = rw (any-keyed term number terms, ← same_key-ties term t) refl
 
 -- the term of an id
 abbrev id_term : List ℕ → Term
@@ -252,7 +253,7 @@ none_above id from (row ∷ rows) above all =
     let here : any_key (id_term id) (keyed from (live_terms row)) ≡ false =
     any-keyed (id_term id) from (live_terms row) ∙ alone row parts.0 (id_term id) (itself (codes "id"))
     ∙ ap (λ b. is_some row.doc && b) (higher_id row.id id above.0) ∙ and-false (is_some row.doc) in
-    list_any-append (λ (q : ℕ × TermKey). is_eq (term_cmp (id_term id) q.1.term)) (keyed from (live_terms row)) (keyed_rows (from + 1) rows)
+    list_any-append (λ (q : ℕ × TermKey). is_eq (key_cmp (id_term id) q.1.term)) (keyed from (live_terms row)) (keyed_rows (from + 1) rows)
     ∙ rw (here, none_above id (from + 1) rows above.1 parts.1) refl
 
 same_number : (x : ℕ) → (x == x) ≡ true

@@ -1,4 +1,5 @@
 -- The lemmas of this crate.
+mod KeyLemmas
 mod RowLemmas
 mod PostingLemmas
 mod LoopLemmas

@@ -9,7 +9,6 @@ use Rattle.std.specs.Cmp.{both_ways, IsTotalOrder}
 use Rattle.std.specs.List.{filter_map, cons_option}
 use Rattle.std.specs.Option.{option_map}
 use Rattle.sc_record.specs.declared.write.Write.{Write}
-use Rattle.sc_record.proofs.TermLemmas.{term_cmp-total}
 use Rattle.std.proofs.lemmas.Cmp.{on_total}
 use Rattle.sc_segment.proofs.IndexLemmas.{rows_at-index, IsIndexOf-from_rows, rows_with-ascend}
 use Rattle.sc_segment.proofs.JoinLemmas.{AscendFrom, increasing_from_ascend}
@@ -21,6 +20,7 @@ use Rattle.sc_snapshot.specs.Postings.{key_order, keyed_rows, has_term, without_
 use Rattle.sc_snapshot.specs.declared.change.Change.{Change}
 use Rattle.sc_snapshot.specs.declared.term_key.TermKey.{TermKey}
 use Rattle.sc_snapshot.proofs.ChangeLemmas.{kept_at}
+use Rattle.sc_snapshot.proofs.KeyLemmas.{key_cmp-total}
 use Rattle.sc_snapshot.proofs.PostingLemmas.{has_row-term, has_row-new, rows_ascend}
 
 one_number : (x y : ℕ) → (x == y) ≡ true → x ≡ y
@@ -115,7 +115,7 @@ and_true false other h = absurd (true≢false (sym h))
 
 -- keys compare by their terms
 keys_total : IsTotalOrder key_order
-keys_total = on_total (λ (key : TermKey). key.term) term_cmp-total
+keys_total = on_total (λ (key : TermKey). key.term) key_cmp-total
 
 module _ (old new : List Write) (low high : ℕ) (change : Change) (is : IsChange old new low high change) where
   abbrev moved : List (Option ℕ)

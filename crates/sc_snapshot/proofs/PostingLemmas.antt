@@ -6,16 +6,17 @@ use Rattle.std.proofs.lemmas.List.Elements.{All-nil, All-cons}
 use Rattle.std.specs.List.{list_any}
 use Rattle.std.specs.List.Sorted.{IsNonDecreasingBy}
 use Rattle.std.specs.Ordering.{is_eq}
-use Rattle.sc_record.specs.Terms.{term_cmp}
 use Rattle.sc_record.specs.declared.term.Term.{Term}
 use Rattle.sc_record.specs.declared.write.Write.{Write}
-use Rattle.sc_record.proofs.TermLemmas.{same_term, same_term-ties}
+use Rattle.sc_record.proofs.TermLemmas.{same_term}
 use Rattle.sc_segment.proofs.HasRowLemmas.{has_row-rows_with}
 use Rattle.sc_segment.specs.Index.{rows_with}
 use Rattle.sc_segment.specs.Joining.{has_row}
 use Rattle.sc_snapshot.specs.Change.{is_kept, keyed_new}
+use Rattle.sc_snapshot.specs.Keys.{key_cmp}
 use Rattle.sc_snapshot.specs.Postings.{key_order, keyed, keyed_rows, live_terms, has_term}
 use Rattle.sc_snapshot.specs.declared.term_key.TermKey.{TermKey}
+use Rattle.sc_snapshot.proofs.KeyLemmas.{same_key-ties}
 
 -- the keys of one row more come last
 pub keyed_rows-push : (from : ℕ) (rows : List Write) (row : Write)
@@ -36,13 +37,13 @@ and-false false = refl
 module _ (term : Term) where
   -- the pair is of this row, and of the term
   abbrev is_wanted : ℕ → ℕ × TermKey → Bool
-  is_wanted number p = (p.0 == number) && is_eq (term_cmp term p.1.term)
+  is_wanted number p = (p.0 == number) && is_eq (key_cmp term p.1.term)
 
   keyed_any : (number at : ℕ) (terms : List Term)
       → list_any (is_wanted number) (keyed at terms) ≡ ((at == number) && list_any (same_term term) terms)
   keyed_any number at [] = elim (at == number) as (λ b. false ≡ (b && false)) [ true ↦ refl | false ↦ refl ]
   keyed_any number at (first ∷ terms) =
-      rw (keyed_any number at terms, ← same_term-ties term first)
+      rw (keyed_any number at terms, ← same_key-ties term first)
       (elim (at == number) as (λ b. ((b && same_term term first) || (b && list_any (same_term term) terms)) ≡ (b && (same_term term first || list_any (same_term term) terms))) [
         | true ↦ refl
         | false ↦ refl

@@ -1,4 +1,5 @@
 -- What the contracts of this crate cite, lowest first.
+pub mod Keys
 pub mod Rows
 pub mod Pieces
 pub mod Edits

@@ -4,19 +4,19 @@ use Rattle.std.specs.List.{list_all, list_any}
 use Rattle.std.specs.List.Sorted.{IsStrictlyIncreasing}
 use Rattle.std.specs.Str.{bytes_eq}
 use Rattle.std.specs.declared.cmp.Ordering.{Ordering}
-use Rattle.sc_record.specs.Terms.{term_cmp}
 use Rattle.sc_record.specs.declared.term.Term.{Term}
 use Rattle.sc_record.specs.declared.write.Write.{Write}
 use Rattle.sc_record.proofs.TermLemmas.{same_term}
 use Rattle.sc_segment.specs.Index.{IsIndexOf, distinct_keys}
 use Rattle.sc_segment.specs.Joining.{has_row}
+use Rattle.sc_snapshot.specs.Keys.{key_cmp}
 use Rattle.sc_snapshot.specs.declared.index.Index.{Index}
 use Rattle.sc_snapshot.specs.declared.survey.Survey.{Survey}
 use Rattle.sc_snapshot.specs.declared.term_key.TermKey.{TermKey}
 
--- the order of the keys is that of their terms
+-- the order of the keys
 abbrev pub key_order : TermKey → TermKey → Ordering
-key_order one other = term_cmp one.term other.term
+key_order one other = key_cmp one.term other.term
 
 -- a row's number with each of these terms as a key
 abbrev pub keyed : ℕ → List Term → List (ℕ × TermKey)

@@ -1,9 +1,12 @@
-ghost use Rattle.std.specs.Prelude.{◌≡◌, [], ◌∷◌, IfOk};
-ghost use Rattle.std.specs.Cmp.Lexicographic.{bytes_decides};
+ghost use Rattle.std.specs.Prelude.{◌≡◌, ◌&&◌, [], ◌∷◌, Some, refl, IfOk};
+ghost use Rattle.std.specs.Cmp.{partial_equiv_from_equiv, po};
+ghost use Rattle.std.specs.Cmp.Derive.{tie, then_tied};
+ghost use Rattle.std.specs.Cmp.Lexicographic.{slice_cmp, bytes_decides, nat_list_eq_equiv, texts_ties};
 ghost use Rattle.std.specs.Hash.{and-Alike, on_Alike, same_Alike};
-ghost use Rattle.std.proofs.lemmas.Cmp.{on_total};
-ghost use Rattle.sc_record.specs.Terms.{term_cmp};
-ghost use Rattle.sc_record.proofs.TermLemmas.{term_cmp-total};
+ghost use Rattle.std.specs.Ordering.{nat_cmp};
+ghost use Rattle.std.specs.Str.{bytes_eq};
+ghost use Rattle.std.proofs.lemmas.Cmp.{nat_list_cmp_total, and_equiv, on_equiv, on_total, then_total};
+ghost use Rattle.sc_snapshot.specs.Keys.{key_cmp};
 
 use sc_record::Term;
 use sc_segment::{Key, Steps};
@@ -12,8 +15,8 @@ use std::cmp::Ordering;
 use std::hash::{Hash, Hasher};
 use std::sync::ledger::Ledger;
 
-/// A term as a key of posting lists. Keys ascend as terms do.
-#[derive(Debug, Drop, PartialEq, Eq, PartialOrd, Ord)]
+/// A term as a key of posting lists. Keys ascend by their texts and then by their fields, since few keys have one text and many one field.
+#[derive(Debug, Drop)]
 pub struct TermKey {
     pub term: Term,
 }
@@ -33,25 +36,71 @@ impl TermKey {
     }
 }
 
+impl PartialEq for TermKey {
+    ghost eq = { λ a b. bytes_eq a.term.key b.term.key && bytes_eq a.term.field b.term.field };
+
+    ghost laws = { partial_equiv_from_equiv (and_equiv (on_equiv (λ a. a.term.key) nat_list_eq_equiv) (on_equiv (λ a. a.term.field) nat_list_eq_equiv)) };
+
+    fn eq(&self, other: &TermKey) -> bool {
+        self.term.key == other.term.key && self.term.field == other.term.field
+    }
+}
+
+impl Eq for TermKey {
+    ghost laws = { and_equiv (on_equiv (λ a. a.term.key) nat_list_eq_equiv) (on_equiv (λ a. a.term.field) nat_list_eq_equiv) };
+}
+
+impl PartialOrd for TermKey {
+    ghost partial_cmp = { λ a b. Some (key_cmp a.term b.term) };
+
+    ghost laws = { po (then_total (on_total (λ a. a.term.key) nat_list_cmp_total) (on_total (λ a. a.term.field) nat_list_cmp_total)) (then_tied
+        (tie (λ a b. slice_cmp nat_cmp a.term.key b.term.key) (λ a b. texts_ties a.term.key b.term.key))
+        (tie (λ a b. slice_cmp nat_cmp a.term.field b.term.field) (λ a b. texts_ties a.term.field b.term.field))).ties };
+
+    fn partial_cmp(&self, other: &TermKey) -> Option<Ordering> {
+        Some(self.cmp(other))
+    }
+}
+
+impl Ord for TermKey {
+    ghost cmp = { λ a b. key_cmp a.term b.term };
+
+    ghost total = { then_total (on_total (λ a. a.term.key) nat_list_cmp_total) (on_total (λ a. a.term.field) nat_list_cmp_total) };
+
+    ghost matches_partial_cmp = { λ a b. refl };
+
+    ghost matches_eq = { (then_tied
+        (tie (λ a b. slice_cmp nat_cmp a.term.key b.term.key) (λ a b. texts_ties a.term.key b.term.key))
+        (tie (λ a b. slice_cmp nat_cmp a.term.field b.term.field) (λ a b. texts_ties a.term.field b.term.field))).ties };
+
+    fn cmp(&self, other: &TermKey) -> Ordering {
+        match self.term.key.cmp(&other.term.key) {
+            Ordering::Less => Ordering::Less,
+            Ordering::Equal => self.term.field.cmp(&other.term.field),
+            Ordering::Greater => Ordering::Greater,
+        }
+    }
+}
+
 impl Hash for TermKey {
-    ghost hash_input = { λ a. a.term.field ∷ a.term.key ∷ [] };
+    ghost hash_input = { λ a. a.term.key ∷ a.term.field ∷ [] };
 
     ghost respects_eq = { (and-Alike
-        (on_Alike (λ a. a.term.field) (same_Alike (λ text. text ∷ []) bytes_decides))
-        (on_Alike (λ a. a.term.key) (same_Alike (λ text. text ∷ []) bytes_decides))).fed };
+        (on_Alike (λ a. a.term.key) (same_Alike (λ text. text ∷ []) bytes_decides))
+        (on_Alike (λ a. a.term.field) (same_Alike (λ text. text ∷ []) bytes_decides))).fed };
 
     fn hash<H: Hasher>(&self, state: &mut H) {
-        state.write(self.term.field.as_str().as_bytes());
         state.write(self.term.key.as_str().as_bytes());
+        state.write(self.term.field.as_str().as_bytes());
     }
 }
 
 impl Key for TermKey {
-    ghost order = { λ a b. term_cmp a.term b.term };
+    ghost order = { λ a b. key_cmp a.term b.term };
 
     fn compare<L: Ledger>(&self, other: &Self, steps: &mut Steps<L>) -> Ordering {
         steps.tick();
-        self.term.cmp(&other.term)
+        self.cmp(other)
     }
 
     #[inline(always)]
@@ -60,5 +109,5 @@ impl Key for TermKey {
         Ok(key)
     }
 
-    ghost total = { on_total (λ a. a.term) term_cmp-total };
+    ghost total = { then_total (on_total (λ a. a.term.key) nat_list_cmp_total) (on_total (λ a. a.term.field) nat_list_cmp_total) };
 }

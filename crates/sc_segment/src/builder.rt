@@ -76,8 +76,8 @@ impl<K: Key + Ord + Hash + Drop> Builder<K> {
     }
 }
 
-// The keys with their rows, in the order of the keys.
-fn sorted<K: Ord + Hash + Drop>(
+// The keys with their rows, in the order of the keys. Few keys are compared where they are nearly in order by their ranks.
+fn sorted<K: Key + Ord + Hash + Drop>(
     alloc: Global,
     lists: HashMap<K, PostingList>,
 ) -> Result<Vec<(K, PostingList)>, AllocError>
@@ -85,6 +85,7 @@ fn sorted<K: Ord + Hash + Drop>(
     ensures ascending { IfOk result (λ entries. IsStrictlySortedBy K.cmp (keys_of entries.items)) }
 {
     let mut entries: Vec<(K, PostingList)> = lists.into_iter().collect(alloc)?;
+    entries.sort_by_cached_key(|entry| entry.0.rank())?;
     entries.sort_by(|left, right| left.0.cmp(&right.0))?;
     Ok(entries)
 }

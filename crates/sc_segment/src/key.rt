@@ -21,5 +21,11 @@ pub trait Key: Sized {
     fn share(&self) -> Result<Self, AllocError>
         ensures { IfOk result (λ shared. order self.now shared ≡ Equal) };
 
+    /// A number by which a builder sorts keys before it compares them. Nothing but time depends on it: the more often of two keys the
+    /// lesser one has the lesser number, the fewer keys are compared.
+    fn rank(&self) -> u128 {
+        0
+    }
+
     ghost total: { IsTotalOrder order };
 }

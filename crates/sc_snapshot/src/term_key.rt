@@ -1,4 +1,4 @@
-ghost use Rattle.std.specs.Prelude.{◌≡◌, ◌&&◌, [], ◌∷◌, Some, refl, IfOk};
+ghost use Rattle.std.specs.Prelude.{◌≡◌, ◌&&◌, [], ◌∷◌, length, min, take, Some, refl, IfOk};
 ghost use Rattle.std.specs.Cmp.{partial_equiv_from_equiv, po};
 ghost use Rattle.std.specs.Cmp.Derive.{tie, then_tied};
 ghost use Rattle.std.specs.Cmp.Lexicographic.{slice_cmp, bytes_decides, nat_list_eq_equiv, texts_ties};
@@ -14,6 +14,11 @@ use std::alloc::AllocError;
 use std::cmp::Ordering;
 use std::hash::{Hash, Hasher};
 use std::sync::ledger::Ledger;
+
+/// How many bytes a rank has, and how many of them are of the text.
+const RANK_LENGTH: usize = 16;
+
+const RANKED_TEXT_LENGTH: usize = 10;
 
 /// A term as a key of posting lists. Keys ascend by their texts and then by their fields, since few keys have one text and many one field.
 #[derive(Debug, Drop)]
@@ -103,6 +108,14 @@ impl Key for TermKey {
         self.cmp(other)
     }
 
+    /// The first bytes of the text and of the field: of two terms the lesser one has the lesser number, but where long texts begin alike.
+    fn rank(&self) -> u128 {
+        let mut bytes = [0; RANK_LENGTH];
+        put_front(&mut bytes[..RANKED_TEXT_LENGTH], self.term.key.as_str());
+        put_front(&mut bytes[RANKED_TEXT_LENGTH..], self.term.field.as_str());
+        u128::from_be_bytes(bytes)
+    }
+
     #[inline(always)]
     fn share(&self) -> Result<Self, AllocError> {
         let key = TermKey::of(&self.term)?;
@@ -110,4 +123,12 @@ impl Key for TermKey {
     }
 
     ghost total = { then_total (on_total (λ a. a.term.key) nat_list_cmp_total) (on_total (λ a. a.term.field) nat_list_cmp_total) };
+}
+
+// Puts as much of the text in the room as it has place for.
+fn put_front(room: &mut [u8], text: &str)
+    ensures { take (min (length room.old) (length text.now)) room.new ≡ take (min (length room.old) (length text.now)) text.now }
+{
+    let count = room.len().min(text.len());
+    room[..count].copy_from_slice(&text.as_bytes()[..count]);
 }

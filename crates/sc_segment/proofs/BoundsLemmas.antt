@@ -55,6 +55,19 @@ FilesRow-inserted {K} cmp row key old new w missed is_w entries len lists bound 
       up_to = All-permutation P ((key, w) ∷ old) new entries (All-cons P (key, w) old here bound);
     }
 
+-- the same, by a test of keys that answers as the order does
+pub FilesRow-written_by : {K : Type 0} (eq : K → K → Bool) (cmp : K → K → Ordering) → eq ≡ eq_by_cmp cmp → (row : ℕ) (key : K) (old new : List (K × List ℕ)) (rows w : List ℕ)
+    → lookup (eq key) old ≡ Some rows → w ≡ dedup (λ x y. x == y) (rows ++ row ∷ []) → new ≡ set_value (eq key) old w → length new ≡ length old
+    → ((q : K) → lookup (eq q) new ≡ cond (eq key q) (Some w) (lookup (eq q) old)) → NoRowAbove row old → FilesRow cmp row key old new
+FilesRow-written_by eq cmp same row key old new rows w found is_w entries len lists bound =
+    FilesRow-written cmp row key old new rows w (rw same at (sym found)) is_w (rw same at entries) len (rw same at lists) bound
+
+pub FilesRow-inserted_by : {K : Type 0} (eq : K → K → Bool) (cmp : K → K → Ordering) → eq ≡ eq_by_cmp cmp → (row : ℕ) (key : K) (old new : List (K × List ℕ)) (w : List ℕ)
+    → lookup (eq key) old ≡ None → w ≡ row ∷ [] → IsPermutation ((key, w) ∷ old) new → length new ≡ length old + 1
+    → ((q : K) → lookup (eq q) new ≡ cond (eq key q) (Some w) (lookup (eq q) old)) → NoRowAbove row old → FilesRow cmp row key old new
+FilesRow-inserted_by eq cmp same row key old new w missed is_w entries len lists bound =
+    FilesRow-inserted cmp row key old new w (rw same at (sym missed)) is_w entries len (rw same at lists) bound
+
 pub OnOk_then : {T E : Type 0} {P Q : Type 0} (r : Result T E) → (P → Q) → OnOk r P → OnOk r Q
 OnOk_then (Ok x) f h = f h
 OnOk_then (Err e) f h = h

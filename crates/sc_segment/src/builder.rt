@@ -11,6 +11,7 @@ use crate::posting_list::PostingList;
 use crate::segment::Segment;
 use std::alloc::{AllocError, Global};
 use std::collections::HashMap;
+use std::collections::hash_map::Entry;
 use std::hash::Hash;
 use std::marker::Model;
 
@@ -118,10 +119,10 @@ fn file_row<K: Ord + Hash + Drop>(
     ensures ok { OnOk result (FilesRow K.cmp row key lists.old.entries lists.new.entries) }
     ensures err { OnErr result (IsUnchanged lists.old lists.new) }
 {
-    match lists.get_mut(&key) {
-        Some(list) => list.add(row),
-        None => {
-            lists.insert(key, PostingList::with_row(alloc, row))?;
+    match lists.entry(key)? {
+        Entry::Occupied(entry) => entry.into_mut().add(row),
+        Entry::Vacant(entry) => {
+            entry.insert(PostingList::with_row(alloc, row));
             Ok(())
         }
     }

@@ -4,6 +4,7 @@ ghost use Rattle.std.specs.List.Sorted.{IsStrictlySortedBy};
 ghost use Rattle.std.specs.Map.{keys_of};
 ghost use Rattle.sc_segment.specs.Index.{IsIndexOf, HasRows};
 ghost use Rattle.sc_segment.specs.Filing.{NoRowAbove, FilesRow, sorted_entries};
+ghost use Rattle.sc_segment.specs.Flat.{rows_among};
 
 use crate::flat_index::FlatIndex;
 use crate::key::Key;
@@ -99,7 +100,7 @@ fn flattened<K: Drop>(
     ensures entries { IfOk result (λ index. index.entries ≡ entries.items) }
     ensures rows { IfOk result (λ index. All HasRows index.entries) }
 {
-    let mut index = FlatIndex::with_room(alloc, entries.len(), 0)?;
+    let mut index = FlatIndex::with_room(alloc, entries.len(), count_rows(entries.as_slice()))?;
     for (key, list) in entries {
         let (first, later) = list.parts();
         index.add_row(first)?;
@@ -107,6 +108,17 @@ fn flattened<K: Drop>(
         index.close(key)?;
     }
     Ok(index)
+}
+
+// How many rows all keys have, but no more than can be counted.
+fn count_rows<K>(entries: &[(K, PostingList)]) -> usize
+    ensures { result ≤ rows_among entries.now }
+{
+    let mut count: usize = 0;
+    for (_, list) in entries {
+        count = count.saturating_add(list.len());
+    }
+    count
 }
 
 fn file_row<K: Ord + Hash + Drop>(

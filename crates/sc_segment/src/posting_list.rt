@@ -50,6 +50,13 @@ impl PostingList {
         self.later.last().copied().unwrap_or(self.first)
     }
 
+    /// How many rows there are.
+    pub(crate) fn len(&self) -> usize
+        ensures { result ≡ length self.now }
+    {
+        self.later.len() + 1
+    }
+
     /// The first row, and those that follow it.
     pub(crate) fn parts(&self) -> (u32, &[u32])
         ensures rows { result.0 ∷ result.1.now ≡ self.now }

@@ -155,6 +155,16 @@ module _ (old new : List Write) (low high : ℕ) (change : Change) (is : IsChang
       read : (place : ℕ) (x : Option ℕ) → slice_get next.moved.items place ≡ Some x → slice_get (moved ++ o ∷ []) place ≡ Some x
       read place x is = ap (λ (os : List (Option ℕ)). slice_get os place) (sym pushed) ∙ is
 
+  -- nothing more is told, where the list got room alone
+  pub same-step : (next : Change) → next.moved.items ≡ moved → next.added ≡ change.added → IsChange old new low high next
+  same-step next items same = record {
+    told = rw items is.told;
+    kept = rw items is.kept;
+    ascending = rw items is.ascending;
+    filed = rw (items, same) is.filed;
+    last_row = rw same is.last_row;
+  }
+
   -- the next old row is not kept
   pub leave-step : (next : Change) → next.moved.items ≡ moved ++ None ∷ [] → next.added ≡ change.added → IsChange old new (low + 1) high next
   leave-step next pushed same = record {

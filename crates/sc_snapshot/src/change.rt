@@ -86,8 +86,10 @@ impl Change {
             → IsChange old new to (number + (to - from)) self.new) }
         ensures added { OnOk result (self.new.added ≡ self.old.added) }
     {
+        self.moved.reserve(to - from)?;
         for row in from..to {
-            self.keep((number + (row - from)) as u32)?;
+            self.moved
+                .push_reserved(Some((number + (row - from)) as u32));
         }
         Ok(())
     }

@@ -161,10 +161,7 @@ impl Cutting {
     fn copy_cells(&mut self, cells: &[Cell]) -> Result<(), AllocError>
         ensures { OnOk result (self.new ≡ self.old ++ map arc_value cells.now) }
     {
-        for cell in cells {
-            self.push(cell)?;
-        }
-        Ok(())
+        push_shares(&mut self.loose, cells)
     }
 
     // All pieces.
@@ -182,8 +179,46 @@ impl Cutting {
     }
 }
 
-// Puts the cells at the end in pieces, as few as may be and of one size but for the last.
+// Puts a share of each of these cells at the end. Room is made once for all of them.
+fn push_shares(list: &mut Vec<Cell>, cells: &[Cell]) -> Result<(), AllocError>
+    ensures { OnOk result (map arc_value list.new.items ≡ map arc_value list.old.items ++ map arc_value cells.now) }
+{
+    list.reserve(cells.len())?;
+    for cell in cells {
+        let share = Arc::try_clone(cell)?;
+        list.push_reserved(share);
+    }
+    Ok(())
+}
+
+// Puts the cells at the end in pieces, as few as may be and of one size but for the last. Where they fit into one piece they are it as
+// they are.
 fn cut(pieces: &mut Pieces, alloc: Global, cells: Vec<Cell>) -> Result<(), AllocError>
+    requires { length pieces.old + length cells.items ≤ 2 ^ 24 }
+    ensures { OnOk result (pieces.new ≡ pieces.old ++ map arc_value cells.items) }
+{
+    if cells.len() <= MOST {
+        push_all(pieces, alloc, cells)
+    } else {
+        cut_many(pieces, alloc, cells)
+    }
+}
+
+// Puts the cells at the end as one piece, where there are any.
+fn push_all(pieces: &mut Pieces, alloc: Global, cells: Vec<Cell>) -> Result<(), AllocError>
+    requires { length pieces.old + length cells.items ≤ 2 ^ 24 }
+    ensures { OnOk result (pieces.new ≡ pieces.old ++ map arc_value cells.items) }
+{
+    if !cells.is_empty() {
+        let mut piece = cells;
+        piece.shrink_to_fit();
+        push_piece(pieces, alloc, piece)?;
+    }
+    Ok(())
+}
+
+// Puts the cells at the end in pieces of one size, but for the last.
+fn cut_many(pieces: &mut Pieces, alloc: Global, cells: Vec<Cell>) -> Result<(), AllocError>
     requires { length pieces.old + length cells.items ≤ 2 ^ 24 }
     ensures { OnOk result (pieces.new ≡ pieces.old ++ map arc_value cells.items) }
 {

@@ -90,6 +90,7 @@ impl Survey {
     }
 
     // Marks the next row as live or not.
+    #[inline(always)]
     fn mark(&mut self, number: u32, is_live: bool) -> Result<(), AllocError>
         requires { number < length self.old.live_bits }
         ensures surveyed { OnOk result ((rows : List Write) → AreSurveyed rows number self.old → number < length rows
@@ -103,6 +104,7 @@ impl Survey {
     }
 
     // The same, as what becomes of both lists.
+    #[inline(always)]
     fn note(&mut self, number: u32, is_live: bool) -> Result<(), AllocError>
         requires { number < length self.old.live_bits }
         ensures live_rows { OnOk result (self.new.live_rows.items

@@ -1,5 +1,5 @@
--- So far the first of these old rows are told.
-use Rattle.std.proofs.Common.{◌≡◌, ℕ, ◌+◌, ◌-◌, ◌<◌, ◌≤◌, List, length, slice_get}
+-- So far the first of these old rows are told, and there is room for the others.
+use Rattle.std.proofs.Common.{◌≡◌, ℕ, ◌+◌, ◌-◌, ◌<◌, ◌≤◌, List, length, slice_get, vec_len, vec_capacity}
 use Rattle.sc_record.specs.declared.write.Write.{Write}
 use Rattle.sc_snapshot.specs.Change.{IsChange}
 use Rattle.sc_snapshot.proofs.change.Change.keep_all.Given as goal
@@ -10,4 +10,5 @@ invariant-loop-row l = record {
       → ((k : ℕ) → k < l.to - l.from → slice_get old (l.from + k) ≡ slice_get new (l.number + k))
       → IsChange old new l.row (l.number + (l.row - l.from)) l.self;
   added : l.self.added ≡ l.fn.self.added;
+  room : vec_len l.self.moved + l.to ≤ vec_capacity l.self.moved + l.row;
 }

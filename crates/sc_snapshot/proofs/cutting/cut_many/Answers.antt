@@ -3,7 +3,7 @@ use Rattle.std.proofs.Common.{◌≡◌, ◌+◌, ◌<◌, List, ◌∷◌, ◌+
 use Rattle.std.proofs.lemmas.List.{length-map}
 use Rattle.sc_record.specs.declared.write.Write.{Write}
 use Rattle.std.specs.Arc.{arc_value}
-use Rattle.sc_snapshot.proofs.cutting.cut.Goals as goal
+use Rattle.sc_snapshot.proofs.cutting.cut_many.Goals as goal
 
 -- the rows so far are as many as the first pieces' and the first cells
 counted : {C : Type 0} (value : C → Write) (pieces before : List Write) (piece yielded rest all : List C)

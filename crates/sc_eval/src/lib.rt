@@ -14,7 +14,7 @@
 //!
 //! Tested alone: the worked queries.
 //!
-//! Neither: speed; how long a join of two lists takes; that no posting list is copied to be joined holds by construction.
+//! Neither: speed; how long a join of two lists takes; that no posting list is copied, to be joined or to be found, holds by construction.
 #![tactic(auto)]
 
 // Why a query can't be bound.
@@ -37,4 +37,5 @@ pub use binder::bind;
 pub use bound::Bound;
 pub use fault::BindFault;
 pub use laws::{queries_are_bound_or_at_fault, queries_find_as_logic_says};
+pub use numbers::Numbers;
 pub use searcher::{evaluate, find};

@@ -1,17 +1,19 @@
-ghost use Rattle.std.specs.Prelude.{◌≡◌, IfOk};
+ghost use Rattle.std.specs.Prelude.{◌≡◌, take};
 ghost use Rattle.sc_eval.specs.Numbers.{numbers_of};
 
-use std::alloc::{AllocError, Global};
+/// Room for so many numbers is worth giving back.
+const MUCH_ROOM: usize = 64;
 
-/// The numbers of rows, ascending: a list that an index keeps, or one that was made.
+/// The numbers of rows, ascending: a list that an index lends, or one that was made.
 #[derive(Drop)]
-pub(crate) enum Numbers<'a> {
+pub enum Numbers<'a> {
     Lent(&'a [u32]),
     Made(Vec<u32>),
 }
 
-impl Numbers<'_> {
-    pub(crate) fn as_slice(&self) -> &[u32]
+impl<'a> Numbers<'a> {
+    /// The numbers, whoever keeps them.
+    pub fn as_slice(&self) -> &[u32]
         ensures { result.now ≡ numbers_of self.now }
     {
         match self {
@@ -20,13 +22,25 @@ impl Numbers<'_> {
         }
     }
 
-    /// The numbers as a list of its own: those that are lent are copied. The only error is that memory was refused.
-    pub(crate) fn into_vec(self, alloc: Global) -> Result<Vec<u32>, AllocError>
-        ensures { IfOk result (λ numbers. numbers.items ≡ numbers_of self.entry) }
+    /// The first of the numbers, `most` of them or all. A list that is lent stays lent; of one that was made the room that is not needed is
+    /// given back where it is much.
+    pub fn limited_to(self, most: usize) -> Numbers<'a>
+        ensures { numbers_of result ≡ take most (numbers_of self.entry) }
     {
         match self {
-            Numbers::Lent(numbers) => Vec::from_slice(alloc, numbers),
-            Numbers::Made(numbers) => Ok(numbers),
+            Numbers::Lent(numbers) => Numbers::Lent(&numbers[..most.min(numbers.len())]),
+            Numbers::Made(numbers) => Numbers::Made(cut(numbers, most)),
         }
     }
+}
+
+// The first of the numbers. Room that they do not need is given back where it is much.
+fn cut(mut numbers: Vec<u32>, most: usize) -> Vec<u32>
+    ensures { result.items ≡ take most numbers.items }
+{
+    numbers.truncate(most);
+    if numbers.capacity().saturating_sub(numbers.len()) >= MUCH_ROOM {
+        numbers.shrink_to_fit();
+    }
+    numbers
 }

@@ -9,10 +9,11 @@ ghost use Rattle.sc_journal.specs.Legal.{HasTerms};
 ghost use Rattle.sc_segment.specs.Joining.{has_row};
 ghost use Rattle.sc_eval.specs.Criteria.{criterion_of};
 ghost use Rattle.sc_eval.specs.Matching.{finds};
-ghost use Rattle.sc_eval.specs.Numbers.{finds_at, row_in, AreStepsOfSearch};
+ghost use Rattle.sc_eval.specs.Numbers.{finds_at, numbers_of, row_in, AreStepsOfSearch};
 
 use crate::bound::Bound;
 use crate::matching::matching;
+use crate::numbers::Numbers;
 use sc_hash::Range;
 use sc_record::{Cell, List};
 use sc_segment::Steps;
@@ -22,25 +23,25 @@ use std::sync::Arc;
 use std::sync::ledger::Ledger;
 
 /// The numbers of the rows that the query finds in the range, counted from 0 and ascending, so in the order of their ids. A step
-/// is one comparison of terms, or one row that is read: none is where the hashes of all rows are in the range. The only error is
-/// that memory was refused.
-pub fn find<L: Ledger>(
+/// is one comparison of terms, or one row that is read: none is where the hashes of all rows are in the range, and then the posting
+/// list of a term is lent as it is. The only error is that memory was refused.
+pub fn find<'a, L: Ledger>(
     alloc: Global,
     query: &Bound,
-    snapshot: &Snapshot,
+    snapshot: &'a Snapshot,
     range: &Range,
     steps: &mut Steps<L>,
-) -> Result<Vec<u32>, AllocError>
+) -> Result<Numbers<'a>, AllocError>
     requires { All (λ (row : Write). HasTerms row.id row.doc row.terms) snapshot.now.rows }
     ensures members { IfOk result (λ found. (number : ℕ)
-        → has_row found.items number ≡ finds_at range.now (criterion_of query.now) (slice_get snapshot.now.rows number)) }
-    ensures ascending { IfOk result (λ found. IsStrictlyIncreasing found.items) }
+        → has_row (numbers_of found) number ≡ finds_at range.now (criterion_of query.now) (slice_get snapshot.now.rows number)) }
+    ensures ascending { IfOk result (λ found. IsStrictlyIncreasing (numbers_of found)) }
     ensures counted { steps.old ≤ steps.new }
     ensures bound { AreStepsOfSearch (criterion_of query.now) snapshot.now.rows (steps.new - steps.old) }
 {
     let numbers = matching(alloc, query, snapshot, steps)?;
     if has_all(range, snapshot) {
-        return numbers.into_vec(alloc);
+        return Ok(numbers);
     }
     numbers_in(alloc, snapshot, range, numbers.as_slice(), steps)
 }
@@ -71,15 +72,15 @@ fn has_all(range: &Range, snapshot: &Snapshot) -> bool
 }
 
 // Those of the numbers whose rows have their hashes in the range. Each row is read.
-fn numbers_in<L: Ledger>(
+fn numbers_in<'a, L: Ledger>(
     alloc: Global,
     snapshot: &Snapshot,
     range: &Range,
     numbers: &[u32],
     steps: &mut Steps<L>,
-) -> Result<Vec<u32>, AllocError>
+) -> Result<Numbers<'a>, AllocError>
     ensures found { IfOk result (λ found.
-        found.items ≡ filter (λ number. is_some (row_in range.now (slice_get snapshot.now.rows number))) numbers.now) }
+        numbers_of found ≡ filter (λ number. is_some (row_in range.now (slice_get snapshot.now.rows number))) numbers.now) }
     ensures counted { steps.old ≤ steps.new }
     ensures bound { steps.new ≤ steps.old + length numbers.now }
 {
@@ -89,7 +90,7 @@ fn numbers_in<L: Ledger>(
             found.push(*number)?;
         }
     }
-    Ok(found)
+    Ok(Numbers::Made(found))
 }
 
 // The rows of the numbers, each shared, where their hashes are in the range. Each row is read.

@@ -8,6 +8,7 @@ use Rattle.std.proofs.lemmas.List.Elements.{recursion_from_All}
 use Rattle.sc_record.specs.declared.write.Write.{Write}
 use Rattle.sc_bucket.specs.declared.standing.Searcher.{Searcher}
 use Rattle.sc_eval.specs.Criteria.{Criterion}
+use Rattle.sc_eval.specs.Numbers.{numbers_of}
 use Rattle.sc_fanout.specs.Steps.{searcher_rows, found_in}
 use Rattle.sc_fanout.specs.Hits.{StandAt, AreHits, BeginAlike, hit_rows, lists_of}
 use Rattle.sc_fanout.specs.declared.hits.Hits.{Hits}
@@ -39,7 +40,7 @@ stand-read rows (n ∷ ns) (w ∷ ws) stand =
 hits-alike : (criterion : Criterion) (most far : ℕ) (hits : Hits) → most ≤ far → AreHits criterion far hits
     → take most (hit_rows hits) ≡ take most (found_in criterion hits.searcher.now)
 hits-alike criterion most far hits le are =
-    ap (take most) (stand-read (searcher_rows hits.searcher.now) hits.numbers.items (take far (found_in criterion hits.searcher.now)) are)
+    ap (take most) (stand-read (searcher_rows hits.searcher.now) (numbers_of hits.numbers) (take far (found_in criterion hits.searcher.now)) are)
     ∙ take-take most far (found_in criterion hits.searcher.now) le
 
 -- the rows of all hits begin as the lists of all that is found do
@@ -58,7 +59,7 @@ hits-begin criterion most far all le are = by all (recursion_from_All (AreHits c
 -- the hits of a searcher, of the numbers of all that it finds
 pub first-hits : (criterion : Criterion) (most : ℕ) (searcher : Searcher) (numbers : List ℕ) (hits : Hits)
     → StandAt (searcher_rows searcher) numbers (found_in criterion searcher)
-    → hits.searcher.now ≡ searcher → hits.numbers.items ≡ take most numbers → AreHits criterion most hits
+    → hits.searcher.now ≡ searcher → numbers_of hits.numbers ≡ take most numbers → AreHits criterion most hits
 first-hits criterion most searcher numbers hits stand same is =
     let here = stand-first (searcher_rows searcher) numbers (found_in criterion searcher) most stand in
     let of_searcher : StandAt (searcher_rows hits.searcher.now) (take most numbers) (take most (found_in criterion hits.searcher.now)) =

@@ -8,6 +8,7 @@ use Rattle.sc_record.specs.declared.write.Write.{Write}
 use Rattle.sc_bucket.specs.declared.standing.Searcher.{Searcher}
 use Rattle.sc_bucket.specs.Taking.{lent}
 use Rattle.sc_eval.specs.Criteria.{Criterion}
+use Rattle.sc_eval.specs.Numbers.{numbers_of}
 use Rattle.sc_fanout.specs.Pages.{all_of}
 use Rattle.sc_fanout.specs.Steps.{searcher_rows, found_in}
 use Rattle.sc_fanout.specs.declared.hits.Hits.{Hits}
@@ -19,7 +20,7 @@ StandAt rows numbers these = map (slice_get rows) numbers ≡ map (λ (write : W
 
 -- the hits are the numbers of the first rows that the criterion finds in their searcher's rows, at most so many
 abbrev pub AreHits : Criterion → (most : ℕ) → Hits → Type 0
-AreHits criterion most hits = StandAt (searcher_rows hits.searcher.now) hits.numbers.items (take most (found_in criterion hits.searcher.now))
+AreHits criterion most hits = StandAt (searcher_rows hits.searcher.now) (numbers_of hits.numbers) (take most (found_in criterion hits.searcher.now))
 
 -- the searchers of the hits
 abbrev pub searchers_of : List Hits → List Searcher
@@ -42,7 +43,7 @@ lent_in cells = map lent cells.items
 
 -- the rows at the numbers of the hits
 abbrev pub hit_rows : Hits → List Write
-hit_rows hits = flat_map (λ number. option_to_list (slice_get (searcher_rows hits.searcher.now) number)) hits.numbers.items
+hit_rows hits = flat_map (λ number. option_to_list (slice_get (searcher_rows hits.searcher.now) number)) (numbers_of hits.numbers)
 
 -- these lists begin as those do, as far as the first `most` of each
 abbrev pub BeginAlike : (most : ℕ) → List (List Write) → List (List Write) → Type 0

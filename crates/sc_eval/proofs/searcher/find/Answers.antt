@@ -15,7 +15,7 @@ returns-clause-members g c =
     let criterion = criterion_of c.args.query.now in
     IfOk-weaker c.numbers_in.result _ _
     (λ found is.
-    (numbers-in range criterion rows (numbers_of c.in_ok-numbers.numbers) found.items c.in_ok-numbers.ensures.numbers
+    (numbers-in range criterion rows (numbers_of c.in_ok-numbers.numbers) (numbers_of found) c.in_ok-numbers.ensures.numbers
     (is ∙ ap (filter (λ number. is_some (row_in range (slice_get rows number)))) c.as_slice.ensures)).members)
     c.numbers_in.ensures.found
 
@@ -26,7 +26,7 @@ returns-clause-ascending g c =
     let criterion = criterion_of c.args.query.now in
     IfOk-weaker c.numbers_in.result _ _
     (λ found is.
-    (numbers-in range criterion rows (numbers_of c.in_ok-numbers.numbers) found.items c.in_ok-numbers.ensures.numbers
+    (numbers-in range criterion rows (numbers_of c.in_ok-numbers.numbers) (numbers_of found) c.in_ok-numbers.ensures.numbers
     (is ∙ ap (filter (λ number. is_some (row_in range (slice_get rows number)))) c.as_slice.ensures)).ascending)
     c.numbers_in.ensures.found
 

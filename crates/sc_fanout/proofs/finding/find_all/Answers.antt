@@ -1,8 +1,9 @@
 -- One searcher more is searched, and its hits stand at the end.
-use Rattle.std.proofs.Common.{◌≡◌, ◌+◌, ◌≤◌, ◌^◌, List, [], ◌∷◌, ◌++◌, length, map, take, sym, ap, ◌∙◌, subst, All, arith}
+use Rattle.std.proofs.Common.{◌≡◌, ℕ, ◌+◌, ◌≤◌, ◌^◌, List, [], ◌∷◌, ◌++◌, length, map, take, sym, ap, ◌∙◌, subst, All, arith}
 use Rattle.std.proofs.lemmas.List.{map-append, length-append, take_more}
 use Rattle.std.proofs.lemmas.List.Elements.{All-push}
 use Rattle.sc_eval.specs.Criteria.{criterion_of}
+use Rattle.sc_eval.specs.Numbers.{numbers_of}
 use Rattle.sc_bucket.specs.declared.standing.Searcher.{Searcher}
 use Rattle.sc_fanout.specs.Pages.{all_of}
 use Rattle.sc_fanout.specs.Steps.{searcher_rows, found_in}
@@ -22,12 +23,12 @@ loop-searcher-preserved c =
     let next : take (c.loop-searcher.searcher-index + 1) c.args.searchers.now ≡ before ++ searcher ∷ [] =
     take_more c.args.searchers.now c.loop-searcher.searcher-index searcher c.loop-searcher-test.true
     ∙ ap (λ (s : Searcher). before ++ s ∷ []) (sym c.searcher-item.is) in
-    let numbers = c.in_ok-numbers.numbers in
-    let many = stand-count (searcher_rows searcher) numbers.items (found_in criterion searcher) c.in_ok-numbers.ensures.found in
-    let more : c.len.result ≡ length (found_in criterion searcher) = omega (arith, c.len.ensures, numbers.ok.0, many) in
+    let numbers = numbers_of c.in_ok-numbers.numbers in
+    let many = stand-count (searcher_rows searcher) numbers (found_in criterion searcher) c.in_ok-numbers.ensures.found in
+    let more : length c.as_slice.result.now ≡ length (found_in criterion searcher) = ap (λ (ns : List ℕ). length ns) c.as_slice.ensures ∙ many in
     let bound : length (found_in criterion searcher) ≤ 2 ^ 24 = (is-found criterion searcher c.in_ok-numbers.ensures.rows).bounded in
     record {
-      count = count-next (found_in criterion) before searcher c.loop-searcher.count c.len.result i.count more
+      count = count-next (found_in criterion) before searcher c.loop-searcher.count (length c.as_slice.result.now) i.count more
           ∙ ap (λ (ss : List Searcher). length (all_of (map (found_in criterion) ss))) (sym next);
       few = omega (arith, i.few, more, bound, length-append before (searcher ∷ []), ap (λ (ss : List Searcher). length ss) next);
       searchers_are = ap searchers_of c.in_ok-push.ensures.items
@@ -37,5 +38,5 @@ loop-searcher-preserved c =
           ∙ sym next;
       kept = subst (All (AreHits criterion c.args.most)) (sym c.in_ok-push.ensures.items)
           (All-push (AreHits criterion c.args.most) c.loop-searcher.hits.items c.hits_of.result i.kept
-          (first-hits criterion c.args.most searcher numbers.items c.hits_of.result c.in_ok-numbers.ensures.found c.hits_of.ensures.searcher c.hits_of.ensures.numbers));
+          (first-hits criterion c.args.most searcher numbers c.hits_of.result c.in_ok-numbers.ensures.found c.hits_of.ensures.searcher c.hits_of.ensures.numbers));
     }

@@ -1,10 +1,11 @@
 -- The last that is kept goes before the first row.
-use Rattle.std.proofs.Common.{◌≡◌, false, Some, map, take, length, ◌-◌, slice_get, sym, ap, ap₂, ◌∙◌, arith, drop, option_copied, option_map, is_gt, nat_cmp}
+use Rattle.std.proofs.Common.{◌≡◌, ℕ, List, false, Some, map, take, length, ◌-◌, slice_get, sym, ap, ap₂, ◌∙◌, arith, drop, option_copied, option_map, is_gt, nat_cmp}
 use Rattle.std.specs.Arc.{arc_value}
 use Rattle.std.specs.Cmp.Lexicographic.{slice_cmp}
 use Rattle.std.proofs.lemmas.List.{length-map}
 use Rattle.sc_record.specs.declared.write.Write.{Write}
 use Rattle.sc_snapshot.specs.Rows.{SnapshotState}
+use Rattle.sc_eval.specs.Numbers.{numbers_of}
 use Rattle.sc_fanout.specs.Merging.{goes_before, merged}
 use Rattle.sc_fanout.specs.Steps.{searcher_rows}
 use Rattle.sc_bucket.specs.Taking.{lent}
@@ -17,12 +18,12 @@ returns-in-Some-row g c = λ is sorted.
     let most = c.args.most in
     let kept = map lent c.args.kept.now in
     let rows = searcher_rows c.args.hits.now.searcher.now in
-    let numbers = c.args.hits.now.numbers.items in
+    let numbers = numbers_of c.args.hits.now.numbers in
     let number = c.in-Some.number.now in
     let last = lent c.in-Some-last.last.now in
     let row = arc_value c.in-Some-row.row.now in
     let first : Some number ≡ slice_get numbers 0 =
-    ap option_copied (sym c.in-Some.is) ∙ c.first.ensures.value ∙ ap (λ ns. slice_get ns 0) c.as_slice.ensures.value in
+    ap option_copied (sym c.in-Some.is) ∙ c.first.ensures.value ∙ ap (λ (ns : List ℕ). slice_get ns 0) c.as_slice.ensures in
     let reads : Some row ≡ slice_get rows number =
     ap (λ o. option_map arc_value (option_copied o)) (sym c.in-Some-row.is) ∙ c.row.ensures.row
     ∙ ap (λ (s : SnapshotState). slice_get s.rows number) c.deref.ensures in

@@ -14,7 +14,7 @@ pub data Criterion : Type 0 where
 -- The criterion that a bound query is. In a pattern a box has two parts: its pointer, and what it holds.
 abbrev pub criterion_of : Bound → Criterion
 criterion_of AllBound = Criterion.All
-criterion_of (LeafBound term) = Criterion.Leaf term
+criterion_of (LeafBound key) = Criterion.Leaf key.term
 criterion_of (Not' p operand) = Criterion.Not (criterion_of operand)
 criterion_of (And' p left q right) = Criterion.And (criterion_of left) (criterion_of right)
 criterion_of (Or' p left q right) = Criterion.Or (criterion_of left) (criterion_of right)

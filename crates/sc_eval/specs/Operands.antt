@@ -16,7 +16,7 @@ joined_by LeftAlone left right = Criterion.And left (Criterion.Not right)
 -- the criterion that an operand is
 abbrev pub operand_criterion : Operand → Criterion
 operand_criterion operands.All = Criterion.All
-operand_criterion (operands.Leaf term) = Criterion.Leaf term.now
+operand_criterion (operands.Leaf key) = Criterion.Leaf key.now.term
 operand_criterion (operands.Not query) = Criterion.Not (criterion_of query.now)
 
 -- the criterion that the leftmost operand is with all that waits, the innermost last

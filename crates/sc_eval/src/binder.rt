@@ -13,6 +13,7 @@ use crate::fault::BindFault;
 use sc_query::{Query, Word};
 use sc_record::{Term, kind_of};
 use sc_schema::key_of;
+use sc_snapshot::TermKey;
 use std::alloc::{AllocError, Global};
 
 /// What joins two operands.
@@ -52,7 +53,9 @@ pub fn bind(alloc: Global, query: &Query) -> Result<Bound, BindFault>
     let mut waiting = Vec::new(alloc);
     let mut found = match first_operand(&mut waiting, query)? {
         Operand::All => Bound::All,
-        Operand::Leaf { field, value, at } => Bound::Leaf(term(alloc, field, value, at)?),
+        Operand::Leaf { field, value, at } => Bound::Leaf(TermKey {
+            term: term(alloc, field, value, at)?,
+        }),
         Operand::Not(operand) => Bound::Not(Box::new(alloc, bind(alloc, operand)?)?),
     };
     while let Some(Waiting { link, right }) = waiting.pop() {

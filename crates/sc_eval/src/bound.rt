@@ -1,12 +1,12 @@
-use sc_record::Term;
+use sc_snapshot::TermKey;
 use std::mem;
 
 /// A query whose leaves are bound to fields: which live documents it finds.
 pub enum Bound {
     /// Every document.
     All,
-    /// Every document that is found by the term.
-    Leaf(Term),
+    /// Every document that is found by the term of the key, which is made once for all searchers.
+    Leaf(TermKey),
     /// Every document that the operand doesn't find.
     Not(Box<Bound>),
     /// What both operands find.

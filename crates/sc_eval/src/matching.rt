@@ -11,7 +11,6 @@ ghost use Rattle.sc_eval.specs.Numbers.{numbers_of, is_match, AreNumbersOf, AreS
 use crate::bound::Bound;
 use crate::numbers::Numbers;
 use crate::operand::{Operand, Right, first_operand};
-use sc_record::Term;
 use sc_segment::{Kept, Steps, join};
 use sc_snapshot::{Snapshot, TermKey};
 use std::alloc::{AllocError, Global};
@@ -33,7 +32,7 @@ pub(crate) fn matching<'a, L: Ledger>(
     let mut waiting = Vec::new(alloc);
     let mut found = match first_operand(&mut waiting, query)? {
         Operand::All => Numbers::Lent(snapshot.live()),
-        Operand::Leaf(term) => numbers_with(term, snapshot, steps)?,
+        Operand::Leaf(key) => numbers_with(key, snapshot, steps),
         Operand::Not(operand) => {
             let left_out = matching(alloc, operand, snapshot, steps)?;
             all_but(alloc, snapshot, left_out)?
@@ -46,19 +45,18 @@ pub(crate) fn matching<'a, L: Ledger>(
     Ok(found)
 }
 
-// The numbers of the live rows that have the term.
+// The numbers of the live rows that have the term of the key.
 fn numbers_with<'a, L: Ledger>(
-    term: &Term,
+    key: &TermKey,
     snapshot: &'a Snapshot,
     steps: &mut Steps<L>,
-) -> Result<Numbers<'a>, AllocError>
+) -> Numbers<'a>
     requires { All (λ (row : Write). HasTerms row.id row.doc row.terms) snapshot.now.rows }
-    ensures numbers { IfOk result (λ found. AreNumbersOf (is_match (Criterion.Leaf term.now)) snapshot.now.rows (numbers_of found)) }
+    ensures numbers { AreNumbersOf (is_match (Criterion.Leaf key.now.term)) snapshot.now.rows (numbers_of result) }
     ensures counted { steps.old ≤ steps.new }
-    ensures bound { AreStepsOfLeaves (Criterion.Leaf term.now) snapshot.now.rows (steps.new - steps.old) }
+    ensures bound { AreStepsOfLeaves (Criterion.Leaf key.now.term) snapshot.now.rows (steps.new - steps.old) }
 {
-    let key = TermKey::of(term)?;
-    Ok(Numbers::Lent(snapshot.postings(&key, steps)))
+    Numbers::Lent(snapshot.postings(key, steps))
 }
 
 // The numbers of all live rows but these.

@@ -6,8 +6,8 @@ ghost use Rattle.sc_eval.specs.Criteria.{Criterion, criterion_of};
 ghost use Rattle.sc_eval.specs.Operands.{criterion_with, operand_criterion, joined_by};
 
 use crate::bound::Bound;
-use sc_record::Term;
 use sc_segment::Kept;
+use sc_snapshot::TermKey;
 use std::alloc::AllocError;
 
 /// An operand whose left one is being looked up, and which rows of both are then kept.
@@ -21,7 +21,7 @@ pub(crate) struct Right<'a> {
 #[derive(Clone, Copy)]
 pub(crate) enum Operand<'a> {
     All,
-    Leaf(&'a Term),
+    Leaf(&'a TermKey),
     Not(&'a Bound),
 }
 
@@ -37,7 +37,7 @@ pub(crate) fn first_operand<'a>(
     loop {
         match query {
             Bound::All => return Ok(Operand::All),
-            Bound::Leaf(term) => return Ok(Operand::Leaf(term)),
+            Bound::Leaf(key) => return Ok(Operand::Leaf(key)),
             Bound::Not(operand) => return Ok(Operand::Not(operand)),
             Bound::And(left, right) => {
                 waiting.push(joined_by_and(right))?;

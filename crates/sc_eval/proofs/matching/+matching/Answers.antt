@@ -6,7 +6,7 @@ use Rattle.sc_eval.specs.Numbers.{numbers_of}
 use Rattle.sc_eval.specs.declared.operand.Operand.{Operand}
 use Rattle.sc_eval.proofs.OperandLemmas.{not-smaller, all-numbers}
 use Rattle.sc_eval.proofs.StepLemmas.{no-steps, first-found, first-steps, right-steps, right-found, right-less}
-use Rattle.sc_eval.proofs.matching.+matching.Goals.{in-All, in-Leaf+in_ok-found-in-Leaf, in-Not+in_ok-left_out-in-Not+in_ok-found-in-Not}
+use Rattle.sc_eval.proofs.matching.+matching.Goals.{in-All, in-Leaf, in-Not+in_ok-left_out-in-Not+in_ok-found-in-Not}
 use Rattle.sc_eval.proofs.matching.+matching.Goals as goal
 
 pub matching-requires : goal.matching-requires
@@ -33,14 +33,6 @@ returns-in_err-found-in-Not-clause-bound g t c =
     (c.in_ok-first_operand.ensures ∙ ap (λ (o : Operand). criterion_with waiting (operand_criterion o)) c.in-Not.is)
     c.matching.ensures.bound
 
-pub returns-in_err-found-in-Leaf-clause-bound : goal.returns-in_err-found-in-Leaf-clause-bound
-returns-in_err-found-in-Leaf-clause-bound g t c =
-    let waiting = c.first_operand.new.waiting.items in
-    first-steps c.args.snapshot.now.rows (criterion_of c.args.query.now) (Criterion.Leaf c.in-Leaf.term.now) waiting
-    (c.numbers_with.new.steps - c.args.steps.now)
-    (c.in_ok-first_operand.ensures ∙ ap (λ (o : Operand). criterion_with waiting (operand_criterion o)) c.in-Leaf.is)
-    c.numbers_with.ensures.bound
-
 pub loop-how-init : goal.loop-how-init
 loop-how-init g t c =
     let rows = c.args.snapshot.now.rows in
@@ -57,12 +49,12 @@ loop-how-init g t c =
             (ap numbers_of w.found-is) (no-steps rows Criterion.All start start refl) w.steps-is;
         counted = omega (arith, w.steps-is);
       }
-      | in-Leaf+in_ok-found-in-Leaf w ↦ record {
-        far = first-found rows whole (Criterion.Leaf w.in-Leaf.term.now) waiting (numbers_of w.in_ok-found-in-Leaf.found) found
-            start w.numbers_with.new.steps after
+      | in-Leaf w ↦ record {
+        far = first-found rows whole (Criterion.Leaf w.in-Leaf.key.now.term) waiting (numbers_of w.numbers_with-found.result) found
+            start w.numbers_with-found.new.steps after
             (c.in_ok-first_operand.ensures ∙ ap (λ (o : Operand). criterion_with waiting (operand_criterion o)) w.in-Leaf.is)
-            w.in_ok-found-in-Leaf.ensures.numbers (ap numbers_of w.found-is) w.numbers_with.ensures.bound w.steps-is;
-        counted = omega (arith, w.steps-is, w.numbers_with.ensures.counted);
+            w.numbers_with-found.ensures.numbers (ap numbers_of w.found-is) w.numbers_with-found.ensures.bound w.steps-is;
+        counted = omega (arith, w.steps-is, w.numbers_with-found.ensures.counted);
       }
       | in-Not+in_ok-left_out-in-Not+in_ok-found-in-Not w ↦
           let operand = criterion_of w.in-Not.operand.now in

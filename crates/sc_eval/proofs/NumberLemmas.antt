@@ -79,6 +79,16 @@ module _ (test : Write → Bool) where
       let place : number ≡ 0 + number = omega arith in
       are.members number ∙ sym (numbers-have 0 number rows) ∙ sym (ap (has_row (numbers_from 0 rows)) place))
 
+  -- there are such numbers
+  pub numbers-there : (rows : List Write) → (numbers : List ℕ) × AreNumbersOf test rows numbers
+  numbers-there rows = (
+    numbers_from 0 rows,
+    record {
+      members = λ number. let place : number ≡ 0 + number = omega arith in ap (has_row (numbers_from 0 rows)) place ∙ numbers-have 0 number rows;
+      ascending = increasing_from_ascend 0 (numbers_from 0 rows) (numbers-ascend 0 rows);
+    },
+  )
+
   -- at the numbers, whoever found them, there are the rows that pass, in their order
   pub led : (rows : List Write) (numbers : List ℕ) → AreNumbersOf test rows numbers
       → map (slice_get rows) numbers ≡ map (λ (row : Write). Some row) (filter test rows)

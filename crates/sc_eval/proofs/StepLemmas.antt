@@ -1,5 +1,5 @@
 -- How many steps a search takes: those of its leaves, and one for each row that is read.
-use Rattle.std.proofs.Common.{◌≡◌, ℕ, ◌+◌, ◌-◌, ◌*◌, ◌^◌, ◌<◌, ◌≤◌, List, [], ◌∷◌, ◌++◌, length, subst, sym, ap, arith, inl, inr}
+use Rattle.std.proofs.Common.{◌≡◌, ℕ, ◌+◌, ◌-◌, ◌*◌, ◌^◌, ◌<◌, ◌≤◌, List, [], ◌∷◌, ◌++◌, length, refl, subst, sym, ap, arith, inl, inr}
 use Rattle.std.proofs.Math.Nat.{pow-le-pow_right, mul-le-mul_right}
 use Rattle.std.proofs.lemmas.Bool.{cases_lt}
 use Rattle.sc_record.specs.declared.write.Write.{Write}
@@ -10,7 +10,7 @@ use Rattle.sc_eval.specs.Criteria.{Criterion, criterion_of}
 use Rattle.sc_eval.specs.Operands.{joined_by, criterion_with}
 use Rattle.sc_eval.specs.Numbers.{is_match, leaves, IsLookUp, AreNumbersOf, AreStepsOfLeaves, AreStepsOfSearch}
 use Rattle.sc_eval.specs.declared.operand.Right.{Right}
-use Rattle.sc_eval.proofs.NumberLemmas.{as-many}
+use Rattle.sc_eval.proofs.NumberLemmas.{as-many, numbers-there}
 use Rattle.sc_eval.proofs.OperandLemmas.{size, criterion_with-back, joined-leaves, with-leaves, right-smaller, joined-numbers}
 
 module _ (rows : List Write) where
@@ -95,6 +95,16 @@ module _ (rows : List Write) where
 
     pub right-less : size (criterion_of one.operand.now) < size whole
     right-less = right-smaller popped one whole far.left back
+
+  -- what was found stays where nothing of a right operand, whatever it is, changes it
+  pub left-stays : (whole : Criterion) (waiting popped : List Right) (one : Right) (numbers : List ℕ) (start now : ℕ)
+      → IsFoundSoFar whole waiting numbers (now - start) → waiting ≡ popped ++ one ∷ [] → start ≤ now
+      → ((right : List ℕ) → IsJoin one.how numbers right numbers) → IsFoundSoFar whole popped numbers (now - start)
+  left-stays whole waiting popped one numbers start now far pops rises stays =
+      let criterion = criterion_of one.operand.now in
+      let others = numbers-there (is_match criterion) rows in
+      right-found whole waiting popped one numbers start now now far pops rises (omega arith) (no-steps criterion now now refl)
+      others.0 numbers others.1 (stays others.0)
 
 -- the rows that match are read, each once
 pub search-steps : (criterion : Criterion) (rows : List Write) (numbers : List ℕ) (start between after : ℕ)

@@ -9,7 +9,7 @@
 //!
 //! Proved: `bind` gives the criteria that a query's leaves ask for by their fields' kinds, or the place of the first leaf
 //! at fault (`specs/Criteria`); `find` and `evaluate` give exactly the live rows of a snapshot that match and whose hashes are
-//! in a range, in order of their ids (`specs/Matching`), and look up each leaf once and read no row that does not match
+//! in a range, in order of their ids (`specs/Matching`), and look up each leaf once at most and read no row that does not match
 //! (`AreStepsOfSearch`). Laws in `specs/Laws`: NOT of NOT, De Morgan, AND, parts of a range.
 //!
 //! Tested alone: the worked queries.

@@ -1,6 +1,6 @@
 //! Which rows match a query, whatever their hashes, by joining the posting lists of its terms.
 
-ghost use Rattle.std.specs.Prelude.{◌≡◌, ◌-◌, ◌≤◌, All, IfOk};
+ghost use Rattle.std.specs.Prelude.{◌≡◌, ℕ, ◌-◌, ◌≤◌, List, All, IfOk, IsTrue};
 ghost use Rattle.sc_record.specs.declared.write.Write.{Write};
 ghost use Rattle.sc_journal.specs.Legal.{HasTerms};
 ghost use Rattle.std.specs.List.Sorted.{IsStrictlyIncreasing};
@@ -17,7 +17,8 @@ use std::alloc::{AllocError, Global};
 use std::sync::ledger::Ledger;
 
 /// The numbers of the live rows that match the query. A step is one comparison of terms, and no row is read. A posting list is
-/// copied nowhere: it is lent, or joined with another. The only error is that memory was refused.
+/// copied nowhere: it is lent, or joined with another. Where nothing is found to the left of an AND, what is to the right of it is not
+/// looked up. The only error is that memory was refused.
 pub(crate) fn matching<'a, L: Ledger>(
     alloc: Global,
     query: &Bound,
@@ -39,6 +40,9 @@ pub(crate) fn matching<'a, L: Ledger>(
         }
     };
     while let Some(Right { how, operand }) = waiting.pop() {
+        if stays_empty(how, &found) {
+            continue;
+        }
         let others = matching(alloc, operand, snapshot, steps)?;
         found = joined(alloc, how, found, others)?;
     }
@@ -57,6 +61,13 @@ fn numbers_with<'a, L: Ledger>(
     ensures bound { AreStepsOfLeaves (Criterion.Leaf key.now.term) snapshot.now.rows (steps.new - steps.old) }
 {
     Numbers::Lent(snapshot.postings(key, steps))
+}
+
+// Whether the left list is empty and so is what is kept of it and of any right one.
+fn stays_empty(how: Kept, left: &Numbers<'_>) -> bool
+    ensures { IsTrue result → (right : List ℕ) → IsJoin how (numbers_of left.now) right (numbers_of left.now) }
+{
+    how != Kept::Either && left.as_slice().is_empty()
 }
 
 // The numbers of all live rows but these.

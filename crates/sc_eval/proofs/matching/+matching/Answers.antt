@@ -5,7 +5,7 @@ use Rattle.sc_eval.specs.Operands.{operand_criterion, criterion_with}
 use Rattle.sc_eval.specs.Numbers.{numbers_of}
 use Rattle.sc_eval.specs.declared.operand.Operand.{Operand}
 use Rattle.sc_eval.proofs.OperandLemmas.{not-smaller, all-numbers}
-use Rattle.sc_eval.proofs.StepLemmas.{no-steps, first-found, first-steps, right-steps, right-found, right-less}
+use Rattle.sc_eval.proofs.StepLemmas.{no-steps, first-found, first-steps, right-steps, right-found, right-less, left-stays}
 use Rattle.sc_eval.proofs.matching.+matching.Goals.{in-All, in-Leaf, in-Not+in_ok-left_out-in-Not+in_ok-found-in-Not}
 use Rattle.sc_eval.proofs.matching.+matching.Goals as goal
 
@@ -97,4 +97,12 @@ loop-how-preserved g t c = record {
       c.in-Some.ensures.items c.loop-how.invariant.counted c.matching-in-Some.ensures.counted c.matching-in-Some.ensures.bound
       (numbers_of c.in_ok-others.others) (numbers_of c.in_ok-found.found) c.in_ok-others.ensures.numbers c.in_ok-found.ensures;
   counted = omega (arith, c.loop-how.invariant.counted, c.matching-in-Some.ensures.counted);
+}
+
+pub loop-how-preserved-then-stays_empty : goal.loop-how-preserved-then-stays_empty
+loop-how-preserved-then-stays_empty g t c = record {
+  far = left-stays c.args.snapshot.now.rows (criterion_of c.args.query.now) c.loop-how.waiting.items c.pop.new.self.items c.in-Some.field-0
+      (numbers_of c.loop-how.found) c.args.steps.now c.loop-how.steps c.loop-how.invariant.far
+      c.in-Some.ensures.items c.loop-how.invariant.counted (c.stays_empty.ensures c.if-stays_empty.true);
+  counted = c.loop-how.invariant.counted;
 }

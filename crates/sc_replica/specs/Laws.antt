@@ -19,6 +19,11 @@ PutsOneCell = (cells : List Write) (write : Write) (id : List ℕ)
 abbrev pub PutsInOrder : Type 0
 PutsInOrder = (cells : List Write) (write : Write) → AscendById cells → AscendById (put cells write)
 
+-- what a put makes of cells
+pub record PutsOneCellInOrder : Type 0 where
+  pub one_cell : PutsOneCell
+  pub order : PutsInOrder
+
 -- whatever comes to an active core, in any order and with repeats, the cell of an id is the greatest of the writes of it,
 -- of those that came and the one that was there
 abbrev pub KeepsTheGreatest : Type 0

@@ -1,12 +1,11 @@
 //! Laws of cores, above their definitions.
 
-ghost use Rattle.sc_replica.specs.Laws.{PutsOneCell, PutsInOrder, KeepsTheGreatest, Converge, ReplaysWhatItBuffered};
+ghost use Rattle.sc_replica.specs.Laws.{PutsOneCellInOrder, KeepsTheGreatest, Converge, ReplaysWhatItBuffered};
 ghost use Rattle.sc_replica.specs.Laws.{LosesNothing, LeadsAsItIsFed, DropsTheOlder, KeepsACore};
 
 /// Whatever writes come to a core, and in whatever order.
 pub fn cores_keep_the_greatest()
-    ensures one_cell { PutsOneCell }
-    ensures order { PutsInOrder }
+    ensures puts { PutsOneCellInOrder }
     ensures greatest { KeepsTheGreatest }
     ensures same { Converge }
     ensures replays { ReplaysWhatItBuffered }

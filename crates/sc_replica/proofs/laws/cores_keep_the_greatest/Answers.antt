@@ -7,11 +7,8 @@ use Rattle.sc_replica.proofs.ReplayLemmas.{replays-what-it-buffered}
 use Rattle.sc_replica.proofs.CoverLemmas.{loses-nothing}
 use Rattle.sc_replica.proofs.laws.cores_keep_the_greatest.Goals as goal
 
-pub returns-clause-one_cell : goal.returns-clause-one_cell
-returns-clause-one_cell c = write_of-put
-
-pub returns-clause-order : goal.returns-clause-order
-returns-clause-order c = put-ascends
+pub returns-clause-puts : goal.returns-clause-puts
+returns-clause-puts c = record { one_cell = write_of-put; order = put-ascends }
 
 pub returns-clause-core : goal.returns-clause-core
 returns-clause-core c = λ core write is. (IsCore-led core write is, IsCore-fed core write is, IsCore-received core write is, IsCore-replayed core is)

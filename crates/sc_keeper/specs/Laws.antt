@@ -80,6 +80,18 @@ AbortsByThePart = (b : Bucket) (parent : SliceId) → CanAbort b parent ↔ MayA
 abbrev pub DropsByThePart : Type 0
 DropsByThePart = (b : Bucket) (slice : SliceId) → CanDrop b slice ↔ MayDrop (part_of b) slice
 
+-- so each event of a split may come to a bucket exactly where it may by the bucket's part
+pub record EventsComeByThePart : Type 0 where
+  pub begin : BeginsByThePart
+  pub feed : FeedsByThePart
+  pub start_replay : StartsReplayByThePart
+  pub replay : ReplaysByThePart
+  pub ready : IsReadyByThePart
+  pub grow : GrowsByThePart
+  pub switch : SwitchesByThePart
+  pub abort : AbortsByThePart
+  pub drop : DropsByThePart
+
 -- as a split begins of a bucket, so it begins of the bucket's part
 abbrev pub BeginsThePart : Type 0
 BeginsThePart = (old new : Bucket) (parent : SliceId) (subs : List SubSlice) → Begins old parent subs new
@@ -119,3 +131,15 @@ AbortsThePart = (old new : Bucket) (parent : SliceId) → Aborts old parent new 
 -- as a slice is dropped, so it is by the part
 abbrev pub DropsThePart : Type 0
 DropsThePart = (old new : Bucket) (slice : SliceId) → Drops old slice new → PartDrops (part_of old) slice (part_of new)
+
+-- so each event of a split makes of a bucket's part what is said of it
+pub record EventsChangeThePart : Type 0 where
+  pub begin : BeginsThePart
+  pub feed : FeedsThePart
+  pub start_replay : StartsReplayOfThePart
+  pub replay : ReplaysThePart
+  pub ready : MakesThePartReady
+  pub grow : GrowsThePart
+  pub switch : SwitchesThePart
+  pub abort : AbortsThePart
+  pub drop : DropsThePart

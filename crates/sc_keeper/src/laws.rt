@@ -1,8 +1,7 @@
 //! Laws of a bucket's part, above its definitions.
 
 ghost use Rattle.sc_keeper.specs.Laws.{PassesKeepTheParts, RefusalsKeepTheParts, DeliveriesKeepTheParts, PassesAddNoKeeperEntry, KeepersAddNoPassEntry, NoneCameOfTheKeeper};
-ghost use Rattle.sc_keeper.specs.Laws.{BeginsByThePart, FeedsByThePart, StartsReplayByThePart, ReplaysByThePart, IsReadyByThePart, GrowsByThePart, SwitchesByThePart, AbortsByThePart, DropsByThePart};
-ghost use Rattle.sc_keeper.specs.Laws.{BeginsThePart, FeedsThePart, StartsReplayOfThePart, ReplaysThePart, MakesThePartReady, GrowsThePart, SwitchesThePart, AbortsThePart, DropsThePart};
+ghost use Rattle.sc_keeper.specs.Laws.{EventsComeByThePart, EventsChangeThePart};
 
 /// What leaves a bucket's part as it was: its own events, refusals, and deliveries.
 pub fn passes_keep_the_parts()
@@ -20,26 +19,10 @@ pub fn journals_tell_the_keepers_entries()
 
 /// When each event of a split may come to a bucket, by its part alone.
 pub fn parts_tell_when_events_may_come()
-    ensures begin { BeginsByThePart }
-    ensures feed { FeedsByThePart }
-    ensures start_replay { StartsReplayByThePart }
-    ensures replay { ReplaysByThePart }
-    ensures ready { IsReadyByThePart }
-    ensures grow { GrowsByThePart }
-    ensures switch { SwitchesByThePart }
-    ensures abort { AbortsByThePart }
-    ensures drop { DropsByThePart }
+    ensures { EventsComeByThePart }
 {}
 
 /// What each event of a split makes of a bucket's part.
 pub fn events_change_the_parts()
-    ensures begin { BeginsThePart }
-    ensures feed { FeedsThePart }
-    ensures start_replay { StartsReplayOfThePart }
-    ensures replay { ReplaysThePart }
-    ensures ready { MakesThePartReady }
-    ensures grow { GrowsThePart }
-    ensures switch { SwitchesThePart }
-    ensures abort { AbortsThePart }
-    ensures drop { DropsThePart }
+    ensures { EventsChangeThePart }
 {}

@@ -26,6 +26,11 @@ pub record CountsCall (failed : Type 0) (old new : Calls) : Type 0 where
   pub counted : new.next ≡ min (old.next + 1) (2 ^ 64 - 1)
   pub kept_fails : new.fails ≡ old.fails
 
+-- no call was counted
+pub record CountsNoCall (old new : Calls) : Type 0 where
+  pub kept_calls : new.next ≡ old.next
+  pub kept_fails : new.fails ≡ old.fails
+
 -- what an empty trail keeps
 abbrev pub nothing_kept : Kept
 nothing_kept = record { stops = []; requests = 0 }

@@ -1,5 +1,5 @@
 ghost use Rattle.std.specs.Prelude.{◌≡◌, ◌<◌, ◌≤◌, ◌+◌, ◌-◌, ℕ, List, [], ◌∷◌, ◌++◌, length, Option, Some, IsErr, IfOk, IfSome, OnOk, OnErr, vec_len, vec_capacity};
-ghost use Rattle.sc_session.specs.Listening.{GivesFirst, CountsCall, links_given, nothing_kept};
+ghost use Rattle.sc_session.specs.Listening.{GivesFirst, CountsCall, CountsNoCall, links_given, nothing_kept};
 
 use sc_collection::Trail;
 use sc_io::{Failed, Faults, Sink, Source};
@@ -163,8 +163,8 @@ impl<S: Source + Send, W: Sink + Send> Listener for MemListener<S, W> {
         ensures spare { vec_len self.new.spare + 1 ≡ vec_len self.old.spare }
         ensures out { (vec_len self.new.spare - length self.new.links.items) + 1 ≡ vec_len self.old.spare - length self.old.links.items }
         ensures faults { self.new.faults ≡ self.old.faults }
-        ensures kept_calls { self.new.calls ≡ self.old.calls }
-        ensures kept_fails { self.new.fails ≡ self.old.fails }
+        ensures calls { CountsNoCall (record { fails = self.old.fails; next = self.old.calls })
+            (record { fails = self.new.fails; next = self.new.calls }) }
     {
         match self.spare.pop() {
             None => unreachable!(),

@@ -14,6 +14,10 @@ use Rattle.sc_schema.specs.declared.raw.RawOne.{RawOne}
 use Rattle.sc_schema.specs.declared.raw.RawOne.TheVariants as ones
 use Rattle.sc_json.specs.RawDocs.{raw_number, raw_fields, raw_fields_of}
 
+-- the most fields of a document of an array that is read as it comes
+abbrev pub most_flat_fields : ℕ
+most_flat_fields = 64
+
 -- the fields of a document
 abbrev pub doc_fields : RawDoc → List RawField
 doc_fields doc = doc.fields

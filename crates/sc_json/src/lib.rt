@@ -8,7 +8,8 @@
 //! Proved: `read`, `raw_doc`, `doc_value` and `print` are the definitions in `specs/` over the JSON values of `serde_json`.
 //! The documents that `flat_docs` gives are those of the body's value, and the number that `count_docs` gives is theirs. Law
 //! `shown_document`: a document that is shown, sent back as it is, makes the same document, under the condition of its
-//! version.
+//! version. `limits_are_as_defined`: the code's limit for the fields of a document that is read as it comes is that of the
+//! definitions.
 //!
 //! Tested alone: the worked documents.
 //!
@@ -36,6 +37,6 @@ pub use body::{JsonFault, read};
 pub use count::count_docs;
 pub use document::doc_value;
 pub use flat::flat_docs;
-pub use laws::shown_document;
+pub use laws::{limits_are_as_defined, shown_document};
 pub use raw::{RawFault, raw_doc, raw_one};
 pub use text::print;

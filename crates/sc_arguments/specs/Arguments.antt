@@ -22,14 +22,31 @@ option_names commands.Script = shared_names
 option_names commands.Serve = shared_names ++ codes "--port" ∷ codes "--workers" ∷ codes "--max-connections" ∷ []
 option_names commands.Demo = codes "--seed" ∷ codes "--count" ∷ codes "--workers" ∷ []
 
--- the shape that options ask for: by default one node, one shard with one replica, and 64 buckets, whose journals have at most 1048576 entries
+-- what stands for the options of a shape that are not given: one node, one shard with one replica, and so many buckets, whose journals
+-- have at most so many entries
+abbrev pub default_nodes : ℕ
+default_nodes = 1
+
+abbrev pub default_shards : ℕ
+default_shards = 1
+
+abbrev pub default_replicas : ℕ
+default_replicas = 1
+
+abbrev pub default_buckets : ℕ
+default_buckets = 64
+
+abbrev pub default_log_limit : ℕ
+default_log_limit = 1048576
+
+-- the shape that options ask for
 abbrev pub shape_of : List Setting → Shape
 shape_of given = record {
-  nodes = number_or 1 (codes "--nodes") given;
-  shards = number_or 1 (codes "--shards") given;
-  replicas = number_or 1 (codes "--replicas") given;
-  buckets = number_or 64 (codes "--buckets") given;
-  log_limit = number_or 1048576 (codes "--log-limit") given;
+  nodes = number_or default_nodes (codes "--nodes") given;
+  shards = number_or default_shards (codes "--shards") given;
+  replicas = number_or default_replicas (codes "--replicas") given;
+  buckets = number_or default_buckets (codes "--buckets") given;
+  log_limit = number_or default_log_limit (codes "--log-limit") given;
 }
 
 -- the script that options ask for; its clock may stand still at any timestamp
@@ -40,13 +57,21 @@ script_of given = record { shape = shape_of given; clock = number_given (codes "
 abbrev pub most_connections : ℕ
 most_connections = 4294967295
 
--- the server that options ask for: by default it listens at port 8983, and four workers serve it, each the most connections
+-- the port of a server, where none is given
+abbrev pub default_port : ℕ
+default_port = 8983
+
+-- how many workers a server or a demonstration has, where no number is given
+abbrev pub default_workers : ℕ
+default_workers = 4
+
+-- the server that options ask for: by default each of its workers serves the most connections
 abbrev pub server_of : List Setting → Server
 server_of given = record {
   shape = shape_of given;
   clock = number_given (codes "--clock") given;
-  port = number_or 8983 (codes "--port") given;
-  workers = number_or 4 (codes "--workers") given;
+  port = number_or default_port (codes "--port") given;
+  workers = number_or default_workers (codes "--workers") given;
   max_connections = number_or most_connections (codes "--max-connections") given;
 }
 
@@ -68,12 +93,19 @@ is_server server =
 abbrev pub IsServer : Server → Type 0
 IsServer server = is_server server ≡ true
 
--- the workload that options ask for: by default four workers make 1000 orders of seed 1
+-- the seed of a workload and how many orders it has, where they are not given
+abbrev pub default_seed : ℕ
+default_seed = 1
+
+abbrev pub default_count : ℕ
+default_count = 1000
+
+-- the workload that options ask for
 abbrev pub demo_of : List Setting → Demo
 demo_of given = record {
-  seed = number_or 1 (codes "--seed") given;
-  count = number_or 1000 (codes "--count") given;
-  workers = number_or 4 (codes "--workers") given;
+  seed = number_or default_seed (codes "--seed") given;
+  count = number_or default_count (codes "--count") given;
+  workers = number_or default_workers (codes "--workers") given;
 }
 
 -- the most orders of a demonstration
@@ -88,9 +120,15 @@ is_demo demo = is_in_range 1 most_orders demo.count && is_in_range 1 most_worker
 abbrev pub IsDemo : Demo → Type 0
 IsDemo demo = is_demo demo ≡ true
 
--- the shape of the collection on which a workload is made: one shard with one replica, and 64 buckets
+-- the shape of the collection on which a workload is made: that of a collection where no option is given
 abbrev pub demo_shape : Shape
-demo_shape = record { nodes = 1; shards = 1; replicas = 1; buckets = 64; log_limit = 1048576 }
+demo_shape = record {
+  nodes = default_nodes;
+  shards = default_shards;
+  replicas = default_replicas;
+  buckets = default_buckets;
+  log_limit = default_log_limit;
+}
 
 -- what the options of `script` ask for
 abbrev pub script_by : List Setting → Option Script

@@ -23,6 +23,21 @@ const MOST_CONNECTIONS: u32 = 4_294_967_295;
 /// The most orders of a demonstration.
 const MOST_ORDERS: u32 = 100_000;
 
+/// The port of a server, where none is given.
+const DEFAULT_PORT: u64 = 8983;
+
+/// How many workers a server or a demonstration has, where no number is given.
+const DEFAULT_WORKERS: u64 = 4;
+
+/// How many connections each worker of a server serves, where no number is given.
+const DEFAULT_CONNECTIONS: u64 = 4_294_967_295;
+
+/// The seed of a workload, where none is given.
+const DEFAULT_SEED: u64 = 1;
+
+/// How many orders a workload has, where no number is given.
+const DEFAULT_COUNT: u64 = 1000;
+
 /// What the arguments ask for.
 #[derive(Clone, Copy, Debug, PartialEq, Eq)]
 pub enum Asked {
@@ -138,10 +153,14 @@ fn server_in(found: &ArgMatches<'_>) -> Option<Server>
     Some(Server {
         shape: shape_of(found)?,
         clock: number_given(found, "clock"),
-        port: within(number_or(8983, found, "port"), 1, GREATEST_PORT)? as u16,
-        workers: within(number_or(4, found, "workers"), 1, MOST_WORKERS)?,
+        port: within(number_or(DEFAULT_PORT, found, "port"), 1, GREATEST_PORT)? as u16,
+        workers: within(
+            number_or(DEFAULT_WORKERS, found, "workers"),
+            1,
+            MOST_WORKERS,
+        )?,
         max_connections: within(
-            number_or(4_294_967_295, found, "max-connections"),
+            number_or(DEFAULT_CONNECTIONS, found, "max-connections"),
             1,
             MOST_CONNECTIONS,
         )?,
@@ -166,8 +185,12 @@ fn demo_in(found: &ArgMatches<'_>) -> Option<Demo>
     ensures range { IfSome result (λ demo. asked.IsDemo demo) }
 {
     Some(Demo {
-        seed: number_or(1, found, "seed"),
-        count: within(number_or(1000, found, "count"), 1, MOST_ORDERS)?,
-        workers: within(number_or(4, found, "workers"), 1, MOST_WORKERS)?,
+        seed: number_or(DEFAULT_SEED, found, "seed"),
+        count: within(number_or(DEFAULT_COUNT, found, "count"), 1, MOST_ORDERS)?,
+        workers: within(
+            number_or(DEFAULT_WORKERS, found, "workers"),
+            1,
+            MOST_WORKERS,
+        )?,
     })
 }

@@ -16,6 +16,21 @@ const MOST_SHARDS: u32 = 64;
 /// The most replicas of a shard.
 const MOST_REPLICAS: u32 = 4;
 
+/// How many nodes a collection has, where no number is given.
+const DEFAULT_NODES: u64 = 1;
+
+/// How many shards.
+const DEFAULT_SHARDS: u64 = 1;
+
+/// How many replicas of each shard.
+const DEFAULT_REPLICAS: u64 = 1;
+
+/// How many buckets.
+const DEFAULT_BUCKETS: u64 = 64;
+
+/// How many entries the journal of a bucket may have.
+const DEFAULT_LOG_LIMIT: u64 = 1_048_576;
+
 /// The least limit of a journal, beside an entry for each follower.
 const LEAST_JOURNAL: u32 = 16;
 
@@ -28,13 +43,17 @@ pub(crate) fn shape_of(found: &ArgMatches<'_>) -> Option<Shape>
     ensures { result ≡ (let shape = asked.shape_of (settings_found found.now) in
         if is_shape shape then Some shape else None) }
 {
-    let nodes = within(number_or(1, found, "nodes"), 1, MOST_NODES)?;
-    let shards = within(number_or(1, found, "shards"), 1, MOST_SHARDS)?;
-    let replicas = within(number_or(1, found, "replicas"), 1, MOST_REPLICAS)?;
-    let buckets = bucket_count(number_or(64, found, "buckets"))?;
+    let nodes = within(number_or(DEFAULT_NODES, found, "nodes"), 1, MOST_NODES)?;
+    let shards = within(number_or(DEFAULT_SHARDS, found, "shards"), 1, MOST_SHARDS)?;
+    let replicas = within(
+        number_or(DEFAULT_REPLICAS, found, "replicas"),
+        1,
+        MOST_REPLICAS,
+    )?;
+    let buckets = bucket_count(number_or(DEFAULT_BUCKETS, found, "buckets"))?;
     let least = LEAST_JOURNAL + shards * (replicas - 1);
     let limit = within(
-        number_or(1_048_576, found, "log-limit"),
+        number_or(DEFAULT_LOG_LIMIT, found, "log-limit"),
         least,
         GREATEST_JOURNAL,
     )?;

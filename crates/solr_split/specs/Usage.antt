@@ -4,6 +4,7 @@ use Rattle.sc_router.specs.Route.{most_buckets}
 use Rattle.sc_journal.specs.Limits.{least_journal, greatest_journal}
 use Rattle.sc_collection.specs.Shapes.{most_nodes, most_shards, most_replicas}
 use Rattle.sc_arguments.specs.Arguments.{most_connections, greatest_port, most_workers, most_orders}
+use Rattle.sc_arguments.specs.Arguments.{default_nodes, default_shards, default_replicas, default_buckets, default_log_limit, default_port, default_workers, default_seed, default_count}
 
 -- arguments that the usage gives as an example of `script`
 abbrev pub example : List ℕ
@@ -23,21 +24,21 @@ usage =
     codes "usage: solr_split script|serve|demo [OPTION VALUE | OPTION=VALUE]...\n"
     ++ codes "script serves one connection over standard input and output, serve those to a port,\n"
     ++ codes "and demo makes a workload by several workers while the shard is split, and tells what came of it. Options of script and serve:\n"
-    ++ codes "  --nodes            1 to " ++ decimal most_nodes ++ codes " nodes (1)\n"
-    ++ codes "  --shards           1 to " ++ decimal most_shards ++ codes " shards (1)\n"
-    ++ codes "  --replicas         1 to " ++ decimal most_replicas ++ codes " replicas of each shard (1)\n"
-    ++ codes "  --buckets          a power of two from 1 to " ++ decimal most_buckets ++ codes " (64)\n"
-    ++ codes "  --log-limit        " ++ decimal least_journal ++ codes " to " ++ decimal greatest_journal ++ codes " entries in the journal of a bucket (1048576);\n"
+    ++ codes "  --nodes            1 to " ++ decimal most_nodes ++ codes " nodes (" ++ decimal default_nodes ++ codes ")\n"
+    ++ codes "  --shards           1 to " ++ decimal most_shards ++ codes " shards (" ++ decimal default_shards ++ codes ")\n"
+    ++ codes "  --replicas         1 to " ++ decimal most_replicas ++ codes " replicas of each shard (" ++ decimal default_replicas ++ codes ")\n"
+    ++ codes "  --buckets          a power of two from 1 to " ++ decimal most_buckets ++ codes " (" ++ decimal default_buckets ++ codes ")\n"
+    ++ codes "  --log-limit        " ++ decimal least_journal ++ codes " to " ++ decimal greatest_journal ++ codes " entries in the journal of a bucket (" ++ decimal default_log_limit ++ codes ");\n"
     ++ codes "                     with R replicas of each of S shards at least " ++ decimal least_journal ++ codes " + S * (R - 1)\n"
     ++ codes "  --clock            a timestamp from 0 to 18446744073709551615, in milliseconds, at which the clock stands still (the machine's clock)\n"
     ++ codes "Options of serve:\n"
-    ++ codes "  --port             1 to " ++ decimal greatest_port ++ codes ", the port (8983)\n"
-    ++ codes "  --workers          1 to " ++ decimal most_workers ++ codes " workers (4)\n"
+    ++ codes "  --port             1 to " ++ decimal greatest_port ++ codes ", the port (" ++ decimal default_port ++ codes ")\n"
+    ++ codes "  --workers          1 to " ++ decimal most_workers ++ codes " workers (" ++ decimal default_workers ++ codes ")\n"
     ++ codes "  --max-connections  1 to " ++ decimal most_connections ++ codes " connections that each worker serves (" ++ decimal most_connections ++ codes ")\n"
     ++ codes "Options of demo:\n"
-    ++ codes "  --seed             0 to 18446744073709551615, which documents the orders begin with (1)\n"
-    ++ codes "  --count            1 to " ++ decimal most_orders ++ codes " orders (1000)\n"
-    ++ codes "  --workers          1 to " ++ decimal most_workers ++ codes " workers (4)\n"
+    ++ codes "  --seed             0 to 18446744073709551615, which documents the orders begin with (" ++ decimal default_seed ++ codes ")\n"
+    ++ codes "  --count            1 to " ++ decimal most_orders ++ codes " orders (" ++ decimal default_count ++ codes ")\n"
+    ++ codes "  --workers          1 to " ++ decimal most_workers ++ codes " workers (" ++ decimal default_workers ++ codes ")\n"
     ++ codes "as in: solr_split " ++ example ++ codes " < requests\n"
     ++ codes "       solr_split " ++ server_example ++ codes "\n"
     ++ codes "       solr_split " ++ demo_example

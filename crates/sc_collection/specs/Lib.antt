@@ -3,6 +3,7 @@ pub mod Kept
 pub mod Packed
 pub mod Shapes
 pub mod Desks
+pub mod Handing
 pub mod Known
 pub mod Committing
 pub mod Alone

@@ -6,9 +6,9 @@ ghost use Rattle.sc_bucket.specs.Sound.{AreActive};
 ghost use Rattle.sc_collection.specs.Alone.{AreNewSlots, seen_alone, entries_alone, keeping_alone, KeepersAreOut, IsDesk, MayStand, handed_out, taken_back};
 ghost use Rattle.sc_seen.specs.declared.board.BoardEntry.{BoardEntry};
 ghost use Rattle.sc_seen.specs.Board.{running_split};
-ghost use Rattle.sc_seen.specs.Seen.{AreLegal};
 ghost use Rattle.sc_board.specs.Boards.{IsSoundBoard};
-ghost use Rattle.sc_collection.specs.Desks.{Out, Held, IsBoardOf, MayReplaceBoard, SeesBoardGiven, StillFit, AreAtRest};
+ghost use Rattle.sc_collection.specs.Desks.{Held, IsBoardOf, MayReplaceBoard, StillFit, AreAtRest};
+ghost use Rattle.sc_collection.specs.Handing.{TakesBackBoard, desk_state};
 ghost use Rattle.sc_collection.specs.Shapes.{IsShape, HasShape, SeesNothing};
 
 use crate::desk::Desk;
@@ -185,12 +185,9 @@ impl Desk for Alone {
         requires no_bucket { self.old.out ≡ None }
         requires rest { (keepers : Unit {0}) → board.keepers ≡ Some keepers
             → KeepersAreOut self.old × AreAtRest self.old.layout board.journal.entries (keeping_alone self.old) }
-        ensures seen { (entries : List BoardEntry) → self.old.board_out ≡ Some entries
-            → SeesBoardGiven self.old.layout entries board.journal.entries (seen_alone self.old) (seen_alone self.new) }
-        ensures out { let out : Out = record { bucket = self.new.out; board = self.new.board_out } in
-            out ≡ record { bucket = self.old.out; board = None } }
-        ensures legal { AreLegal self.new.layout (seen_alone self.new) }
-        ensures layout { self.new.layout ≡ self.old.layout }
+        ensures taken { TakesBackBoard board.journal.entries
+            (desk_state self.old.layout (seen_alone self.old) (record { bucket = self.old.out; board = self.old.board_out }))
+            (desk_state self.new.layout (seen_alone self.new) (record { bucket = self.new.out; board = self.new.board_out })) }
         ensures keepers { board.keepers ≡ None → (keepers : Unit {0}) → KeepersAreOut self.old
             → StillFit (KeepersAreOut self.new) (keeping_alone self.old) (keeping_alone self.new) }
     {

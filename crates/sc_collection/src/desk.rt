@@ -1,14 +1,13 @@
 ghost use Rattle.std.specs.Prelude.{◌≡◌, ◌<◌, ◌≤◌, ℕ, List, [], Option, Some, None, true, false};
-ghost use mathlib.Core.List.{IsPrefix};
 ghost use Rattle.sc_record.specs.declared.entry.Entry.{Entry};
 ghost use Rattle.sc_router.specs.Route.{IsBucketCount};
 ghost use Rattle.sc_seen.specs.Seen.{Layout, Seen, AreLegal};
 ghost use Rattle.sc_seen.specs.declared.board.BoardEntry.{BoardEntry};
-ghost use Rattle.sc_bucket.specs.Sound.{IsSound};
 ghost use Rattle.sc_keeper.specs.declared.part.Part.{Part};
 ghost use Rattle.sc_keeper.specs.Part.{part_of};
 ghost use Rattle.sc_board.specs.Boards.{IsSoundBoard};
-ghost use Rattle.sc_collection.specs.Desks.{Out, Held, Keeping, IsBucketOf, IsBoardOf, MayReplace, KeeperMayReplace, MayReplaceBoard, SeesGiven, SeesKeeperGiven, SeesBoardGiven, OwnsSplit, StillFit, KeepsGiven, AreAtRest};
+ghost use Rattle.sc_collection.specs.Desks.{Out, Held, Keeping, IsBoardOf, MayReplace, KeeperMayReplace, MayReplaceBoard, SeesGiven, SeesKeeperGiven, StillFit, KeepsGiven, AreAtRest};
+ghost use Rattle.sc_collection.specs.Handing.{HandsOut, HandsOutBoard, TakesBackBoard, desk_state};
 
 use sc_board::Board;
 use sc_bucket::Bucket;
@@ -68,13 +67,8 @@ pub trait Desk {
     fn hold(&mut self, b: u32) -> Bucket
         requires within { b < (layout self.old).buckets }
         requires nothing_out { (out self.old).bucket ≡ None }
-        ensures sound { IsSound result }
-        ensures is_of { IsBucketOf (layout self.old) b result }
-        ensures extends { IsPrefix ((seen self.old).journals b) result.journal.entries }
-        ensures out { out self.new ≡ record (out self.old) { bucket = Some (record { number = b; bucket = result; by_keeper = false }) } }
-        ensures seen { seen self.new ≡ seen self.old }
-        ensures legal { AreLegal (layout self.new) (seen self.new) }
-        ensures layout { layout self.new ≡ layout self.old }
+        ensures handed { HandsOut (record { number = b; bucket = result; by_keeper = false })
+            (desk_state (layout self.old) (seen self.old) (out self.old)) (desk_state (layout self.new) (seen self.new) (out self.new)) }
         ensures keepers { (keepers : Self.Keepers) → fits self.old keepers
             → StillFit (fits self.new keepers) (keeping self.old keepers) (keeping self.new keepers) };
 
@@ -95,14 +89,9 @@ pub trait Desk {
         requires within { b < (layout self.old).buckets }
         requires nothing_out { (out self.old).bucket ≡ None }
         requires fits { fits self.old keepers.old }
-        ensures sound { IsSound result }
-        ensures is_of { IsBucketOf (layout self.old) b result }
-        ensures extends { IsPrefix ((seen self.old).journals b) result.journal.entries }
+        ensures handed { HandsOut (record { number = b; bucket = result; by_keeper = true })
+            (desk_state (layout self.old) (seen self.old) (out self.old)) (desk_state (layout self.new) (seen self.new) (out self.new)) }
         ensures part { part_of result ≡ (keeping self.old keepers.old).part b }
-        ensures out { out self.new ≡ record (out self.old) { bucket = Some (record { number = b; bucket = result; by_keeper = true }) } }
-        ensures seen { seen self.new ≡ seen self.old }
-        ensures legal { AreLegal (layout self.new) (seen self.new) }
-        ensures layout { layout self.new ≡ layout self.old }
         ensures keepers { StillFit (fits self.new keepers.new) (keeping self.old keepers.old) (keeping self.new keepers.new) };
 
     /// Takes back the bucket of this number from its keeper.
@@ -124,16 +113,10 @@ pub trait Desk {
     fn hold_board(&mut self) -> Board<Self::Keepers>
         requires nothing_out { (out self.old).board ≡ None }
         requires no_bucket { (out self.old).bucket ≡ None }
-        ensures sound { IsSoundBoard result }
-        ensures is_of { IsBoardOf (layout self.old) result.first result.limit }
-        ensures extends { IsPrefix (seen self.old).board result.journal.entries }
-        ensures as_left { OwnsSplit (layout self.old) (seen self.old) → result.journal.entries ≡ (seen self.old).board }
+        ensures handed { HandsOutBoard result
+            (desk_state (layout self.old) (seen self.old) (out self.old)) (desk_state (layout self.new) (seen self.new) (out self.new)) }
         ensures rest { (keepers : Self.Keepers) → result.keepers ≡ Some keepers
             → fits self.new keepers × AreAtRest (layout self.old) result.journal.entries (keeping self.new keepers) }
-        ensures out { out self.new ≡ record (out self.old) { board = Some result.journal.entries } }
-        ensures seen { seen self.new ≡ seen self.old }
-        ensures legal { AreLegal (layout self.new) (seen self.new) }
-        ensures layout { layout self.new ≡ layout self.old }
         ensures keepers { (keepers : Self.Keepers) → fits self.old keepers
             → StillFit (fits self.new keepers) (keeping self.old keepers) (keeping self.new keepers) };
 
@@ -146,11 +129,8 @@ pub trait Desk {
         requires no_bucket { (out self.old).bucket ≡ None }
         requires rest { (keepers : Self.Keepers) → board.keepers ≡ Some keepers
             → fits self.old keepers × AreAtRest (layout self.old) board.journal.entries (keeping self.old keepers) }
-        ensures seen { (entries : List BoardEntry) → (out self.old).board ≡ Some entries
-            → SeesBoardGiven (layout self.old) entries board.journal.entries (seen self.old) (seen self.new) }
-        ensures out { out self.new ≡ record (out self.old) { board = None } }
-        ensures legal { AreLegal (layout self.new) (seen self.new) }
-        ensures layout { layout self.new ≡ layout self.old }
+        ensures taken { TakesBackBoard board.journal.entries
+            (desk_state (layout self.old) (seen self.old) (out self.old)) (desk_state (layout self.new) (seen self.new) (out self.new)) }
         ensures keepers { board.keepers ≡ None → (keepers : Self.Keepers) → fits self.old keepers
             → StillFit (fits self.new keepers) (keeping self.old keepers) (keeping self.new keepers) };
 }

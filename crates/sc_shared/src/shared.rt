@@ -1,9 +1,9 @@
 //! The desk of one thread over a collection that threads share.
 ghost use Rattle.std.specs.Prelude.{◌≡◌, List, Some, None};
 ghost use Rattle.sc_seen.specs.declared.board.BoardEntry.{BoardEntry};
-ghost use Rattle.sc_seen.specs.Seen.{AreLegal};
 ghost use Rattle.sc_board.specs.Boards.{IsSoundBoard};
-ghost use Rattle.sc_collection.specs.Desks.{IsBoardOf, MayReplaceBoard, SeesBoardGiven, StillFit, AreAtRest};
+ghost use Rattle.sc_collection.specs.Desks.{IsBoardOf, MayReplaceBoard, StillFit, AreAtRest};
+ghost use Rattle.sc_collection.specs.Handing.{TakesBackBoard, desk_state};
 
 use crate::board::KeptBoard;
 use crate::collection::Collection;
@@ -222,11 +222,9 @@ impl<'a, R: Wait, N: Home> Desk for Shared<'a, R, N> {
         requires no_bucket { (out_of self.old).bucket ≡ None }
         requires rest { (keepers : Keepers) → board.keepers ≡ Some keepers → Fit self.old keepers.keepers.items
             × AreAtRest (layout_of self.old.locks) board.journal.entries (keeping_of keepers.keepers.items) }
-        ensures seen { (entries : List BoardEntry) → (out_of self.old).board ≡ Some entries
-            → SeesBoardGiven (layout_of self.old.locks) entries board.journal.entries (seen_of self.old.passes) (seen_of self.new.passes) }
-        ensures out { out_of self.new ≡ record (out_of self.old) { board = None } }
-        ensures legal { AreLegal (layout_of self.new.locks) (seen_of self.new.passes) }
-        ensures layout { layout_of self.new.locks ≡ layout_of self.old.locks }
+        ensures taken { TakesBackBoard board.journal.entries
+            (desk_state (layout_of self.old.locks) (seen_of self.old.passes) (out_of self.old))
+            (desk_state (layout_of self.new.locks) (seen_of self.new.passes) (out_of self.new)) }
         ensures keepers { board.keepers ≡ None → (keepers : Keepers) → Fit self.old keepers.keepers.items
             → StillFit (Fit self.new keepers.keepers.items) (keeping_of keepers.keepers.items) (keeping_of keepers.keepers.items) }
     {

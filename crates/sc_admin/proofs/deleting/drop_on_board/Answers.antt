@@ -17,13 +17,13 @@ drop_slice-answer-requires-clause-rest g c keepers has =
     let rest = c.hold_board-board.ensures.rest keepers has in (
       rest.0,
       subst (λ (layout : Layout). AreAtRest layout c.hold_board-board.result.journal.entries (g.D.Desk.keeping c.hold_board-board.new.self keepers))
-          (sym c.hold_board-board.ensures.layout) rest.1,
+          (sym c.hold_board-board.ensures.handed.layout) rest.1,
     )
 
 pub give_board-requires-clause-is_out : goal.give_board-requires-clause-is_out
 give_board-requires-clause-is_out g c = (
   c.hold_board-board.result.journal.entries,
-  ap (λ (out : Out). out.board) (c.drop_slice-answer.ensures.out ∙ c.hold_board-board.ensures.out),
+  ap (λ (out : Out). out.board) (c.drop_slice-answer.ensures.out ∙ c.hold_board-board.ensures.handed.out),
   may_replace (g.D.Desk.layout c.hold_board-board.new.self) (g.D.Desk.layout c.drop_slice-answer.new.desk) c.args.shard.now
       (g.D.Desk.seen c.hold_board-board.new.self) (g.D.Desk.seen c.drop_slice-answer.new.desk) (g.D.Desk.seen c.drop_slice-answer.new.desk)
       c.hold_board-board.result.journal.entries c.drop_slice-answer.new.board.journal.entries c.drop_slice-answer.result
@@ -41,14 +41,14 @@ returns-clause-dropped g c =
     c.drop_slice-answer.ensures.dropped
     (λ cores is drops. deletes_slice layout (g.D.Desk.layout c.hold_board-board.new.self) (g.D.Desk.layout c.drop_slice-answer.new.desk)
     c.args.shard.now (g.D.Desk.seen c.args.desk.now) out between (g.D.Desk.seen c.give_board.new.self) c.args.trail.now.stops c.keep.new.self.stops
-    held given c.hold_board-board.ensures.layout (c.drop_slice-answer.ensures.layout ∙ c.hold_board-board.ensures.layout)
-    c.hold_board-board.ensures.extends c.hold_board-board.ensures.seen c.drop_slice-answer.ensures.board
-    (c.give_board.ensures.seen held (ap (λ (o : Out). o.board) (c.drop_slice-answer.ensures.out ∙ c.hold_board-board.ensures.out)))
+    held given c.hold_board-board.ensures.handed.layout (c.drop_slice-answer.ensures.layout ∙ c.hold_board-board.ensures.handed.layout)
+    c.hold_board-board.ensures.handed.extends c.hold_board-board.ensures.handed.seen c.drop_slice-answer.ensures.board
+    (c.give_board.ensures.taken.seen held (ap (λ (o : Out). o.board) (c.drop_slice-answer.ensures.out ∙ c.hold_board-board.ensures.handed.out)))
     cores drops
     (ap (λ (kept : Kept). kept.stops) c.keep.ensures ∙ ap (λ (stop : Stop). c.args.trail.now.stops ++ stop ∷ [])
     (stop_is c.buckets.result layout.buckets c.entries-place.result (length held) c.is_ok.result true
     (c.buckets.ensures.count ∙ ap (λ (l : Layout). l.buckets)
-    (c.give_board.ensures.layout ∙ c.drop_slice-answer.ensures.layout ∙ c.hold_board-board.ensures.layout))
+    (c.give_board.ensures.taken.layout ∙ c.drop_slice-answer.ensures.layout ∙ c.hold_board-board.ensures.handed.layout))
     c.entries-place.ensures (c.is_ok.ensures.value ∙ ap is_ok is))))
 
 pub returns-clause-refused : goal.returns-clause-refused
@@ -62,13 +62,13 @@ returns-clause-refused g c =
     c.drop_slice-answer.ensures.refused
     (λ fault is cause. deletes_none layout (g.D.Desk.layout c.hold_board-board.new.self) (g.D.Desk.layout c.drop_slice-answer.new.desk)
     c.args.shard.now (g.D.Desk.seen c.args.desk.now) out between (g.D.Desk.seen c.give_board.new.self) c.args.trail.now.stops c.keep.new.self.stops
-    held given c.hold_board-board.ensures.layout (c.drop_slice-answer.ensures.layout ∙ c.hold_board-board.ensures.layout)
-    c.hold_board-board.ensures.extends c.hold_board-board.ensures.seen c.drop_slice-answer.ensures.board
-    (c.give_board.ensures.seen held (ap (λ (o : Out). o.board) (c.drop_slice-answer.ensures.out ∙ c.hold_board-board.ensures.out)))
+    held given c.hold_board-board.ensures.handed.layout (c.drop_slice-answer.ensures.layout ∙ c.hold_board-board.ensures.handed.layout)
+    c.hold_board-board.ensures.handed.extends c.hold_board-board.ensures.handed.seen c.drop_slice-answer.ensures.board
+    (c.give_board.ensures.taken.seen held (ap (λ (o : Out). o.board) (c.drop_slice-answer.ensures.out ∙ c.hold_board-board.ensures.handed.out)))
     fault cause (at_err c.drop_slice-answer.result fault is c.drop_slice-answer.ensures.entries)
     (at_err c.drop_slice-answer.result fault is c.drop_slice-answer.ensures.journals)
     (ap (λ (kept : Kept). kept.stops) c.keep.ensures ∙ ap (λ (stop : Stop). c.args.trail.now.stops ++ stop ∷ [])
     (stop_is c.buckets.result layout.buckets c.entries-place.result (length held) c.is_ok.result false
     (c.buckets.ensures.count ∙ ap (λ (l : Layout). l.buckets)
-    (c.give_board.ensures.layout ∙ c.drop_slice-answer.ensures.layout ∙ c.hold_board-board.ensures.layout))
+    (c.give_board.ensures.taken.layout ∙ c.drop_slice-answer.ensures.layout ∙ c.hold_board-board.ensures.handed.layout))
     c.entries-place.ensures (c.is_ok.ensures.value ∙ ap is_ok is))))

@@ -12,7 +12,7 @@ use Rattle.sc_admin.proofs.dropping.drop_in.Goals as goal
 
 pub drop_shard-requires : goal.drop_shard-requires
 drop_shard-requires g c = record {
-  sound = c.hold_keeper-bucket.ensures.sound;
+  sound = c.hold_keeper-bucket.ensures.handed.sound;
   can = can_drop c.hold_keeper-bucket.result ((g.D.Desk.keeping c.args.desk.now c.args.keepers.now).part c.args.b) c.args.slice
       c.hold_keeper-bucket.ensures.part c.requires.may;
 }
@@ -28,10 +28,10 @@ give_keeper-requires g c =
     record {
       is_out = (
         held,
-        ap (λ (out : Out). out.bucket) c.hold_keeper-bucket.ensures.out,
+        ap (λ (out : Out). out.bucket) c.hold_keeper-bucket.ensures.handed.out,
         refl,
-        subst (λ (layout : Layout). KeeperMayReplace layout held given) (sym c.hold_keeper-bucket.ensures.layout)
-            (keeper_may_replace (g.D.Desk.layout c.args.desk.now) held given c.hold_keeper-bucket.ensures.is_of
+        subst (λ (layout : Layout). KeeperMayReplace layout held given) (sym c.hold_keeper-bucket.ensures.handed.layout)
+            (keeper_may_replace (g.D.Desk.layout c.args.desk.now) held given c.hold_keeper-bucket.ensures.handed.is_of
             c.drop_shard.ensures.sound refl (IsKeeperEvent.drops can c.drop_shard.ensures.dropped)),
       );
       fits = c.hold_keeper-bucket.ensures.keepers.0;
@@ -42,19 +42,19 @@ returns g c =
     let bucket : Bucket = c.hold_keeper-bucket.result in
     let given : Bucket = c.drop_shard.new.bucket in
     let held = held_of c.args.b bucket in
-    let out = ap (λ (out : Out). out.bucket) c.hold_keeper-bucket.ensures.out in
+    let out = ap (λ (out : Out). out.bucket) c.hold_keeper-bucket.ensures.handed.out in
     let old = known_of (g.D.Desk.seen c.args.desk.now) (g.D.Desk.keeping c.args.desk.now c.args.keepers.now) in
     let new =
     known_of (g.D.Desk.seen c.give_keeper.new.self) (g.D.Desk.keeping c.give_keeper.new.self c.give_keeper.new.keepers) in
     let is =
     held_by_desk c.args.b bucket given old.seen (g.D.Desk.seen c.hold_keeper-bucket.new.self) new.seen old.keeping
     (g.D.Desk.keeping c.hold_keeper-bucket.new.self c.hold_keeper-bucket.new.keepers) new.keeping
-    c.hold_keeper-bucket.ensures.extends c.hold_keeper-bucket.ensures.part c.hold_keeper-bucket.ensures.seen
+    c.hold_keeper-bucket.ensures.handed.extends c.hold_keeper-bucket.ensures.part c.hold_keeper-bucket.ensures.handed.seen
     c.hold_keeper-bucket.ensures.keepers.1 (c.give_keeper.ensures.seen held out) (c.give_keeper.ensures.keeping held out) in
     record {
-      layout = c.give_keeper.ensures.layout ∙ c.hold_keeper-bucket.ensures.layout;
+      layout = c.give_keeper.ensures.layout ∙ c.hold_keeper-bucket.ensures.handed.layout;
       out = out_same held (g.D.Desk.out c.args.desk.now) (g.D.Desk.out c.hold_keeper-bucket.new.self)
-          (g.D.Desk.out c.give_keeper.new.self) c.requires.none_out c.hold_keeper-bucket.ensures.out c.give_keeper.ensures.out;
+          (g.D.Desk.out c.give_keeper.new.self) c.requires.none_out c.hold_keeper-bucket.ensures.handed.out c.give_keeper.ensures.out;
       legal = c.give_keeper.ensures.legal;
       fits = c.give_keeper.ensures.fits;
       board = board_same c.args.b bucket given old new is;

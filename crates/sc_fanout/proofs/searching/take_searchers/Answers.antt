@@ -17,17 +17,17 @@ give-requires g c =
     record {
       is_out = (
         held,
-        ap (λ (o : Out). o.bucket) c.hold-bucket.ensures.out,
+        ap (λ (o : Out). o.bucket) c.hold-bucket.ensures.handed.out,
         refl,
-        subst (λ (layout : Layout). MayReplace layout held c.hold-bucket.result) (sym c.hold-bucket.ensures.layout)
-            (same_may_replace (g.D.Desk.layout c.args.desk.now) held c.hold-bucket.result c.hold-bucket.ensures.is_of c.hold-bucket.ensures.sound refl refl),
+        subst (λ (layout : Layout). MayReplace layout held c.hold-bucket.result) (sym c.hold-bucket.ensures.handed.layout)
+            (same_may_replace (g.D.Desk.layout c.args.desk.now) held c.hold-bucket.result c.hold-bucket.ensures.handed.is_of c.hold-bucket.ensures.handed.sound refl refl),
       );
     }
 
 pub returns-clause-rest : goal.returns-clause-rest
 returns-clause-rest g c = record {
   nothing_out = given-back (g.D.Desk.out c.args.desk.now) (g.D.Desk.out c.hold-bucket.new.self) (g.D.Desk.out c.give.new.self) _
-      c.requires.nothing_out c.hold-bucket.ensures.out c.give.ensures.out;
+      c.requires.nothing_out c.hold-bucket.ensures.handed.out c.give.ensures.out;
   legal = c.give.ensures.legal;
 }
 
@@ -40,7 +40,7 @@ returns-clause-looks g c =
     let journal = bucket.journal.entries in
     let held : Held = record { number = c.args.b; bucket = bucket; by_keeper = false } in
     let sees : SeesGiven held bucket old new =
-    subst (λ (s : Seen). SeesGiven held bucket s new) c.hold-bucket.ensures.seen (c.give.ensures.seen held (ap (λ (o : Out). o.bucket) c.hold-bucket.ensures.out)) in
+    subst (λ (s : Seen). SeesGiven held bucket s new) c.hold-bucket.ensures.handed.seen (c.give.ensures.seen held (ap (λ (o : Out). o.bucket) c.hold-bucket.ensures.handed.out)) in
     let stops : c.keep.new.self.stops ≡ c.args.trail.now.stops ++ record { lock = c.args.b; place = length journal; made = false } ∷ [] =
     ap (λ (k : Kept). k.stops) c.keep.ensures
     ∙ ap (λ n. c.args.trail.now.stops ++ record { lock = c.args.b; place = n; made = false } ∷ []) c.entries.ensures.count in
@@ -48,9 +48,9 @@ returns-clause-looks g c =
       journal = journal;
       begins = subst (IsPrefix journal) (sym sees.journal) (IsPrefix-self journal);
       keeps = record {
-        goes = GoesOn-held layout old new held bucket false [] c.requires.within c.hold-bucket.ensures.extends (sym (append-nil journal)) refl sees;
+        goes = GoesOn-held layout old new held bucket false [] c.requires.within c.hold-bucket.ensures.handed.extends (sym (append-nil journal)) refl sees;
         kept = stops;
       };
       is_taken = asked layout c.args.b bucket c.args.route.now c.args.searchers.now.items c.add_searchers-taken.new.searchers.items c.add_searchers-taken.result
-          c.hold-bucket.ensures.sound c.hold-bucket.ensures.is_of c.add_searchers-taken.ensures;
+          c.hold-bucket.ensures.handed.sound c.hold-bucket.ensures.handed.is_of c.add_searchers-taken.ensures;
     }

@@ -16,17 +16,17 @@ give-requires g c =
     record {
       is_out = (
         held,
-        ap (λ (o : Out). o.bucket) c.hold-bucket.ensures.out,
+        ap (λ (o : Out). o.bucket) c.hold-bucket.ensures.handed.out,
         refl,
-        subst (λ (layout : Layout). MayReplace layout held c.hold-bucket.result) (sym c.hold-bucket.ensures.layout)
-            (same_may_replace (g.D.Desk.layout c.args.desk.now) held c.hold-bucket.result c.hold-bucket.ensures.is_of c.hold-bucket.ensures.sound refl refl),
+        subst (λ (layout : Layout). MayReplace layout held c.hold-bucket.result) (sym c.hold-bucket.ensures.handed.layout)
+            (same_may_replace (g.D.Desk.layout c.args.desk.now) held c.hold-bucket.result c.hold-bucket.ensures.handed.is_of c.hold-bucket.ensures.handed.sound refl refl),
       );
     }
 
 pub returns-clause-rest : goal.returns-clause-rest
 returns-clause-rest g c = record {
   nothing_out = given-back (g.D.Desk.out c.args.desk.now) (g.D.Desk.out c.hold-bucket.new.self) (g.D.Desk.out c.give.new.self) _
-      c.requires.nothing_out c.hold-bucket.ensures.out c.give.ensures.out;
+      c.requires.nothing_out c.hold-bucket.ensures.handed.out c.give.ensures.out;
   legal = c.give.ensures.legal;
 }
 
@@ -45,7 +45,7 @@ returns-clause-got g c =
     ∙ ap (bucket_of c.args.id.now) c.buckets.ensures.count in
     let below : number < layout.buckets = subst (λ n. number < n) c.buckets.ensures.count c.bucket_of-b.ensures.below in
     let sees : SeesGiven (record { number = number; bucket = bucket; by_keeper = false }) bucket old new =
-    subst (λ (s : Seen). SeesGiven (record { number = number; bucket = bucket; by_keeper = false }) bucket s new) c.hold-bucket.ensures.seen
-    (c.give.ensures.seen (record { number = number; bucket = bucket; by_keeper = false }) (ap (λ (o : Out). o.bucket) c.hold-bucket.ensures.out)) in
+    subst (λ (s : Seen). SeesGiven (record { number = number; bucket = bucket; by_keeper = false }) bucket s new) c.hold-bucket.ensures.handed.seen
+    (c.give.ensures.seen (record { number = number; bucket = bucket; by_keeper = false }) (ap (λ (o : Out). o.bucket) c.hold-bucket.ensures.handed.out)) in
     got layout (view_of old c.args.trail.now.stops) (view_of new c.keep.new.self.stops) bucket number c.args.id.now c.share_live-found.result
-    here below c.hold-bucket.ensures.extends sees stops (rw c.read.ensures at c.share_live-found.ensures)
+    here below c.hold-bucket.ensures.handed.extends sees stops (rw c.read.ensures at c.share_live-found.ensures)

@@ -16,9 +16,9 @@ use Rattle.sc_split.proofs.board.open.Goals as goal
 pub give_board-requires-clause-is_out : goal.give_board-requires-clause-is_out
 give_board-requires-clause-is_out g c = (
   c.hold_board-board.result.journal.entries,
-  ap (λ (out : Out). out.board) c.hold_board-board.ensures.out,
+  ap (λ (out : Out). out.board) c.hold_board-board.ensures.handed.out,
   may-replace-begun c.hold_board-board.result c.begin_split-answer.new.self c.begin_split-answer.result (g.D.Desk.layout c.hold_board-board.new.self) (g.D.Desk.seen c.hold_board-board.new.self)
-      c.hold_board-board.ensures.sound.keepers_there
+      c.hold_board-board.ensures.handed.sound.keepers_there
       c.begin_split-answer.ensures.begun c.begin_split-answer.ensures.keepers c.begin_split-answer.ensures.same,
 )
 
@@ -27,7 +27,7 @@ give_board-requires-clause-rest g c keepers has =
     let still = keepers-still c.hold_board-board.result c.begin_split-answer.new.self c.begin_split-answer.result c.begin_split-answer.ensures.handed_out c.begin_split-answer.ensures.same keepers has in
     let rest = c.hold_board-board.ensures.rest keepers still.0 in (
       rest.0,
-      at-rest-still (g.D.Desk.layout c.args.desk.now) _ c.hold_board-board.result.journal.entries _ _ _ c.hold_board-board.ensures.layout still.1
+      at-rest-still (g.D.Desk.layout c.args.desk.now) _ c.hold_board-board.result.journal.entries _ _ _ c.hold_board-board.ensures.handed.layout still.1
           (record { part = λ number. refl; own = λ number. refl }) rest.1,
     )
 
@@ -45,11 +45,11 @@ returns-clause-opened g c = by-ok c.begin_split-answer.result _ (λ begun is.
     let opens = opens-by c.hold_board-board.result c.begin_split-answer.new.self (asked_for c.args.shard.now c.args.cut.now) begun.0
     (g.D.Desk.layout c.args.desk.now) (g.D.Desk.layout c.hold_board-board.new.self) (g.D.Desk.seen c.args.desk.now) (g.D.Desk.seen c.hold_board-board.new.self)
     (g.D.Desk.seen c.give_board.new.self) c.args.trail.now.stops c.keep.new.self.stops
-    c.hold_board-board.ensures.is_of c.hold_board-board.ensures.extends c.hold_board-board.ensures.layout c.hold_board-board.ensures.seen planned notes
-    (c.give_board.ensures.seen c.hold_board-board.result.journal.entries (ap (λ (out : Out). out.board) c.hold_board-board.ensures.out))
+    c.hold_board-board.ensures.handed.is_of c.hold_board-board.ensures.handed.extends c.hold_board-board.ensures.handed.layout c.hold_board-board.ensures.handed.seen planned notes
+    (c.give_board.ensures.taken.seen c.hold_board-board.result.journal.entries (ap (λ (out : Out). out.board) c.hold_board-board.ensures.handed.out))
     (ap (λ (kept : Kept). kept.stops) c.keep.ensures ∙ ap (λ (stop : Stop). c.args.trail.now.stops ++ stop ∷ [])
     (stop-is c.buckets.result (g.D.Desk.layout c.args.desk.now).buckets c.entries-place.result (length c.hold_board-board.result.journal.entries) c.is_ok.result true
-    (c.buckets.ensures.count ∙ ap (λ (l : Layout). l.buckets) (c.give_board.ensures.layout ∙ c.hold_board-board.ensures.layout))
+    (c.buckets.ensures.count ∙ ap (λ (l : Layout). l.buckets) (c.give_board.ensures.taken.layout ∙ c.hold_board-board.ensures.handed.layout))
     c.entries-place.ensures (c.is_ok.ensures.value ∙ ap is_ok is))) in (
       opens.0,
       still.0,
@@ -62,12 +62,12 @@ returns-clause-refused g c = by-err c.begin_split-answer.result _ (λ fault is.
     refuses-by c.hold_board-board.result c.begin_split-answer.new.self (asked_for c.args.shard.now c.args.cut.now) fault
     (g.D.Desk.layout c.args.desk.now) (g.D.Desk.layout c.hold_board-board.new.self) (g.D.Desk.seen c.args.desk.now) (g.D.Desk.seen c.hold_board-board.new.self)
     (g.D.Desk.seen c.give_board.new.self) c.args.trail.now.stops c.keep.new.self.stops
-    c.hold_board-board.ensures.is_of c.hold_board-board.ensures.extends c.hold_board-board.ensures.layout c.hold_board-board.ensures.seen
+    c.hold_board-board.ensures.handed.is_of c.hold_board-board.ensures.handed.extends c.hold_board-board.ensures.handed.layout c.hold_board-board.ensures.handed.seen
     (if-err-at c.begin_split-answer.result (IsRefusal c.hold_board-board.result.first c.hold_board-board.result.limit c.hold_board-board.result.journal.entries (asked_for c.args.shard.now c.args.cut.now))
     fault is c.begin_split-answer.ensures.refused)
     (if-err-at c.begin_split-answer.result (λ one. IsSameBoardButRoom c.hold_board-board.result c.begin_split-answer.new.self) fault is c.begin_split-answer.ensures.same)
-    (c.give_board.ensures.seen c.hold_board-board.result.journal.entries (ap (λ (out : Out). out.board) c.hold_board-board.ensures.out))
+    (c.give_board.ensures.taken.seen c.hold_board-board.result.journal.entries (ap (λ (out : Out). out.board) c.hold_board-board.ensures.handed.out))
     (ap (λ (kept : Kept). kept.stops) c.keep.ensures ∙ ap (λ (stop : Stop). c.args.trail.now.stops ++ stop ∷ [])
     (stop-is c.buckets.result (g.D.Desk.layout c.args.desk.now).buckets c.entries-place.result (length c.hold_board-board.result.journal.entries) c.is_ok.result false
-    (c.buckets.ensures.count ∙ ap (λ (l : Layout). l.buckets) (c.give_board.ensures.layout ∙ c.hold_board-board.ensures.layout))
+    (c.buckets.ensures.count ∙ ap (λ (l : Layout). l.buckets) (c.give_board.ensures.taken.layout ∙ c.hold_board-board.ensures.handed.layout))
     c.entries-place.ensures (c.is_ok.ensures.value ∙ ap is_ok is))))

@@ -22,7 +22,7 @@ abort-requires g c =
     let part = c.hold_keeper-bucket.ensures.part in
     let parent = c.requires.may.0 in
     let can = (aborts_by_part bucket parent).1 (subst (λ (one : Part). MayAbort one parent) (sym part) c.requires.may.1) in
-    record { sound = c.hold_keeper-bucket.ensures.sound; can = (parent, can) }
+    record { sound = c.hold_keeper-bucket.ensures.handed.sound; can = (parent, can) }
 
 pub give_keeper-requires : goal.give_keeper-requires
 give_keeper-requires g c =
@@ -35,10 +35,10 @@ give_keeper-requires g c =
     record {
       is_out = (
         held,
-        ap (λ (out : Out). out.bucket) c.hold_keeper-bucket.ensures.out,
+        ap (λ (out : Out). out.bucket) c.hold_keeper-bucket.ensures.handed.out,
         refl,
-        subst (λ (layout : Layout). KeeperMayReplace layout held given) (sym c.hold_keeper-bucket.ensures.layout)
-            (keeper_may_replace (g.D.Desk.layout c.args.desk.now) held given c.hold_keeper-bucket.ensures.is_of
+        subst (λ (layout : Layout). KeeperMayReplace layout held given) (sym c.hold_keeper-bucket.ensures.handed.layout)
+            (keeper_may_replace (g.D.Desk.layout c.args.desk.now) held given c.hold_keeper-bucket.ensures.handed.is_of
             c.abort.ensures.sound refl
             (IsKeeperEvent.aborts can (c.abort.ensures.aborted parent can))),
       );
@@ -51,23 +51,23 @@ returns g c =
     let given : Bucket = c.abort.new.bucket in
     let held = held_of c.args.b bucket in
     let part = c.hold_keeper-bucket.ensures.part in
-    let out = ap (λ (out : Out). out.bucket) c.hold_keeper-bucket.ensures.out in
+    let out = ap (λ (out : Out). out.bucket) c.hold_keeper-bucket.ensures.handed.out in
     let old = known_of (g.D.Desk.seen c.args.desk.now) (g.D.Desk.keeping c.args.desk.now c.args.keepers.now) in
     let new =
     known_of (g.D.Desk.seen c.give_keeper.new.self) (g.D.Desk.keeping c.give_keeper.new.self c.give_keeper.new.keepers) in
     let is =
     held_by_desk c.args.b bucket given old.seen (g.D.Desk.seen c.hold_keeper-bucket.new.self) new.seen old.keeping
     (g.D.Desk.keeping c.hold_keeper-bucket.new.self c.hold_keeper-bucket.new.keepers) new.keeping
-    c.hold_keeper-bucket.ensures.extends part c.hold_keeper-bucket.ensures.seen c.hold_keeper-bucket.ensures.keepers.1
+    c.hold_keeper-bucket.ensures.handed.extends part c.hold_keeper-bucket.ensures.handed.seen c.hold_keeper-bucket.ensures.keepers.1
     (c.give_keeper.ensures.seen held out) (c.give_keeper.ensures.keeping held out) in
     let now = part-given c.args.b bucket given old new is in
     let parent = c.requires.may.0 in
     let can = (aborts_by_part bucket parent).1 (subst (λ (one : Part). MayAbort one parent) (sym part) c.requires.may.1) in
     record {
-      layout = c.give_keeper.ensures.layout ∙ c.hold_keeper-bucket.ensures.layout;
+      layout = c.give_keeper.ensures.layout ∙ c.hold_keeper-bucket.ensures.handed.layout;
       rest = rest-held (g.D.Desk.layout c.give_keeper.new.self) new.seen held (g.D.Desk.out c.args.desk.now)
           (g.D.Desk.out c.hold_keeper-bucket.new.self) (g.D.Desk.out c.give_keeper.new.self) c.requires.rest.nothing_out
-          c.hold_keeper-bucket.ensures.out c.give_keeper.ensures.out c.give_keeper.ensures.legal;
+          c.hold_keeper-bucket.ensures.handed.out c.give_keeper.ensures.out c.give_keeper.ensures.legal;
       fits = c.give_keeper.ensures.fits;
       seen = all_seen c.args.b bucket given old new is;
       held = λ parent may.

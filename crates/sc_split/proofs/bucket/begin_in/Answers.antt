@@ -30,7 +30,7 @@ begin-answer-requires g c =
     let plan = c.args.plan.now in
     let can = (begins_by_part bucket plan.parent plan.subs).1
     (subst (λ (one : Part). MayBegin one plan.parent plan.subs) (sym part) c.requires.may) in
-    record { sound = c.hold_keeper-bucket.ensures.sound; can = can }
+    record { sound = c.hold_keeper-bucket.ensures.handed.sound; can = can }
 
 pub give_keeper-requires : goal.give_keeper-requires
 give_keeper-requires g c =
@@ -46,10 +46,10 @@ give_keeper-requires g c =
     record {
       is_out = (
         held,
-        ap (λ (out : Out). out.bucket) c.hold_keeper-bucket.ensures.out,
+        ap (λ (out : Out). out.bucket) c.hold_keeper-bucket.ensures.handed.out,
         refl,
-        subst (λ (layout : Layout). KeeperMayReplace layout held given) (sym c.hold_keeper-bucket.ensures.layout)
-            (keeper_may_replace (g.D.Desk.layout c.args.desk.now) held given c.hold_keeper-bucket.ensures.is_of
+        subst (λ (layout : Layout). KeeperMayReplace layout held given) (sym c.hold_keeper-bucket.ensures.handed.layout)
+            (keeper_may_replace (g.D.Desk.layout c.args.desk.now) held given c.hold_keeper-bucket.ensures.handed.is_of
             c.begin-answer.ensures.sound refl
             (by_answer Begun Refused (IsKeeperEvent bucket given) c.begin-answer.result (λ begun. IsKeeperEvent.begins can begun)
             (λ same. IsKeeperEvent.stays same) c.begin-answer.ensures.begun c.begin-answer.ensures.refused)),
@@ -63,14 +63,14 @@ returns g c =
     let given : Bucket = c.begin-answer.new.bucket in
     let held = held_of c.args.b bucket in
     let part = c.hold_keeper-bucket.ensures.part in
-    let out = ap (λ (out : Out). out.bucket) c.hold_keeper-bucket.ensures.out in
+    let out = ap (λ (out : Out). out.bucket) c.hold_keeper-bucket.ensures.handed.out in
     let old = known_of (g.D.Desk.seen c.args.desk.now) (g.D.Desk.keeping c.args.desk.now c.args.keepers.now) in
     let new =
     known_of (g.D.Desk.seen c.give_keeper.new.self) (g.D.Desk.keeping c.give_keeper.new.self c.give_keeper.new.keepers) in
     let is =
     held_by_desk c.args.b bucket given old.seen (g.D.Desk.seen c.hold_keeper-bucket.new.self) new.seen old.keeping
     (g.D.Desk.keeping c.hold_keeper-bucket.new.self c.hold_keeper-bucket.new.keepers) new.keeping
-    c.hold_keeper-bucket.ensures.extends part c.hold_keeper-bucket.ensures.seen c.hold_keeper-bucket.ensures.keepers.1
+    c.hold_keeper-bucket.ensures.handed.extends part c.hold_keeper-bucket.ensures.handed.seen c.hold_keeper-bucket.ensures.keepers.1
     (c.give_keeper.ensures.seen held out) (c.give_keeper.ensures.keeping held out) in
     let now = part-given c.args.b bucket given old new is in
     let plan = c.args.plan.now in
@@ -80,12 +80,12 @@ returns g c =
     let Refused : Type 0 = IsSameButRoom bucket c.begin-answer.new.bucket in
     let is_of =
     subst (λ (layout : Layout). IsBucketOf layout c.args.b bucket)
-    (sym (c.give_keeper.ensures.layout ∙ c.hold_keeper-bucket.ensures.layout)) c.hold_keeper-bucket.ensures.is_of in
+    (sym (c.give_keeper.ensures.layout ∙ c.hold_keeper-bucket.ensures.handed.layout)) c.hold_keeper-bucket.ensures.handed.is_of in
     record {
-      layout = c.give_keeper.ensures.layout ∙ c.hold_keeper-bucket.ensures.layout;
+      layout = c.give_keeper.ensures.layout ∙ c.hold_keeper-bucket.ensures.handed.layout;
       rest = rest-held (g.D.Desk.layout c.give_keeper.new.self) new.seen held (g.D.Desk.out c.args.desk.now)
           (g.D.Desk.out c.hold_keeper-bucket.new.self) (g.D.Desk.out c.give_keeper.new.self) c.requires.rest.nothing_out
-          c.hold_keeper-bucket.ensures.out c.give_keeper.ensures.out c.give_keeper.ensures.legal;
+          c.hold_keeper-bucket.ensures.handed.out c.give_keeper.ensures.out c.give_keeper.ensures.legal;
       fits = c.give_keeper.ensures.fits;
       seen = all_seen c.args.b bucket given old new is;
       held = on_ok Begun (KeeperHeld c.args.b old new (entry.Begun plan.parent plan.subs ∷ [])) c.begin-answer.result
@@ -94,7 +94,7 @@ returns g c =
       begun = on_ok Begun (HasBegun (old.keeping.part c.args.b) plan (new.keeping.part c.args.b)) c.begin-answer.result
           (λ begun. kept_parts (λ was one. HasBegun was plan one) now part
           (has_begun (part_of bucket) (part_of given) plan ((begins_by_part bucket plan.parent plan.subs).0 can)
-          (names_below bucket c.hold_keeper-bucket.ensures.sound) (begins_part bucket given plan.parent plan.subs begun)
+          (names_below bucket c.hold_keeper-bucket.ensures.handed.sound) (begins_part bucket given plan.parent plan.subs begun)
           (apart_part given c.begin-answer.ensures.sound) (once_fed given c.begin-answer.ensures.sound)))
           c.begin-answer.ensures.begun;
       looked = on_err Refused (KeeperHeld c.args.b old new []) c.begin-answer.result
@@ -105,10 +105,10 @@ returns g c =
           (MayBeSplit (g.D.Desk.layout c.give_keeper.new.self).first (new.seen.journals c.args.b) plan.parent plan.subs)
           c.begin-answer.result
           (λ same. may_still_begin (g.D.Desk.layout c.give_keeper.new.self) c.args.b bucket given plan.parent plan.subs
-          (new.seen.journals c.args.b) is_of c.hold_keeper-bucket.ensures.sound can same is.sees.journal) c.begin-answer.ensures.refused;
+          (new.seen.journals c.args.b) is_of c.hold_keeper-bucket.ensures.handed.sound can same is.sees.journal) c.begin-answer.ensures.refused;
       full = λ answer.
           no_room (g.D.Desk.layout c.give_keeper.new.self) c.args.b bucket given plan.parent plan.subs (new.seen.journals c.args.b) is_of
-          c.hold_keeper-bucket.ensures.sound can
+          c.hold_keeper-bucket.ensures.handed.sound can
           (subst (λ (result : Result _ _). OnErr result Refused) answer c.begin-answer.ensures.refused)
           is.sees.journal (c.begin-answer.ensures.full.0 answer);
     }

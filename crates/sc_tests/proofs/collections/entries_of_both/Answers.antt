@@ -11,10 +11,10 @@ give-requires g c =
     record {
       is_out = (
         held,
-        ap (λ (o : Out). o.bucket) c.hold-first.ensures.out,
+        ap (λ (o : Out). o.bucket) c.hold-first.ensures.handed.out,
         refl,
-        subst (λ (layout : Layout). MayReplace layout held c.hold-first.result) (sym c.hold-first.ensures.layout)
-            (same_may_replace (g.D.Desk.layout c.args.one.now) held c.hold-first.result c.hold-first.ensures.is_of c.hold-first.ensures.sound refl refl),
+        subst (λ (layout : Layout). MayReplace layout held c.hold-first.result) (sym c.hold-first.ensures.handed.layout)
+            (same_may_replace (g.D.Desk.layout c.args.one.now) held c.hold-first.result c.hold-first.ensures.handed.is_of c.hold-first.ensures.handed.sound refl refl),
       );
     }
 
@@ -24,9 +24,9 @@ give-requires-2 g c =
     record {
       is_out = (
         held,
-        ap (λ (o : Out). o.bucket) c.hold-second.ensures.out,
+        ap (λ (o : Out). o.bucket) c.hold-second.ensures.handed.out,
         refl,
-        subst (λ (layout : Layout). MayReplace layout held c.hold-second.result) (sym c.hold-second.ensures.layout)
-            (same_may_replace (g.D.Desk.layout c.args.other.now) held c.hold-second.result c.hold-second.ensures.is_of c.hold-second.ensures.sound refl refl),
+        subst (λ (layout : Layout). MayReplace layout held c.hold-second.result) (sym c.hold-second.ensures.handed.layout)
+            (same_may_replace (g.D.Desk.layout c.args.other.now) held c.hold-second.result c.hold-second.ensures.handed.is_of c.hold-second.ensures.handed.sound refl refl),
       );
     }

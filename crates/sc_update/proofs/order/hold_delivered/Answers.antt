@@ -43,13 +43,13 @@ hold-requires-clause-within g c =
 
 pub returns-clause-quiet : goal.returns-clause-quiet
 returns-clause-quiet g c =
-    subst (λ (seen : Seen). MakeNoEntry (g.D.Desk.seen c.args.desk.now) seen c.args.lock) (sym c.hold.ensures.seen) c.loop-delivery.invariant.quiet
+    subst (λ (seen : Seen). MakeNoEntry (g.D.Desk.seen c.args.desk.now) seen c.args.lock) (sym c.hold.ensures.handed.seen) c.loop-delivery.invariant.quiet
 
 pub returns-clause-held : goal.returns-clause-held
 returns-clause-held g c = record {
   out_is = taken-alone (g.D.Desk.out c.loop-delivery.desk) (g.D.Desk.out c.hold.new.self) (record { number = c.args.lock; bucket = c.hold.result; by_keeper = false })
-      c.loop-delivery.invariant.nothing_out c.hold.ensures.out;
-  sound = c.hold.ensures.sound;
-  is_of = subst (λ (layout : Layout). IsBucketOf layout c.args.lock c.hold.result) c.loop-delivery.invariant.layout c.hold.ensures.is_of;
-  extends = subst (λ (seen : Seen). IsPrefix (seen.journals c.args.lock) c.hold.result.journal.entries) (sym c.hold.ensures.seen) c.hold.ensures.extends;
+      c.loop-delivery.invariant.nothing_out c.hold.ensures.handed.out;
+  sound = c.hold.ensures.handed.sound;
+  is_of = subst (λ (layout : Layout). IsBucketOf layout c.args.lock c.hold.result) c.loop-delivery.invariant.layout c.hold.ensures.handed.is_of;
+  extends = subst (λ (seen : Seen). IsPrefix (seen.journals c.args.lock) c.hold.result.journal.entries) (sym c.hold.ensures.handed.seen) c.hold.ensures.handed.extends;
 }

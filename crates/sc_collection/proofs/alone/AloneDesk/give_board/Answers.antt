@@ -15,9 +15,6 @@ returns c =
     given_of_fields c.self.inside c.new-self-inside.result.items c.args.self.now out.0 c.args.board c.self.view_is c.self.invariant out.1
     c.requires.sound c.requires.is_of out.2 (λ has. (c.requires.rest tt has).1) c.new-self-inside.ensures in
     record {
-      seen = give.sees;
-      out = give.out;
-      legal = give.legal;
-      layout = give.layout;
+      taken = record { seen = give.sees; out = give.out; legal = give.legal; layout = give.layout };
       keepers = λ none keepers fits. give.keepers none;
     }

@@ -11,12 +11,14 @@ returns c =
     let hold : IsHold c.args.self.now c.take_out.new.self held =
     taken_is_hold c.args.self.now c.take_out.new.self held c.take_out.ensures.is c.requires.nothing_out c.take_out.ensures.there c.take_out.ensures.after in
     record {
-      sound = hold.kept.sound;
-      is_of = hold.kept.is_of;
-      extends = hold.extends;
-      out = out_is c.args.self.now c.take_out.new.self (Some held) hold.out hold.board_out;
-      seen = hold.seen;
-      legal = hold.legal;
-      layout = hold.layout;
+      handed = record {
+        sound = hold.kept.sound;
+        is_of = hold.kept.is_of;
+        extends = hold.extends;
+        out = out_is c.args.self.now c.take_out.new.self (Some held) hold.out hold.board_out;
+        seen = hold.seen;
+        legal = hold.legal;
+        layout = hold.layout;
+      };
       keepers = λ keepers fits. hold.keepers fits;
     }

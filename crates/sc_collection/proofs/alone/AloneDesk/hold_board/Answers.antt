@@ -26,14 +26,16 @@ returns c =
     c.self.invariant (sym c.take.ensures.value ∙ c.unwrap-board.ensures) c.take.ensures.after
     (c.and-self-inside.ensures ∙ ap (λ (items : List (Unit {0} × Board (Unit {0}))). items ++ out) c.new.ensures) in
     record {
-      sound = hold.sound;
-      is_of = hold.is_of;
-      extends = ([], append-nil _ ∙ sym hold.same);
-      as_left = λ owns. hold.same;
+      handed = record {
+        sound = hold.sound;
+        is_of = hold.is_of;
+        extends = ([], append-nil _ ∙ sym hold.same);
+        as_left = λ owns. hold.same;
+        out = hold.out;
+        seen = hold.seen;
+        legal = hold.legal;
+        layout = hold.layout;
+      };
       rest = λ keepers has. hold.rest has;
-      out = hold.out;
-      seen = hold.seen;
-      legal = hold.legal;
-      layout = hold.layout;
       keepers = λ keepers fits. hold.keepers;
     }

@@ -1,5 +1,6 @@
 -- The board is taken back.
-use Rattle.std.proofs.Common.{inr, ap, ◌∙◌}
+use Rattle.std.proofs.Common.{inr, ap, ◌∙◌, arith, rules}
+use Rattle.std.proofs.lemmas.Grind.{common_steps}
 use Rattle.sc_shared.specs.Collections.{Locks}
 use Rattle.sc_shared.specs.Sharing.{SharedState, handed_entries}
 use Rattle.sc_shared.proofs.BoardLemmas.{MayGiveBoard, IsBoardGive, board_is_out, still_fit, board_is_given}
@@ -40,8 +41,8 @@ give-requires-clause-value g c =
     c.collection.view_is c.self.view_is c.self.invariant.shared_is c.take-turn.ensures.was may in
     record { is_sound = give.sound; one_step = inr give.follows; grows = give.follows.grows; owner = give.owner }
 
-pub returns-clause-seen : goal.returns-clause-seen
-returns-clause-seen g c =
+pub returns-clause-taken : goal.returns-clause-taken
+returns-clause-taken g c =
     let locks : Locks = record {
       buckets = c.collection.inside.locks.items;
       board = c.collection.inside.board;
@@ -60,9 +61,14 @@ returns-clause-seen g c =
       no_bucket = c.requires.no_bucket;
       rest = c.requires.rest;
     } in
-    (board_is_given locks c.collection.inside.first was c.args.self.now c.take-turn.result c.args.board c.collection.invariant
-    c.collection.view_is c.self.view_is c.self.invariant.shared_is c.take-turn.ensures.was may).sees c.give.new.pass c.give.ensures.seen
-    c.give.ensures.places
+    record {
+      seen = (board_is_given locks c.collection.inside.first was c.args.self.now c.take-turn.result c.args.board c.collection.invariant
+          c.collection.view_is c.self.view_is c.self.invariant.shared_is c.take-turn.ensures.was may).sees c.give.new.pass c.give.ensures.seen
+          c.give.ensures.places;
+      out = first_of (search rules, grind (arith, common_steps));
+      legal = first_of (search rules, grind (arith, common_steps));
+      layout = first_of (search rules, grind (arith, common_steps));
+    }
 
 pub returns-clause-keepers : goal.returns-clause-keepers
 returns-clause-keepers g c =

@@ -18,12 +18,14 @@ returns g c =
     held_is_hold c.self.inside.collection.now c.self.inside.passes _ c.self.inside.bucket _ c.self.inside.board c.args.self.now c.args.b _ _
     c.self.view_is c.self.invariant.shared_is c.requires.nothing_out c.requires.within c.hold_bucket-bucket.ensures c.put.ensures.full in
     record {
-      sound = hold.leaves.sound;
-      is_of = hold.leaves.is_of;
-      extends = hold.leaves.extends;
-      out = hold.leaves.out;
-      seen = hold.leaves.seen_is;
-      legal = hold.leaves.legal;
-      layout = ap layout_of hold.leaves.locks;
+      handed = record {
+        sound = hold.leaves.sound;
+        is_of = hold.leaves.is_of;
+        extends = hold.leaves.extends;
+        out = hold.leaves.out;
+        seen = hold.leaves.seen_is;
+        legal = hold.leaves.legal;
+        layout = ap layout_of hold.leaves.locks;
+      };
       keepers = λ keepers fits. (hold.keepers keepers.keepers.items fits, record { part = λ number. refl; own = λ number. refl });
     }

@@ -1,9 +1,22 @@
 -- The board is handed out.
-use Rattle.std.proofs.Common.{ap, ◌∙◌}
+use Rattle.std.proofs.Common.{ap, ◌∙◌, arith, rules}
+use Rattle.std.proofs.lemmas.Grind.{common_steps}
 use Rattle.sc_shared.specs.Collections.{Locks}
 use Rattle.sc_shared.specs.Sharing.{SharedState}
 use Rattle.sc_shared.proofs.BoardLemmas.{still_fit, board_is_found}
 use Rattle.sc_shared.proofs.shared.SharedDesk.hold_board.Goals as goal
+
+pub returns-clause-handed : goal.returns-clause-handed
+returns-clause-handed g c = record {
+  sound = first_of (search rules, grind (arith, common_steps));
+  is_of = first_of (search rules, grind (arith, common_steps));
+  extends = first_of (search rules, grind (arith, common_steps));
+  as_left = first_of (search rules, grind (arith, common_steps));
+  out = first_of (search rules, grind (arith, common_steps));
+  seen = first_of (search rules, grind (arith, common_steps));
+  legal = first_of (search rules, grind (arith, common_steps));
+  layout = first_of (search rules, grind (arith, common_steps));
+}
 
 pub returns-clause-rest : goal.returns-clause-rest
 returns-clause-rest g c =

@@ -28,13 +28,15 @@ returns g c =
     _ _ c.args.keepers.now.keepers.items _ c.self.view_is c.self.invariant.shared_is c.requires.nothing_out c.requires.within c.requires.fits
     c.hold_by_keeper-bucket.ensures c.put.ensures.full in
     record {
-      sound = hold.leaves.sound;
-      is_of = hold.leaves.is_of;
-      extends = hold.leaves.extends;
+      handed = record {
+        sound = hold.leaves.sound;
+        is_of = hold.leaves.is_of;
+        extends = hold.leaves.extends;
+        out = hold.leaves.out;
+        seen = hold.leaves.seen_is;
+        legal = hold.leaves.legal;
+        layout = ap layout_of hold.leaves.locks;
+      };
       part = hold.part;
-      out = hold.leaves.out;
-      seen = hold.leaves.seen_is;
-      legal = hold.leaves.legal;
-      layout = ap layout_of hold.leaves.locks;
       keepers = (hold.fits, hold.keeps);
     }

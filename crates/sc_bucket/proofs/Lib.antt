@@ -38,3 +38,4 @@ pub mod DetachLemmas
 pub mod DownLemmas
 pub mod CountLemmas
 pub mod SeatLemmas
+pub mod MovingLemmas

@@ -11,3 +11,4 @@ pub mod Room
 pub mod Events
 pub mod Accepting
 pub mod Taking
+pub mod Moving

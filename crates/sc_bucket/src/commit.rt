@@ -1,4 +1,4 @@
-ghost use Rattle.std.specs.Prelude.{◌≡◌, ◌<◌, ◌+◌, ◌↔◌, Err, List, [], length, map, IsTrue, All, Contains, IfOk, OnOk, OnErr};
+ghost use Rattle.std.specs.Prelude.{◌≡◌, ◌<◌, ◌+◌, ◌↔◌, Err, List, [], length, map, IsTrue, IsFalse, All, Contains, IfOk, OnOk, OnErr};
 ghost use Rattle.std.specs.Arc.{arc_value};
 ghost use Rattle.sc_hash.specs.Range.{IsWithin};
 ghost use Rattle.sc_record.specs.declared.write.Write.{Write};
@@ -11,17 +11,19 @@ ghost use Rattle.sc_bucket.specs.declared.standing.Standing.{Standing};
 ghost use Rattle.sc_bucket.specs.Searchers.{AreLed, AreTaken, IsTaken, HasParentSearcher, ArePrepared};
 ghost use Rattle.sc_bucket.specs.Taking.{AreChangesOf, AreCommittedOf, IsLastOf, IsOfLeader};
 ghost use Rattle.sc_bucket.specs.Events.{IsSameButRoom, Commits};
+ghost use Rattle.sc_bucket.specs.Moving.{AreMoved, IsUnchanged};
 
 use crate::bucket::Bucket;
 use crate::changes::changes_in;
 use crate::phase::Phase;
 use crate::spares::hand_on;
-use crate::standing::{Standing, searcher_for};
+use crate::standing::{Standing, have_own_rows, move_all, searcher_for};
 use sc_cluster::{ClusterMap, Slice, State};
 use sc_hash::Range;
 use sc_record::{Cell, Entry, List};
 use sc_snapshot::Snapshot;
 use std::alloc::{AllocError, Global};
+use std::mem;
 use std::sync::Arc;
 use thiserror::Error;
 
@@ -61,11 +63,70 @@ impl Bucket {
         if self.limit < place + self.owed + 1 {
             return Err(CommitFault::LogFull);
         }
+        self.journal.reserve(self.owed as usize + 1)?;
+        self.commit_in_room(alloc)?;
+        Ok(())
+    }
+
+    // The same, once the journal has room in memory.
+    fn commit_in_room(&mut self, alloc: Global) -> Result<(), AllocError>
+        requires sound { IsSound self.old }
+        requires memory { self.old.owed < self.old.journal.room }
+        requires room { BucketHasRoom 1 self.old }
+        ensures sound { IsSound self.new }
+        ensures committed { OnOk result (Commits self.old self.new) }
+        ensures refused { OnErr result (self.new ≡ self.old) }
+    {
+        if self.commit_unchanged(alloc) {
+            return Ok(());
+        }
         let searchers = searchers_at(alloc, self)?;
         let spares = spares_at(alloc, self.phase, &self.map, &searchers)?;
-        self.journal.reserve(self.owed as usize + 1)?;
         self.put_commit(searchers, spares);
         Ok(())
+    }
+
+    // Where nothing was written since the last commit, commits with the searchers that are there, unless one of them is shared. It takes
+    // no memory.
+    fn commit_unchanged(&mut self, alloc: Global) -> bool
+        requires sound { IsSound self.old }
+        requires memory { self.old.owed < self.old.journal.room }
+        requires room { BucketHasRoom 1 self.old }
+        ensures sound { IsSound self.new }
+        ensures committed { IsTrue result → Commits self.old self.new }
+        ensures kept { IsFalse result → self.new ≡ self.old }
+    {
+        if !self.is_unchanged() {
+            return false;
+        }
+        let place = self.entries();
+        let are_moved = self.move_searchers(alloc, place);
+        if are_moved {
+            self.journal.append(Entry::Committed);
+        }
+        are_moved
+    }
+
+    // Whether all that was written is committed, no split is open, and each searcher has rows of its own range alone, as right after a
+    // switch it may not.
+    fn is_unchanged(&self) -> bool
+        ensures { IsTrue result → IsUnchanged self.now }
+    {
+        self.journal.uncommitted_writes().is_empty()
+            && self.phase == Phase::Idle
+            && have_own_rows(self.searchers.as_slice())
+    }
+
+    // Has the searchers show the same rows at another place, unless one of them is shared.
+    fn move_searchers(&mut self, alloc: Global, place: u64) -> bool
+        ensures rest { self.new ≡ record self.old { searchers = self.new.searchers } }
+        ensures moved { IsTrue result → AreMoved place self.old.searchers self.new.searchers }
+        ensures kept { IsFalse result → self.new.searchers ≡ self.old.searchers }
+    {
+        let mut searchers = mem::replace(&mut self.searchers, List::new(alloc)).into_vec();
+        let are_moved = move_all(searchers.as_mut_slice(), place);
+        self.searchers = List::from_vec(searchers);
+        are_moved
     }
 
     // Puts the entry that commits into the journal, with these searchers and those that a switch leaves. It takes no memory.
@@ -156,8 +217,8 @@ fn snapshot_of(
     }
 }
 
-// Whether the hashes of all rows are in the range, as far as the least and the greatest of them tell.
-fn are_within(snapshot: &Snapshot, range: &Range) -> bool
+/// Whether the hashes of all rows are in the range, as far as the least and the greatest of them tell.
+pub(crate) fn are_within(snapshot: &Snapshot, range: &Range) -> bool
     ensures { IsTrue result → All (λ (row : Write). IsWithin range.now.min range.now.max row.hash) snapshot.now.rows }
 {
     range.min <= snapshot.least_hash() && snapshot.greatest_hash() <= range.max

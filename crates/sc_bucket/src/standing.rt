@@ -1,5 +1,7 @@
-ghost use Rattle.std.specs.Prelude.{◌≡◌, Contains, map};
+ghost use Rattle.std.specs.Prelude.{◌≡◌, Contains, map, All, IsTrue, IsFalse};
+ghost use Rattle.sc_bucket.specs.Moving.{AreMoved, HasOwnRows};
 
+use crate::commit::are_within;
 use sc_hash::Range;
 use sc_record::{List, SliceId};
 use sc_snapshot::Snapshot;
@@ -32,4 +34,45 @@ pub fn searcher_for(searchers: &List<Standing>, slice: SliceId) -> &Standing
         .iter()
         .find(|searcher| searcher.slice == slice)
         .unwrap()
+}
+
+/// Whether the rows of each of these searchers are of its range alone, as far as the least and the greatest hash of them tell.
+pub(crate) fn have_own_rows(searchers: &[Standing]) -> bool
+    ensures { IsTrue result → All HasOwnRows searchers.now }
+{
+    for searcher in searchers {
+        if !has_own_rows(searcher) {
+            return false;
+        }
+    }
+    true
+}
+
+// Whether those of this one are.
+fn has_own_rows(searcher: &Standing) -> bool
+    ensures { IsTrue result → HasOwnRows searcher.now }
+{
+    let _ = searcher.snapshot.rows(); // by it the proof knows that they are rows
+    are_within(&searcher.snapshot, &searcher.range)
+}
+
+/// Has each of these searchers show the same rows at another place, and takes no memory; none of them, where the snapshot of one has a
+/// second owner, as while a search looks at it.
+pub(crate) fn move_all(searchers: &mut [Standing], place: u64) -> bool
+    ensures moved { IsTrue result → AreMoved place searchers.old searchers.new }
+    ensures kept { IsFalse result → searchers.new ≡ searchers.old }
+{
+    match searchers.split_first_mut() {
+        None => true,
+        Some((first, rest)) => match Arc::get_mut(&mut first.snapshot) {
+            None => false,
+            Some(snapshot) => {
+                let are_moved = move_all(rest, place);
+                if are_moved {
+                    snapshot.move_to(place);
+                }
+                are_moved
+            }
+        },
+    }
 }

@@ -9,7 +9,7 @@ use std::marker::Model;
 use std::sync::Arc;
 
 /// The cells of a core as they were when the journal had `place` entries, without an index: what a feed reads. Contracts see it as
-/// a `SnapshotState`. It shares each cell with the core, and most with the rows before it by whole pieces, and never changes.
+/// a `SnapshotState`. It shares each cell with the core, and most with the rows before it by whole pieces. The rows never change.
 #[derive(Debug, Drop)]
 pub struct Rows {
     place: u64,
@@ -80,6 +80,13 @@ impl Rows {
             place,
             pieces: Arc::try_clone(&self.pieces)?,
         })
+    }
+
+    /// Has the same rows at another place from here on. It takes no memory.
+    pub(crate) fn move_to(&mut self, place: u64)
+        ensures { self.new ≡ record self.old { place = place } }
+    {
+        self.place = place;
     }
 
     pub(crate) fn pieces(&self) -> &Pieces

@@ -22,7 +22,7 @@ use std::sync::Arc;
 use std::sync::ledger::Ledger;
 
 /// The cells of a core as they were when the journal had `place` entries, with what a search needs in place of looking at each row.
-/// Contracts see it as a `SnapshotState`. It shares each cell with the core and never changes.
+/// Contracts see it as a `SnapshotState`. It shares each cell with the core, and its rows never change.
 #[derive(Drop)]
 pub struct Snapshot {
     rows: Rows,
@@ -75,6 +75,13 @@ impl Snapshot {
             rows: self.rows.at(place)?,
             index: Arc::try_clone(&self.index)?,
         })
+    }
+
+    /// Has the same rows at another place from here on. It takes no memory.
+    pub fn move_to(&mut self, place: u64)
+        ensures { self.new ≡ record self.old { place = place } }
+    {
+        self.rows.move_to(place);
     }
 
     /// The snapshot at this place after these changes, which ascend by the ids' bytes: each is put in the place of the row of its id, or else

@@ -3,7 +3,6 @@ ghost use Rattle.std.specs.List.Sorted.{IsStrictlyIncreasing};
 ghost use Rattle.sc_segment.specs.Joining.{IsJoin, keeps};
 
 use std::alloc::{AllocError, Global};
-use std::cmp::Ordering;
 
 /// Which rows of two lists are kept.
 #[derive(Clone, Copy, Debug, PartialEq, Eq)]
@@ -29,24 +28,14 @@ pub fn join(alloc: Global, how: Kept, left: &[u32], right: &[u32]) -> Result<Vec
     'merging: while low < left.len() && high < right.len() {
         let row = left[low];
         let other = right[high];
-        match row.cmp(&other) {
-            Ordering::Less => {
-                push_kept(&mut rows, keeps_left(how), row)?;
-                low += 1;
-            }
-            Ordering::Equal => {
-                push_kept(&mut rows, keeps_both(how), row)?;
-                low += 1;
-                high += 1;
-            }
-            Ordering::Greater => {
-                push_kept(&mut rows, keeps_right(how), other)?;
-                high += 1;
-            }
-        }
+        let at_left = row <= other;
+        let at_right = other <= row;
+        push_kept(&mut rows, is_kept(how, at_left, at_right), row.min(other))?;
+        low += usize::from(at_left);
+        high += usize::from(at_right);
     }
-    extend_kept(&mut rows, keeps_left(how), &left[low..])?;
-    extend_kept(&mut rows, keeps_right(how), &right[high..])?;
+    extend_kept(&mut rows, is_kept(how, true, false), &left[low..])?;
+    extend_kept(&mut rows, is_kept(how, false, true), &right[high..])?;
     Ok(rows)
 }
 
@@ -79,23 +68,14 @@ fn extend_kept(rows: &mut Vec<u32>, kept: bool, more: &[u32]) -> Result<(), Allo
     Ok(())
 }
 
-// Whether a row in the left list alone is kept.
-fn keeps_left(how: Kept) -> bool
-    ensures { result ≡ keeps how true false }
+// Whether a row is kept, by whether it is in the left list and in the right one.
+#[inline(always)]
+fn is_kept(how: Kept, left: bool, right: bool) -> bool
+    ensures { result ≡ keeps how left right }
 {
-    matches!(how, Kept::Either | Kept::LeftAlone)
-}
-
-// Whether a row in both lists is kept.
-fn keeps_both(how: Kept) -> bool
-    ensures { result ≡ keeps how true true }
-{
-    matches!(how, Kept::Both | Kept::Either)
-}
-
-// Whether a row in the right list alone is kept.
-fn keeps_right(how: Kept) -> bool
-    ensures { result ≡ keeps how false true }
-{
-    matches!(how, Kept::Either)
+    match how {
+        Kept::Both => left & right,
+        Kept::Either => left | right,
+        Kept::LeftAlone => left & !right,
+    }
 }

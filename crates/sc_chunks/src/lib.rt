@@ -15,8 +15,6 @@ mod laws;
 mod line;
 mod place;
 mod step;
-#[cfg(test)]
-mod tests;
 mod trailer;
 
 pub use decoder::Decoder;

@@ -12,6 +12,8 @@ mod boards;
 #[cfg(test)]
 mod carrying;
 #[cfg(test)]
+mod codings;
+#[cfg(test)]
 mod collections;
 #[cfg(test)]
 mod commands;
@@ -39,3 +41,5 @@ mod splits;
 mod streams;
 #[cfg(test)]
 mod workers;
+#[cfg(test)]
+mod workloads;

@@ -1,8 +1,8 @@
-//! Codings in pieces, and chunk lines that are refused.
+//! Chunked codings in pieces, and chunk lines that are refused.
 
 ghost use Rattle.std.specs.Prelude.{◌<◌};
 
-use crate::{DecodeError, Decoder};
+use sc_chunks::{DecodeError, Decoder};
 use std::alloc::Global;
 
 const CODING: &[u8] =

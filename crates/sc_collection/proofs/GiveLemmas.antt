@@ -1,8 +1,8 @@
 -- What a give of a bucket leaves of a desk for one thread.
-use Rattle.std.proofs.Common.{◌≡◌, ◌≢◌, ◌⊎◌, inl, inr, ◌<◌, ℕ, Bool, cond, List, [], ◌++◌, length, set, Option, Some, None, slice_get, refl, sym, ap, ◌∙◌, subst, arith}
+use Rattle.std.proofs.Common.{◌≡◌, ◌≢◌, ◌⊎◌, inl, inr, ◌<◌, ℕ, Bool, cond, List, [], ◌++◌, length, get_or, set, Option, Some, None, slice_get, refl, sym, ap, ◌∙◌, subst, arith}
 use Rattle.std.specs.Prelude.{◌==◌}
 use Rattle.std.proofs.lemmas.List.{length-set}
-use Rattle.std.proofs.lemmas.Option.{slice_get_within}
+use Rattle.std.proofs.lemmas.Option.{slice_get_read, slice_get_within}
 use Rattle.sc_record.specs.declared.entry.Entry.{Entry}
 use Rattle.sc_seen.specs.Seen.{Layout, AreLegal}
 use Rattle.sc_bucket.specs.declared.bucket.Bucket.{Bucket}
@@ -211,13 +211,27 @@ out_has_slot fields desk number held view is there same =
     subst (λ n. n < length fields.slots.items) same
     (out_within (value_of fields) is held (ap (λ (d : AloneState). d.out) view ∙ there))
 
+-- and nothing is in it
+pub out_has_no_bucket : (fields : Inside) (desk : AloneState) (number : ℕ) (held : Held) (read : Option Bucket)
+    → value_of fields ≡ desk → IsDesk (value_of fields) → desk.out ≡ Some held → held.number ≡ number
+    → read ≡ get_or fields.slots.items number read → read ≡ None
+out_has_no_bucket fields desk number held read view is there same at =
+    let out : (value_of fields).out ≡ Some held = ap (λ (d : AloneState). d.out) view ∙ there in
+    let empty : slice_get fields.slots.items number ≡ Some None =
+    subst (λ n. slice_get fields.slots.items n ≡ Some None) same (is.is_out held out).slot in
+    let full : slice_get fields.slots.items number ≡ Some read =
+    slice_get_read fields.slots.items (length fields.slots.items) number read refl (out_has_slot fields desk number held view is there same) at in
+    let both : Some read ≡ Some None = sym full ∙ empty in
+    cc
+
 -- a bucket is put back by the fields of the desk
 pub put_back_of_fields : (fields : Inside) (more : List ((ℕ × Bool) × Bucket)) (desk : AloneState) (number : ℕ) (bucket : Bucket) (held : Held)
+    (slot : Option Bucket)
     → value_of fields ≡ desk → IsDesk (value_of fields) → desk.out ≡ Some held → held.number ≡ number → (IsDesk desk → MayStand desk held bucket)
-    → more ≡ []
-    → IsPutBack desk (desk_of (layout_alone (set fields.slots.items number (Some bucket)) fields.nodes fields.first fields.limit)
-    (set fields.slots.items number (Some bucket)) (out_alone more) fields.board (board_out_of fields.board_out.items)) number bucket
-put_back_of_fields fields more desk number bucket held view is there same may history = record {
+    → slot ≡ Some bucket → more ≡ []
+    → IsPutBack desk (desk_of (layout_alone (set fields.slots.items number slot) fields.nodes fields.first fields.limit)
+    (set fields.slots.items number slot) (out_alone more) fields.board (board_out_of fields.board_out.items)) number bucket
+put_back_of_fields fields more desk number bucket held slot view is there same may full history = record {
   is = is_desk;
   within = subst (λ n. n < desk.layout.buckets) same (out_within desk is_desk held there);
   after = by_fields;
@@ -230,13 +244,16 @@ put_back_of_fields fields more desk number bucket held view is there same may hi
   with_layout : Layout → List (Option Bucket) → List ((ℕ × Bool) × Bucket) → AloneState
   with_layout layout now items = desk_of layout now (out_alone items) fields.board (board_out_of fields.board_out.items)
 
+  after : List (Option Bucket) → AloneState
+  after now = with_layout (layout_alone now fields.nodes fields.first fields.limit) now more
+
   is_desk : IsDesk desk
   is_desk = subst IsDesk view is
 
-  by_fields : with_layout (layout_alone (set slots number (Some bucket)) fields.nodes fields.first fields.limit) (set slots number (Some bucket)) more
-      ≡ taken_back desk number bucket
+  by_fields : after (set slots number slot) ≡ taken_back desk number bucket
   by_fields =
-      ap (with_layout (layout_alone (set slots number (Some bucket)) fields.nodes fields.first fields.limit) (set slots number (Some bucket))) history
+      ap (λ (one : Option Bucket). after (set slots number one)) full
+      ∙ ap (with_layout (layout_alone (set slots number (Some bucket)) fields.nodes fields.first fields.limit) (set slots number (Some bucket))) history
       ∙ ap (λ (n : ℕ). with_layout (record { buckets = n; nodes = fields.nodes; first = fields.first; limit = fields.limit })
       (set slots number (Some bucket)) []) (length-set slots number (Some bucket))
       ∙ ap (λ (old : AloneState). taken_back old number bucket) view

@@ -1,7 +1,7 @@
 -- What a hold of a bucket leaves of a desk for one thread.
 use Rattle.std.proofs.Common.{◌≡◌, ◌≢◌, ◌⊎◌, inl, inr, ◌<◌, ℕ, Bool, List, [], ◌∷◌, length, get_or, set, Option, Some, None, slice_get, refl, sym, ap, ◌∙◌, subst}
 use Rattle.std.proofs.Math.Path.{fun_ext}
-use Rattle.std.specs.Prelude.{◌==◌, if◌then◌else◌}
+use Rattle.std.specs.Prelude.{◌==◌, if◌then◌else◌, IsSome}
 use Rattle.std.proofs.lemmas.List.{length-set, append-nil}
 use Rattle.std.proofs.lemmas.Option.{slice_get_read, slice_get_within}
 use mathlib.Core.List.{IsPrefix}
@@ -107,6 +107,30 @@ module _ (desk : AloneState) (is : IsDesk desk) (held : Held)
 abbrev pub value_of : Inside → AloneState
 value_of fields = desk_of (layout_alone fields.slots.items fields.nodes fields.first fields.limit) fields.slots.items (out_alone fields.out.items)
     fields.board (board_out_of fields.board_out.items)
+
+-- where nothing is out, each slot has its bucket
+pub slot_is_full : (fields : Inside) (desk : AloneState) (number : ℕ) (read : Option Bucket)
+    → value_of fields ≡ desk → IsDesk (value_of fields) → desk.out ≡ None → number < desk.layout.buckets
+    → read ≡ get_or fields.slots.items number read → IsSome read
+slot_is_full fields desk number read view is none within at = by read refl where
+  slots : List (Option Bucket)
+  slots = fields.slots.items
+
+  inside : number < length slots
+  inside = subst (λ (n : ℕ). number < n) (sym (ap (λ (d : AloneState). d.layout.buckets) view)) within
+
+  there : slice_get slots number ≡ Some read
+  there = slice_get_read slots (length slots) number read refl inside at
+
+  none_out : (value_of fields).out ≡ None
+  none_out = ap (λ (d : AloneState). d.out) view ∙ none
+
+  by : (one : Option Bucket) → read ≡ one → IsSome one
+  by (Some bucket) same = refl
+  by None same =
+      let was = is.empty number (there ∙ ap (λ (one : Option Bucket). Some one) same) in
+      let both : None ≡ Some was.0 = sym none_out ∙ was.1 in
+      absurd (cc)
 
 -- what taking a bucket out leaves
 pub record IsTaken (desk new : AloneState) (held : Held) : Type 0 where

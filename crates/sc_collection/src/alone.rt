@@ -13,6 +13,7 @@ ghost use Rattle.sc_collection.specs.Shapes.{IsShape, HasShape, SeesNothing};
 
 use crate::desk::Desk;
 use crate::shape::Shape;
+use crate::slot::Slot;
 use http_server::Log;
 use sc_board::Board;
 use sc_bucket::Bucket;
@@ -28,7 +29,7 @@ use std::mem::forget;
 #[derive(Drop)]
 pub struct Alone {
     /// Each bucket by its number; none while it is out.
-    slots: Vec<Option<Bucket>>,
+    slots: Vec<Slot>,
     nodes: u32,
     /// The map with which each bucket began.
     first: ClusterMap,
@@ -58,7 +59,7 @@ fn new_slots(
     first: &ClusterMap,
     buckets: u32,
     limit: u64,
-) -> Result<Vec<Option<Bucket>>, AllocError>
+) -> Result<Vec<Slot>, AllocError>
     requires active { AreActive first.now }
     requires least { least_journal + length (all_followers first.now) ≤ limit }
     requires most { limit ≤ greatest_journal }
@@ -67,7 +68,7 @@ fn new_slots(
 {
     let mut slots = Vec::with_capacity(alloc, buckets as usize)?;
     for _b in 0..buckets {
-        slots.push_reserved(Some(Bucket::new(alloc, first, limit)?));
+        slots.push_reserved(Slot::full(alloc, Bucket::new(alloc, first, limit)?)?);
     }
     Ok(slots)
 }
@@ -118,7 +119,7 @@ impl Alone {
         ensures there { slice_get self.old.slots b ≡ Some (Some result) }
         ensures after { self.new ≡ handed_out self.old (record { number = b; bucket = result; by_keeper = by_keeper }) }
     {
-        let bucket = self.slots[b as usize].take().unwrap();
+        let bucket = self.slots[b as usize].take();
         self.out = Log::new().and(&(b, by_keeper), &bucket);
         bucket
     }
@@ -129,7 +130,7 @@ impl Alone {
         ensures is { IsDesk self.old }
         ensures after { self.new ≡ taken_back self.old b bucket }
     {
-        self.slots[b as usize] = Some(bucket);
+        self.slots[b as usize].put(bucket);
         self.out = Log::new();
     }
 }

@@ -29,6 +29,7 @@ mod trail;
 mod alone;
 mod desk;
 mod shape;
+mod slot;
 
 // The commit of all buckets.
 mod commits;

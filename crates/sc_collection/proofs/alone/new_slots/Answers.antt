@@ -1,5 +1,5 @@
 -- One more slot has a new bucket.
-use Rattle.std.proofs.Common.{◌+◌, ◌∙◌, ℕ, Option, Some, length, refl, ap}
+use Rattle.std.proofs.Common.{◌+◌, ◌∙◌, ℕ, Option, Some, length, refl, sym, ap, subst}
 use Rattle.std.proofs.lemmas.List.{length_push}
 use Rattle.sc_bucket.specs.declared.bucket.Bucket.{Bucket}
 use Rattle.sc_cluster.proofs.ItemLemmas.{each_push}
@@ -26,5 +26,6 @@ loop-b-preserved c =
     record {
       count = ap length c.push_reserved.ensures.items ∙ length_push _ _ ∙ ap (λ n. n + 1) c.loop-b.invariant.count;
       room = c.push_reserved.ensures.capacity ∙ c.loop-b.invariant.room;
-      each = rw c.push_reserved.ensures.items (each_push IsNext _ (Some bucket) c.loop-b.invariant.each new);
+      each = rw c.push_reserved.ensures.items (each_push IsNext _ c.in_ok-full.field-0 c.loop-b.invariant.each
+          (subst (IsNewSlot c.args.first.now c.args.limit) (sym c.in_ok-full.ensures) new));
     }

@@ -1,69 +1,70 @@
 //! The causes of `sc_reply`, by their names.
 
-use crate::fault::Fault;
+use crate::words::word_and;
 use sc_reply::Cause;
-use std::alloc::Global;
+use std::alloc::{AllocError, Global};
 
-/// The status and the message of the cause of this name.
-pub fn cause_line(alloc: Global, name: &str) -> Result<String, Fault> {
-    let cause = match name.split_once(' ') {
-        Some((name, given)) => cause_with(name, given)?,
-        None => plain_cause(name)?,
-    };
+/// The status and the message of the cause of this name, with the name or the number that it may have.
+pub fn cause_line(alloc: Global, text: &str) -> Result<String, AllocError> {
+    let (name, given) = word_and(text);
+    let cause = cause_of(name, given);
     let message = cause.message(alloc)?;
-    Ok(format!(in alloc; "{} {}", cause.status(), message.as_str())?)
+    format!(in alloc; "{} {}", cause.status(), message.as_str())
 }
 
-fn plain_cause(name: &str) -> Result<Cause<'static>, Fault> {
+fn cause_of<'a>(name: &str, given: &'a str) -> Cause<'a> {
     match name {
-        "NotFound" => Ok(Cause::NotFound),
-        "MethodNotAllowed" => Ok(Cause::MethodNotAllowed),
-        "EncodedBody" => Ok(Cause::EncodedBody),
-        "NoLength" => Ok(Cause::NoLength),
-        "BadJson" => Ok(Cause::BadJson),
-        "TooMany" => Ok(Cause::TooMany),
-        _ => other_cause(name),
+        "NotFound" => Cause::NotFound,
+        "MethodNotAllowed" => Cause::MethodNotAllowed,
+        "EncodedBody" => Cause::EncodedBody,
+        "NoLength" => Cause::NoLength,
+        "BadJson" => Cause::BadJson,
+        "TooMany" => Cause::TooMany,
+        _ => other_cause(name, given),
     }
 }
 
-fn other_cause(name: &str) -> Result<Cause<'static>, Fault> {
+fn other_cause<'a>(name: &str, given: &'a str) -> Cause<'a> {
     match name {
-        "NoId" => Ok(Cause::NoId),
-        "IdTooLong" => Ok(Cause::IdTooLong),
-        "LogFull" => Ok(Cause::LogFull),
-        "UnknownShard" => Ok(Cause::UnknownShard),
-        "RangeTooSmall" => Ok(Cause::RangeTooSmall),
-        "BadRanges" => Ok(Cause::BadRanges),
-        "TooManySlices" => Ok(Cause::TooManySlices),
-        "Stopped" => Ok(Cause::Stopped),
-        "Memory" => Ok(Cause::Memory),
-        _ => Err(Fault::Unreadable),
+        "NoId" => Cause::NoId,
+        "IdTooLong" => Cause::IdTooLong,
+        "LogFull" => Cause::LogFull,
+        "UnknownShard" => Cause::UnknownShard,
+        "RangeTooSmall" => Cause::RangeTooSmall,
+        "BadRanges" => Cause::BadRanges,
+        "TooManySlices" => Cause::TooManySlices,
+        "Stopped" => Cause::Stopped,
+        _ => cause_with(name, given),
     }
 }
 
 /// A cause with a name or a number.
-fn cause_with<'a>(cause: &str, name: &'a str) -> Result<Cause<'a>, Fault> {
+fn cause_with<'a>(cause: &str, name: &'a str) -> Cause<'a> {
     match cause {
-        "UnknownField" => Ok(Cause::UnknownField { name }),
-        "WrongValue" => Ok(Cause::WrongValue { name }),
-        "Partial" => Ok(Cause::Partial { name }),
-        "BadParam" => Ok(Cause::BadParam { name }),
-        "Running" => Ok(Cause::Running { shard: name }),
-        "ShardState" => Ok(Cause::ShardState { state: name }),
-        "HostFault" => Ok(Cause::HostFault { core: name }),
-        "Conflict" => Ok(Cause::Conflict {
-            id: name,
-            expected: 5,
-            actual: -1,
-        }),
-        _ => numbered_cause(cause, name),
+        "UnknownField" => Cause::UnknownField { name },
+        "WrongValue" => Cause::WrongValue { name },
+        "Partial" => Cause::Partial { name },
+        "BadParam" => Cause::BadParam { name },
+        "Running" => Cause::Running { shard: name },
+        "ShardState" => Cause::ShardState { state: name },
+        "HostFault" => Cause::HostFault { core: name },
+        _ => last_cause(cause, name),
     }
 }
 
-fn numbered_cause<'a>(cause: &str, number: &str) -> Result<Cause<'a>, Fault> {
-    match (cause, number.parse::<u32>()) {
-        ("BadShape", Ok(at)) => Ok(Cause::BadShape { at }),
-        ("BadQuery", Ok(at)) => Ok(Cause::BadQuery { at }),
-        _ => Err(Fault::Unreadable),
+fn last_cause<'a>(cause: &str, given: &'a str) -> Cause<'a> {
+    match cause {
+        "Conflict" => Cause::Conflict {
+            id: given,
+            expected: 5,
+            actual: -1,
+        },
+        "BadShape" => Cause::BadShape {
+            at: given.parse().unwrap_or(0),
+        },
+        "BadQuery" => Cause::BadQuery {
+            at: given.parse().unwrap_or(0),
+        },
+        _ => Cause::Memory,
     }
 }

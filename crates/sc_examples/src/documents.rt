@@ -3,18 +3,18 @@
 //! `document.read JSON`, `document.bytes HEX`, `document.raw JSON`, `document.order JSON`, `document.field NAME JSON`, `document.resolve JSON`
 //! and `document.resolve JSON + JSON`, where the first is the document that stands.
 
-use crate::fault::Fault;
 use crate::fields::{order_line, push_fields, push_values};
 use crate::hashes::bytes_of;
 use crate::terms;
-use sc_json::{RawFault, print, raw_doc, read};
-use sc_partial::{PartialFault, resolve};
+use crate::words::word_and;
+use sc_json::{print, raw_doc, read};
+use sc_partial::resolve;
 use sc_record::{Change, Doc, Order};
-use sc_schema::{DocFault, RawDoc, check_doc};
+use sc_schema::{RawDoc, check_doc};
 use serde_json::Value;
 use std::alloc::{AllocError, Global};
 
-pub fn answer(alloc: Global, question: &str, text: &str) -> Result<String, Fault> {
+pub fn answer(alloc: Global, question: &str, text: &str) -> Result<String, AllocError> {
     match question {
         "read" => read_back(alloc, text),
         "bytes" => read_bytes(alloc, text),
@@ -27,59 +27,58 @@ pub fn answer(alloc: Global, question: &str, text: &str) -> Result<String, Fault
 }
 
 /// The value of a JSON text.
-fn value_of(alloc: Global, body: &str) -> Result<Value, Fault> {
+fn value_of(alloc: Global, body: &str) -> Result<Value, AllocError> {
     match read(alloc, body.as_bytes()) {
         Ok(value) => Ok(value),
-        Err(_) => Err(Fault::Unreadable),
+        Err(_) => Err(AllocError),
     }
 }
 
 /// The document as it was given.
-fn raw_of(alloc: Global, body: &str) -> Result<RawDoc, Fault> {
+fn raw_of(alloc: Global, body: &str) -> Result<RawDoc, AllocError> {
     match raw_doc(alloc, &value_of(alloc, body)?) {
         Ok(raw) => Ok(raw),
-        Err(_) => Err(Fault::Unreadable),
+        Err(_) => Err(AllocError),
     }
 }
 
 /// The order that a body asks for.
-pub fn order_of(alloc: Global, body: &str) -> Result<Order, Fault> {
+pub fn order_of(alloc: Global, body: &str) -> Result<Order, AllocError> {
     match check_doc(alloc, &raw_of(alloc, body)?) {
         Ok(order) => Ok(order),
-        Err(_) => Err(Fault::Unreadable),
+        Err(_) => Err(AllocError),
     }
 }
 
 /// The document that a body is.
-pub fn document_of(alloc: Global, body: &str) -> Result<Doc, Fault> {
+pub fn document_of(alloc: Global, body: &str) -> Result<Doc, AllocError> {
     let Order { change, .. } = order_of(alloc, body)?;
     match change {
         Change::Whole(doc) => Ok(doc),
-        _ => Err(Fault::Unreadable),
+        _ => Err(AllocError),
     }
 }
 
-fn read_back(alloc: Global, body: &str) -> Result<String, Fault> {
+fn read_back(alloc: Global, body: &str) -> Result<String, AllocError> {
     match read(alloc, body.as_bytes()) {
-        Ok(value) => Ok(String::from_str(alloc, print(alloc, &value)?.as_str())?),
-        Err(fault) => Ok(format!(in alloc; "{fault}")?),
+        Ok(value) => String::from_str(alloc, print(alloc, &value)?.as_str()),
+        Err(fault) => format!(in alloc; "{fault}"),
     }
 }
 
 /// Whether bytes, in hexadecimal digits, are a JSON text.
-fn read_bytes(alloc: Global, digits: &str) -> Result<String, Fault> {
+fn read_bytes(alloc: Global, digits: &str) -> Result<String, AllocError> {
     match read(alloc, bytes_of(alloc, digits)?.as_slice()) {
-        Ok(_) => Ok(String::from_str(alloc, "JSON")?),
-        Err(fault) => Ok(format!(in alloc; "{fault}")?),
+        Ok(_) => String::from_str(alloc, "JSON"),
+        Err(fault) => format!(in alloc; "{fault}"),
     }
 }
 
-fn raw(alloc: Global, body: &str) -> Result<String, Fault> {
+fn raw(alloc: Global, body: &str) -> Result<String, AllocError> {
     let value = value_of(alloc, body)?;
     match raw_doc(alloc, &value) {
-        Ok(raw) => Ok(raw_line(alloc, &raw)?),
-        Err(RawFault::NotObject) => Ok(String::from_str(alloc, "no object")?),
-        Err(RawFault::Memory) => Err(Fault::Memory),
+        Ok(raw) => raw_line(alloc, &raw),
+        Err(_) => String::from_str(alloc, "no object"),
     }
 }
 
@@ -92,16 +91,15 @@ fn raw_line(alloc: Global, raw: &RawDoc) -> Result<String, AllocError> {
     Ok(line)
 }
 
-fn order(alloc: Global, body: &str) -> Result<String, Fault> {
+fn order(alloc: Global, body: &str) -> Result<String, AllocError> {
     match check_doc(alloc, &raw_of(alloc, body)?) {
-        Ok(order) => Ok(order_line(alloc, &order)?),
-        Err(DocFault::Memory) => Err(Fault::Memory),
-        Err(fault) => Ok(format!(in alloc; "{fault}")?),
+        Ok(order) => order_line(alloc, &order),
+        Err(fault) => format!(in alloc; "{fault}"),
     }
 }
 
-fn field(alloc: Global, text: &str) -> Result<String, Fault> {
-    let (name, body) = text.split_once(' ').ok_or(Fault::Unreadable)?;
+fn field(alloc: Global, text: &str) -> Result<String, AllocError> {
+    let (name, body) = word_and(text);
     let doc = document_of(alloc, body)?;
     match doc.get(name) {
         Some(values) => {
@@ -109,11 +107,11 @@ fn field(alloc: Global, text: &str) -> Result<String, Fault> {
             push_values(alloc, &mut line, "", values)?;
             Ok(line)
         }
-        None => Ok(String::from_str(alloc, "none")?),
+        None => String::from_str(alloc, "none"),
     }
 }
 
-fn resolved(alloc: Global, text: &str) -> Result<String, Fault> {
+fn resolved(alloc: Global, text: &str) -> Result<String, AllocError> {
     match text.split_once(" + ") {
         Some((old, changes)) => {
             let doc = document_of(alloc, old)?;
@@ -124,10 +122,10 @@ fn resolved(alloc: Global, text: &str) -> Result<String, Fault> {
 }
 
 /// What the changes of a body make of the document.
-fn changed(alloc: Global, old: Option<&Doc>, body: &str) -> Result<String, Fault> {
+fn changed(alloc: Global, old: Option<&Doc>, body: &str) -> Result<String, AllocError> {
     let order = order_of(alloc, body)?;
     let Change::Parts(changes) = &order.change else {
-        return Err(Fault::Unreadable);
+        return Err(AllocError);
     };
     match resolve(alloc, old, changes) {
         Ok(doc) => {
@@ -135,7 +133,6 @@ fn changed(alloc: Global, old: Option<&Doc>, body: &str) -> Result<String, Fault
             push_fields(alloc, &mut line, doc.fields())?;
             Ok(line)
         }
-        Err(PartialFault::Memory) => Err(Fault::Memory),
-        Err(fault) => Ok(format!(in alloc; "{fault}")?),
+        Err(fault) => format!(in alloc; "{fault}"),
     }
 }

@@ -12,7 +12,6 @@ mod causes;
 mod clusters;
 mod documents;
 mod escapes;
-mod fault;
 mod fields;
 mod hashes;
 mod messages;
@@ -24,10 +23,11 @@ mod searches;
 mod splits;
 mod terms;
 mod updates;
+mod words;
 
-use fault::Fault;
-use std::alloc::Global;
+use std::alloc::{AllocError, Global};
 use std::io::{self, BufRead, BufReader};
+use words::word_and;
 
 fn main(rt: HostRuntime) -> io::Result<()> {
     let alloc = rt.alloc();
@@ -38,23 +38,23 @@ fn main(rt: HostRuntime) -> io::Result<()> {
     Ok(())
 }
 
-/// What is written for a line.
-fn answer_line(alloc: Global, line: &str) -> io::Result<String> {
+/// What is written for a line. A question has no answer where its arguments have not the form that its module states, or ask for what can't
+/// be made; it is then answered as one for which memory ran out.
+fn answer_line(alloc: Global, line: &str) -> Result<String, AllocError> {
     if line.is_empty() || line.starts_with('#') {
-        return Ok(String::from_str(alloc, line)?);
+        return String::from_str(alloc, line);
     }
-    let (question, arguments) = line.split_once(' ').unwrap_or((line, ""));
+    let (question, arguments) = word_and(line);
     let text = escapes::read(alloc, arguments)?;
     match answer(alloc, question, text.as_str()) {
-        Ok(answer) => Ok(escapes::shown(alloc, answer.as_str())?),
-        Err(Fault::Memory) => Ok(String::from_str(alloc, "out of memory")?),
-        Err(Fault::Unreadable) => Ok(String::from_str(alloc, "unreadable question")?),
+        Ok(answer) => escapes::shown(alloc, answer.as_str()),
+        Err(AllocError) => String::from_str(alloc, "no answer"),
     }
 }
 
 /// The answer to a question, by the module that its first word names.
-fn answer(alloc: Global, question: &str, text: &str) -> Result<String, Fault> {
-    let (subject, question) = question.split_once('.').ok_or(Fault::Unreadable)?;
+fn answer(alloc: Global, question: &str, text: &str) -> Result<String, AllocError> {
+    let (subject, question) = question.split_once('.').unwrap_or((question, ""));
     match subject {
         "hash" => hashes::answer(alloc, question, text),
         "route" => routes::answer(alloc, question, text),
@@ -66,6 +66,6 @@ fn answer(alloc: Global, question: &str, text: &str) -> Result<String, Fault> {
         "query" => queries::answer(alloc, question, text),
         "search" => searches::answer(alloc, text),
         "http" => messages::answer(alloc, question, text),
-        _ => Err(Fault::Unreadable),
+        _ => Err(AllocError),
     }
 }

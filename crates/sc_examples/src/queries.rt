@@ -1,15 +1,13 @@
 //! `sc_query`: `query.parse TEXT` and `query.and TEXT & TEXT`. A query is shown as `*`, `field=value@place`, `!q`,
 //! `(p & q)` and `(p | q)`.
 
-use crate::fault::Fault;
 use sc_query::{Query, QueryFault, and, parse};
 use std::alloc::{AllocError, Global};
 
-pub fn answer(alloc: Global, question: &str, text: &str) -> Result<String, Fault> {
+pub fn answer(alloc: Global, question: &str, text: &str) -> Result<String, AllocError> {
     match question {
-        "parse" => Ok(parsed(alloc, text)?),
-        "and" => both(alloc, text),
-        _ => Err(Fault::Unreadable),
+        "parse" => parsed(alloc, text),
+        _ => both(alloc, text),
     }
 }
 
@@ -21,11 +19,17 @@ fn parsed(alloc: Global, text: &str) -> Result<String, AllocError> {
     }
 }
 
-fn both(alloc: Global, text: &str) -> Result<String, Fault> {
-    let (left, right) = text.split_once(" & ").ok_or(Fault::Unreadable)?;
-    match (parse(alloc, left), parse(alloc, right)) {
-        (Ok(left), Ok(right)) => Ok(shown(alloc, &and(alloc, left, right)?)?),
-        _ => Err(Fault::Unreadable),
+fn both(alloc: Global, text: &str) -> Result<String, AllocError> {
+    let (left, right) = text.split_once(" & ").unwrap_or((text, ""));
+    let query = and(alloc, read(alloc, left)?, read(alloc, right)?)?;
+    shown(alloc, &query)
+}
+
+/// The query that the text is.
+pub fn read(alloc: Global, text: &str) -> Result<Query, AllocError> {
+    match parse(alloc, text) {
+        Ok(query) => Ok(query),
+        Err(_) => Err(AllocError),
     }
 }
 

@@ -3,61 +3,64 @@
 
 ghost use Rattle.std.specs.Prelude.{pos, ◌<ℤ◌};
 
-use crate::fault::Fault;
-use sc_record::{Cell, CloneIn, Doc, Id, IdFault, List, Text, Write, found, kind_of, next_version};
-use std::alloc::Global;
+use crate::words::word_and;
+use sc_record::{Cell, CloneIn, Doc, Id, List, Text, Write, found, kind_of, next_version};
+use std::alloc::{AllocError, Global};
 use std::sync::Arc;
 
-pub fn answer(alloc: Global, question: &str, text: &str) -> Result<String, Fault> {
+pub fn answer(alloc: Global, question: &str, text: &str) -> Result<String, AllocError> {
+    let (first, rest) = word_and(text);
     match question {
         "kind" => kind(alloc, text),
         "id" => id(alloc, text),
-        "version" => version(alloc, text),
+        "version" => version(alloc, first, rest),
         "shown" => shown(alloc, text),
         "text" => kept(alloc, text),
-        "size" => Ok(format!(in alloc; "{}", size_of::<Text>())?),
-        "least" => least_text(alloc, text),
-        "least-id" => least_id(alloc, text),
-        _ => Err(Fault::Unreadable),
+        "size" => format!(in alloc; "{}", size_of::<Text>()),
+        "least" => least_text(alloc, first, rest),
+        _ => least_id(alloc, first, rest),
     }
 }
 
 /// The kind of a field's values, and whether it may have several.
-fn kind(alloc: Global, name: &str) -> Result<String, Fault> {
+fn kind(alloc: Global, name: &str) -> Result<String, AllocError> {
     match kind_of(name) {
-        Some((kind, many)) => Ok(format!(in alloc; "{kind:?} {many}")?),
-        None => Ok(String::from_str(alloc, "no field")?),
+        Some((kind, many)) => format!(in alloc; "{kind:?} {many}"),
+        None => String::from_str(alloc, "no field"),
+    }
+}
+
+/// The id of the text.
+pub fn id_of(alloc: Global, text: &str) -> Result<Id, AllocError> {
+    match Id::new(alloc, text) {
+        Ok(id) => Ok(id),
+        Err(_) => Err(AllocError),
     }
 }
 
 /// How long the id of the text is.
-fn id(alloc: Global, text: &str) -> Result<String, Fault> {
+fn id(alloc: Global, text: &str) -> Result<String, AllocError> {
     match Id::new(alloc, text) {
-        Ok(id) => Ok(format!(in alloc; "{} bytes", id.as_str().len())?),
-        Err(IdFault::Memory) => Err(Fault::Memory),
-        Err(fault) => Ok(format!(in alloc; "{fault}")?),
+        Ok(id) => format!(in alloc; "{} bytes", id.as_str().len()),
+        Err(fault) => format!(in alloc; "{fault}"),
     }
 }
 
 /// The version of a write at a timestamp, after a clock.
-fn version(alloc: Global, text: &str) -> Result<String, Fault> {
-    let (moment, clock) = text.split_once(' ').ok_or(Fault::Unreadable)?;
-    match (moment.parse::<u64>(), clock.parse::<i64>()) {
-        (Ok(moment), Ok(clock)) if 0 <= clock && clock < i64::MAX => {
-            Ok(format!(in alloc; "{}", next_version(moment, clock))?)
-        }
-        _ => Err(Fault::Unreadable),
+fn version(alloc: Global, moment: &str, clock: &str) -> Result<String, AllocError> {
+    let moment = moment.parse::<u64>().unwrap_or(0);
+    let clock = clock.parse::<i64>().unwrap_or(0);
+    if clock < 0 || clock == i64::MAX {
+        return Err(AllocError);
     }
+    format!(in alloc; "{}", next_version(moment, clock))
 }
 
-fn write_of(alloc: Global, version: i64, doc: Option<Doc>) -> Result<Cell, Fault>
+fn write_of(alloc: Global, version: i64, doc: Option<Doc>) -> Result<Cell, AllocError>
     requires { pos 0 <ℤ version }
 {
-    let Ok(id) = Id::new(alloc, "a") else {
-        return Err(Fault::Memory);
-    };
     let write = Write {
-        id,
+        id: id_of(alloc, "a")?,
         hash: 0,
         version,
         doc,
@@ -67,25 +70,23 @@ fn write_of(alloc: Global, version: i64, doc: Option<Doc>) -> Result<Cell, Fault
 }
 
 /// The versions that a client is shown of a document, of a deletion and of an id without either.
-fn shown(alloc: Global, text: &str) -> Result<String, Fault> {
-    let Ok(version) = text.parse::<i64>() else {
-        return Err(Fault::Unreadable);
-    };
+fn shown(alloc: Global, text: &str) -> Result<String, AllocError> {
+    let version = text.parse::<i64>().unwrap_or(0);
     if version <= 0 {
-        return Err(Fault::Unreadable);
+        return Err(AllocError);
     }
     let added = write_of(alloc, version, Some(Doc::new(List::new(alloc))))?;
     let deleted = write_of(alloc, version, None)?;
     let (live, gone, none) = (found(Some(&added)), found(Some(&deleted)), found(None));
-    Ok(format!(in alloc; "{live} {gone} {none}")?)
+    format!(in alloc; "{live} {gone} {none}")
 }
 
 /// Whether a copy of the kept text is the text still, and how long it is.
-fn kept(alloc: Global, text: &str) -> Result<String, Fault> {
+fn kept(alloc: Global, text: &str) -> Result<String, AllocError> {
     let first = Text::new(alloc, text)?;
     let copy = first.clone_in(alloc)?;
     drop(first);
-    Ok(format!(in alloc; "{} {}", copy.as_str() == text, copy.as_str().len())?)
+    format!(in alloc; "{} {}", copy.as_str() == text, copy.as_str().len())
 }
 
 /// The lesser of two values, by the bound.
@@ -93,16 +94,12 @@ fn least<T: Ord + Drop>(a: T, b: T) -> T {
     if b < a { b } else { a }
 }
 
-fn least_text(alloc: Global, text: &str) -> Result<String, Fault> {
-    let (a, b) = text.split_once(' ').ok_or(Fault::Unreadable)?;
+fn least_text(alloc: Global, a: &str, b: &str) -> Result<String, AllocError> {
     let text = least(Text::new(alloc, a)?, Text::new(alloc, b)?);
-    Ok(String::from_str(alloc, text.as_str())?)
+    String::from_str(alloc, text.as_str())
 }
 
-fn least_id(alloc: Global, text: &str) -> Result<String, Fault> {
-    let (a, b) = text.split_once(' ').ok_or(Fault::Unreadable)?;
-    match (Id::new(alloc, a), Id::new(alloc, b)) {
-        (Ok(a), Ok(b)) => Ok(String::from_str(alloc, least(a, b).as_str())?),
-        _ => Err(Fault::Unreadable),
-    }
+fn least_id(alloc: Global, a: &str, b: &str) -> Result<String, AllocError> {
+    let id = least(id_of(alloc, a)?, id_of(alloc, b)?);
+    String::from_str(alloc, id.as_str())
 }

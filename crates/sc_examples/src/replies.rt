@@ -8,16 +8,17 @@ ghost use Rattle.std.specs.Arc.{arc_value};
 
 use crate::causes::cause_line;
 use crate::documents::document_of;
-use crate::fault::Fault;
-use sc_record::{Ack, Cell, Id, List, Text, Write};
+use crate::records::id_of;
+use crate::words::word_and;
+use sc_record::{Ack, Cell, List, Text, Write};
 use sc_reply::{error_body, get_body, ids_body, memory_body, ok_body, select_body, update_body};
-use std::alloc::Global;
+use std::alloc::{AllocError, Global};
 use std::sync::Arc;
 
 /// The version of the first write at second 1 (1000 * 2^20).
 const VERSION: i64 = 1_048_576_000;
 
-pub fn answer(alloc: Global, question: &str, text: &str) -> Result<String, Fault> {
+pub fn answer(alloc: Global, question: &str, text: &str) -> Result<String, AllocError> {
     let body = match question {
         "get" if text.is_empty() => get_body(alloc, None)?,
         "get" => get_body(alloc, Some(&cell(alloc, text)?))?,
@@ -28,20 +29,17 @@ pub fn answer(alloc: Global, question: &str, text: &str) -> Result<String, Fault
         "error" => error(alloc, text)?,
         "ok" => Text::new(alloc, ok_body())?,
         "memory" => Text::new(alloc, memory_body())?,
-        _ => return Err(Fault::Unreadable),
+        _ => return Err(AllocError),
     };
-    Ok(String::from_str(alloc, body.as_str())?)
+    String::from_str(alloc, body.as_str())
 }
 
 /// The first write of a document, whose id is `abc`.
-fn cell(alloc: Global, body: &str) -> Result<Cell, Fault>
+fn cell(alloc: Global, body: &str) -> Result<Cell, AllocError>
     ensures { IfOk result (λ cell. IsSome (arc_value cell).doc) }
 {
-    let Ok(id) = Id::new(alloc, "abc") else {
-        return Err(Fault::Memory);
-    };
     let write = Write {
-        id,
+        id: id_of(alloc, "abc")?,
         hash: 0,
         version: VERSION,
         doc: Some(document_of(alloc, body)?),
@@ -50,63 +48,60 @@ fn cell(alloc: Global, body: &str) -> Result<Cell, Fault>
     Ok(Arc::new(alloc, write)?)
 }
 
-fn ids(alloc: Global, body: &str) -> Result<Text, Fault> {
+fn ids(alloc: Global, body: &str) -> Result<Text, AllocError> {
     let mut docs = List::new(alloc);
     if body.is_empty() {
-        return Ok(ids_body(alloc, &docs)?);
+        return ids_body(alloc, &docs);
     }
     docs.push(cell(alloc, body)?)?;
-    Ok(ids_body(alloc, &docs)?)
+    ids_body(alloc, &docs)
 }
 
-fn select(alloc: Global, text: &str) -> Result<Text, Fault> {
-    let (found, rest) = text.split_once(' ').ok_or(Fault::Unreadable)?;
-    let (start, body) = rest.split_once(' ').ok_or(Fault::Unreadable)?;
+fn select(alloc: Global, text: &str) -> Result<Text, AllocError> {
+    let (found, rest) = word_and(text);
+    let (start, body) = word_and(rest);
     let mut docs = List::new(alloc);
     docs.push(cell(alloc, body)?)?;
-    match (found.parse::<u64>(), start.parse::<u32>()) {
-        (Ok(found), Ok(start)) => Ok(select_body(alloc, found, start, &docs)?),
-        _ => Err(Fault::Unreadable),
-    }
+    let found = found.parse::<u64>().unwrap_or(0);
+    let start = start.parse::<u32>().unwrap_or(0);
+    select_body(alloc, found, start, &docs)
 }
 
 /// The accepted orders of a text such as `a=1 b=2`.
-fn acks(alloc: Global, text: &str) -> Result<List<Ack>, Fault> {
+fn acks(alloc: Global, text: &str) -> Result<List<Ack>, AllocError> {
     let mut acks = List::new(alloc);
     for part in text.split(' ') {
         if part.is_empty() {
             continue;
         }
-        let (id, version) = part.split_once('=').ok_or(Fault::Unreadable)?;
-        match (Id::new(alloc, id), version.parse::<i64>()) {
-            (Ok(id), Ok(version)) => acks.push(Ack { id, version })?,
-            _ => return Err(Fault::Unreadable),
-        }
+        let (id, version) = part.split_once('=').unwrap_or((part, ""));
+        acks.push(Ack {
+            id: id_of(alloc, id)?,
+            version: version.parse().unwrap_or(0),
+        })?;
     }
     Ok(acks)
 }
 
-fn update(alloc: Global, text: &str) -> Result<Text, Fault> {
-    let (versions, rest) = text.split_once(' ').ok_or(Fault::Unreadable)?;
-    let (adds, deletes) = rest.split_once('|').ok_or(Fault::Unreadable)?;
+fn update(alloc: Global, text: &str) -> Result<Text, AllocError> {
+    let (versions, rest) = word_and(text);
+    let (adds, deletes) = rest.split_once('|').unwrap_or((rest, ""));
     let (adds, deletes) = (acks(alloc, adds)?, acks(alloc, deletes)?);
-    Ok(update_body(alloc, &adds, &deletes, versions == "true")?)
+    update_body(alloc, &adds, &deletes, versions == "true")
 }
 
-fn error(alloc: Global, text: &str) -> Result<Text, Fault> {
-    let (versions, rest) = text.split_once(' ').ok_or(Fault::Unreadable)?;
-    let (code, rest) = rest.split_once(' ').ok_or(Fault::Unreadable)?;
-    let (adds, message) = rest.split_once('|').ok_or(Fault::Unreadable)?;
-    let Ok(code) = code.parse::<u16>() else {
-        return Err(Fault::Unreadable);
-    };
+fn error(alloc: Global, text: &str) -> Result<Text, AllocError> {
+    let (versions, rest) = word_and(text);
+    let (code, rest) = word_and(rest);
+    let (adds, message) = rest.split_once('|').unwrap_or((rest, ""));
+    let code = code.parse::<u16>().unwrap_or(0);
     let adds = acks(alloc, adds)?;
-    Ok(error_body(
+    error_body(
         alloc,
         code,
         message,
         &adds,
         &List::new(alloc),
         versions == "true",
-    )?)
+    )
 }

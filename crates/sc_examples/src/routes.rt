@@ -3,43 +3,44 @@
 
 ghost use Rattle.std.specs.Prelude.{◌≤◌, length};
 
-use crate::fault::Fault;
 use sc_hash::range_text;
 use sc_router::{bucket_of, key_range, plain_hash, route_hash};
-use std::alloc::Global;
+use std::alloc::{AllocError, Global};
 
-pub fn answer(alloc: Global, question: &str, text: &str) -> Result<String, Fault> {
+pub fn answer(alloc: Global, question: &str, text: &str) -> Result<String, AllocError> {
     if text.len() > 1000 {
-        return Err(Fault::Unreadable);
+        return Err(AllocError);
     }
     match question {
-        "hash" => Ok(format!(in alloc; "{:08x}", route_hash(text))?),
-        "plain" => Ok(format!(in alloc; "{:08x}", plain_hash(text))?),
-        "range" => Ok(range_text(alloc, &key_range(text))?),
+        "hash" => format!(in alloc; "{:08x}", route_hash(text)),
+        "plain" => format!(in alloc; "{:08x}", plain_hash(text)),
+        "range" => range_text(alloc, &key_range(text)),
         "bucket" => bucket(alloc, text),
-        "holds" => holds(alloc, text),
-        _ => Err(Fault::Unreadable),
+        _ => holds(alloc, text),
     }
 }
 
 /// The bucket among 1, 2 or 256.
-fn bucket(alloc: Global, text: &str) -> Result<String, Fault>
+fn bucket(alloc: Global, text: &str) -> Result<String, AllocError>
     requires { length text.now ≤ 1000 }
 {
-    let (count, id) = text.split_once(' ').ok_or(Fault::Unreadable)?;
+    let Some((count, id)) = text.split_once(' ') else {
+        return Err(AllocError);
+    };
     let bucket = match count {
         "1" => bucket_of(id, 1),
         "2" => bucket_of(id, 2),
-        "256" => bucket_of(id, 256),
-        _ => return Err(Fault::Unreadable),
+        _ => bucket_of(id, 256),
     };
-    Ok(format!(in alloc; "{bucket}")?)
+    format!(in alloc; "{bucket}")
 }
 
 /// Whether the route's range holds the id's hash.
-fn holds(alloc: Global, text: &str) -> Result<String, Fault>
+fn holds(alloc: Global, text: &str) -> Result<String, AllocError>
     requires { length text.now ≤ 1000 }
 {
-    let (route, id) = text.split_once(' ').ok_or(Fault::Unreadable)?;
-    Ok(format!(in alloc; "{}", key_range(route).contains(route_hash(id)))?)
+    let Some((route, id)) = text.split_once(' ') else {
+        return Err(AllocError);
+    };
+    format!(in alloc; "{}", key_range(route).contains(route_hash(id)))
 }

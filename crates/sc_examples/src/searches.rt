@@ -11,10 +11,11 @@ ghost use Rattle.sc_eval.specs.Numbers.{leaves, is_match};
 ghost use Rattle.sc_journal.specs.Legal.{HasTerms};
 
 use crate::documents::document_of;
-use crate::fault::Fault;
+use crate::queries::read;
+use crate::records::id_of;
+use crate::words::word_and;
 use sc_eval::{BindFault, Bound, bind, evaluate};
 use sc_hash::{Range, parse_range};
-use sc_query::parse;
 use sc_record::{Cell, Doc, Id, List, Write};
 use sc_schema::terms_of;
 use sc_segment::Steps;
@@ -24,21 +25,23 @@ use std::marker::Brand;
 use std::sync::Arc;
 use std::sync::ledger::{Blank, Ledger};
 
-pub fn answer(alloc: Global, text: &str) -> Result<String, Fault> {
-    let (range, query) = text.split_once(' ').ok_or(Fault::Unreadable)?;
-    let range = parse_range(range).ok_or(Fault::Unreadable)?;
+pub fn answer(alloc: Global, text: &str) -> Result<String, AllocError> {
+    let (range, query) = word_and(text);
+    let Some(range) = parse_range(range) else {
+        return Err(AllocError);
+    };
     let snapshot = Snapshot::of(alloc, 3, &cells(alloc)?)?;
     found(alloc, &snapshot, &range, query)
 }
 
 /// A write of the id: a document, or a deletion.
-fn write(alloc: Global, id: &str, hash: i32, doc: Option<Doc>) -> Result<Cell, Fault>
+fn write(alloc: Global, id: &str, hash: i32, doc: Option<Doc>) -> Result<Cell, AllocError>
     ensures id { IfOk result (λ cell. (arc_value cell).id ≡ id.now) }
     ensures terms { IfOk result (λ cell.
         HasTerms (arc_value cell).id (arc_value cell).doc (arc_value cell).terms) }
 {
     let Ok(id) = Id::new(alloc, id) else {
-        return Err(Fault::Memory);
+        return Err(AllocError);
     };
     let terms = match &doc {
         Some(doc) => terms_of(alloc, &id, doc)?,
@@ -55,7 +58,7 @@ fn write(alloc: Global, id: &str, hash: i32, doc: Option<Doc>) -> Result<Cell, F
 }
 
 /// Documents `a` and `c`, and `b`, which was deleted.
-fn cells(alloc: Global) -> Result<List<Cell>, Fault>
+fn cells(alloc: Global) -> Result<List<Cell>, AllocError>
     ensures rows { IfOk result (λ cells. AreRows (map arc_value cells)) }
     ensures terms { IfOk result (λ cells.
         All (λ (row : Write). HasTerms row.id row.doc row.terms) (map arc_value cells)) }
@@ -76,12 +79,15 @@ fn cells(alloc: Global) -> Result<List<Cell>, Fault>
 }
 
 /// The ids that a query finds, or the place of its fault.
-fn found(alloc: Global, snapshot: &Snapshot, range: &Range, text: &str) -> Result<String, Fault>
+fn found(
+    alloc: Global,
+    snapshot: &Snapshot,
+    range: &Range,
+    text: &str,
+) -> Result<String, AllocError>
     requires { All (λ (row : Write). HasTerms row.id row.doc row.terms) snapshot.now.rows }
 {
-    let Ok(query) = parse(alloc, text) else {
-        return Err(Fault::Unreadable);
-    };
+    let query = read(alloc, text)?;
     match bind(alloc, &query) {
         Ok(bound) => {
             let mut ids = String::new(alloc);
@@ -90,8 +96,8 @@ fn found(alloc: Global, snapshot: &Snapshot, range: &Range, text: &str) -> Resul
             }
             Ok(ids)
         }
-        Err(BindFault::At { at }) => Ok(format!(in alloc; "fault {at}")?),
-        Err(BindFault::Memory) => Err(Fault::Memory),
+        Err(BindFault::At { at }) => format!(in alloc; "fault {at}"),
+        Err(BindFault::Memory) => Err(AllocError),
     }
 }
 

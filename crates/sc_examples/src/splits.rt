@@ -10,44 +10,43 @@ ghost use Rattle.sc_cluster.specs.Plans.{IsPlan};
 ghost use Rattle.sc_cluster.specs.Changes.{Change, MayChange};
 
 use crate::clusters::slices;
-use crate::fault::Fault;
+use crate::words::word_and;
 use sc_cluster::{ClusterMap, SplitPlan, State, cut};
 use sc_hash::Range;
 use sc_record::{CloneIn, SliceId};
 use std::alloc::{AllocError, Global};
 
-pub fn answer(alloc: Global, question: &str, text: &str) -> Result<String, Fault> {
-    let (shards, rest) = number_and(text)?;
-    let (replicas, rest) = number_and(rest)?;
-    let (nodes, rest) = number_and(rest)?;
+pub fn answer(alloc: Global, question: &str, text: &str) -> Result<String, AllocError> {
+    let (shards, rest) = number_and(text);
+    let (replicas, rest) = number_and(rest);
+    let (nodes, rest) = number_and(rest);
     let mut map = ClusterMap::new(alloc, u32::from(shards), replicas, u32::from(nodes))?;
     match question {
         "after" => after(alloc, &mut map, rest),
-        "during" => during(alloc, &mut map, rest),
-        _ => Err(Fault::Unreadable),
+        _ => during(alloc, &mut map, rest),
     }
 }
 
 /// A number from 1 to 255, and what follows it.
-fn number_and(text: &str) -> Result<(u8, &str), Fault>
-    ensures { IfOk result (λ found. 1 ≤ found.0) }
+fn number_and(text: &str) -> (u8, &str)
+    ensures { 1 ≤ result.0 }
 {
-    let (number, rest) = text.split_once(' ').ok_or(Fault::Unreadable)?;
+    let (number, rest) = word_and(text);
     match number.parse::<u8>() {
-        Ok(number) if number > 0 => Ok((number, rest)),
-        _ => Err(Fault::Unreadable),
+        Ok(number) if number > 0 => (number, rest),
+        _ => (1, rest),
     }
 }
 
 /// The id and the range of the slice of this name, which has to be in this state.
-fn in_state(map: &ClusterMap, name: &str, state: State) -> Result<(SliceId, Range), Fault>
+fn in_state(map: &ClusterMap, name: &str, state: State) -> Result<(SliceId, Range), AllocError>
     ensures { IfOk result (λ found. (slice : Slice) × Contains map.now slice × (slice.id ≡ found.0) × (slice.range ≡ found.1)
         × (slice.state ≡ state)) }
 {
-    let id = map.by_name(name).ok_or(Fault::Unreadable)?;
+    let id = map.by_name(name).ok_or(AllocError)?;
     match map.by_id(id) {
         Some(slice) if slice.state == state => Ok((slice.id, slice.range)),
-        _ => Err(Fault::Unreadable),
+        _ => Err(AllocError),
     }
 }
 
@@ -57,22 +56,22 @@ fn copied<T: CloneIn>(alloc: Global, value: &T) -> Result<T, AllocError> {
 }
 
 /// A split in two of the active slice of this name.
-fn planned(alloc: Global, map: &ClusterMap, name: &str) -> Result<SplitPlan, Fault>
+fn planned(alloc: Global, map: &ClusterMap, name: &str) -> Result<SplitPlan, AllocError>
     requires { forming map.now ≡ [] }
     ensures { IfOk result (λ plan. IsPlan map.now plan.parent plan.subs) }
 {
     let (parent, range) = in_state(map, name, State::Active)?;
     let Ok(ranges) = cut(alloc, &range, 2) else {
-        return Err(Fault::Unreadable);
+        return Err(AllocError);
     };
     if ranges.len() != 2 || map.len() > 254 || map.greatest_id() > 1000 {
-        return Err(Fault::Unreadable);
+        return Err(AllocError);
     }
-    Ok(map.plan(alloc, parent, &ranges)?)
+    map.plan(alloc, parent, &ranges)
 }
 
 /// Begins such a split.
-fn begun(alloc: Global, map: &mut ClusterMap, name: &str) -> Result<SliceId, Fault>
+fn begun(alloc: Global, map: &mut ClusterMap, name: &str) -> Result<SliceId, AllocError>
     requires { forming map.old ≡ [] }
     ensures { IfOk result (λ parent. MayChange map.new (Change.Recovering parent)) }
 {
@@ -82,7 +81,7 @@ fn begun(alloc: Global, map: &mut ClusterMap, name: &str) -> Result<SliceId, Fau
 }
 
 /// Takes one step from an idle map to an idle map.
-fn step(alloc: Global, map: &mut ClusterMap, step: &str, name: &str) -> Result<(), Fault>
+fn step(alloc: Global, map: &mut ClusterMap, step: &str, name: &str) -> Result<(), AllocError>
     requires { forming map.old ≡ [] }
     ensures { OnOk result (forming map.new ≡ []) }
 {
@@ -106,18 +105,18 @@ fn step(alloc: Global, map: &mut ClusterMap, step: &str, name: &str) -> Result<(
 }
 
 /// The map after the steps.
-fn after(alloc: Global, map: &mut ClusterMap, steps: &str) -> Result<String, Fault>
+fn after(alloc: Global, map: &mut ClusterMap, steps: &str) -> Result<String, AllocError>
     requires { forming map.old ≡ [] }
 {
     for words in steps.split(", ") {
-        let (kind, name) = words.split_once(' ').ok_or(Fault::Unreadable)?;
+        let (kind, name) = word_and(words);
         step(alloc, map, kind, name)?;
     }
-    Ok(slices(alloc, map)?)
+    slices(alloc, map)
 }
 
 /// The map, or a copy of it, at each step of a split.
-fn during(alloc: Global, map: &mut ClusterMap, name: &str) -> Result<String, Fault>
+fn during(alloc: Global, map: &mut ClusterMap, name: &str) -> Result<String, AllocError>
     requires { forming map.old ≡ [] }
 {
     let plan = copied(alloc, &planned(alloc, map, name)?)?;
@@ -128,5 +127,5 @@ fn during(alloc: Global, map: &mut ClusterMap, name: &str) -> Result<String, Fau
     let recovering = slices(alloc, map)?;
     map.switched(parent);
     let switched = slices(alloc, map)?;
-    Ok(format!(in alloc; "{allowed} / {began} / {recovering} / {switched}")?)
+    format!(in alloc; "{allowed} / {began} / {recovering} / {switched}")
 }

@@ -3,29 +3,28 @@
 //! The words of a text are shown with bars between them, and after a slash its one word, where it has one.
 
 use crate::documents::order_of;
-use crate::fault::Fault;
-use sc_json::raw_doc;
+use crate::words::word_and;
+use sc_json::print;
 use sc_record::{Change, Kind, List, Order, Term};
-use sc_schema::{check_doc, fold_word, key_of, terms_of};
-use serde_json::json;
+use sc_schema::{fold_word, key_of, terms_of};
+use serde_json::Value;
 use std::alloc::{AllocError, Global};
 
-pub fn answer(alloc: Global, question: &str, text: &str) -> Result<String, Fault> {
+pub fn answer(alloc: Global, question: &str, text: &str) -> Result<String, AllocError> {
     match question {
         "terms" => {
             let terms = terms_of_order(alloc, &order_of(alloc, text)?)?;
-            Ok(term_line(alloc, &terms)?)
+            term_line(alloc, &terms)
         }
         "words" => words(alloc, text),
-        "key" => key(alloc, text),
-        _ => Err(Fault::Unreadable),
+        _ => key(alloc, text),
     }
 }
 
-fn terms_of_order(alloc: Global, order: &Order) -> Result<List<Term>, Fault> {
+fn terms_of_order(alloc: Global, order: &Order) -> Result<List<Term>, AllocError> {
     match &order.change {
-        Change::Whole(doc) => Ok(terms_of(alloc, &order.id, doc)?),
-        _ => Err(Fault::Unreadable),
+        Change::Whole(doc) => terms_of(alloc, &order.id, doc),
+        _ => Err(AllocError),
     }
 }
 
@@ -39,18 +38,14 @@ fn term_line(alloc: Global, terms: &List<Term>) -> Result<String, AllocError> {
 }
 
 /// The order to add a document with this text.
-fn order_with(alloc: Global, text: &str) -> Result<Order, Fault> {
-    let value = json!(in alloc; {"id": "a", "t_t": text})?;
-    let Ok(raw) = raw_doc(alloc, &value) else {
-        return Err(Fault::Memory);
-    };
-    match check_doc(alloc, &raw) {
-        Ok(order) => Ok(order),
-        Err(_) => Err(Fault::Unreadable),
-    }
+fn order_with(alloc: Global, text: &str) -> Result<Order, AllocError> {
+    let value = Value::try_from_str(alloc, text)?;
+    let value = print(alloc, &value)?;
+    let body = format!(in alloc; r#"{{"id":"a","t_t":{}}}"#, value.as_str())?;
+    order_of(alloc, body.as_str())
 }
 
-fn words(alloc: Global, text: &str) -> Result<String, Fault> {
+fn words(alloc: Global, text: &str) -> Result<String, AllocError> {
     let terms = terms_of_order(alloc, &order_with(alloc, text)?)?;
     let mut line = String::new(alloc);
     for term in terms.as_slice() {
@@ -66,8 +61,8 @@ fn words(alloc: Global, text: &str) -> Result<String, Fault> {
     Ok(line)
 }
 
-fn key(alloc: Global, text: &str) -> Result<String, Fault> {
-    let (kind, text) = text.split_once(' ').ok_or(Fault::Unreadable)?;
+fn key(alloc: Global, text: &str) -> Result<String, AllocError> {
+    let (kind, text) = word_and(text);
     let kind = match kind {
         "Str" => Kind::Str,
         "Words" => Kind::Words,
@@ -76,7 +71,7 @@ fn key(alloc: Global, text: &str) -> Result<String, Fault> {
         _ => Kind::Flag,
     };
     match key_of(alloc, kind, text)? {
-        Some(key) => Ok(String::from_str(alloc, key.as_str())?),
-        None => Ok(String::from_str(alloc, "none")?),
+        Some(key) => String::from_str(alloc, key.as_str()),
+        None => String::from_str(alloc, "none"),
     }
 }

@@ -1,8 +1,7 @@
 //! `sc_commands`: `update.read BODY`, where no parameter is set. The orders are shown where they are fewer than 100. `sc_json`:
 //! `update.count BODY`, how many flat documents an array has.
 
-use crate::fault::Fault;
-use sc_commands::{Batch, CommandFault, Flags, read_update};
+use sc_commands::{Batch, Flags, read_update};
 use sc_json::count_docs;
 use sc_record::{Change, Order};
 use std::alloc::{AllocError, Global};
@@ -14,26 +13,24 @@ const FLAGS: Flags = Flags {
     fail_on_conflict: true,
 };
 
-pub fn answer(alloc: Global, question: &str, body: &str) -> Result<String, Fault> {
+pub fn answer(alloc: Global, question: &str, body: &str) -> Result<String, AllocError> {
     match question {
         "read" => orders(alloc, body),
-        "count" => count(alloc, body),
-        _ => Err(Fault::Unreadable),
+        _ => count(alloc, body),
     }
 }
 
-fn count(alloc: Global, body: &str) -> Result<String, Fault> {
+fn count(alloc: Global, body: &str) -> Result<String, AllocError> {
     match count_docs(alloc, body.as_bytes())? {
-        Some(count) => Ok(format!(in alloc; "{count}")?),
-        None => Ok(String::from_str(alloc, "not counted")?),
+        Some(count) => format!(in alloc; "{count}"),
+        None => String::from_str(alloc, "not counted"),
     }
 }
 
-fn orders(alloc: Global, body: &str) -> Result<String, Fault> {
+fn orders(alloc: Global, body: &str) -> Result<String, AllocError> {
     match read_update(alloc, body.as_bytes(), &FLAGS) {
-        Ok(batch) => Ok(batch_text(alloc, &batch)?),
-        Err(CommandFault::Memory) => Err(Fault::Memory),
-        Err(fault) => Ok(format!(in alloc; "{fault}")?),
+        Ok(batch) => batch_text(alloc, &batch),
+        Err(fault) => format!(in alloc; "{fault}"),
     }
 }
 

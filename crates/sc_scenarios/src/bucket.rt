@@ -4,7 +4,7 @@ ghost use Rattle.sc_bucket.specs.Sound.{IsSound};
 use crate::words::{log_limit, number, word};
 use sc_bucket::{Accepted, Bucket};
 use sc_cluster::ClusterMap;
-use sc_record::{Id, List, Order};
+use sc_record::{CoreId, Id, List, Order};
 use sc_world::{Event, can, run_events};
 use std::alloc::{AllocError, Global};
 
@@ -29,21 +29,43 @@ pub fn come(alloc: Global, bucket: &mut Bucket, event: Event) -> Result<String, 
     }
     match &event {
         Event::Accept { order, now } => return accept(alloc, bucket, order, *now),
-        Event::DeliverNth { k } => {
-            let core = bucket.deliver_nth(*k);
-            return format!(in alloc; "{core:?}");
-        }
-        Event::Deliver { place } => {
-            let core = bucket.deliver(*place);
-            return format!(in alloc; "{core:?}");
-        }
+        Event::DeliverNth { k } => return deliver_nth(alloc, bucket, *k),
+        Event::Deliver { place } => return deliver(alloc, bucket, *place),
         Event::Commit => return commit(alloc, bucket),
         _ => {}
     }
+    run(alloc, bucket, event)
+}
+
+/// Has an event come that answers nothing.
+fn run(alloc: Global, bucket: &mut Bucket, event: Event) -> Result<String, AllocError>
+    requires { IsSound bucket.old }
+    ensures { IsSound bucket.new }
+{
     let mut events = List::new(alloc);
     events.push(event)?;
     run_events(alloc, bucket, &events)?;
     String::from_str(alloc, "done")
+}
+
+fn deliver_nth(alloc: Global, bucket: &mut Bucket, k: usize) -> Result<String, AllocError>
+    requires { IsSound bucket.old }
+    ensures { IsSound bucket.new }
+{
+    let core = bucket.deliver_nth(k);
+    core_shown(alloc, core)
+}
+
+fn deliver(alloc: Global, bucket: &mut Bucket, place: u64) -> Result<String, AllocError>
+    requires { IsSound bucket.old }
+    ensures { IsSound bucket.new }
+{
+    let core = bucket.deliver(place);
+    core_shown(alloc, core)
+}
+
+fn core_shown(alloc: Global, core: Option<CoreId>) -> Result<String, AllocError> {
+    format!(in alloc; "{core:?}")
 }
 
 fn accept(alloc: Global, bucket: &mut Bucket, order: &Order, now: u64) -> Result<String, AllocError>

@@ -1,6 +1,7 @@
 ghost use Rattle.std.specs.Prelude.{◌≡◌, None, true, IfOk};
 ghost use Rattle.sc_collection.specs.Shapes.{is_bucket_count};
 
+use crate::line::Line;
 use crate::wire::Wire;
 use crate::words::{log_limit, number};
 use sc_collection::{Alone, Desk, Shape, Stop, Trail};
@@ -82,14 +83,14 @@ pub fn show_cores(alloc: Global, hosts: &MemHosts) -> Result<String, AllocError>
         cores.push(format!(in alloc; "{}@{}", host.core.as_str(), host.node)?)?;
     }
     cores.sort_unstable();
-    let mut text = String::new(alloc);
+    let mut line = Line::new(alloc);
+    let mut before = "";
     for core in &cores {
-        if !text.is_empty() {
-            text.push_str(" ")?;
-        }
-        text.push_str(core.as_str())?;
+        line.push(before);
+        line.push(core.as_str());
+        before = " ";
     }
-    Ok(text)
+    line.end()
 }
 
 /// What a connection comes to that sends a line and nothing else, where `|` stands for each end of a line: how it ended, what it wrote,
@@ -134,18 +135,21 @@ fn shown_exchange(
 ) -> Result<String, AllocError> {
     let written = std::str::from_utf8(written).unwrap_or("invalid UTF-8");
     let written = written.replace(alloc, "\r\n", "|")?;
-    let mut text = format!(in alloc; "{end:?} {}", written.as_str())?;
+    let mut line = Line::new(alloc);
+    line.debug("", &end);
+    line.push(" ");
+    line.push(written.as_str());
     for at in 0..trail.len() {
         if let Some(stop) = trail.get(at) {
-            push_stop(alloc, &mut text, stop)?;
+            put_stop(&mut line, stop);
         }
     }
-    Ok(text)
+    line.end()
 }
 
 /// A stop: its lock and its place, with a sign where it made an entry.
-fn push_stop(alloc: Global, text: &mut String, stop: Stop) -> Result<(), AllocError> {
-    let sign = if stop.made { "+" } else { "" };
-    let shown = format!(in alloc; " {}:{}{sign}", stop.lock, stop.place)?;
-    text.push_str(shown.as_str())
+fn put_stop(line: &mut Line, stop: Stop) {
+    line.put(" ", &stop.lock);
+    line.put(":", &stop.place);
+    line.push(if stop.made { "+" } else { "" });
 }

@@ -8,7 +8,8 @@
 //! `sc_world`, whose events are all that may happen to a bucket.
 #![tactic(auto)]
 
-// What lines ask for.
+// What lines ask for, and what is written for them.
+mod line;
 mod words;
 
 // One bucket: its events, and what it shows.

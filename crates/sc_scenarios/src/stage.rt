@@ -53,34 +53,34 @@ pub fn answer<R: Threads + Sync>(
     }
     let words = line.split(' ').collect::<Vec<&str>>(alloc)?;
     match word(&words, 0) {
-        "bucket" => {
-            stage.bucket = new_bucket(alloc, &words)?;
-            String::from_str(alloc, "done")
-        }
-        "collection" => {
-            stage.collection = new_collection(alloc, &words)?;
-            String::from_str(alloc, "done")
-        }
-        "fails" => {
-            set_fails(alloc, &mut stage.collection.hosts, &words)?;
-            String::from_str(alloc, "done")
-        }
-        "stops" => {
-            set_stop(&mut stage.collection.pace, &words);
-            String::from_str(alloc, "done")
-        }
-        "pieces" | "reads" | "writes" => {
-            stage.collection.wire.set(alloc, &words)?;
-            String::from_str(alloc, "done")
-        }
-        "cores" => show_cores(alloc, &stage.collection.hosts),
-        "clock" => {
-            stage.now = number(&words, 1);
-            String::from_str(alloc, "done")
-        }
         "GET" | "POST" | "DELETE" => exchange(rt, alloc, &mut stage.collection, stage.now, line),
+        "cores" => show_cores(alloc, &stage.collection.hosts),
+        "bucket" | "collection" | "fails" | "stops" | "pieces" | "reads" | "writes" | "clock" => {
+            set(alloc, stage, &words)?;
+            String::from_str(alloc, "done")
+        }
         _ => about_bucket(alloc, &mut stage.bucket, &words),
     }
+}
+
+/// Does what a line asks for that is answered `done`.
+fn set(alloc: Global, stage: &mut Stage, words: &[&str]) -> Result<(), AllocError>
+    requires sound { IsSound stage.old.bucket }
+    requires out { stage.old.collection.desk.out ≡ None }
+    requires board_out { stage.old.collection.desk.board_out ≡ None }
+    ensures sound { IsSound stage.new.bucket }
+    ensures out { stage.new.collection.desk.out ≡ None }
+    ensures board_out { stage.new.collection.desk.board_out ≡ None }
+{
+    match word(words, 0) {
+        "bucket" => stage.bucket = new_bucket(alloc, words)?,
+        "collection" => stage.collection = new_collection(alloc, words)?,
+        "fails" => set_fails(alloc, &mut stage.collection.hosts, words)?,
+        "stops" => set_stop(&mut stage.collection.pace, words),
+        "clock" => stage.now = number(words, 1),
+        _ => stage.collection.wire.set(alloc, words)?,
+    }
+    Ok(())
 }
 
 /// What is written for a line about the bucket: what an event answers, or by `read ID` the id's version, by `show` all that the bucket shows,

@@ -2,8 +2,11 @@
 
 ghost use Rattle.sc_bucket.specs.Sound.{IsSound};
 
+use crate::line::Line;
 use sc_bucket::{Bucket, EntryRef, Standing};
-use sc_record::{Cell, CoreId, Entry, SliceId};
+use sc_cluster::Slice;
+use sc_record::{Cell, CoreId, Entry, Id};
+use sc_replica::Replica;
 use std::alloc::{AllocError, Global};
 
 /// The phase, how many entries are owed and how many the journal may have; then the entries, the slices, the cores, what is in flight, the
@@ -11,155 +14,160 @@ use std::alloc::{AllocError, Global};
 pub fn state_of(alloc: Global, bucket: &Bucket) -> Result<String, AllocError>
     requires { IsSound bucket.now }
 {
-    let mut text = format!(in alloc; "{:?} {} {} |", bucket.phase, bucket.owed, bucket.limit)?;
-    push_entries(alloc, &mut text, bucket)?;
-    push_slices(alloc, &mut text, bucket)?;
-    push_cores(alloc, &mut text, bucket)?;
-    for message in bucket.flight.as_slice() {
-        let (core, place) = (message.core, message.place);
-        let sent = format!(in alloc; " {}/{}<{place}", core.slice.0, core.replica)?;
-        text.push_str(sent.as_str())?;
-        push_cell(alloc, &mut text, &message.write)?;
-    }
-    push_searchers(alloc, &mut text, bucket.searchers.as_slice())?;
+    let mut line = Line::new(alloc);
+    line.debug("", &bucket.phase);
+    line.put(" ", &bucket.owed);
+    line.put(" ", &bucket.limit);
+    line.push(" |");
+    put_entries(&mut line, bucket);
+    put_slices(&mut line, bucket);
+    put_cores(alloc, &mut line, bucket)?;
+    put_flight(&mut line, bucket);
+    put_searchers(&mut line, bucket.searchers.as_slice())?;
     if let Some(spares) = &bucket.spares {
-        push_searchers(alloc, &mut text, spares.as_slice())?;
+        put_searchers(&mut line, spares.as_slice())?;
     }
-    Ok(text)
+    line.end()
 }
 
 /// A write: its id, and its version as it is shown.
-fn push_cell(alloc: Global, text: &mut String, cell: &Cell) -> Result<(), AllocError> {
-    let shown = format!(in alloc; " {}={}", cell.id.as_str(), cell.shown())?;
-    text.push_str(shown.as_str())
+fn put_cell(line: &mut Line, cell: &Cell) {
+    line.push(" ");
+    line.push(cell.id.as_str());
+    line.put("=", &cell.shown());
 }
 
-/// The entries; beside each write its hash, whether it has no terms, and the version of the last write of its id.
-fn push_entries(alloc: Global, text: &mut String, bucket: &Bucket) -> Result<(), AllocError>
+/// The entries.
+fn put_entries(line: &mut Line, bucket: &Bucket)
     requires { IsSound bucket.now }
 {
     for entry in bucket.journal.iter() {
         match entry {
-            EntryRef::Write(cell) => {
-                push_cell(alloc, text, cell)?;
-                let last = bucket.read(&cell.id).map_or(0, |last| last.shown());
-                let has_none = cell.terms.is_empty();
-                let more = format!(in alloc; ":{}:{has_none}:{last}", cell.hash)?;
-                text.push_str(more.as_str())?;
-            }
-            EntryRef::Settled { place } => {
-                text.push_str(format!(in alloc; " settled:{place}")?.as_str())?;
-            }
-            EntryRef::Committed => text.push_str(" committed")?,
-            EntryRef::Other(other) => push_other(alloc, text, other)?,
+            EntryRef::Write(cell) => put_write(line, bucket, cell),
+            EntryRef::Settled { place } => line.put(" settled:", &place),
+            EntryRef::Committed => line.push(" committed"),
+            EntryRef::Other(other) => put_other(line, other),
         }
     }
-    Ok(())
+}
+
+/// A write, and beside it its hash, whether it has no terms, and the version of the last write of its id.
+fn put_write(line: &mut Line, bucket: &Bucket, cell: &Cell)
+    requires { IsSound bucket.now }
+{
+    put_cell(line, cell);
+    line.put(":", &cell.hash);
+    line.put(":", &cell.terms.is_empty());
+    line.put(":", &last_shown(bucket, &cell.id));
+}
+
+/// The version of the last write of an id, as it is shown; 0 where there is none.
+fn last_shown(bucket: &Bucket, id: &Id) -> i64
+    requires { IsSound bucket.now }
+{
+    match bucket.read(id) {
+        Some(last) => last.shown(),
+        None => 0,
+    }
 }
 
 /// An entry of a split with its slice, or of a core with its name.
-fn push_other(alloc: Global, text: &mut String, entry: &Entry) -> Result<(), AllocError> {
+fn put_other(line: &mut Line, entry: &Entry) {
     match entry {
-        Entry::Begun { parent, .. } => push_of_slice(alloc, text, "begun", *parent),
-        Entry::Switched { parent } => push_of_slice(alloc, text, "switched", *parent),
-        Entry::Failed { parent } => push_of_slice(alloc, text, "failed", *parent),
-        Entry::Dropped { slice } => push_of_slice(alloc, text, "dropped", *slice),
-        Entry::Down { core } => push_of_core(alloc, text, "down", *core),
-        Entry::Up { core } => push_of_core(alloc, text, "up", *core),
-        Entry::Led { core } => push_of_core(alloc, text, "led", *core),
-        _ => Ok(()),
+        Entry::Begun { parent, .. } => line.put(" begun:", &parent.0),
+        Entry::Switched { parent } => line.put(" switched:", &parent.0),
+        Entry::Failed { parent } => line.put(" failed:", &parent.0),
+        Entry::Dropped { slice } => line.put(" dropped:", &slice.0),
+        Entry::Down { core } => put_core(line, " down:", *core),
+        Entry::Up { core } => put_core(line, " up:", *core),
+        Entry::Led { core } => put_core(line, " led:", *core),
+        _ => {}
     }
 }
 
-/// What came of a slice.
-fn push_of_slice(
-    alloc: Global,
-    text: &mut String,
-    event: &str,
-    slice: SliceId,
-) -> Result<(), AllocError> {
-    let shown = format!(in alloc; " {event}:{}", slice.0)?;
-    text.push_str(shown.as_str())
+/// A core's name.
+fn put_core(line: &mut Line, before: &str, core: CoreId) {
+    line.put(before, &core.slice.0);
+    line.put("/", &core.replica);
 }
 
-/// What came of a core.
-fn push_of_core(
-    alloc: Global,
-    text: &mut String,
-    event: &str,
-    core: CoreId,
-) -> Result<(), AllocError> {
-    let shown = format!(in alloc; " {event}:{}/{}", core.slice.0, core.replica)?;
-    text.push_str(shown.as_str())
-}
-
-fn push_slices(alloc: Global, text: &mut String, bucket: &Bucket) -> Result<(), AllocError> {
+fn put_slices(line: &mut Line, bucket: &Bucket) {
     for at in 0..bucket.map.len() {
         if let Some(slice) = bucket.map.get(at) {
-            let (state, range, id) = (slice.state, slice.range, slice.id.0);
-            let shown = format!(in alloc;
-                " | {id} {state:?} {}..{} {}",
-                range.min, range.max, slice.replicas
-            )?;
-            text.push_str(shown.as_str())?;
+            put_slice(line, slice);
         }
+    }
+}
+
+fn put_slice(line: &mut Line, slice: &Slice) {
+    line.put(" | ", &slice.id.0);
+    line.debug(" ", &slice.state);
+    line.put(" ", &slice.range.min);
+    line.put("..", &slice.range.max);
+    line.put(" ", &slice.replicas);
+}
+
+/// The cores by their seats.
+fn put_cores(alloc: Global, line: &mut Line, bucket: &Bucket) -> Result<(), AllocError> {
+    for at in 0..bucket.replicas.len() {
+        put_replica(alloc, line, bucket, bucket.replicas.get(at))?;
+    }
+    line.push(" |");
+    Ok(())
+}
+
+/// A core: its number where that is another than its seat's, whether it is down, its mode, its clock, how many writes it buffers and how
+/// many feeds there are, the rows that its feed has left and those of them that it will take, and its cells.
+fn put_replica(
+    alloc: Global,
+    line: &mut Line,
+    bucket: &Bucket,
+    replica: &Replica,
+) -> Result<(), AllocError> {
+    let core = replica.core();
+    put_core(line, " | ", core);
+    if replica.number() != core.replica {
+        line.put(" core:", &replica.number());
+    }
+    let mark = if replica.is_down() { " down " } else { " " };
+    line.debug(mark, &replica.mode());
+    line.put(" ", &replica.clock());
+    line.put(" ", &replica.buffered());
+    line.put(" ", &bucket.feeds.len());
+    if let Some(fed) = bucket.feeds.position(core) {
+        let feed = bucket.feeds.get(fed);
+        line.put(" ", &feed.rows_left());
+        line.put(" ", &feed.pending());
+    }
+    for cell in replica.cells().share(alloc)?.as_slice() {
+        put_cell(line, cell);
     }
     Ok(())
 }
 
-/// The cores by their seats; of each its number where that is another, whether it is down, its mode, its clock, how many writes it buffers
-/// and how many feeds there are, the rows that its feed has left and those of them that it will take, and its cells.
-fn push_cores(alloc: Global, text: &mut String, bucket: &Bucket) -> Result<(), AllocError> {
-    for at in 0..bucket.replicas.len() {
-        let replica = bucket.replicas.get(at);
-        let core = replica.core();
-        let seat = format!(in alloc; " | {}/{}", core.slice.0, core.replica)?;
-        text.push_str(seat.as_str())?;
-        if replica.number() != core.replica {
-            text.push_str(format!(in alloc; " core:{}", replica.number())?.as_str())?;
-        }
-        let mark = if replica.is_down() { "down " } else { "" };
-        let shown = format!(in alloc;
-            " {mark}{:?} {} {} {}",
-            replica.mode(),
-            replica.clock(),
-            replica.buffered(),
-            bucket.feeds.len()
-        )?;
-        text.push_str(shown.as_str())?;
-        if let Some(fed) = bucket.feeds.position(core) {
-            let feed = bucket.feeds.get(fed);
-            let left = format!(in alloc; " {} {}", feed.rows_left(), feed.pending())?;
-            text.push_str(left.as_str())?;
-        }
-        for cell in replica.cells().share(alloc)?.as_slice() {
-            push_cell(alloc, text, cell)?;
-        }
+/// What was sent to cores and has not come yet.
+fn put_flight(line: &mut Line, bucket: &Bucket) {
+    for message in bucket.flight.as_slice() {
+        put_core(line, " ", message.core);
+        line.put("<", &message.place);
+        put_cell(line, &message.write);
     }
-    text.push_str(" |")
 }
 
 /// The searchers; of each its slice, its range, how many entries its rows are after, and the rows.
-fn push_searchers(
-    alloc: Global,
-    text: &mut String,
-    searchers: &[Standing],
-) -> Result<(), AllocError> {
+fn put_searchers(line: &mut Line, searchers: &[Standing]) -> Result<(), AllocError> {
     for searcher in searchers {
-        let (range, rows) = (searcher.range, searcher.snapshot.share_rows()?);
-        let shown = format!(in alloc;
-            " | {} {}..{} {}",
-            searcher.slice.0,
-            range.min,
-            range.max,
-            rows.place()
-        )?;
-        text.push_str(shown.as_str())?;
+        let rows = searcher.snapshot.share_rows()?;
+        line.put(" | ", &searcher.slice.0);
+        line.put(" ", &searcher.range.min);
+        line.put("..", &searcher.range.max);
+        line.put(" ", &rows.place());
         for at in 0..rows.rows() {
             if let Some(cell) = rows.row(at) {
-                push_cell(alloc, text, cell)?;
+                put_cell(line, cell);
             }
         }
     }
-    text.push_str(" |")
+    line.push(" |");
+    Ok(())
 }

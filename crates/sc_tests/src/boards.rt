@@ -4,10 +4,12 @@ ghost use Rattle.std.specs.Prelude.{◌≡◌, ◌≤ℤ◌, pos, IfOk};
 ghost use Rattle.sc_board.specs.Boards.{IsSoundBoard};
 ghost use Rattle.sc_board.specs.Splits.{IsCut};
 
+use crate::support::assert_text;
 use sc_collection::{Alone, Board, Cut, Desk, DropFault, Shape};
 use sc_hash::Range;
 use sc_record::List;
 use std::alloc::Global;
+use std::process::Abort;
 use std::test::Fail;
 
 /// The board of a new collection of one shard.
@@ -61,20 +63,43 @@ fn two_ranges(alloc: Global, end: i32) -> Result<Cut, Fail>
     Ok(Cut::Ranges { list })
 }
 
+/// The subs of a shard that is cut in thirds.
+fn three_subs() -> &'static str {
+    "shard1_0 from -2147483648;shard1_1 from -715849728;shard1_2 from 715784192;"
+}
+
+/// The subs of a shard that is cut at 0.
+fn two_subs() -> &'static str {
+    "shard1_0 from 1;shard1_1 from -2147483648;"
+}
+
+/// The board answers this to a split of the shard.
+fn assert_answer(
+    rt: &impl Abort,
+    alloc: Global,
+    board: &mut Board<()>,
+    shard: &str,
+    cut: &Cut,
+    wanted: &str,
+) -> Result<(), Fail>
+    requires sound { IsSoundBoard board.old }
+    requires cut { IsCut cut.now }
+    ensures { IsSoundBoard board.new }
+{
+    let found = answer(alloc, board, shard, cut)?;
+    assert_text(rt, found.as_str(), wanted);
+    Ok(())
+}
+
 #[test]
 fn a_split_begins_once_and_of_a_shard_that_there_is(rt: HostRuntime) -> Result<(), Fail> {
     let alloc = rt.alloc();
     let mut board = new_board(alloc)?;
     let thirds = Cut::Parts { n: 3 };
-    assert_eq!(rt;
-        answer(alloc, &mut board, "shard2", &thirds)?.as_str(),
-        "unknown shard"
-    );
+    assert_answer(&rt, alloc, &mut board, "shard2", &thirds, "unknown shard")?;
     let short = two_ranges(alloc, i32::MAX - 1)?;
-    assert_eq!(rt;
-        answer(alloc, &mut board, "shard1", &short)?.as_str(),
-        "ranges do not cover the shard"
-    );
+    let refused = "ranges do not cover the shard";
+    assert_answer(&rt, alloc, &mut board, "shard1", &short, refused)?;
     assert!(rt;
         matches!(
             board.check_drop("shard1"),
@@ -82,14 +107,9 @@ fn a_split_begins_once_and_of_a_shard_that_there_is(rt: HostRuntime) -> Result<(
         )
     );
     assert_eq!(rt; board.entries(), 0);
-    assert_eq!(rt;
-        answer(alloc, &mut board, "shard1", &thirds)?.as_str(),
-        "shard1_0 from -2147483648;shard1_1 from -715849728;shard1_2 from 715784192;"
-    );
-    assert_eq!(rt;
-        answer(alloc, &mut board, "shard1_0", &thirds)?.as_str(),
-        "split of shard1 is running"
-    );
+    assert_answer(&rt, alloc, &mut board, "shard1", &thirds, three_subs())?;
+    let running = "split of shard1 is running";
+    assert_answer(&rt, alloc, &mut board, "shard1_0", &thirds, running)?;
     assert!(rt; matches!(board.check_drop("shard1"), Err(DropFault::Running { .. })));
     assert_eq!(rt; board.entries(), 1);
     assert_eq!(rt; board.map().len(), 4);
@@ -101,9 +121,5 @@ fn a_split_takes_the_ranges_that_are_listed(rt: HostRuntime) -> Result<(), Fail>
     let alloc = rt.alloc();
     let mut board = new_board(alloc)?;
     let whole = two_ranges(alloc, i32::MAX)?;
-    assert_eq!(rt;
-        answer(alloc, &mut board, "shard1", &whole)?.as_str(),
-        "shard1_0 from 1;shard1_1 from -2147483648;"
-    );
-    Ok(())
+    assert_answer(&rt, alloc, &mut board, "shard1", &whole, two_subs())
 }

@@ -2,6 +2,7 @@
 
 ghost use Rattle.sc_arguments.specs.Arguments.{IsDemo};
 
+use crate::support::assert_text;
 use sc_arguments::Demo;
 use sc_demo::run_demo;
 use sc_io::{Fixed, MemSink, MemSource, Never, NoPace};
@@ -47,6 +48,30 @@ fn told<R: Threads + Wait + Sync>(
     format!(in alloc; "{status}\n{lines}")
 }
 
+/// The same where nothing fails.
+fn told_whole<R: Threads + Wait + Sync>(
+    rt: &R,
+    alloc: Global,
+    demo: &Demo,
+) -> Result<String, AllocError>
+    requires { IsDemo demo.now }
+{
+    let crews = demo.workers.saturating_add(1);
+    told(rt, alloc, demo, crews, List::new(alloc))
+}
+
+fn of_thousand() -> &'static str {
+    "0\norders 1000\naccepted 1000\nsplit done\nfound 400\ng_s:a 133\ng_s:b 267\n"
+}
+
+fn of_ten() -> &'static str {
+    "0\norders 10\naccepted 10\nsplit done\nfound 4\ng_s:a 1\ng_s:b 3\n"
+}
+
+fn of_one() -> &'static str {
+    "0\norders 1\naccepted 1\nsplit done\nfound 1\ng_s:a 1\ng_s:b 0\n"
+}
+
 // The numbers are those of the workload by hand: of 1000 orders on 500 documents, every fifth of which is a deletion, 400 documents are left,
 // 133 of them in group `a`; likewise of 10 orders and of one.
 #[test]
@@ -58,31 +83,23 @@ fn demo_lines_are_the_same_for_any_number_of_workers(rt: HostRuntime) -> Result<
             count: 1000,
             workers,
         };
-        let lines = told(&rt, alloc, &thousand, workers + 1, List::new(alloc))?;
-        assert_eq!(rt;
-            lines.as_str(),
-            "0\norders 1000\naccepted 1000\nsplit done\nfound 400\ng_s:a 133\ng_s:b 267\n"
-        );
         let ten = Demo {
             seed: 1,
             count: 10,
             workers,
         };
-        let lines = told(&rt, alloc, &ten, workers + 1, List::new(alloc))?;
-        assert_eq!(rt;
-            lines.as_str(),
-            "0\norders 10\naccepted 10\nsplit done\nfound 4\ng_s:a 1\ng_s:b 3\n"
-        );
         let one = Demo {
             seed: 0,
             count: 1,
             workers,
         };
-        let lines = told(&rt, alloc, &one, workers + 1, List::new(alloc))?;
-        assert_eq!(rt;
-            lines.as_str(),
-            "0\norders 1\naccepted 1\nsplit done\nfound 1\ng_s:a 1\ng_s:b 0\n"
+        assert_text(
+            &rt,
+            told_whole(&rt, alloc, &thousand)?.as_str(),
+            of_thousand(),
         );
+        assert_text(&rt, told_whole(&rt, alloc, &ten)?.as_str(), of_ten());
+        assert_text(&rt, told_whole(&rt, alloc, &one)?.as_str(), of_one());
     }
     Ok(())
 }
@@ -97,9 +114,9 @@ fn a_demo_says_what_failed(rt: HostRuntime) -> Result<(), Fail> {
         workers: 2,
     };
     let no_crew = told(&rt, alloc, &ten, 2, List::new(alloc))?;
-    assert_eq!(rt; no_crew.as_str(), "6\n");
+    assert_text(&rt, no_crew.as_str(), "6\n");
     let first = List::from_vec(Vec::from_array(alloc, [0])?);
     let no_lines = told(&rt, alloc, &ten, 3, first)?;
-    assert_eq!(rt; no_lines.as_str(), "5\n");
+    assert_text(&rt, no_lines.as_str(), "5\n");
     Ok(())
 }

@@ -1,34 +1,30 @@
 //! `sc_io`: hosts and paces that fail and stop by number, and the folders of the machine's hosts.
 
+use crate::support::assert_text;
 use sc_io::{FolderHosts, Hosts, MemHosts, MemPace, NoPace, Pace, SplitStep};
 use sc_record::List;
 use std::alloc::{AllocError, Global};
 use std::fs;
-use std::process::Abort;
 use std::test::Fail;
 
-// A call of hosts.
-#[derive(Clone, Copy)]
-enum Call<'a> {
-    Start(u32, &'a str),
-    Stop(u32, &'a str),
-}
-
-// Which of the calls succeed.
-fn results<H: Hosts>(
-    alloc: Global,
-    hosts: &mut H,
-    calls: &[Call<'_>],
-) -> Result<Vec<bool>, AllocError> {
-    let mut results = Vec::new(alloc);
-    for call in calls {
-        let result = match *call {
-            Call::Start(node, core) => hosts.start_core(node, core),
-            Call::Stop(node, core) => hosts.stop_core(node, core),
-        };
-        results.push(result.is_ok())?;
+// Which of the calls succeed, a `+` for each that does and a `-` for each that fails. A call is `start NODE CORE` or `stop NODE CORE`.
+fn results<H: Hosts>(alloc: Global, hosts: &mut H, calls: &str) -> Result<String, AllocError> {
+    let mut results = String::new(alloc);
+    for call in calls.split(", ") {
+        let (kind, rest) = call.split_once(' ').unwrap_or((call, ""));
+        let (node, core) = rest.split_once(' ').unwrap_or((rest, ""));
+        let succeeds = succeeds(hosts, kind, node.parse::<u32>().unwrap_or(0), core);
+        results.push_str(if succeeds { "+" } else { "-" })?;
     }
     Ok(results)
+}
+
+fn succeeds<H: Hosts>(hosts: &mut H, kind: &str, node: u32, core: &str) -> bool {
+    if kind == "start" {
+        hosts.start_core(node, core).is_ok()
+    } else {
+        hosts.stop_core(node, core).is_ok()
+    }
 }
 
 // The cores, one after another.
@@ -42,27 +38,19 @@ fn shown(alloc: Global, hosts: &MemHosts) -> Result<String, AllocError> {
     Ok(text)
 }
 
+// The fourth and the sixth fail.
+fn calls_of_memory() -> &'static str {
+    "start 1 a, start 2 b, start 1 a, stop 1 a, stop 1 a, start 1 c, stop 2 a, start 2 c"
+}
+
 #[test]
 fn hosts_in_memory_keep_the_started_cores_and_fail_by_number(rt: HostRuntime) -> Result<(), Fail> {
     let alloc = rt.alloc();
     let fails = List::from_vec(Vec::from_array(alloc, [3, 5])?);
     let mut hosts = MemHosts::new(alloc, fails);
-    let calls = [
-        Call::Start(1, "a"),
-        Call::Start(2, "b"),
-        Call::Start(1, "a"),
-        Call::Stop(1, "a"),
-        Call::Stop(1, "a"),
-        Call::Start(1, "c"),
-        Call::Stop(2, "a"),
-        Call::Start(2, "c"),
-    ];
-    let results = results(alloc, &mut hosts, &calls)?;
-    assert_eq!(rt;
-        results.as_slice(),
-        [true, true, true, false, true, false, true, true].as_slice()
-    );
-    assert_eq!(rt; shown(alloc, &hosts)?.as_str(), "b on 2;c on 2;");
+    let results = results(alloc, &mut hosts, calls_of_memory())?;
+    assert_text(&rt, results.as_str(), "+++-+-++");
+    assert_text(&rt, shown(alloc, &hosts)?.as_str(), "b on 2;c on 2;");
     assert_eq!(rt; (hosts.faults.count(), hosts.stop_faults.count()), (1, 1));
     Ok(())
 }
@@ -71,30 +59,30 @@ const FOLDER: &str = "cores/docs_shard1_replica_n1";
 
 const FILE: &str = "cores/docs_shard1_replica_n1/core.properties";
 
+// A name that no folder can have, and a start twice.
+fn starts_of_folders() -> &'static str {
+    "start 7 \0, start 7 docs_shard1_replica_n1, start 7 docs_shard1_replica_n1"
+}
+
+// Such a name, and a stop twice.
+fn stops_of_folders() -> &'static str {
+    "stop 7 \0, stop 7 docs_shard1_replica_n1, stop 7 docs_shard1_replica_n1"
+}
+
+// The properties of a started core.
+fn properties() -> &'static str {
+    "name=docs_shard1_replica_n1\ncollection=docs\nnode=7\n"
+}
+
 #[test]
 fn a_started_core_is_a_folder_with_its_properties(rt: HostRuntime) -> Result<(), Fail> {
     let alloc = rt.alloc();
     let mut hosts = FolderHosts::new(alloc, &rt);
-    let core = "docs_shard1_replica_n1";
-    // a name that no folder can have, a start twice
-    let starts = [
-        Call::Start(7, "\0"),
-        Call::Start(7, core),
-        Call::Start(7, core),
-    ];
-    let started = results(alloc, &mut hosts, &starts)?;
-    assert_eq!(rt; started.as_slice(), [false, true, true].as_slice());
-    assert_eq!(rt;
-        fs::read_to_string(&rt, FILE)?.as_str(),
-        "name=docs_shard1_replica_n1\ncollection=docs\nnode=7\n"
-    );
-    let stops = [
-        Call::Stop(7, "\0"),
-        Call::Stop(7, core),
-        Call::Stop(7, core),
-    ];
-    let stopped = results(alloc, &mut hosts, &stops)?;
-    assert_eq!(rt; stopped.as_slice(), [false, true, true].as_slice());
+    let started = results(alloc, &mut hosts, starts_of_folders())?;
+    assert_text(&rt, started.as_str(), "-++");
+    assert_text(&rt, fs::read_to_string(&rt, FILE)?.as_str(), properties());
+    let stopped = results(alloc, &mut hosts, stops_of_folders())?;
+    assert_text(&rt, stopped.as_str(), "-++");
     assert!(rt; !fs::exists(&rt, FOLDER)?);
     assert_eq!(rt; (hosts.faults.count(), hosts.stop_faults.count()), (1, 1));
     fs::remove_dir(&rt, "cores")?;

@@ -2,7 +2,9 @@
 //! searches that count their steps, and trees so deep that a recursion would have no stack for them. What a table shows, `sc_examples` and
 //! `sc_scenarios` answer from their standard input.
 //!
-//! Each module tests one crate by its public functions, but for `collections`, `sharing`, `splits` and `workers`. Nothing depends on this crate.
+//! Each module tests one crate by its public functions, but for `collections`, `sharing`, `splits` and `workers`; `support` has what several
+//! share. A table is a text, which a function with no contract gives, so that the prover does not read it in each step of a test. Nothing
+//! depends on this crate.
 #![tactic(auto)]
 
 #[cfg(test)]
@@ -39,6 +41,8 @@ mod snapshots;
 mod splits;
 #[cfg(test)]
 mod streams;
+#[cfg(test)]
+mod support;
 #[cfg(test)]
 mod workers;
 #[cfg(test)]

@@ -3,10 +3,11 @@
 ghost use Rattle.std.specs.Prelude.{◌≡◌, pos, ◌<ℤ◌, IfOk};
 ghost use Rattle.std.specs.Arc.{arc_value};
 
+use crate::support::assert_text;
 use sc_record::{Cell, CoreId, Id, List, SliceId, Write};
 use sc_replica::Replica;
 use sc_ulog::Mode;
-use std::alloc::Global;
+use std::alloc::{AllocError, Global};
 use std::sync::Arc;
 use std::test::Fail;
 
@@ -72,23 +73,33 @@ fn drops_the_older(rt: HostRuntime) -> Result<(), Fail> {
 fn cells_ascend(rt: HostRuntime) -> Result<(), Fail> {
     let alloc = rt.alloc();
     let mut core = follower(alloc, Mode::Active);
-    for id in ["m", "é", "b", "aa", "z", "a", "ma", "B", "b"] {
-        core.reserve(1)?;
-        let write = deletion(alloc, id, VERSION)?;
-        core.feed(write);
-    }
+    feed_each(alloc, &mut core, "m é b aa z a ma B b")?;
     core.reserve(1)?;
     let led = deletion(alloc, "c", VERSION + 1)?;
     assert!(rt; core.clock() < VERSION + 1);
     core.lead(led);
+    assert_text(&rt, ids_of(alloc, &core)?.as_str(), "B a aa b c m ma z é ");
+    Ok(())
+}
+
+/// Feeds the core a deletion of each of these ids.
+fn feed_each(alloc: Global, core: &mut Replica, ids: &str) -> Result<(), Fail> {
+    for id in ids.split(' ') {
+        core.reserve(1)?;
+        let write = deletion(alloc, id, VERSION)?;
+        core.feed(write);
+    }
+    Ok(())
+}
+
+/// The ids of the core's cells, each before a space.
+fn ids_of(alloc: Global, core: &Replica) -> Result<String, AllocError> {
     let mut ids = String::new(alloc);
-    let shares = core.cells().share(alloc)?;
-    for cell in shares.iter() {
+    for cell in core.cells().share(alloc)?.as_slice() {
         ids.push_str(cell.id.as_str())?;
         ids.push_str(" ")?;
     }
-    assert_eq!(rt; ids.as_str(), "B a aa b c m ma z é ");
-    Ok(())
+    Ok(ids)
 }
 
 // Of 70 writes that were buffered, 64 are replayed and then the other 6.

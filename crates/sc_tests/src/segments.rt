@@ -16,10 +16,10 @@ use std::test::Fail;
 // A number as a key, which besides counts by itself how often it is compared.
 #[derive(Drop)]
 #[derive_where(PartialEq, Eq, PartialOrd, Ord, Hash)]
-struct CountedKey<'a> {
-    number: u32,
+pub struct CountedKey<'a> {
+    pub number: u32,
     #[derive_where(skip(EqHashOrd))]
-    compared: &'a Cell<u32>,
+    pub compared: &'a Cell<u32>,
 }
 
 impl Key for CountedKey<'_> {
@@ -41,7 +41,8 @@ impl Key for CountedKey<'_> {
     ghost total = { on_total (λ a. a.number) nat_cmp_total };
 }
 
-fn filled<'a>(
+// A segment of these rows, which ascend, and their keys.
+pub fn filled<'a>(
     rt: &impl Abort,
     alloc: Global,
     pairs: &[(u32, u32)],
@@ -62,7 +63,7 @@ fn filled<'a>(
 }
 
 // The rows, and that the key was compared as often as the segment's number of keys allows.
-fn assert_rows<L: Ledger>(
+pub fn assert_rows<L: Ledger>(
     rt: &impl Abort,
     segment: &Segment<CountedKey<'_>>,
     key: &CountedKey<'_>,

@@ -3,6 +3,7 @@
 ghost use Rattle.std.specs.Prelude.{◌≡◌, true, None};
 ghost use Rattle.sc_collection.specs.Shapes.{is_in_range};
 
+use crate::support::assert_text;
 use sc_arguments::Server;
 use sc_collection::{Shape, Trail};
 use sc_io::{Failed, Fixed, MemSink, MemSource, Never, NoPace, Sink, Source};
@@ -194,6 +195,29 @@ fn served<R: Threads + Wait + Sync>(
     Ok(text)
 }
 
+/// What a server of one worker writes where nothing fails.
+fn answer_of_one() -> &'static str {
+    concat!(
+        "0 listening 8983\n",
+        "HTTP/1.1 200 OK\r\nContent-Type: application/json;charset=utf-8\r\nContent-Length: 67\r\n\r\n",
+        r#"{"adds":["abc",1048576000],"responseHeader":{"QTime":0,"status":0}} 0:0+ 0:1+"#,
+        "\n",
+    )
+}
+
+/// What a server of two workers writes where the second answers first.
+fn answers_of_two() -> &'static str {
+    concat!(
+        "0 listening 8983\n",
+        "HTTP/1.1 200 OK\r\nContent-Type: application/json;charset=utf-8\r\nContent-Length: 67\r\n\r\n",
+        r#"{"adds":["abc",1048576001],"responseHeader":{"QTime":0,"status":0}} 0:2+ 0:3+"#,
+        "\n",
+        "HTTP/1.1 200 OK\r\nContent-Type: application/json;charset=utf-8\r\nContent-Length: 67\r\n\r\n",
+        r#"{"adds":["abc",1048576000],"responseHeader":{"QTime":0,"status":0}} 0:0+ 0:1+"#,
+        "\n",
+    )
+}
+
 // The body of the first connection comes after the second was answered. So both end after their answer, as is wanted of each, only where
 // the second worker serves while the first does. Both write the same id: the journal has the second's write and that it was settled at its
 // first two places, and then the first's, of the next version.
@@ -207,18 +231,7 @@ fn two_workers_serve_beside_each_other(rt: HostRuntime) -> Result<(), Fail> {
     let quick = link_of(alloc, r#"[{"id":"abc","t_s":"y"}]"#, None, second)?;
     let crews = Vec::from_array(alloc, [crew_of(alloc, slow)?, crew_of(alloc, quick)?])?;
     let served = served(&rt, alloc, 2, crews, List::new(alloc), List::new(alloc))?;
-    assert_eq!(rt;
-        served.as_str(),
-        concat!(
-            "0 listening 8983\n",
-            "HTTP/1.1 200 OK\r\nContent-Type: application/json;charset=utf-8\r\nContent-Length: 67\r\n\r\n",
-            r#"{"adds":["abc",1048576001],"responseHeader":{"QTime":0,"status":0}} 0:2+ 0:3+"#,
-            "\n",
-            "HTTP/1.1 200 OK\r\nContent-Type: application/json;charset=utf-8\r\nContent-Length: 67\r\n\r\n",
-            r#"{"adds":["abc",1048576000],"responseHeader":{"QTime":0,"status":0}} 0:0+ 0:1+"#,
-            "\n",
-        )
-    );
+    assert_text(&rt, served.as_str(), answers_of_two());
     Ok(())
 }
 
@@ -242,18 +255,10 @@ fn a_status_says_what_failed(rt: HostRuntime) -> Result<(), Fail> {
         Ok(List::from_vec(Vec::from_array(alloc, [0])?))
     };
     let port_fails = served_by_one(&rt, alloc, first()?, List::new(alloc))?;
-    assert_eq!(rt; port_fails.as_str(), "7 ");
+    assert_text(&rt, port_fails.as_str(), "7 ");
     let line_fails = served_by_one(&rt, alloc, List::new(alloc), first()?)?;
-    assert_eq!(rt; line_fails.as_str(), "5 \n");
+    assert_text(&rt, line_fails.as_str(), "5 \n");
     let none_fails = served_by_one(&rt, alloc, List::new(alloc), List::new(alloc))?;
-    assert_eq!(rt;
-        none_fails.as_str(),
-        concat!(
-            "0 listening 8983\n",
-            "HTTP/1.1 200 OK\r\nContent-Type: application/json;charset=utf-8\r\nContent-Length: 67\r\n\r\n",
-            r#"{"adds":["abc",1048576000],"responseHeader":{"QTime":0,"status":0}} 0:0+ 0:1+"#,
-            "\n",
-        )
-    );
+    assert_text(&rt, none_fails.as_str(), answer_of_one());
     Ok(())
 }

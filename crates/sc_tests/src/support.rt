@@ -1,0 +1,13 @@
+//! What tests of several crates share.
+
+use std::process::Abort;
+
+/// The text that was found is the one that is wanted.
+pub fn assert_text(rt: &impl Abort, found: &str, wanted: &str) {
+    assert_eq!(rt; found, wanted);
+}
+
+/// What was found of a line of a table is what the line says.
+pub fn assert_line(rt: &impl Abort, line: &str, found: &str, wanted: &str) {
+    assert_eq!(rt; found, wanted, "{line}");
+}

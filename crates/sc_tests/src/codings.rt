@@ -4,9 +4,33 @@ ghost use Rattle.std.specs.Prelude.{◌<◌};
 
 use sc_chunks::{DecodeError, Decoder};
 use std::alloc::Global;
+use std::process::Abort;
 
-const CODING: &[u8] =
-    b"4;name=\"value\"\r\nWiki\r\n6 \t\r\npedia \r\nE\r\nin \r\n\r\nchunks.\r\n0\r\nExpires: never\r\n\r\n";
+// A coding of three chunks, with an extension, blanks and a trailer line.
+fn coding() -> &'static [u8] {
+    b"4;name=\"value\"\r\nWiki\r\n6 \t\r\npedia \r\nE\r\nin \r\n\r\nchunks.\r\n0\r\nExpires: never\r\n\r\n"
+}
+
+// Its data.
+fn data() -> &'static [u8] {
+    b"Wikipedia in \r\n\r\nchunks."
+}
+
+// Beginnings of codings, and why each is refused.
+fn beginnings() -> [(&'static [u8], Option<DecodeError>); 10] {
+    [
+        (b"1000000\r\n", None),
+        (b"1000001\r\n", Some(DecodeError::TooLarge)),
+        (b"1\r\na\r\n1000000\r\n", Some(DecodeError::TooLarge)),
+        (b"FFFFFFFFFFFFFFFF\r\n", Some(DecodeError::TooLarge)),
+        (b"00000000000000001", Some(DecodeError::Malformed)),
+        (b"g\r\n", Some(DecodeError::Malformed)),
+        (b"\r\n", Some(DecodeError::Malformed)),
+        (b"1\n", Some(DecodeError::Malformed)),
+        (b"1\r\nab", Some(DecodeError::Malformed)),
+        (b"0\r\n:a\r\n", Some(DecodeError::Malformed)),
+    ]
+}
 
 // A decoder that took the bytes in pieces of this size, or why it didn't.
 fn taken(alloc: Global, bytes: &[u8], size: usize) -> Result<Decoder, DecodeError>
@@ -35,14 +59,20 @@ fn fault(alloc: Global, bytes: &[u8]) -> Option<DecodeError> {
     taken(alloc, bytes, 3).err()
 }
 
+// The coding gives its data in pieces of this size.
+fn assert_decoded(rt: &impl Abort, alloc: Global, size: usize)
+    requires { 0 < size }
+{
+    assert!(rt; decoded(alloc, coding(), size).is_some_and(|found| found.as_slice() == data()));
+}
+
 #[test]
 fn pieces_of_any_size_give_the_data(rt: HostRuntime) {
     let alloc = rt.alloc();
-    let data = b"Wikipedia in \r\n\r\nchunks.".as_slice();
-    assert!(rt; decoded(alloc, CODING, 1).is_some_and(|found| found.as_slice() == data));
-    assert!(rt; decoded(alloc, CODING, 2).is_some_and(|found| found.as_slice() == data));
-    assert!(rt; decoded(alloc, CODING, 3).is_some_and(|found| found.as_slice() == data));
-    assert!(rt; decoded(alloc, CODING, 7).is_some_and(|found| found.as_slice() == data));
+    assert_decoded(&rt, alloc, 1);
+    assert_decoded(&rt, alloc, 2);
+    assert_decoded(&rt, alloc, 3);
+    assert_decoded(&rt, alloc, 7);
 }
 
 #[test]
@@ -59,23 +89,7 @@ fn what_follows_a_coding_is_left(rt: HostRuntime) {
 #[test]
 fn bad_codings_are_refused(rt: HostRuntime) {
     let alloc = rt.alloc();
-    assert_eq!(rt; fault(alloc, b"1000000\r\n"), None);
-    assert_eq!(rt; fault(alloc, b"1000001\r\n"), Some(DecodeError::TooLarge));
-    assert_eq!(rt;
-        fault(alloc, b"1\r\na\r\n1000000\r\n"),
-        Some(DecodeError::TooLarge)
-    );
-    assert_eq!(rt;
-        fault(alloc, b"FFFFFFFFFFFFFFFF\r\n"),
-        Some(DecodeError::TooLarge)
-    );
-    assert_eq!(rt;
-        fault(alloc, b"00000000000000001"),
-        Some(DecodeError::Malformed)
-    );
-    assert_eq!(rt; fault(alloc, b"g\r\n"), Some(DecodeError::Malformed));
-    assert_eq!(rt; fault(alloc, b"\r\n"), Some(DecodeError::Malformed));
-    assert_eq!(rt; fault(alloc, b"1\n"), Some(DecodeError::Malformed));
-    assert_eq!(rt; fault(alloc, b"1\r\nab"), Some(DecodeError::Malformed));
-    assert_eq!(rt; fault(alloc, b"0\r\n:a\r\n"), Some(DecodeError::Malformed));
+    for (bytes, wanted) in beginnings() {
+        assert_eq!(rt; fault(alloc, bytes), wanted);
+    }
 }

@@ -1,5 +1,6 @@
 //! The orders of the demonstration's workers, and how many a batch has.
 
+use crate::support::assert_text;
 use sc_commands::Batch;
 use sc_record::{Change, List};
 use sc_workload::orders;
@@ -28,9 +29,13 @@ fn shown(alloc: Global, batches: &List<Batch>) -> Result<String, AllocError> {
 fn two_workers_have_ten_orders(rt: HostRuntime) -> Result<(), Fail> {
     let alloc = rt.alloc();
     let first = orders(alloc, 1, 10, 0, 2)?;
-    assert_eq!(rt; shown(alloc, &first)?.as_str(), "w0 w2 -w4 w0 w2 -w4 / ");
+    assert_text(
+        &rt,
+        shown(alloc, &first)?.as_str(),
+        "w0 w2 -w4 w0 w2 -w4 / ",
+    );
     let second = orders(alloc, 1, 10, 1, 2)?;
-    assert_eq!(rt; shown(alloc, &second)?.as_str(), "w1 w3 w1 w3 / ");
+    assert_text(&rt, shown(alloc, &second)?.as_str(), "w1 w3 w1 w3 / ");
     Ok(())
 }
 

@@ -3,7 +3,7 @@
 
 Each is a line of a crate's code and a wrong one in its place, which the crate's check has to refuse. The bugs of crates/*/must-fail/ are tried by
 each `rt ci`; trying a crate's bugs costs a whole proof of it first, so the others stand apart. It copies the repository, puts them in the place
-of those, and runs `rt ci` there, with whose status it ends: 0 where each was refused. All of them take some two processor hours.
+of those, and runs `rt ci` there, with whose status it ends: 0 where each was refused. All of them take two processor hours, by an estimate.
 
     bench/planted.py sc_hash sc_router
 """

@@ -6,7 +6,6 @@ ghost use Rattle.sc_collection.specs.Desks.{nothing_out};
 ghost use Rattle.sc_shared.specs.Sharing.{ArePasses};
 
 use crate::collections::{new_collection, passes_of};
-use crate::support::assert_text;
 use crossbeam_channel::{Receiver, Sender};
 use sc_collection::{Desk, Shape, Trail};
 use sc_io::{Faults, Fixed, MemSink, MemSource, Never, NoPace, Pace, SplitStep};
@@ -21,65 +20,11 @@ use std::test::Fail;
 use std::thread;
 use std::thread::Threads;
 
-/// A request that comes once a split stands at this step, which is as programmers see it.
+/// A request that comes once a split stands at this step.
 #[derive(Drop)]
 struct Visit<'a> {
-    step: &'a str,
-    request: &'a str,
-}
-
-/// The visits of a text: in each line a step, and after an arrow the name of its request.
-fn visits_of(alloc: Global, text: &str) -> Result<VecDeque<Visit<'_>>, AllocError> {
-    let mut visits = VecDeque::new(alloc);
-    for line in text.lines() {
-        let (step, name) = line.split_once(" -> ").unwrap_or((line, ""));
-        visits.push_back(Visit {
-            step,
-            request: request_of(name),
-        })?;
-    }
-    Ok(visits)
-}
-
-/// The next visit comes at this step.
-fn is_next(
-    alloc: Global,
-    visits: &VecDeque<Visit<'_>>,
     step: SplitStep,
-) -> Result<bool, AllocError> {
-    let shown = format!(in alloc; "{step:?}")?;
-    match visits.front() {
-        Some(visit) => Ok(visit.step == shown.as_str()),
-        None => Ok(false),
-    }
-}
-
-/// The request of this name, where `|` stands for each end of a line.
-fn request_of(name: &str) -> &'static str {
-    match name {
-        "split" =>
-            "GET /solr/admin/collections?action=SPLITSHARD&collection=docs&shard=shard1 HTTP/1.1|Host: a||",
-        "search" => "GET /solr/docs/select?q=*:*&rows=0 HTTP/1.1|Host: a||",
-        "get" => "GET /solr/docs/get?id=abc HTTP/1.1|Host: a||",
-        "add x" =>
-            r#"POST /solr/docs/update?versions=true HTTP/1.1|Host: a|Content-Length: 24||[{"id":"abc","t_s":"x"}]"#,
-        "add y" =>
-            r#"POST /solr/docs/update?versions=true HTTP/1.1|Host: a|Content-Length: 24||[{"id":"abc","t_s":"y"}]"#,
-        "delete" =>
-            r#"POST /solr/docs/update?versions=true HTTP/1.1|Host: a|Content-Length: 16||{"delete":"abc"}"#,
-        _ => other_request_of(name),
-    }
-}
-
-fn other_request_of(name: &str) -> &'static str {
-    match name {
-        "add at version 7" =>
-            r#"POST /solr/docs/update HTTP/1.1|Host: a|Content-Length: 28||[{"id":"abc","_version_":7}]"#,
-        "add three" =>
-            r#"POST /solr/docs/update?commit=true HTTP/1.1|Host: a|Content-Length: 43||[{"id":"test"},{"id":"abc"},{"id":"hello"}]"#,
-        _ =>
-            r#"POST /solr/docs/update?commit=true HTTP/1.1|Host: a|Content-Length: 15||[{"id":"more"}]"#,
-    }
+    request: &'a str,
 }
 
 /// A pace that tells another thread each step, and waits until that has done what it does there. Where that is gone it says stop.
@@ -136,20 +81,20 @@ fn exchange<R: Threads + Sync, D: Desk, P: Pace>(
     }
 }
 
-/// The bodies of the answers to the requests of these names in turn, each in a line.
+/// The bodies of the answers to these requests in turn, each in a line.
 fn converse<R: Threads + Sync, D: Desk, P: Pace>(
     rt: &R,
     alloc: Global,
     desk: &mut D,
     pace: &mut P,
-    names: &str,
+    requests: &[&str],
 ) -> Result<String, AllocError>
     requires { D.out desk.old ≡ nothing_out }
     ensures { D.out desk.new ≡ nothing_out }
 {
     let mut told = String::new(alloc);
-    for request in names.split(", ") {
-        let body = exchange(rt, alloc, desk, pace, request_of(request))?;
+    for request in requests {
+        let body = exchange(rt, alloc, desk, pace, request)?;
         told.push_str(body.as_str())?;
         told.push_str("\n")?;
     }
@@ -161,17 +106,17 @@ fn send_each<R: Threads + Wait + Sync, D: Desk>(
     rt: &R,
     alloc: Global,
     desk: &mut D,
-    visits: &str,
+    visits: VecDeque<Visit<'_>>,
     steps: Receiver<SplitStep>,
     done: Sender<()>,
 ) -> Result<String, AllocError>
     requires { D.out desk.old ≡ nothing_out }
     ensures { D.out desk.new ≡ nothing_out }
 {
-    let mut visits = visits_of(alloc, visits)?;
+    let mut visits = visits;
     let mut told = String::new(alloc);
     for step in steps.iter(rt) {
-        if is_next(alloc, &visits, step)? {
+        if visits.front().is_some_and(|visit| visit.step == step) {
             let Some(visit) = visits.pop_front() else {
                 break;
             };
@@ -192,7 +137,7 @@ fn visited<R: Threads + Wait + Sync>(
     alloc: Global,
     collection: &Collection,
     passes: Passes,
-    visits: &str,
+    visits: VecDeque<Visit<'_>>,
     steps: Receiver<SplitStep>,
     done: Sender<()>,
 ) -> Result<String, AllocError>
@@ -207,7 +152,7 @@ fn visited_at<R: Threads + Wait + Sync, N: Home>(
     alloc: Global,
     collection: &Collection,
     passes: Passes,
-    visits: &str,
+    visits: VecDeque<Visit<'_>>,
     steps: Receiver<SplitStep>,
     done: Sender<()>,
 ) -> Result<String, AllocError>
@@ -228,7 +173,7 @@ fn conversed<R: Threads + Wait + Sync>(
     passes: Passes,
     steps: Sender<SplitStep>,
     done: Receiver<()>,
-    requests: &str,
+    requests: &[&str],
 ) -> Result<String, AllocError>
     requires passes { ArePasses collection.now passes }
 {
@@ -243,7 +188,7 @@ fn conversed_at<R: Threads + Wait + Sync, N: Home>(
     passes: Passes,
     steps: Sender<SplitStep>,
     done: Receiver<()>,
-    requests: &str,
+    requests: &[&str],
 ) -> Result<String, AllocError>
     requires home { N.locks ≡ Some collection.now }
     requires passes { ArePasses collection.now passes }
@@ -267,8 +212,8 @@ fn told_by_two<R: Threads + Wait + Sync>(
     collection: &Collection,
     passes: Passes,
     others: Passes,
-    visits: &str,
-    requests: &str,
+    visits: VecDeque<Visit<'_>>,
+    requests: &[&str],
 ) -> Result<String, AllocError>
     requires passes { ArePasses collection.now passes }
     requires others { ArePasses collection.now others }
@@ -295,8 +240,8 @@ fn told_by_two<R: Threads + Wait + Sync>(
 fn told<R: Threads + Wait + Sync>(
     rt: &R,
     alloc: Global,
-    visits: &str,
-    requests: &str,
+    visits: Vec<Visit<'_>>,
+    requests: &[&str],
 ) -> Result<String, AllocError> {
     let shape = Shape {
         nodes: 1,
@@ -306,76 +251,94 @@ fn told<R: Threads + Wait + Sync>(
         log_limit: 1_024,
     };
     let (collection, passes, others, _) = new_collection(alloc, &shape)?;
+    let visits = VecDeque::from_vec(visits);
     told_by_two(rt, alloc, &collection, passes, others, visits, requests)
 }
 
-/// An update after the first piece was fed, and a deletion after the first piece was replayed.
-fn visits_of_one_id() -> &'static str {
-    "Fed { bucket: 0 } -> add y
-Replayed { bucket: 0 } -> delete"
-}
+const SPLIT: &str =
+    "GET /solr/admin/collections?action=SPLITSHARD&collection=docs&shard=shard1 HTTP/1.1|Host: a||";
 
-/// The answers to an update of one id, to a split, to a get and an update after it, and to those that come amid it.
-fn answers_of_one_id() -> &'static str {
-    r#"{"adds":["abc",1048576000],"responseHeader":{"QTime":0,"status":0}}
+const IS_SPLIT: &str =
+    r#"{"committed":true,"responseHeader":{"QTime":0,"status":0},"subs":["shard1_0","shard1_1"]}"#;
+
+// A deletion after an update, both amid a split, is what stands after it.
+#[test]
+fn an_update_and_a_deletion_come_amid_a_split(rt: HostRuntime) -> Result<(), Fail> {
+    let alloc = rt.alloc();
+    let visits = Vec::from_array(
+        alloc,
+        [
+            Visit {
+                step: SplitStep::Fed { bucket: 0 },
+                request: r#"POST /solr/docs/update?versions=true HTTP/1.1|Host: a|Content-Length: 24||[{"id":"abc","t_s":"y"}]"#,
+            },
+            Visit {
+                step: SplitStep::Replayed { bucket: 0 },
+                request: r#"POST /solr/docs/update?versions=true HTTP/1.1|Host: a|Content-Length: 16||{"delete":"abc"}"#,
+            },
+        ],
+    )?;
+    let told = told(
+        &rt,
+        alloc,
+        visits,
+        &[
+            r#"POST /solr/docs/update?versions=true HTTP/1.1|Host: a|Content-Length: 24||[{"id":"abc","t_s":"x"}]"#,
+            SPLIT,
+            "GET /solr/docs/get?id=abc HTTP/1.1|Host: a||",
+            r#"POST /solr/docs/update HTTP/1.1|Host: a|Content-Length: 28||[{"id":"abc","_version_":7}]"#,
+        ],
+    )?;
+    assert_eq!(rt;
+        told.as_str(),
+        r#"{"adds":["abc",1048576000],"responseHeader":{"QTime":0,"status":0}}
 {"committed":true,"responseHeader":{"QTime":0,"status":0},"subs":["shard1_0","shard1_1"]}
 {"doc":null}
 {"error":{"code":409,"msg":"version conflict for abc expected=7 actual=-1048576002"},"responseHeader":{"QTime":0,"status":409}}
 {"adds":["abc",1048576001],"responseHeader":{"QTime":0,"status":0}}
 {"deletes":["abc",-1048576002],"responseHeader":{"QTime":0,"status":0}}
 "#
-}
-
-// A deletion after an update, both amid a split, is what stands after it.
-#[test]
-fn an_update_and_a_deletion_come_amid_a_split(rt: HostRuntime) -> Result<(), Fail> {
-    let requests = "add x, split, get, add at version 7";
-    let told = told(&rt, rt.alloc(), visits_of_one_id(), requests)?;
-    assert_text(&rt, told.as_str(), answers_of_one_id());
+    );
     Ok(())
 }
 
+const SEARCH: &str = "GET /solr/docs/select?q=*:*&rows=0 HTTP/1.1|Host: a||";
+
+const THREE: &str =
+    r#"{"response":{"docs":[],"numFound":3,"numFoundExact":true,"start":0},"responseHeader":{"QTime":0,"status":0}}"#;
+
+const FOUR: &str =
+    r#"{"response":{"docs":[],"numFound":4,"numFoundExact":true,"start":0},"responseHeader":{"QTime":0,"status":0}}"#;
+
+const ADD_THREE: &str =
+    r#"POST /solr/docs/update?commit=true HTTP/1.1|Host: a|Content-Length: 43||[{"id":"test"},{"id":"abc"},{"id":"hello"}]"#;
+
+const ADD_ONE: &str =
+    r#"POST /solr/docs/update?commit=true HTTP/1.1|Host: a|Content-Length: 15||[{"id":"more"}]"#;
+
+const IS_DONE: &str = r#"{"responseHeader":{"QTime":0,"status":0}}"#;
+
+const IS_RUNNING: &str =
+    r#"{"error":{"code":409,"msg":"split of shard1 is running"},"responseHeader":{"QTime":0,"status":409}}"#;
+
 /// A request for each step of a split of one bucket in two: another split, searches, and an update after the first piece was fed.
-fn visits_of_each_step() -> &'static str {
-    "Begun -> split
-Started { core: 0 } -> search
-Started { core: 1 } -> search
-Opened { bucket: 0 } -> search
-Fed { bucket: 0 } -> add one
-Fed { bucket: 0 } -> search
-Replayed { bucket: 0 } -> search
-Replayed { bucket: 0 } -> search
-Recovering -> search
-BeforeSwitch -> search"
-}
-
-/// The answers of these names, each in a line.
-fn answers_of(alloc: Global, names: &str) -> Result<String, AllocError> {
-    let mut answers = String::new(alloc);
-    for name in names.split(", ") {
-        answers.push_str(answer_of(name))?;
-        answers.push_str("\n")?;
+fn visits_of_each_step(alloc: Global) -> Result<Vec<Visit<'static>>, AllocError> {
+    let mut visits = Vec::new(alloc);
+    for (step, request) in [
+        (SplitStep::Begun, SPLIT),
+        (SplitStep::Started { core: 0 }, SEARCH),
+        (SplitStep::Started { core: 1 }, SEARCH),
+        (SplitStep::Opened { bucket: 0 }, SEARCH),
+        (SplitStep::Fed { bucket: 0 }, ADD_ONE),
+        (SplitStep::Fed { bucket: 0 }, SEARCH),
+        (SplitStep::Replayed { bucket: 0 }, SEARCH),
+        (SplitStep::Replayed { bucket: 0 }, SEARCH),
+        (SplitStep::Recovering, SEARCH),
+        (SplitStep::BeforeSwitch, SEARCH),
+    ] {
+        visits.push(Visit { step, request })?;
     }
-    Ok(answers)
-}
-
-fn answer_of(name: &str) -> &'static str {
-    match name {
-        "is done" => r#"{"responseHeader":{"QTime":0,"status":0}}"#,
-        "is split" =>
-            r#"{"committed":true,"responseHeader":{"QTime":0,"status":0},"subs":["shard1_0","shard1_1"]}"#,
-        "is running" =>
-            r#"{"error":{"code":409,"msg":"split of shard1 is running"},"responseHeader":{"QTime":0,"status":409}}"#,
-        "three" =>
-            r#"{"response":{"docs":[],"numFound":3,"numFoundExact":true,"start":0},"responseHeader":{"QTime":0,"status":0}}"#,
-        _ =>
-            r#"{"response":{"docs":[],"numFound":4,"numFoundExact":true,"start":0},"responseHeader":{"QTime":0,"status":0}}"#,
-    }
-}
-
-/// What is answered to the requests over the first desk, then to the visits before the update is committed, and to those after it.
-fn answers_of_each_step() -> &'static str {
-    "is done, is split, four, is running, three, three, three, is done, four, four, four, four, four"
+    Ok(visits)
 }
 
 // A shard is not split amid a split. A search at each further step of it, and one after it, finds each document once: what was committed
@@ -383,13 +346,12 @@ fn answers_of_each_step() -> &'static str {
 #[test]
 fn a_document_that_comes_amid_a_split_is_found_once(rt: HostRuntime) -> Result<(), Fail> {
     let alloc = rt.alloc();
-    let told = told(
-        &rt,
-        alloc,
-        visits_of_each_step(),
-        "add three, split, search",
-    )?;
-    let wanted = answers_of(alloc, answers_of_each_step())?;
-    assert_text(&rt, told.as_str(), wanted.as_str());
+    let visits = visits_of_each_step(alloc)?;
+    let told = told(&rt, alloc, visits, &[ADD_THREE, SPLIT, SEARCH])?;
+    let asked = format!(in alloc; "{IS_DONE}\n{IS_SPLIT}\n{FOUR}\n")?;
+    let before = format!(in alloc; "{IS_RUNNING}\n{THREE}\n{THREE}\n{THREE}\n{IS_DONE}\n")?;
+    let after = format!(in alloc; "{FOUR}\n{FOUR}\n{FOUR}\n{FOUR}\n{FOUR}\n")?;
+    let expected = format!(in alloc; "{asked}{before}{after}")?;
+    assert_eq!(rt; told.as_str(), expected.as_str());
     Ok(())
 }

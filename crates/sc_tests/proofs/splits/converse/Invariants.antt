@@ -4,7 +4,4 @@ use Rattle.sc_collection.specs.Desks.{nothing_out}
 use Rattle.sc_tests.proofs.splits.converse.Given as goal
 
 abbrev pub invariant-loop-request : goal.invariant-loop-request
-invariant-loop-request g l =
-    (goal.iterator-loop-request g).can_next l.request-iterator ×
-    (goal.iterator-loop-request g).is_finite l.request-iterator ×
-    g.D.Desk.out l.desk ≡ nothing_out
+invariant-loop-request g l = g.D.Desk.out l.desk ≡ nothing_out

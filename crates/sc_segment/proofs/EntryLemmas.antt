@@ -1,5 +1,5 @@
 -- An index carried over entry by entry, in the order of the keys.
-use Rattle.std.proofs.Common.{◌≡◌, ℕ, zero, suc, ◌+◌, ◌<◌, ◌≤◌, ◌||◌, Bool, true, false, cond, List, [], ◌∷◌, ◌++◌, take, slice_get, Option, Some, None, option_map, unwrap_or, append-nil, refl, sym, ap, subst, ◌∙◌, arith}
+use Rattle.std.proofs.Common.{◌≡◌, ℕ, zero, suc, ◌+◌, ◌<◌, ◌≤◌, ◌||◌, Bool, true, false, cond, List, [], ◌∷◌, ◌++◌, length, take, slice_get, Option, Some, None, option_map, unwrap_or, append-nil, refl, sym, ap, subst, ◌∙◌, arith}
 use Rattle.std.proofs.lemmas.Cmp.{alike_right, tied_back, tied_itself}
 use Rattle.std.proofs.lemmas.List.{take_more, take_all}
 use Rattle.std.proofs.lemmas.List.Elements.{All-nil, All-push}
@@ -16,9 +16,8 @@ use Rattle.sc_segment.proofs.CarryLemmas.{new_numbers-ascend}
 use Rattle.sc_segment.proofs.IndexLemmas.{All-place}
 use Rattle.sc_segment.proofs.MembersLemmas.{Equal-from_is_eq}
 use Rattle.sc_segment.proofs.SearchLemmas.{in_order, lookup_agree}
-use Rattle.sc_segment.specs.Carrying.{new_numbers, KeepsOrder, IsCarriedSoFar, IsAbove, AreBefore, IsEntryFor, HasEntryMore}
+use Rattle.sc_segment.specs.Carrying.{new_numbers, KeepsOrder, IsCarriedSoFar, IsAbove, AreBefore}
 use Rattle.sc_segment.specs.declared.joining.Kept.TheVariants.{Either}
-use Rattle.sc_segment.specs.Flat.{FlatState}
 use Rattle.sc_segment.specs.Index.{IsInOrder, HasRows, rows_at}
 use Rattle.sc_segment.specs.Joining.{has_row, IsJoin}
 use Rattle.sc_segment.specs.Searching.{IsGapFor}
@@ -34,6 +33,16 @@ module _ {K : Type 0} {order : K → K → Ordering} (o : IsTotalOrder order) wh
   abbrev AreEqual : K → List (K × List ℕ) → Type 0
   AreEqual key [] = ⊤
   AreEqual key (e ∷ es) = (order key e.0 ≡ Equal) × AreEqual key es
+
+  -- the entry of a key that compares equal, none where there are no rows
+  abbrev pub IsEntryFor : K → List ℕ → List (K × List ℕ) → Type 0
+  IsEntryFor key rows [] = rows ≡ []
+  IsEntryFor key rows (e ∷ []) = (order key e.0 ≡ Equal) × (e.1 ≡ rows) × (0 < length rows)
+  IsEntryFor key rows (e ∷ f ∷ entries) = ⊥
+
+  -- an index has the entry of a key more than before
+  abbrev pub HasEntryMore : K → List ℕ → List (K × List ℕ) → List (K × List ℕ) → Type 0
+  HasEntryMore key rows old new = (entry : List (K × List ℕ)) × (new ≡ old ++ entry) × IsEntryFor key rows entry
 
   -- ---- a key above others
   pub above-append : (key : K) (xs ys : List (K × List ℕ)) → IsAbove order key xs → IsAbove order key ys → IsAbove order key (xs ++ ys)
@@ -167,7 +176,7 @@ module _ {K : Type 0} {order : K → K → Ordering} (o : IsTotalOrder order) wh
     above_new : IsAbove order k new
     above_new = so_far.above k above_old above_added
 
-    with_entry : (entry : List (K × List ℕ)) → IsEntryFor order k rows entry → IsCarriedSoFar order moved (old ++ olds) (added ++ addeds) (new ++ entry)
+    with_entry : (entry : List (K × List ℕ)) → IsEntryFor k rows entry → IsCarriedSoFar order moved (old ++ olds) (added ++ addeds) (new ++ entry)
     with_entry [] none = record {
       carried = record {
         in_order = subst (IsInOrder order) (sym (append-nil new)) so_far.carried.in_order;
@@ -188,16 +197,8 @@ module _ {K : Type 0} {order : K → K → Ordering} (o : IsTotalOrder order) wh
     }
     with_entry (e ∷ f ∷ es) is = absurd is
 
-    pub so_far-step : (next : List (K × List ℕ)) → HasEntryMore order k rows new next → IsCarriedSoFar order moved (old ++ olds) (added ++ addeds) next
+    pub so_far-step : (next : List (K × List ℕ)) → HasEntryMore k rows new next → IsCarriedSoFar order moved (old ++ olds) (added ++ addeds) next
     so_far-step next more = subst (IsCarriedSoFar order moved (old ++ olds) (added ++ addeds)) (sym more.1) (with_entry more.0 more.2)
-
-  -- rows that were put where none waited are those of the key
-  pub more-from : (key : K) (rows : List ℕ) (now mid : FlatState K) (next : List (K × List ℕ)) → now.pending ≡ [] → mid ≡ record { entries = now.entries; pending = now.pending ++ rows }
-      → HasEntryMore order key mid.pending mid.entries next → HasEntryMore order key rows now.entries next
-  more-from key rows now mid next none put more =
-      let entries : mid.entries ≡ now.entries = ap (λ (s : FlatState K). s.entries) put in
-      let pending : mid.pending ≡ rows = ap (λ (s : FlatState K). s.pending) put ∙ ap (λ (rs : List ℕ). rs ++ rows) none in
-      subst (λ (rs : List ℕ). HasEntryMore order key rs now.entries next) pending (subst (λ (es : List (K × List ℕ)). HasEntryMore order key mid.pending es next) entries more)
 
   -- nothing is carried yet
   pub so_far-start : (moved : List (Option ℕ)) → IsCarriedSoFar order moved [] [] []
@@ -218,7 +219,7 @@ module _ {K : Type 0} {order : K → K → Ordering} (o : IsTotalOrder order) wh
 
     -- a key of the old index alone
     pub so_far-old : (before now next : List (K × List ℕ)) → IsAbove order e.0 before → IsCarriedSoFar order moved (take at old) before now
-        → HasEntryMore order e.0 (new_numbers moved e.1) now next → IsCarriedSoFar order moved (take (at + 1) old) before next
+        → HasEntryMore e.0 (new_numbers moved e.1) now next → IsCarriedSoFar order moved (take (at + 1) old) before next
     so_far-old before now next above so_far more =
         subst (λ (os : List (K × List ℕ)). IsCarriedSoFar order moved os before next) (sym (take-place old at e here))
         (subst (λ (others : List (K × List ℕ)). IsCarriedSoFar order moved (take at old ++ e ∷ []) others next) (append-nil before)
@@ -231,7 +232,7 @@ module _ {K : Type 0} {order : K → K → Ordering} (o : IsTotalOrder order) wh
 
     -- a key of both indexes
     pub so_far-both : (key : K) (added rows : List ℕ) (before now next : List (K × List ℕ)) → order key e.0 ≡ Equal → IsAbove order key before → IsCarriedSoFar order moved (take at old) before now
-        → IsJoin Either (new_numbers moved e.1) added rows → HasEntryMore order key rows now next → IsCarriedSoFar order moved (take (at + 1) old) (before ++ (key, added) ∷ []) next
+        → IsJoin Either (new_numbers moved e.1) added rows → HasEntryMore key rows now next → IsCarriedSoFar order moved (take (at + 1) old) (before ++ (key, added) ∷ []) next
     so_far-both key added rows before now next equal above so_far joins more =
         subst (λ (os : List (K × List ℕ)). IsCarriedSoFar order moved os (before ++ (key, added) ∷ []) next) (sym (take-place old at e here))
         (so_far-step moved (take at old) before now (e ∷ []) ((key, added) ∷ []) key so_far (above-like key e.0 (take at old) equal above_here) above (equal, tt) (tied_itself o key, tt)
@@ -242,7 +243,7 @@ module _ {K : Type 0} {order : K → K → Ordering} (o : IsTotalOrder order) wh
 
   -- a key of the added index alone
   pub so_far-added : (moved : List (Option ℕ)) (first : List (K × List ℕ)) (key : K) (added : List ℕ) (before now next : List (K × List ℕ)) → IsAbove order key first → IsAbove order key before
-      → IsStrictlyIncreasing added → IsCarriedSoFar order moved first before now → HasEntryMore order key added now next → IsCarriedSoFar order moved first (before ++ (key, added) ∷ []) next
+      → IsStrictlyIncreasing added → IsCarriedSoFar order moved first before now → HasEntryMore key added now next → IsCarriedSoFar order moved first (before ++ (key, added) ∷ []) next
   so_far-added moved first key added before now next above_first above ascend so_far more =
       subst (λ (os : List (K × List ℕ)). IsCarriedSoFar order moved os (before ++ (key, added) ∷ []) next) (append-nil first)
       (so_far-step moved first before now [] ((key, added) ∷ []) key so_far above_first above tt (tied_itself o key, tt) (λ q a b. b.0) added ascend

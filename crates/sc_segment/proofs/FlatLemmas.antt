@@ -1,12 +1,10 @@
 -- An index laid out flat: what it has at each place, and after rows or a key were put at its end.
 use Rattle.std.proofs.Common.{◌≡◌, ℕ, zero, suc, ◌+◌, ◌-◌, ◌<◌, ◌≤◌, List, [], ◌∷◌, ◌++◌, length, take, drop, get_or, slice_get, Some, append-nil, refl, sym, ap, subst, ◌∙◌, arith}
 use Rattle.std.proofs.lemmas.List.{length-append, length-drop, length-take-le, length_push, drop-append-le, take-append-le, take_rest, drop_all}
-use Rattle.std.proofs.lemmas.Option.{slice_get_read}
 use Rattle.std.specs.Map.{keys_of}
 use Rattle.std.specs.List.{slice_range}
-use Rattle.std.specs.declared.cmp.Ordering.{Ordering}
-use Rattle.sc_segment.specs.Carrying.{HasEntryMore}
-use Rattle.sc_segment.specs.Flat.{FlatState, IsLaidOut, AreAllClosed, PutsKey, entries_from, key_ends, last_end, AreEnds, rows_among}
+use Rattle.sc_segment.specs.Flat.{FlatState, IsLaidOut, AreAllClosed, PutsKey, entries_from, entry_for, key_ends, last_end, AreEnds, rows_among}
+use Rattle.sc_segment.specs.Storing.{KeptState}
 
 -- where the rows of the key at a place begin
 abbrev pub begin : ℕ → List ℕ → ℕ → ℕ
@@ -128,6 +126,10 @@ module _ {K : Type 0} where
   abbrev pub flat : List K → List ℕ → List ℕ → FlatState K
   flat keys ends rows = record { entries = entries_from 0 keys ends rows; pending = drop (last_end 0 ends) rows }
 
+  -- an index that is only read, with rows that wait for no key
+  abbrev pub as_flat : List ℕ → KeptState K → FlatState K
+  as_flat pending kept = record { entries = kept.entries; pending = pending }
+
   -- rows more wait for their key
   pub flat-rows : (keys : List K) (ends rows more : List ℕ) (old : FlatState K) → AreEnds 0 ends (length rows) → flat keys ends rows ≡ old
       → flat keys ends (rows ++ more) ≡ record { entries = old.entries; pending = old.pending ++ more }
@@ -216,14 +218,20 @@ module _ {K : Type 0} where
   rows_among-rises (e ∷ es) (suc i) (suc j) le =
       let later = rows_among-rises es i j (omega arith) in omega (arith, later)
 
-  -- ---- the key at a place, read from the three lists
+  -- ---- the key at a place, and its rows, read from the lists
+  key_within : (keys : List K) (at : ℕ) → at < length keys → (key : K) × (slice_get keys at ≡ Some key)
+  key_within [] at within = absurd (omega arith)
+  key_within (k ∷ ks) zero within = (k, refl)
+  key_within (k ∷ ks) (suc i) within = key_within ks i (omega arith)
+
   pub record IsPlaced (keys : List K) (ends rows : List ℕ) (entries : List (K × List ℕ)) (at start : ℕ) : Type 0 where
-    pub in_keys : at < length keys
     pub in_ends : at < length ends
     pub rises : start ≤ get_or ends at 0
     pub in_rows : get_or ends at 0 ≤ length rows
     pub next : get_or ends at 0 ≡ rows_among (take (at + 1) entries)
-    pub entry : (key : K) → key ≡ get_or keys at key → slice_get entries at ≡ Some (key, slice_range rows start (get_or ends at 0))
+    pub key : K
+    pub found : slice_get keys at ≡ Some key
+    pub entry : slice_get entries at ≡ Some (key, slice_range rows start (get_or ends at 0))
 
   placed-here : (keys : List K) (ends rows : List ℕ) (state : FlatState K) (at start : ℕ) → length keys ≡ length ends → AreEnds 0 ends (length rows) → flat keys ends rows ≡ state
       → at < length state.entries → start ≡ rows_among (take at state.entries) → IsPlaced keys ends rows state.entries at start
@@ -237,58 +245,57 @@ module _ {K : Type 0} where
       let one : suc at ≡ at + 1 = omega arith in
       let ends_next : rows_among (take (suc at) (entries_from 0 keys ends rows)) ≡ rows_among (take (at + 1) state.entries) =
       ap (λ (n : ℕ). rows_among (take n (entries_from 0 keys ends rows))) one ∙ ap (λ (es : List (K × List ℕ)). rows_among (take (at + 1) es)) entries in
-      let key_of : (key : K) → key ≡ get_or keys at key → slice_get (keys_of state.entries) at ≡ Some key = λ (key : K) (is : key ≡ get_or keys at key).
+      let has = key_within keys at (omega (arith, inside, same)) in
+      let key_of : slice_get (keys_of state.entries) at ≡ Some has.0 =
       ap (λ (es : List (K × List ℕ)). slice_get (keys_of es) at) (sym entries)
       ∙ ap (λ (ks : List K). slice_get ks at) (keys_of-entries 0 keys ends rows same)
-      ∙ slice_get_read keys (length keys) at key refl (omega (arith, inside, same)) is in
+      ∙ has.1 in
       let before = begin_before_end 0 ends (length rows) at are inside in
       record {
-        in_keys = omega (arith, inside, same);
         in_ends = inside;
         rises = omega (arith, begins_at, before);
         in_rows = end_within 0 ends (length rows) at are inside;
         next = omega (arith, counted_next, ends_next);
-        entry = λ key is. flat-rows_of keys ends rows state at start (get_or ends at 0) key same seen inside begins_at refl (key_of key is);
+        key = has.0;
+        found = has.1;
+        entry = flat-rows_of keys ends rows state at start (get_or ends at 0) has.0 same seen inside begins_at refl key_of;
       }
 
-  pub placed : (keys : List K) (ends rows : List ℕ) (state : FlatState K) (at start : ℕ) (keys' : List K) (ends' rows' : List ℕ) → length keys ≡ length ends → AreEnds 0 ends (length rows)
-      → flat keys ends rows ≡ state → at < length state.entries → start ≡ rows_among (take at state.entries) → keys' ≡ keys → ends' ≡ ends → rows' ≡ rows
-      → IsPlaced keys' ends' rows' state.entries at start
-  placed keys ends rows state at start keys' ends' rows' same are seen within begins as_keys as_ends as_rows =
-      subst (λ (ks : List K). IsPlaced ks ends' rows' state.entries at start) (sym as_keys)
-      (subst (λ (es : List ℕ). IsPlaced keys es rows' state.entries at start) (sym as_ends)
-      (subst (λ (rs : List ℕ). IsPlaced keys ends rs state.entries at start) (sym as_rows) (placed-here keys ends rows state at start same are seen within begins)))
+  pub placed : (keys : List K) (ends rows : List ℕ) (state : FlatState K) (at start : ℕ) (ends' rows' : List ℕ) → length keys ≡ length ends → AreEnds 0 ends (length rows)
+      → flat keys ends rows ≡ state → at < length state.entries → start ≡ rows_among (take at state.entries) → ends' ≡ ends → rows' ≡ rows
+      → IsPlaced keys ends' rows' state.entries at start
+  placed keys ends rows state at start ends' rows' same are seen within begins as_ends as_rows =
+      subst (λ (es : List ℕ). IsPlaced keys es rows' state.entries at start) (sym as_ends)
+      (subst (λ (rs : List ℕ). IsPlaced keys ends rs state.entries at start) (sym as_rows) (placed-here keys ends rows state at start same are seen within begins))
 
   -- ---- a key put at the end with its rows
-  module _ (order : K → K → Ordering) (key : K) (keys keys' : List K) (ends ends' rows rows' more : List ℕ) (laid_out : IsLaidOut keys ends rows) (longer : rows' ≡ rows ++ more) where
-    -- rows alone were put there
-    pub laid_out-rows : keys' ≡ keys → ends' ≡ ends → IsLaidOut keys' ends' rows'
-    laid_out-rows same_keys same_ends = record {
-      as_long = ap length same_keys ∙ laid_out.as_long ∙ sym (ap length same_ends);
-      are_ends = subst (λ (es : List ℕ). AreEnds 0 es (length rows')) (sym same_ends)
-          (AreEnds-more 0 ends (length rows) (length rows') (omega (arith, ap length longer, length-append rows more)) laid_out.are_ends);
-    }
-
-    pub laid_out-put : PutsKey order key more (length rows') (key_ends keys ends) (key_ends keys' ends') → IsLaidOut keys' ends' rows'
+  module _ (key : K) (keys keys' : List K) (ends ends' rows rows' more : List ℕ) (laid_out : IsLaidOut keys ends rows) (longer : rows' ≡ rows ++ more) where
+    pub laid_out-put : PutsKey key more (length rows') (key_ends keys ends) (key_ends keys' ends') → IsLaidOut keys' ends' rows'
     laid_out-put = by_rows more refl
       where
-        by_rows : (added : List ℕ) → more ≡ added → PutsKey order key added (length rows') (key_ends keys ends) (key_ends keys' ends') → IsLaidOut keys' ends' rows'
-        by_rows [] is puts = laid_out-rows puts.0 puts.1
+        still : AreEnds 0 ends (length rows')
+        still = AreEnds-more 0 ends (length rows) (length rows') (omega (arith, ap length longer, length-append rows more)) laid_out.are_ends
+
+        by_rows : (added : List ℕ) → more ≡ added → PutsKey key added (length rows') (key_ends keys ends) (key_ends keys' ends') → IsLaidOut keys' ends' rows'
+        by_rows [] is puts = record {
+          as_long = ap length puts.0 ∙ laid_out.as_long ∙ sym (ap length puts.1);
+          are_ends = subst (λ (es : List ℕ). AreEnds 0 es (length rows')) (sym puts.1) still;
+        }
         by_rows (r ∷ rs) is puts = record {
-          as_long = ap length puts.2 ∙ length_push keys puts.0 ∙ ap (λ (n : ℕ). n + 1) laid_out.as_long ∙ sym (length_push ends (length rows')) ∙ sym (ap length puts.3);
-          are_ends = subst (λ (es : List ℕ). AreEnds 0 es (length rows')) (sym puts.3)
-              (AreEnds-push 0 ends (length rows') (AreEnds-more 0 ends (length rows) (length rows') (omega (arith, ap length longer, length-append rows more)) laid_out.are_ends));
+          as_long = ap length puts.0 ∙ length_push keys key ∙ ap (λ (n : ℕ). n + 1) laid_out.as_long ∙ sym (length_push ends (length rows')) ∙ sym (ap length puts.1);
+          are_ends = subst (λ (es : List ℕ). AreEnds 0 es (length rows')) (sym puts.1) (AreEnds-push 0 ends (length rows') still);
         }
 
-    pub closed-put : AreAllClosed ends rows → PutsKey order key more (length rows') (key_ends keys ends) (key_ends keys' ends') → AreAllClosed ends' rows'
+    pub closed-put : AreAllClosed ends rows → PutsKey key more (length rows') (key_ends keys ends) (key_ends keys' ends') → AreAllClosed ends' rows'
     closed-put closed = by_rows more refl
       where
-        by_rows : (added : List ℕ) → more ≡ added → PutsKey order key added (length rows') (key_ends keys ends) (key_ends keys' ends') → AreAllClosed ends' rows'
+        by_rows : (added : List ℕ) → more ≡ added → PutsKey key added (length rows') (key_ends keys ends) (key_ends keys' ends') → AreAllClosed ends' rows'
         by_rows [] is puts = ap (last_end 0) puts.1 ∙ closed ∙ sym (ap length longer ∙ ap (λ (rs : List ℕ). length (rows ++ rs)) is ∙ ap length (append-nil rows))
-        by_rows (r ∷ rs) is puts = ap (last_end 0) puts.3 ∙ last_end-push 0 ends (length rows')
+        by_rows (r ∷ rs) is puts = ap (last_end 0) puts.1 ∙ last_end-push 0 ends (length rows')
 
-    pub entry-put : AreAllClosed ends rows → PutsKey order key more (length rows') (key_ends keys ends) (key_ends keys' ends') → HasEntryMore order key more (entries_from 0 keys ends rows) (entries_from 0 keys' ends' rows')
-    entry-put closed = by_rows more refl
+    pub entries-put : AreAllClosed ends rows → PutsKey key more (length rows') (key_ends keys ends) (key_ends keys' ends')
+        → entries_from 0 keys' ends' rows' ≡ entries_from 0 keys ends rows ++ entry_for key more
+    entries-put closed = by_rows more refl
       where
         now : entries_from 0 keys ends rows' ≡ entries_from 0 keys ends rows
         now = ap (λ (rs : List ℕ). entries_from 0 keys ends rs) longer ∙ entries-more 0 keys ends rows more laid_out.are_ends
@@ -301,15 +308,17 @@ module _ {K : Type 0} where
             ∙ drop-append-le (length rows) rows more (omega arith)
             ∙ ap (λ (rs : List ℕ). rs ++ more) (drop_all (length rows) rows (omega arith))
 
-        by_rows : (added : List ℕ) → more ≡ added → PutsKey order key added (length rows') (key_ends keys ends) (key_ends keys' ends') → HasEntryMore order key added (entries_from 0 keys ends rows) (entries_from 0 keys' ends' rows')
+        by_rows : (added : List ℕ) → more ≡ added → PutsKey key added (length rows') (key_ends keys ends) (key_ends keys' ends')
+            → entries_from 0 keys' ends' rows' ≡ entries_from 0 keys ends rows ++ entry_for key more
         by_rows [] is puts =
-            ([], ap (λ (ks : List K). entries_from 0 ks ends' rows') puts.0 ∙ ap (λ (es : List ℕ). entries_from 0 keys es rows') puts.1 ∙ now ∙ sym (append-nil (entries_from 0 keys ends rows)), refl)
-        by_rows (r ∷ rs) is puts = (
-          (puts.0, r ∷ rs) ∷ [],
-          ap (λ (ks : List K). entries_from 0 ks ends' rows') puts.2
-              ∙ ap (λ (es : List ℕ). entries_from 0 (keys ++ puts.0 ∷ []) es rows') puts.3
-              ∙ entries-push 0 keys ends rows' puts.0 (length rows') laid_out.as_long
-              ∙ ap (λ (os : List ℕ). entries_from 0 keys ends rows' ++ (puts.0, os) ∷ []) (of_key ∙ is)
-              ∙ ap (λ (xs : List (K × List ℕ)). xs ++ (puts.0, r ∷ rs) ∷ []) now,
-          (puts.1, refl, omega arith),
-        )
+            ap (λ (ks : List K). entries_from 0 ks ends' rows') puts.0
+            ∙ ap (λ (es : List ℕ). entries_from 0 keys es rows') puts.1
+            ∙ now
+            ∙ sym (ap (λ (rs : List ℕ). entries_from 0 keys ends rows ++ entry_for key rs) is ∙ append-nil (entries_from 0 keys ends rows))
+        by_rows (r ∷ rs) is puts =
+            ap (λ (ks : List K). entries_from 0 ks ends' rows') puts.0
+            ∙ ap (λ (es : List ℕ). entries_from 0 (keys ++ key ∷ []) es rows') puts.1
+            ∙ entries-push 0 keys ends rows' key (length rows') laid_out.as_long
+            ∙ ap (λ (os : List ℕ). entries_from 0 keys ends rows' ++ (key, os) ∷ []) (of_key ∙ is)
+            ∙ ap (λ (xs : List (K × List ℕ)). xs ++ (key, r ∷ rs) ∷ []) now
+            ∙ sym (ap (λ (os : List ℕ). entries_from 0 keys ends rows ++ entry_for key os) is)

@@ -14,3 +14,4 @@ pub mod RowsLemmas
 pub mod SameRowsLemmas
 pub mod SearchLemmas
 pub mod SortingLemmas
+pub mod StoringLemmas

@@ -1,7 +1,7 @@
 -- What becomes of an index when some rows change: its rows under new numbers, with the rows of another index beside them.
-use Rattle.std.specs.Prelude.{◌≡◌, ℕ, ◌<◌, ◌≤◌, ◌||◌, ⊤, List, [], ◌∷◌, ◌++◌, length, slice_get, slice_index_or, Option, None, Some}
+use Rattle.std.specs.Prelude.{◌≡◌, ℕ, ◌≤◌, ◌||◌, ⊤, List, [], ◌∷◌, length, slice_get, slice_index_or, Option, None, Some}
 use Rattle.std.specs.declared.cmp.Ordering.{Ordering}
-use Rattle.std.specs.declared.cmp.Ordering.TheVariants.{Less, Equal}
+use Rattle.std.specs.declared.cmp.Ordering.TheVariants.{Less}
 use Rattle.std.specs.List.{filter_map}
 use Rattle.std.specs.List.Sorted.{IsStrictlyIncreasing}
 use Rattle.sc_segment.specs.Index.{IsInOrder, rows_at}
@@ -43,13 +43,3 @@ module _ {K : Type 0} (order : K → K → Ordering) where
   pub record IsCarriedSoFar (moved : List (Option ℕ)) (old added new : List (K × List ℕ)) : Type 0 where
     pub carried : IsCarried moved old added new
     pub above : (key : K) → IsAbove key old → IsAbove key added → IsAbove key new
-
-  -- the entry of a key that compares equal, none where there are no rows
-  abbrev pub IsEntryFor : K → List ℕ → List (K × List ℕ) → Type 0
-  IsEntryFor key rows [] = rows ≡ []
-  IsEntryFor key rows (e ∷ []) = (order key e.0 ≡ Equal) × (e.1 ≡ rows) × (0 < length rows)
-  IsEntryFor key rows (e ∷ f ∷ entries) = ⊥
-
-  -- an index has the entry of a key more than before
-  abbrev pub HasEntryMore : K → List ℕ → List (K × List ℕ) → List (K × List ℕ) → Type 0
-  HasEntryMore key rows old new = (entry : List (K × List ℕ)) × (new ≡ old ++ entry) × IsEntryFor key rows entry

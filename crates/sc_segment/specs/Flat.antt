@@ -1,7 +1,5 @@
 -- An index laid out flat: its keys, where the rows of each key end, and the rows of all keys one after another.
 use Rattle.std.specs.Prelude.{◌≡◌, ℕ, ◌+◌, ◌≤◌, List, [], ◌∷◌, ◌++◌, length, slice_range}
-use Rattle.std.specs.declared.cmp.Ordering.{Ordering}
-use Rattle.std.specs.declared.cmp.Ordering.TheVariants.{Equal}
 
 -- each key with its rows, where those of the first key begin here
 abbrev pub entries_from : {K : Type 0} → ℕ → List K → List ℕ → List ℕ → List (K × List ℕ)
@@ -46,8 +44,12 @@ pub record KeyEnds (K : Type 0) : Type 0 where
 abbrev pub key_ends : {K : Type 0} → List K → List ℕ → KeyEnds K
 key_ends keys ends = record { keys = keys; ends = ends }
 
--- a key that compares equal was put at the end, and where its rows end; nothing, where it has no rows
-abbrev pub PutsKey : {K : Type 0} → (K → K → Ordering) → K → (rows : List ℕ) → (end : ℕ) → (old new : KeyEnds K) → Type 0
-PutsKey order key [] end old new = (new.keys ≡ old.keys) × (new.ends ≡ old.ends)
-PutsKey order key (row ∷ rows) end old new =
-    (shared : _) × (order key shared ≡ Equal) × (new.keys ≡ old.keys ++ shared ∷ []) × (new.ends ≡ old.ends ++ end ∷ [])
+-- a key was put at the end, and where its rows end; nothing, where it has no rows
+abbrev pub PutsKey : {K : Type 0} → K → (rows : List ℕ) → (end : ℕ) → (old new : KeyEnds K) → Type 0
+PutsKey key [] end old new = (new.keys ≡ old.keys) × (new.ends ≡ old.ends)
+PutsKey key (row ∷ rows) end old new = (new.keys ≡ old.keys ++ key ∷ []) × (new.ends ≡ old.ends ++ end ∷ [])
+
+-- the entry of a key, none where it has no rows
+abbrev pub entry_for : {K : Type 0} → K → List ℕ → List (K × List ℕ)
+entry_for key [] = []
+entry_for key (row ∷ rows) = (key, row ∷ rows) ∷ []

@@ -7,3 +7,4 @@ pub mod Index
 pub mod Joining
 pub mod Live
 pub mod Searching
+pub mod Storing

@@ -6,7 +6,7 @@ ghost use Rattle.sc_segment.specs.Index.{IsIndexOf, HasRows};
 ghost use Rattle.sc_segment.specs.Filing.{NoRowAbove, FilesRow, sorted_entries};
 ghost use Rattle.sc_segment.specs.Flat.{rows_among};
 
-use crate::flat_index::FlatIndex;
+use crate::flat_index::{FlatIndex, KeptIndex};
 use crate::key::Key;
 use crate::posting_list::PostingList;
 use crate::segment::Segment;
@@ -74,7 +74,8 @@ impl<K: Key + Ord + Hash + Drop> Builder<K> {
         } = self;
         let entries = sorted(alloc, lists)?;
         let index = flattened(alloc, entries)?;
-        Ok(Segment::new(index))
+        let kept = KeptIndex::of_written(alloc, index)?;
+        Ok(Segment::new(kept))
     }
 }
 

@@ -1,14 +1,17 @@
-ghost use Rattle.std.specs.Prelude.{◌≡◌, ◌≤◌, ℕ, List, [], ◌∷◌, ◌++◌, length, take, IfOk, OnOk};
+ghost use Rattle.std.specs.Prelude.{◌≡◌, ◌<◌, ◌≤◌, ℕ, List, [], ◌∷◌, ◌++◌, length, take, slice_get, Some, IfOk, OnOk};
 ghost use Rattle.std.specs.declared.cmp.Ordering.TheVariants.{Less};
 ghost use Rattle.std.specs.List.Sorted.{IsStrictlyIncreasing};
 ghost use Rattle.sc_segment.specs.declared.joining.Kept.TheVariants.{Either};
-ghost use Rattle.sc_segment.specs.Carrying.{new_numbers, KeepsOrder, IsCarried, IsCarriedSoFar, IsAbove, AreBefore, HasEntryMore};
+ghost use Rattle.sc_segment.specs.Carrying.{new_numbers, KeepsOrder, IsCarried, IsAbove, AreBefore};
+ghost use Rattle.sc_segment.specs.Flat.{entry_for};
 ghost use Rattle.sc_segment.specs.Fresh.{IsFresh};
 ghost use Rattle.sc_segment.specs.Index.{IsInOrder, HasRows};
 ghost use Rattle.sc_segment.specs.Joining.{IsJoin};
+ghost use Rattle.sc_segment.specs.Storing.{IsCarriedAt};
 
-use crate::flat_index::FlatIndex;
+use crate::flat_index::{FlatIndex, KeptIndex};
 use crate::key::Key;
+use crate::keys::Keys;
 use crate::moving::new_number;
 use crate::segment::{Segment, search};
 use crate::steps::Steps;
@@ -21,7 +24,7 @@ impl<K: Key + Drop> Segment<K> {
     /// What becomes of a segment when some rows change: its rows under new numbers, and beside them those of another segment, which
     /// has the rows that are new or changed. `moved` has the new number of each old row, and None where it is gone; a row past its
     /// end is gone too. A key whose rows are all gone is left out. Each row that stays is looked up once in `moved`, and only the
-    /// keys that are added are sought. The keys are shared. An error means out of memory.
+    /// keys that are added are sought. The keys are shared by whole pieces. An error means out of memory.
     pub fn carried(
         &self,
         alloc: Global,
@@ -37,16 +40,18 @@ impl<K: Key + Drop> Segment<K> {
         let rows = old.row_count().saturating_add(more.row_count());
         let mut index = FlatIndex::with_room(alloc, keys, rows)?;
         carry_all::<K, Brand>(&mut index, old, moved, more, Blank::new(1))?;
-        Ok(Segment::new(index))
+        let kept = KeptIndex::of_places(alloc, index, old, more)?;
+        Ok(Segment::new(kept))
     }
 }
 
-// Carries all keys of an index, with those that are added among them. How often keys are compared is counted for proofs alone.
+// Carries all keys of an index, with those that are added among them, and writes for each its place among the stored keys of both. How
+// often keys are compared is counted for proofs alone.
 fn carry_all<K: Key + Drop, L: Ledger>(
-    index: &mut FlatIndex<K>,
-    old: &FlatIndex<K>,
+    index: &mut FlatIndex<u32>,
+    old: &KeptIndex<K>,
     moved: &[Option<u32>],
-    added: &FlatIndex<K>,
+    added: &KeptIndex<K>,
     blank: Blank,
 ) -> Result<(), AllocError>
     requires fresh { IsFresh blank L.name L.parts }
@@ -54,26 +59,47 @@ fn carry_all<K: Key + Drop, L: Ledger>(
     requires old { IsInOrder K.order old.now.entries }
     requires added { IsInOrder K.order added.now.entries }
     requires empty { index.old ≡ record { entries = []; pending = [] } }
-    ensures { OnOk result (IsCarried K.order moved.now old.now.entries added.now.entries index.new.entries) }
+    ensures { OnOk result (IsCarriedAt K.order (old.now.stored ++ added.now.stored) moved.now old.now.entries added.now.entries index.new.entries) }
 {
     let mut steps = Steps::<L>::new(blank);
     let keys = added.keys();
     let mut from = 0;
     'adding: for at in 0..keys.len() {
+        let place = place_after(old.keys(), keys, at)?;
         let rows = added.rows_of(at);
-        from = carry_to_key(index, old, from, moved, &keys[at], rows, &mut steps)?;
+        from = carry_to_key(
+            index,
+            old,
+            from,
+            moved,
+            keys.get(at),
+            place,
+            rows,
+            &mut steps,
+        )?;
     }
     index.carry(old, from, old.keys().len(), moved)?;
     Ok(())
 }
 
+// The place of an added key among the stored keys of both lists. An error means that there are more than 2^32 - 1 of them.
+fn place_after<K>(old: &Keys<K>, added: &Keys<K>, at: usize) -> Result<u32, AllocError>
+    requires { at < length added.now.keys }
+    ensures { IfOk result (λ place. slice_get (old.now.stored ++ added.now.stored) place ≡ slice_get added.now.keys at) }
+{
+    let own = added.places()[at];
+    let place = old.stored().checked_add(own).ok_or(AllocError)?;
+    Ok(place)
+}
+
 // Carries the keys up to the one that is added, and then this one with the rows of both. Gives the place of the old keys after it.
 fn carry_to_key<K: Key + Drop, L: Ledger>(
-    index: &mut FlatIndex<K>,
-    old: &FlatIndex<K>,
+    index: &mut FlatIndex<u32>,
+    old: &KeptIndex<K>,
     from: usize,
     moved: &[Option<u32>],
     key: &K,
+    place: u32,
     added: &[u32],
     steps: &mut Steps<L>,
 ) -> Result<usize, AllocError>
@@ -88,21 +114,22 @@ fn carry_to_key<K: Key + Drop, L: Ledger>(
     ensures passed { IfOk result (λ to. (later : K) → K.order key.now later ≡ Less → IsAbove K.order later (take to old.now.entries)) }
     ensures before { IfOk result (λ to. (before : List (K × List ℕ)) → AreBefore K.order before old.now.entries from
         → AreBefore K.order (before ++ (key.now, added.now) ∷ []) old.now.entries to) }
-    ensures carried { IfOk result (λ to. (before : List (K × List ℕ)) → AreBefore K.order before old.now.entries from → IsAbove K.order key.now before
-        → IsCarriedSoFar K.order moved.now (take from old.now.entries) before index.old.entries
-        → IsCarriedSoFar K.order moved.now (take to old.now.entries) (before ++ (key.now, added.now) ∷ []) index.new.entries) }
+    ensures carried { IfOk result (λ to. (more : List K) (before : List (K × List ℕ)) → slice_get (old.now.stored ++ more) place ≡ Some key.now
+        → AreBefore K.order before old.now.entries from → IsAbove K.order key.now before
+        → IsCarriedAt K.order (old.now.stored ++ more) moved.now (take from old.now.entries) before index.old.entries
+        → IsCarriedAt K.order (old.now.stored ++ more) moved.now (take to old.now.entries) (before ++ (key.now, added.now) ∷ []) index.new.entries) }
 {
     match search(old.keys(), from, key, steps) {
         Ok(at) => {
             index.carry(old, from, at, moved)?;
             merge_rows(index, old.rows_of(at), moved, added)?;
-            close_shared(index, key)?;
+            close_at(index, place)?;
             Ok(at + 1)
         }
         Err(at) => {
             index.carry(old, from, at, moved)?;
             index.add_rows(added)?;
-            close_shared(index, key)?;
+            close_at(index, place)?;
             Ok(at)
         }
     }
@@ -150,15 +177,14 @@ fn merge_rows<K: Drop>(
     Ok(())
 }
 
-// Puts a key that compares equal at the end, where rows wait for it.
+// Puts the place of a key at the end, where rows wait for it.
 #[inline(always)]
-fn close_shared<K: Key + Drop>(index: &mut FlatIndex<K>, key: &K) -> Result<(), AllocError>
+fn close_at(index: &mut FlatIndex<u32>, place: u32) -> Result<(), AllocError>
     ensures none { OnOk result (index.new.pending ≡ []) }
-    ensures entries { OnOk result (HasEntryMore K.order key.now index.old.pending index.old.entries index.new.entries) }
+    ensures entries { OnOk result (index.new.entries ≡ index.old.entries ++ entry_for place index.old.pending) }
 {
     if index.has_pending() {
-        let shared = key.share()?;
-        index.close(shared)?;
+        index.close(place)?;
     }
     Ok(())
 }

@@ -1,16 +1,18 @@
-ghost use Rattle.std.specs.Prelude.{◌≡◌, ℕ, ◌+◌, ◌<◌, ◌≤◌, ◌↔◌, IsTrue, List, [], ◌∷◌, ◌++◌, length, take, slice_get, slice_index, Some, IfOk, OnOk, OnErr, ◌-◌, vec_len, vec_capacity};
+ghost use Rattle.std.specs.Prelude.{◌≡◌, ℕ, ◌+◌, ◌<◌, ◌≤◌, ◌↔◌, IsTrue, List, [], ◌∷◌, ◌++◌, length, take, slice_get, slice_index, Some, IfOk, OnOk, ◌-◌, vec_len, vec_capacity};
 ghost use Rattle.std.specs.Map.{keys_of};
-ghost use Rattle.sc_segment.specs.Carrying.{new_numbers, KeepsOrder, IsCarriedSoFar, AreBefore};
+ghost use Rattle.sc_segment.specs.Carrying.{new_numbers, KeepsOrder, AreBefore};
 ghost use Rattle.sc_segment.specs.Flat.{FlatState, IsLaidOut, AreAllClosed, PutsKey, entries_from, key_ends, rows_among};
 ghost use Rattle.sc_segment.specs.Index.{IsInOrder};
+ghost use Rattle.sc_segment.specs.Storing.{AreEntriesAlike, ArePlaces, IsCarriedAt, entries_at};
 
 use crate::key::Key;
+use crate::keys::Keys;
 use crate::moving::{push_ahead, push_moved};
 use std::alloc::{AllocError, Global};
 use std::marker::Model;
 
-/// An index in three lists, whatever the number of its keys: the keys, where the rows of each key end, and the rows of all keys one
-/// after another. It is written key after key: first the rows of a key, and then `close` with the key.
+/// An index while it is written, in three lists, whatever the number of its keys: the keys, or else their places, where the rows of each
+/// key end, and the rows of all keys one after another. It is written key after key: first the rows of a key, and then `close` with the key.
 #[derive(Drop)]
 pub(crate) struct FlatIndex<K> {
     keys: Vec<K>,
@@ -83,12 +85,12 @@ impl<K: Drop> FlatIndex<K> {
     }
 }
 
-impl<K: Key + Drop> FlatIndex<K> {
-    /// Carries the keys of another index from one place up to another, each where rows of it are left. The keys are shared. Room
-    /// is made once for all of them.
-    pub(crate) fn carry(
+impl FlatIndex<u32> {
+    /// Carries the keys of another index from one place up to another, each where rows of it are left, and is written with the places of
+    /// its stored keys. Room is made once for all of them.
+    pub(crate) fn carry<K: Key + Drop>(
         &mut self,
-        old: &FlatIndex<K>,
+        old: &KeptIndex<K>,
         from: usize,
         to: usize,
         moved: &[Option<u32>],
@@ -99,9 +101,9 @@ impl<K: Key + Drop> FlatIndex<K> {
         requires within { to ≤ length old.now.entries }
         requires none { self.old.pending ≡ [] }
         ensures none { OnOk result (self.new.pending ≡ []) }
-        ensures carried { OnOk result ((before : List (K × List ℕ)) → AreBefore K.order before old.now.entries from
-            → IsCarriedSoFar K.order moved.now (take from old.now.entries) before self.old.entries
-            → IsCarriedSoFar K.order moved.now (take to old.now.entries) before self.new.entries) }
+        ensures carried { OnOk result ((more : List K) (before : List (K × List ℕ)) → AreBefore K.order before old.now.entries from
+            → IsCarriedAt K.order (old.now.stored ++ more) moved.now (take from old.now.entries) before self.old.entries
+            → IsCarriedAt K.order (old.now.stored ++ more) moved.now (take to old.now.entries) before self.new.entries) }
     {
         let count = to - from;
         self.keys.reserve(count)?;
@@ -116,11 +118,41 @@ impl<K: Key + Drop> FlatIndex<K> {
             from,
             to,
             moved,
-        )
+        );
+        Ok(())
     }
 }
 
 impl<K> FlatIndex<K> {
+    /// Whether rows wait for their key.
+    pub(crate) fn has_pending(&self) -> bool
+        ensures { IsTrue result ↔ (0 < length self.now.pending) }
+    {
+        start_of(&self.ends, self.ends.len()) < self.rows.len()
+    }
+}
+
+/// An index that is only read: the keys, where the rows of each key end, and the rows of all keys one after another.
+#[derive(Drop)]
+pub(crate) struct KeptIndex<K> {
+    keys: Keys<K>,
+    ends: Vec<usize>,
+    rows: Vec<u32>,
+}
+
+impl<K> Model for KeptIndex<K> {
+    ghost use Rattle.std.specs.Prelude.{◌≡◌, length};
+    ghost use Rattle.sc_segment.specs.Flat.{entries_from, AreEnds};
+    ghost use Rattle.sc_segment.specs.Storing.{KeptState};
+
+    ghost Value = { KeptState K };
+
+    ghost view = { λ a. record { stored = a.keys.stored; entries = entries_from 0 a.keys.keys a.ends.items a.rows.items } };
+
+    ghost invariant = { λ a. (length a.keys.keys ≡ length a.ends.items) × AreEnds 0 a.ends.items (length a.rows.items) };
+}
+
+impl<K> KeptIndex<K> {
     // How many rows the keys before this place have.
     fn rows_before(&self, at: usize) -> usize
         requires { at ≤ length self.now.entries }
@@ -129,27 +161,12 @@ impl<K> FlatIndex<K> {
         start_of(&self.ends, at)
     }
 
-    /// Gives back the room that is not used.
-    pub(crate) fn shrink(&mut self)
-        ensures { self.new ≡ self.old }
-    {
-        self.keys.shrink_to_fit();
-        self.ends.shrink_to_fit();
-        self.rows.shrink_to_fit();
-    }
-
     /// The keys.
-    pub(crate) fn keys(&self) -> &[K]
-        ensures { result.now ≡ keys_of self.now.entries }
+    pub(crate) fn keys(&self) -> &Keys<K>
+        ensures stored { result.now.stored ≡ self.now.stored }
+        ensures keys { result.now.keys ≡ keys_of self.now.entries }
     {
-        self.keys.as_slice()
-    }
-
-    /// Whether rows wait for their key.
-    pub(crate) fn has_pending(&self) -> bool
-        ensures { IsTrue result ↔ (0 < length self.now.pending) }
-    {
-        start_of(&self.ends, self.ends.len()) < self.rows.len()
+        &self.keys
     }
 
     /// How many rows there are, those of each key counted.
@@ -168,6 +185,49 @@ impl<K> FlatIndex<K> {
     }
 }
 
+impl<K: Drop> KeptIndex<K> {
+    /// The index that was written with its keys. The room that is not used is given back. An error is one of `Keys::of`.
+    pub(crate) fn of_written(alloc: Global, index: FlatIndex<K>) -> Result<KeptIndex<K>, AllocError>
+        ensures { IfOk result (λ kept. kept.entries ≡ index.entries) }
+    {
+        let FlatIndex {
+            mut keys,
+            mut ends,
+            mut rows,
+        } = index;
+        keys.shrink_to_fit();
+        ends.shrink_to_fit();
+        rows.shrink_to_fit();
+        let keys = Keys::of(alloc, keys)?;
+        Ok(KeptIndex { keys, ends, rows })
+    }
+}
+
+impl<K: Key + Drop> KeptIndex<K> {
+    /// The index that was written with places for its keys, among the stored keys of an old index and those of an added one after them.
+    /// The room that is not used is given back. An error is one of `Keys::at`.
+    pub(crate) fn of_places(
+        alloc: Global,
+        index: FlatIndex<u32>,
+        old: &KeptIndex<K>,
+        added: &KeptIndex<K>,
+    ) -> Result<KeptIndex<K>, AllocError>
+        requires { ArePlaces (old.now.stored ++ added.now.stored) (keys_of index.entries) }
+        ensures { IfOk result (λ kept. AreEntriesAlike K.order (entries_at (old.now.stored ++ added.now.stored) index.entries) kept.entries) }
+    {
+        let FlatIndex {
+            keys: mut places,
+            mut ends,
+            mut rows,
+        } = index;
+        places.shrink_to_fit();
+        ends.shrink_to_fit();
+        rows.shrink_to_fit();
+        let keys = Keys::at(alloc, &old.keys, &added.keys, places)?;
+        Ok(KeptIndex { keys, ends, rows })
+    }
+}
+
 // Where the rows of the key at this place begin, or those that follow the last key.
 fn start_of(ends: &[usize], at: usize) -> usize
     requires { at ≤ length ends.now }
@@ -177,33 +237,33 @@ fn start_of(ends: &[usize], at: usize) -> usize
     if at == 0 { 0 } else { ends[at - 1] }
 }
 
-// Carries the keys of an index from one place up to another to the three lists of another index, which have room for all of them. Rows
-// are put there ahead of their keys, up to the first that is gone, so that many short lists cost as much as a long one.
+// Carries the keys of an index from one place up to another to the three lists of an index of places, which have room for all of them.
+// Rows are put there ahead of their keys, up to the first that is gone, so that many short lists cost as much as a long one.
 fn carry_range<K: Key + Drop>(
-    keys: &mut Vec<K>,
+    places: &mut Vec<u32>,
     ends: &mut Vec<usize>,
     rows: &mut Vec<u32>,
-    old: &FlatIndex<K>,
+    old: &KeptIndex<K>,
     from: usize,
     to: usize,
     moved: &[Option<u32>],
-) -> Result<(), AllocError>
+)
     requires moved { KeepsOrder moved.now }
     requires old { IsInOrder K.order old.now.entries }
     requires rises { from ≤ to }
     requires within { to ≤ length old.now.entries }
-    requires laid_out { IsLaidOut keys.old.items ends.old.items rows.old.items }
+    requires laid_out { IsLaidOut places.old.items ends.old.items rows.old.items }
     requires none { AreAllClosed ends.old.items rows.old.items }
-    requires room_for_keys { vec_len keys.old + to ≤ vec_capacity keys.old + from }
+    requires room_for_places { vec_len places.old + to ≤ vec_capacity places.old + from }
     requires room_for_ends { vec_len ends.old + to ≤ vec_capacity ends.old + from }
     requires room_for_rows { vec_len rows.old + rows_among (take to old.now.entries) ≤ vec_capacity rows.old + rows_among (take from old.now.entries) }
-    ensures laid_out { IsLaidOut keys.new.items ends.new.items rows.new.items }
-    ensures none { OnOk result (AreAllClosed ends.new.items rows.new.items) }
-    ensures carried { OnOk result ((before : List (K × List ℕ)) → AreBefore K.order before old.now.entries from
-        → IsCarriedSoFar K.order moved.now (take from old.now.entries) before (entries_from 0 keys.old.items ends.old.items rows.old.items)
-        → IsCarriedSoFar K.order moved.now (take to old.now.entries) before (entries_from 0 keys.new.items ends.new.items rows.new.items)) }
+    ensures laid_out { IsLaidOut places.new.items ends.new.items rows.new.items }
+    ensures none { AreAllClosed ends.new.items rows.new.items }
+    ensures carried { (more : List K) (before : List (K × List ℕ)) → AreBefore K.order before old.now.entries from
+        → IsCarriedAt K.order (old.now.stored ++ more) moved.now (take from old.now.entries) before (entries_from 0 places.old.items ends.old.items rows.old.items)
+        → IsCarriedAt K.order (old.now.stored ++ more) moved.now (take to old.now.entries) before (entries_from 0 places.new.items ends.new.items rows.new.items) }
 {
-    let old_keys = old.keys.as_slice();
+    let old_places = old.keys.places();
     let old_ends = old.ends.as_slice();
     let old_rows = &old.rows.as_slice()[..start_of(old_ends, to)];
     let mut passed = start_of(old_ends, from);
@@ -212,33 +272,23 @@ fn carry_range<K: Key + Drop>(
         let old_end = old_ends[at];
         passed = push_ahead(rows, old_rows, moved, passed, old_end);
         let end = rows.len() - (passed - old_end);
-        put_key(keys, ends, &old_keys[at], start, end)?;
+        put_place(places, ends, old_places[at], start, end);
         start = end;
     }
-    Ok(())
 }
 
-// Puts a key that compares equal at the end, and where its rows end, unless it has none.
+// Puts a place at the end, and where the rows of its key end, unless it has none.
 #[inline(always)]
-fn put_key<K: Key + Drop>(
-    keys: &mut Vec<K>,
-    ends: &mut Vec<usize>,
-    key: &K,
-    start: usize,
-    end: usize,
-) -> Result<(), AllocError>
-    requires room_for_key { vec_len keys.old < vec_capacity keys.old }
+fn put_place(places: &mut Vec<u32>, ends: &mut Vec<usize>, place: u32, start: usize, end: usize)
+    requires room_for_place { vec_len places.old < vec_capacity places.old }
     requires room_for_end { vec_len ends.old < vec_capacity ends.old }
-    ensures ok { OnOk result ((rows : List ℕ) → end ≡ start + length rows
-        → PutsKey K.order key.now rows end (key_ends keys.old.items ends.old.items) (key_ends keys.new.items ends.new.items)) }
-    ensures err { OnErr result ((keys.new.items ≡ keys.old.items) × (ends.new.items ≡ ends.old.items)) }
-    ensures key_room { (vec_capacity keys.new ≡ vec_capacity keys.old) × (vec_len keys.new ≤ vec_len keys.old + 1) }
+    ensures puts { (rows : List ℕ) → end ≡ start + length rows
+        → PutsKey place rows end (key_ends places.old.items ends.old.items) (key_ends places.new.items ends.new.items) }
+    ensures place_room { (vec_capacity places.new ≡ vec_capacity places.old) × (vec_len places.new ≤ vec_len places.old + 1) }
     ensures end_room { (vec_capacity ends.new ≡ vec_capacity ends.old) × (vec_len ends.new ≤ vec_len ends.old + 1) }
 {
     if start < end {
-        let shared = key.share()?;
         ends.push_reserved(end);
-        keys.push_reserved(shared);
+        places.push_reserved(place);
     }
-    Ok(())
 }

@@ -21,6 +21,7 @@ mod carrying;
 mod flat_index;
 mod joining;
 mod key;
+mod keys;
 mod live_bits;
 mod moving;
 mod posting_list;

@@ -1,11 +1,12 @@
-ghost use Rattle.std.specs.Prelude.{◌≡◌, ℕ, ◌+◌, ◌-◌, ◌*◌, ◌^◌, ◌<◌, ◌≤◌, ◌↔◌, List, length, slice_get, Some, Contains, MatchResult};
+ghost use Rattle.std.specs.Prelude.{◌≡◌, ℕ, ◌+◌, ◌-◌, ◌*◌, ◌^◌, ◌<◌, ◌≤◌, ◌↔◌, List, length, slice_get, Some, Contains, IfOk, MatchResult};
 ghost use Rattle.std.specs.declared.cmp.Ordering.TheVariants.{Greater};
 ghost use Rattle.std.specs.List.Sorted.{IsStrictlyIncreasing, IsStrictlySortedBy};
 ghost use Rattle.sc_segment.specs.Index.{IsIndexOf, IsInOrder, rows_with, WasAddedWith};
 ghost use Rattle.sc_segment.specs.Searching.{IsKeyPlace};
 
-use crate::flat_index::FlatIndex;
+use crate::flat_index::KeptIndex;
 use crate::key::Key;
+use crate::keys::Keys;
 use crate::steps::Steps;
 use std::cmp::Ordering;
 use std::marker::Model;
@@ -14,7 +15,7 @@ use std::sync::ledger::Ledger;
 /// For each distinct key the list of its rows, the keys in ascending order.
 #[derive(Drop)]
 pub struct Segment<K: Key> {
-    pub(crate) index: FlatIndex<K>,
+    pub(crate) index: KeptIndex<K>,
 }
 
 impl<K: Key> Model for Segment<K> {
@@ -29,12 +30,10 @@ impl<K: Key> Model for Segment<K> {
 }
 
 impl<K: Key> Segment<K> {
-    pub(crate) fn new(index: FlatIndex<K>) -> Self
+    pub(crate) fn new(index: KeptIndex<K>) -> Self
         requires { IsInOrder K.order index.entries }
         ensures { result ≡ index.entries }
     {
-        let mut index = index;
-        index.shrink();
         Segment { index }
     }
 
@@ -57,24 +56,25 @@ impl<K: Key> Segment<K> {
 /// Where the key stands among keys that ascend, or else where it would have to stand. It is sought from a place on, before which all
 /// keys are below it.
 pub(crate) fn search<K: Key, L: Ledger>(
-    keys: &[K],
+    keys: &Keys<K>,
     from: usize,
     key: &K,
     steps: &mut Steps<L>,
 ) -> Result<usize, usize>
-    requires ascending { IsStrictlySortedBy K.order keys.now }
-    requires within { from ≤ length keys.now }
-    requires before { (i : ℕ) → (k : K) → i < from → slice_get keys.now i ≡ Some k → K.order key.now k ≡ Greater }
-    ensures place { IsKeyPlace K.order keys.now key.now result }
+    requires ascending { IsStrictlySortedBy K.order keys.now.keys }
+    requires within { from ≤ length keys.now.keys }
+    requires before { (i : ℕ) → (k : K) → i < from → slice_get keys.now.keys i ≡ Some k → K.order key.now k ≡ Greater }
+    ensures place { IsKeyPlace K.order keys.now.keys key.now result }
     ensures from { MatchResult result (λ at. from ≤ at) (λ at. from ≤ at) }
+    ensures fits { IfOk result (λ at. at + 1 < 2 ^ 64) }
     ensures counted { steps.old ≤ steps.new }
-    ensures bound { 2 ^ (steps.new - steps.old) ≤ 2 * length keys.now + 1 }
+    ensures bound { 2 ^ (steps.new - steps.old) ≤ 2 * length keys.now.keys + 1 }
 {
     let mut low = from;
     let mut high = keys.len();
     'halving: while low < high {
         let middle = low + (high - low) / 2;
-        match key.compare(&keys[middle], steps) {
+        match key.compare(keys.get(middle), steps) {
             Ordering::Less => high = middle,
             Ordering::Equal => return Ok(middle),
             Ordering::Greater => low = middle + 1,

@@ -1,6 +1,5 @@
 -- A comparison leaves half of the keys.
-use Rattle.std.proofs.Common.{◌+◌, ◌-◌, ◌^◌, ◌/◌, length, refl, sym, ap, ◌∙◌, arith}
-use Rattle.std.proofs.lemmas.Option.{slice_get_read}
+use Rattle.std.proofs.Common.{◌+◌, ◌-◌, ◌^◌, ◌/◌, length, sym, ap, ◌∙◌, arith}
 use Rattle.sc_segment.proofs.SearchLemmas.{less_from, greater_up_to, pow-step, halved_more, bound_more}
 use Rattle.sc_segment.proofs.segment.search.Goals as goal
 
@@ -8,17 +7,17 @@ pub halving-preserved-in-Less : goal.halving-preserved-in-Less
 halving-preserved-in-Less g c =
     let i = c.halving.invariant in
     let middle = c.halving.low + (c.halving.high - c.halving.low) / 2 in
-    let k = c.index-keys-middle.result in
-    let at_middle = slice_get_read c.args.keys.now _ middle k refl (omega arith) c.index-keys-middle.is in
+    let k = c.get.result.now in
+    let at_middle = c.get.ensures in
     let steps = ap (λ n. 2 ^ (n - c.args.steps.now)) c.in-Less.ensures.counted ∙ pow-step c.args.steps.now c.halving.steps i.counted in
     record {
       from = omega (arith, i.from);
       in_order = omega arith;
       within = omega arith;
       greater = i.greater;
-      less = less_from g.met.K.Key.total c.args.key.now c.args.keys.now middle k c.requires.ascending at_middle (sym c.in-Less.ensures.answer);
+      less = less_from g.met.K.Key.total c.args.key.now c.args.keys.now.keys middle k c.requires.ascending at_middle (sym c.in-Less.ensures.answer);
       counted = omega (arith, c.in-Less.ensures.counted);
-      halved = rw steps (halved_more (2 ^ (c.halving.steps - c.args.steps.now)) (c.halving.high - c.halving.low) (middle - c.halving.low) (length c.args.keys.now) i.halved (omega arith));
+      halved = rw steps (halved_more (2 ^ (c.halving.steps - c.args.steps.now)) (c.halving.high - c.halving.low) (middle - c.halving.low) (length c.args.keys.now.keys) i.halved (omega arith));
       bound = rw steps (bound_more _ _ _ i.halved (omega arith));
     }
 
@@ -26,25 +25,25 @@ pub halving-preserved : goal.halving-preserved
 halving-preserved g c =
     let i = c.halving.invariant in
     let middle = c.halving.low + (c.halving.high - c.halving.low) / 2 in
-    let k = c.index-keys-middle.result in
-    let at_middle = slice_get_read c.args.keys.now _ middle k refl (omega arith) c.index-keys-middle.is in
+    let k = c.get.result.now in
+    let at_middle = c.get.ensures in
     let steps = ap (λ n. 2 ^ (n - c.args.steps.now)) c.in-Greater.ensures.counted ∙ pow-step c.args.steps.now c.halving.steps i.counted in
     record {
       from = omega (arith, i.from);
       in_order = omega arith;
       within = i.within;
-      greater = greater_up_to g.met.K.Key.total c.args.key.now c.args.keys.now middle k c.requires.ascending at_middle (sym c.in-Greater.ensures.answer);
+      greater = greater_up_to g.met.K.Key.total c.args.key.now c.args.keys.now.keys middle k c.requires.ascending at_middle (sym c.in-Greater.ensures.answer);
       less = i.less;
       counted = omega (arith, c.in-Greater.ensures.counted);
-      halved = rw steps (halved_more (2 ^ (c.halving.steps - c.args.steps.now)) (c.halving.high - c.halving.low) (c.halving.high - (middle + 1)) (length c.args.keys.now) i.halved (omega arith));
+      halved = rw steps (halved_more (2 ^ (c.halving.steps - c.args.steps.now)) (c.halving.high - c.halving.low) (c.halving.high - (middle + 1)) (length c.args.keys.now.keys) i.halved (omega arith));
       bound = rw steps (bound_more _ _ _ i.halved (omega arith));
     }
 
 pub returns-in-Equal-clause-place : goal.returns-in-Equal-clause-place
 returns-in-Equal-clause-place g c =
     let middle = c.halving.low + (c.halving.high - c.halving.low) / 2 in
-    let k = c.index-keys-middle.result in
-    (k, slice_get_read c.args.keys.now _ middle k refl (omega arith) c.index-keys-middle.is, sym c.in-Equal.ensures.answer)
+    let k = c.get.result.now in
+    (k, c.get.ensures, sym c.in-Equal.ensures.answer)
 
 pub returns-in-Equal-clause-bound : goal.returns-in-Equal-clause-bound
 returns-in-Equal-clause-bound g c =

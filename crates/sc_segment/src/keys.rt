@@ -1,0 +1,205 @@
+ghost use Rattle.std.specs.Prelude.{◌≡◌, ◌<◌, ◌++◌, length, slice_get, Some, IfOk, OnOk};
+ghost use Rattle.sc_segment.specs.Storing.{AreAlike, ArePlaces, HasPlaces, keys_at, keys_in, stored_in};
+
+use crate::key::Key;
+use std::alloc::{AllocError, Global};
+use std::marker::Model;
+use std::sync::Arc;
+
+/// The pieces of keys are made anew once there are more of them than this.
+const MOST_PIECES: usize = 64;
+
+/// They are made anew once the keys without a place are more than one for so many that have one, and more than the second number.
+const KEPT_FOR_GONE: usize = 16;
+
+const ALWAYS_GONE: usize = 64;
+
+/// Keys that are shared as one.
+#[derive(Drop)]
+struct Piece<K> {
+    keys: Arc<Vec<K>>,
+}
+
+impl<K> Piece<K> {
+    // The same keys once more.
+    fn share(&self) -> Result<Piece<K>, AllocError>
+        ensures { IfOk result (λ piece. keys_in piece ≡ keys_in self.now) }
+    {
+        Ok(Piece {
+            keys: Arc::try_clone(&self.keys)?,
+        })
+    }
+}
+
+/// The keys of an index in their order, each by its place among stored keys. These stand in pieces that are shared with the indexes from
+/// which this one was carried. Not each stored key has a place.
+#[derive(Drop)]
+pub(crate) struct Keys<K> {
+    pieces: Vec<Piece<K>>,
+    stored: u32,
+    places: Vec<u32>,
+}
+
+impl<K> Model for Keys<K> {
+    ghost use Rattle.std.specs.Prelude.{◌≡◌, length};
+    ghost use Rattle.sc_segment.specs.Storing.{KeysState, ArePlaces, keys_at, stored_in};
+
+    ghost Value = { KeysState K };
+
+    ghost view = { λ a. record { stored = stored_in a.pieces.items; keys = keys_at (stored_in a.pieces.items) a.places.items } };
+
+    ghost invariant = { λ a. (a.stored ≡ length (stored_in a.pieces.items)) × ArePlaces (stored_in a.pieces.items) a.places.items };
+}
+
+impl<K> Keys<K> {
+    /// How many keys there are.
+    pub(crate) fn len(&self) -> usize
+        ensures { result ≡ length self.now.keys }
+    {
+        self.places.len()
+    }
+
+    /// The key with this number.
+    pub(crate) fn get(&self, at: usize) -> &K
+        requires { at < length self.now.keys }
+        ensures { slice_get self.now.keys at ≡ Some result.now }
+    {
+        stored_key(&self.pieces, self.places[at] as usize)
+    }
+
+    /// The places of the keys.
+    pub(crate) fn places(&self) -> &[u32]
+        ensures { HasPlaces self.now result.now }
+    {
+        self.places.as_slice()
+    }
+
+    /// How many stored keys there are.
+    pub(crate) fn stored(&self) -> u32
+        ensures { result ≡ length self.now.stored }
+    {
+        self.stored
+    }
+}
+
+impl<K: Drop> Keys<K> {
+    /// These keys, as one piece. An error means out of memory, or that there are more than 2^32 - 1.
+    pub(crate) fn of(alloc: Global, keys: Vec<K>) -> Result<Keys<K>, AllocError>
+        ensures { IfOk result (λ state. state.keys ≡ keys.items) }
+    {
+        let Ok(stored) = u32::try_from(keys.len()) else {
+            return Err(AllocError);
+        };
+        let places = places_of(alloc, keys.as_slice(), stored)?;
+        let mut pieces = Vec::new(alloc);
+        pieces.push(Piece {
+            keys: Arc::new(alloc, keys)?,
+        })?;
+        Ok(Keys {
+            pieces,
+            stored,
+            places,
+        })
+    }
+}
+
+impl<K: Key + Drop> Keys<K> {
+    /// The keys at these places among those that are stored with old keys, and those that are stored with added ones after them. Both
+    /// are shared by whole pieces, and so all keep their places, unless too many have none or they stand in too many pieces: each key is
+    /// shared alone then, and those without a place are let go. An error means out of memory, or that more than 2^32 - 1 are stored.
+    pub(crate) fn at(
+        alloc: Global,
+        old: &Keys<K>,
+        added: &Keys<K>,
+        places: Vec<u32>,
+    ) -> Result<Keys<K>, AllocError>
+        requires { ArePlaces (old.now.stored ++ added.now.stored) places.items }
+        ensures { IfOk result (λ state. AreAlike K.order (keys_at (old.now.stored ++ added.now.stored) places.items) state.keys) }
+    {
+        let pieces = pieces_of_both(alloc, old, added)?;
+        let stored = old.stored.checked_add(added.stored).ok_or(AllocError)?;
+        let keys = Keys {
+            pieces,
+            stored,
+            places,
+        };
+        if keys.is_worn() {
+            keys.renewed(alloc)
+        } else {
+            Ok(keys)
+        }
+    }
+
+    // Whether it is time to share each key alone.
+    fn is_worn(&self) -> bool {
+        let count = self.places.len();
+        let gone = (self.stored as usize).saturating_sub(count);
+        MOST_PIECES < self.pieces.len() || (count / KEPT_FOR_GONE).max(ALWAYS_GONE) < gone
+    }
+
+    // Keys that compare equal to these, each shared alone, in one piece without any other.
+    fn renewed(&self, alloc: Global) -> Result<Keys<K>, AllocError>
+        ensures { IfOk result (λ state. AreAlike K.order self.now.keys state.keys) }
+    {
+        let count = self.len();
+        let mut keys = Vec::with_capacity(alloc, count)?;
+        for at in 0..count {
+            let shared = self.get(at).share()?;
+            keys.push(shared)?;
+        }
+        Keys::of(alloc, keys)
+    }
+}
+
+// The places of keys that are stored in their own order.
+fn places_of<K>(alloc: Global, keys: &[K], count: u32) -> Result<Vec<u32>, AllocError>
+    requires { count ≡ length keys.now }
+    ensures places { IfOk result (λ places. ArePlaces keys.now places.items) }
+    ensures keys { IfOk result (λ places. keys_at keys.now places.items ≡ keys.now) }
+{
+    let mut places = Vec::with_capacity(alloc, keys.len())?;
+    for at in 0..count {
+        places.push(at)?;
+    }
+    Ok(places)
+}
+
+// A share of each piece of both lists.
+fn pieces_of_both<K: Drop>(
+    alloc: Global,
+    old: &Keys<K>,
+    added: &Keys<K>,
+) -> Result<Vec<Piece<K>>, AllocError>
+    ensures { IfOk result (λ pieces. stored_in pieces.items ≡ old.now.stored ++ added.now.stored) }
+{
+    let mut pieces = Vec::new(alloc);
+    push_shares(&mut pieces, &old.pieces)?;
+    push_shares(&mut pieces, &added.pieces)?;
+    Ok(pieces)
+}
+
+// Puts a share of each of these pieces at the end.
+fn push_shares<K: Drop>(list: &mut Vec<Piece<K>>, pieces: &[Piece<K>]) -> Result<(), AllocError>
+    ensures { OnOk result (stored_in list.new.items ≡ stored_in list.old.items ++ stored_in pieces.now) }
+{
+    for piece in pieces {
+        let share = piece.share()?;
+        list.push(share)?;
+    }
+    Ok(())
+}
+
+// The stored key at this place.
+#[inline(always)]
+fn stored_key<K>(pieces: &[Piece<K>], place: usize) -> &K
+    requires { place < length (stored_in pieces.now) }
+    ensures { slice_get (stored_in pieces.now) place ≡ Some result.now }
+{
+    let mut at = 0;
+    let mut rest = place;
+    'passing: while pieces[at].keys.len() <= rest {
+        rest -= pieces[at].keys.len();
+        at += 1;
+    }
+    &pieces[at].keys[rest]
+}

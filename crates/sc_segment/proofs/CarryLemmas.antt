@@ -1,15 +1,31 @@
 -- The rows of one key carried over row by row, and a list of new numbers while it is made.
 use Rattle.std.proofs.Common.{◌≡◌, ◌==◌, ◌||◌, Bool, false, ℕ, zero, suc, ◌+◌, ◌<◌, ◌≤◌, List, [], ◌∷◌, ◌++◌, length, take, drop, get_or, Option, Some, None, append-nil, append_assoc, refl, sym, ap, ◌∙◌, arith, ◌⊎◌, inl, inr, All, subst}
-use Rattle.std.proofs.lemmas.List.{take_more, drop_all}
+use Rattle.std.proofs.lemmas.List.{take_more, take-append-drop, drop_all, drop_more, drop-drop}
+use Rattle.std.specs.Ordering.{nat_cmp}
+use Rattle.std.specs.declared.cmp.Ordering.TheVariants.{Less}
 use Rattle.std.proofs.lemmas.List.Elements.{All-head, All-push, All-tail, All-weaker, filter_map-append}
 use Rattle.std.specs.List.{filter_map, cons_option, list_any}
 use Rattle.std.specs.List.Sorted.{IsStrictlyIncreasing}
-use Rattle.sc_segment.proofs.JoinLemmas.{AscendFrom, ascend_from_increasing, increasing_from_ascend, joined}
+use Rattle.sc_segment.proofs.JoinLemmas.{AscendFrom, cmp_from_less, ascend_from_increasing, increasing_from_ascend, joined}
 use Rattle.sc_segment.specs.Carrying.{new_number, new_numbers, KeepsOrder}
 use Rattle.sc_segment.specs.declared.joining.Kept.TheVariants.{Either}
 use Rattle.sc_segment.specs.Joining.{has_row, keeps}
 
 -- ---- rows
+-- one row more, with its number where it has one
+pub numbers-next : (moved : List (Option ℕ)) (rows : List ℕ) (i : ℕ) (number : Option ℕ) → i < length rows → number ≡ new_number moved (get_or rows i 0)
+    → new_numbers moved (take (i + 1) rows) ≡ new_numbers moved (take i rows) ++ cons_option number []
+numbers-next moved rows i number within is =
+    ap (new_numbers moved) (take_more rows i 0 within) ∙ filter_map-append (new_number moved) (take i rows) (get_or rows i 0 ∷ [])
+    ∙ ap (λ (n : Option ℕ). new_numbers moved (take i rows) ++ cons_option n []) (sym is)
+
+-- a row with a number below a limit is passed where a later one's is not below it
+pub passed-first : (moved : List (Option ℕ)) (rows : List ℕ) (at found limit number : ℕ) → Some found ≡ new_number moved (get_or rows at 0) → limit ≤ found
+    → new_number moved (get_or rows 0 0) ≡ Some number → number < limit → 0 < at
+passed-first moved rows zero found limit number there high is low =
+    let same : found ≡ number = cc in absurd (omega (arith, same))
+passed-first moved rows (suc at) found limit number there high is low = omega arith
+
 -- one row more, whose new number was put at the end where it has one
 pub numbers-more : (moved : List (Option ℕ)) (rows : List ℕ) (i : ℕ) (number : Option ℕ) (first now next : List ℕ) → i < length rows → number ≡ new_number moved (get_or rows i 0)
     → now ≡ first ++ new_numbers moved (take i rows) → next ≡ now ++ cons_option number [] → next ≡ first ++ new_numbers moved (take (i + 1) rows)
@@ -77,6 +93,30 @@ merged-rest moved rows added pending whole i j same (inr past) =
     let end : pending ++ joined (keeps Either) (new_numbers moved (drop i rows)) (drop j added) ≡ pending ++ new_numbers moved (drop i rows) =
     ap (λ (rs : List ℕ). pending ++ joined (keeps Either) (new_numbers moved (drop i rows)) rs) none ∙ ap (λ (rs : List ℕ). pending ++ rs) (joined-left (new_numbers moved (drop i rows))) in
     ap (λ (rs : List ℕ). (pending ++ new_numbers moved (drop i rows)) ++ rs) none ∙ append-nil (pending ++ new_numbers moved (drop i rows)) ∙ sym end ∙ same
+
+-- numbers below the first row of the other list come first
+joined-below : (below rest ys : List ℕ) (y : ℕ) → All (λ n. n < y) below → joined (keeps Either) (below ++ rest) (y ∷ ys) ≡ below ++ joined (keeps Either) rest (y ∷ ys)
+joined-below [] rest ys y all = refl
+joined-below (x ∷ xs) rest ys y all =
+    let less : nat_cmp x y ≡ Less = cmp_from_less x y (All-head (λ n. n < y) x xs all) in
+    rw less (ap (λ (zs : List ℕ). x ∷ zs) (joined-below xs rest ys y (All-tail (λ n. n < y) x xs all)))
+
+pub merged-below : (moved : List (Option ℕ)) (rows added pending whole : List ℕ) (i j n y : ℕ) → pending ++ joined (keeps Either) (new_numbers moved (drop i rows)) (drop j added) ≡ whole
+    → j < length added → y ≡ get_or added j 0 → All (λ m. m < y) (new_numbers moved (take n (drop i rows)))
+    → (pending ++ new_numbers moved (take n (drop i rows))) ++ joined (keeps Either) (new_numbers moved (drop (i + n) rows)) (drop j added) ≡ whole
+merged-below moved rows added pending whole i j n y same within is all =
+    let below = new_numbers moved (take n (drop i rows)) in
+    let rest = new_numbers moved (drop (i + n) rows) in
+    let split : new_numbers moved (drop i rows) ≡ below ++ rest =
+    ap (new_numbers moved) (sym (take-append-drop n (drop i rows)) ∙ ap (λ (rs : List ℕ). take n (drop i rows) ++ rs) (drop-drop n i rows))
+    ∙ filter_map-append (new_number moved) (take n (drop i rows)) (drop (i + n) rows) in
+    let tail : drop j added ≡ y ∷ drop (j + 1) added = drop_more added j 0 within ∙ ap (λ (z : ℕ). z ∷ drop (j + 1) added) (sym is) in
+    append_assoc pending below (joined (keeps Either) rest (drop j added))
+    ∙ ap (λ (zs : List ℕ). pending ++ (below ++ joined (keeps Either) rest zs)) tail
+    ∙ ap (λ (zs : List ℕ). pending ++ zs) (sym (joined-below below rest (drop (j + 1) added) y all))
+    ∙ ap (λ (zs : List ℕ). pending ++ joined (keeps Either) (below ++ rest) zs) (sym tail)
+    ∙ ap (λ (zs : List ℕ). pending ++ joined (keeps Either) zs (drop j added)) (sym split)
+    ∙ same
 
 -- whether it is this number
 abbrev pub is_number : ℕ → Option ℕ → Bool

@@ -156,10 +156,7 @@ fn merge_rows<K: Drop>(
         match new_number(moved, rows[low]) {
             None => low += 1,
             Some(number) => match number.cmp(&other) {
-                Ordering::Less => {
-                    index.add_row(number)?;
-                    low += 1;
-                }
+                Ordering::Less => low += index.add_below(&rows[low..], moved, other)?,
                 Ordering::Equal => {
                     index.add_row(number)?;
                     low += 1;

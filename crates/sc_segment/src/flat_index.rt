@@ -1,13 +1,13 @@
-ghost use Rattle.std.specs.Prelude.{◌≡◌, ℕ, ◌+◌, ◌<◌, ◌≤◌, ◌↔◌, IsTrue, List, [], ◌∷◌, ◌++◌, length, take, slice_get, slice_index, Some, IfOk, OnOk, ◌-◌, vec_len, vec_capacity};
+ghost use Rattle.std.specs.Prelude.{◌≡◌, ℕ, ◌+◌, ◌<◌, ◌≤◌, ◌↔◌, IsTrue, List, [], ◌∷◌, ◌++◌, length, take, slice_get, slice_index, All, Some, IfOk, OnOk, ◌-◌, vec_len, vec_capacity};
 ghost use Rattle.std.specs.Map.{keys_of};
-ghost use Rattle.sc_segment.specs.Carrying.{new_numbers, KeepsOrder, AreBefore};
+ghost use Rattle.sc_segment.specs.Carrying.{new_number, new_numbers, KeepsOrder, AreBefore};
 ghost use Rattle.sc_segment.specs.Flat.{FlatState, IsLaidOut, AreAllClosed, PutsKey, entries_from, key_ends, rows_among};
 ghost use Rattle.sc_segment.specs.Index.{IsInOrder};
 ghost use Rattle.sc_segment.specs.Storing.{AreEntriesAlike, ArePlaces, IsCarriedAt, entries_at};
 
 use crate::key::Key;
 use crate::keys::Keys;
-use crate::moving::{push_ahead, push_moved};
+use crate::moving::{push_ahead, push_below, push_moved};
 use std::alloc::{AllocError, Global};
 use std::marker::Model;
 
@@ -54,6 +54,23 @@ impl<K: Drop> FlatIndex<K> {
         self.rows.reserve(rows.len())?;
         push_moved(&mut self.rows, rows, moved);
         Ok(())
+    }
+
+    /// The new numbers of rows, as rows more of the next key, up to the first that is not below a limit. Gives how many rows stand
+    /// before it. Room is made once for all rows.
+    pub(crate) fn add_below(
+        &mut self,
+        rows: &[u32],
+        moved: &[Option<u32>],
+        limit: u32,
+    ) -> Result<usize, AllocError>
+        ensures within { IfOk result (λ count. count ≤ length rows.now) }
+        ensures added { IfOk result (λ count. self.new ≡ record { entries = self.old.entries; pending = self.old.pending ++ new_numbers moved.now (take count rows.now) }) }
+        ensures below { IfOk result (λ count. All (λ number. number < limit) (new_numbers moved.now (take count rows.now))) }
+        ensures rises { IfOk result (λ count. (number : ℕ) → 0 < length rows.now → new_number moved.now (slice_index rows.now 0) ≡ Some number → number < limit → 0 < count) }
+    {
+        self.rows.reserve(rows.len())?;
+        Ok(push_below(&mut self.rows, rows, moved, limit))
     }
 
     /// One row more of the next key.

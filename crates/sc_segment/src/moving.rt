@@ -1,4 +1,4 @@
-ghost use Rattle.std.specs.Prelude.{◌≡◌, ℕ, ◌+◌, ◌≤◌, ◌++◌, length, take, slice_range, vec_len, vec_capacity};
+ghost use Rattle.std.specs.Prelude.{◌≡◌, ℕ, ◌+◌, ◌<◌, ◌≤◌, ◌++◌, length, take, slice_range, slice_index, All, Some, vec_len, vec_capacity};
 ghost use Rattle.sc_segment.specs.Carrying.{new_number, new_numbers, AreKept};
 
 use std::mem;
@@ -57,6 +57,47 @@ fn with_kept(list: Vec<u32>, rows: &[u32], moved: &[Option<u32>]) -> (Vec<u32>, 
         match new_number(moved, rows[at]) {
             Some(number) => list.push_reserved(number),
             None => return (list, at),
+        }
+    }
+    (list, rows.len())
+}
+
+/// Puts the new numbers of rows at the end of a list, which has room for all rows, up to the first that is not below a limit. Gives how
+/// many rows stand before it.
+pub(crate) fn push_below(
+    list: &mut Vec<u32>,
+    rows: &[u32],
+    moved: &[Option<u32>],
+    limit: u32,
+) -> usize
+    requires { vec_len list.old + length rows.now ≤ vec_capacity list.old }
+    ensures within { result ≤ length rows.now }
+    ensures items { list.new.items ≡ list.old.items ++ new_numbers moved.now (take result rows.now) }
+    ensures below { All (λ number. number < limit) (new_numbers moved.now (take result rows.now)) }
+    ensures rises { (number : ℕ) → 0 < length rows.now → new_number moved.now (slice_index rows.now 0) ≡ Some number → number < limit → 0 < result }
+{
+    let empty = Vec::new(*list.allocator());
+    let (longer, count) = with_below(mem::replace(list, empty), rows, moved, limit);
+    *list = longer;
+    count
+}
+
+// The list after `push_below`, as its own too, and how many rows were passed.
+#[inline(always)]
+fn with_below(list: Vec<u32>, rows: &[u32], moved: &[Option<u32>], limit: u32) -> (Vec<u32>, usize)
+    requires { vec_len list + length rows.now ≤ vec_capacity list }
+    ensures within { result.1 ≤ length rows.now }
+    ensures items { result.0.items ≡ list.items ++ new_numbers moved.now (take result.1 rows.now) }
+    ensures below { All (λ number. number < limit) (new_numbers moved.now (take result.1 rows.now)) }
+    ensures rises { (number : ℕ) → 0 < length rows.now → new_number moved.now (slice_index rows.now 0) ≡ Some number → number < limit → 0 < result.1 }
+{
+    let mut list = list;
+    for at in 0..rows.len() {
+        if let Some(number) = new_number(moved, rows[at]) {
+            if limit <= number {
+                return (list, at);
+            }
+            list.push_reserved(number);
         }
     }
     (list, rows.len())

@@ -1,13 +1,35 @@
--- What is left of one list, once the other one is passed, follows as a whole.
-use Rattle.std.proofs.Common.{◌≡◌, ℕ, List, ◌++◌, drop, ap, ◌∙◌, inl, inr}
-use Rattle.std.proofs.lemmas.List.{take_rest}
-use Rattle.sc_segment.proofs.CarryLemmas.{new_numbers-ascend, merged-rest}
+-- What is below the other list's row follows first, and what is left of one list, once the other one is passed, as a whole.
+use Rattle.std.proofs.Common.{◌≡◌, ℕ, ◌+◌, ◌-◌, ◌<◌, All, List, ◌++◌, length, take, drop, get_or, refl, ap, subst, ◌∙◌, inl, inr, arith}
+use Rattle.std.proofs.lemmas.List.{length-drop, take_rest}
+use Rattle.sc_segment.proofs.CarryLemmas.{new_numbers-ascend, merged-below, merged-rest}
 use Rattle.sc_segment.proofs.JoinLemmas.{joined, IsJoin-joined}
 use Rattle.sc_segment.specs.Carrying.{new_numbers}
 use Rattle.sc_segment.specs.Joining.{keeps}
 use Rattle.sc_segment.specs.declared.joining.Kept.TheVariants.{Either}
 use Rattle.sc_segment.proofs.carrying.merge_rows.Goals.{then-merging-test+else-high-added, else-merging-test}
 use Rattle.sc_segment.proofs.carrying.merge_rows.Goals as goal
+
+pub merging-preserved-in-Less : goal.merging-preserved-in-Less
+merging-preserved-in-Less g c =
+    let moved = c.args.moved.now in
+    let rows = c.args.rows.now in
+    let added = c.args.added.now in
+    let low = c.merging.low in
+    let high = c.merging.high in
+    let count = c.in_ok-low-in-Less.field-0 in
+    let passed = c.in_ok-low-in-Less.ensures in
+    let whole = joined (keeps Either) (new_numbers moved rows) added in
+    let rest = joined (keeps Either) (new_numbers moved (drop (low + count) rows)) (drop high added) in
+    let tail : take count (take (length rows - low) (drop low rows)) ≡ take count (drop low rows) = ap (take count) (take_rest rows low) in
+    let below = subst (λ (rs : List ℕ). All (λ (n : ℕ). n < get_or added high 0) (new_numbers moved rs)) tail passed.below in
+    record {
+      entries = ap (λ s. s.entries) passed.added ∙ c.merging.invariant.entries;
+      same = ap (λ s. s.pending ++ rest) passed.added
+          ∙ ap (λ (rs : List ℕ). (c.merging.index.pending ++ new_numbers moved rs) ++ rest) tail
+          ∙ merged-below moved rows added c.merging.index.pending whole low high count (get_or added high 0) c.merging.invariant.same c.if-high-added.true refl below;
+      low = omega (arith, passed.within, ap length (take_rest rows low), length-drop low rows, c.merging.invariant.low);
+      high = c.merging.invariant.high;
+    }
 
 pub returns-clause-rows : goal.returns-clause-rows
 returns-clause-rows g c =

@@ -40,4 +40,5 @@ pub use desk::{Desk, Parts};
 pub use sc_board::{Board, BoardFault, Cut, DropFault};
 pub use sc_seen::{BoardEntry, Stop};
 pub use shape::Shape;
+pub use slot::{EmptySlot, FullSlot};
 pub use trail::Trail;

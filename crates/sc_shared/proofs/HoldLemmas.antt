@@ -140,7 +140,7 @@ slot_is_empty locks passes slot board desk view none =
 
 -- the bucket that is out
 abbrev pub taken_of : ℕ → Bool → BucketTurn → TakenBucket
-taken_of number by_keeper turn = record { number = number; by_keeper = by_keeper; turn = turn }
+taken_of number by_keeper turn = record { number = number; by_keeper = by_keeper; turn = turn; slot = tt }
 
 -- the pass of each bucket is free while none is out
 pub is_free_at : (desk : SharedState) (number : ℕ) → IsShared desk → desk.bucket ≡ None → IsFreeAt desk.passes.buckets.items number

@@ -11,7 +11,7 @@ use crate::numbered::Numbered;
 use crate::passes::Passes;
 use sc_bucket::Bucket;
 use sc_cluster::ClusterMap;
-use sc_collection::{Board, Shape};
+use sc_collection::{Board, FullSlot, Shape};
 use sc_lock::{Badge, Keeper, Lock, Pass};
 use sc_record::CloneIn;
 use std::alloc::{AllocError, Global};
@@ -69,12 +69,13 @@ fn new_lock(
     ensures { IfOk result (IsNewLock (record { number = number; buckets = buckets; first = first.now; limit = limit })) }
 {
     let bucket = Bucket::new(alloc, first, limit)?;
+    let slot = FullSlot::new(alloc, bucket)?;
     let (lock, pass, keeper) = Lock::new(
         alloc,
         Numbered {
             number,
             buckets,
-            bucket,
+            bucket: slot,
         },
     )?;
     let badge = lock.badge(&keeper)?;

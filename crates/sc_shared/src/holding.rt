@@ -1,4 +1,4 @@
-//! How a thread takes one bucket and gives it back, by its pass or by the bucket's keeper.
+//! How a thread takes one bucket and gives it back, by its pass or by the bucket's keeper. The bucket stays in its slot here.
 ghost use Rattle.std.specs.Prelude.{◌≡◌, ◌<◌, length};
 ghost use Rattle.sc_bucket.specs.Sound.{IsSound};
 ghost use Rattle.sc_bucket.specs.Events.{IsStep};
@@ -13,7 +13,7 @@ use crate::collection::Collection;
 use crate::keepers::Keepers;
 use crate::numbered::Numbered;
 use crate::passes::Passes;
-use sc_bucket::Bucket;
+use sc_collection::FullSlot;
 use sc_lock::Turn;
 use std::sync::Wait;
 
@@ -23,7 +23,7 @@ pub(crate) fn hold_bucket<R: Wait>(
     collection: &Collection,
     passes: &mut Passes,
     b: u32,
-) -> (Bucket, Turn<Numbered>)
+) -> (FullSlot, Turn<Numbered>)
     requires within { b < length collection.now.buckets }
     requires passes { AreOfLocks collection.now passes.old.buckets.items passes.old.board }
     requires free { IsFreeAt passes.old.buckets.items b }
@@ -46,7 +46,7 @@ pub(crate) fn give_bucket(
     passes: &mut Passes,
     turn: Turn<Numbered>,
     b: u32,
-    bucket: Bucket,
+    bucket: FullSlot,
 )
     requires within { b < length collection.now.buckets }
     requires passes { AreOfLocks collection.now passes.old.buckets.items passes.old.board }
@@ -75,7 +75,7 @@ pub(crate) fn hold_by_keeper<R: Wait>(
     passes: &mut Passes,
     keepers: &mut Keepers,
     b: u32,
-) -> (Bucket, Turn<Numbered>)
+) -> (FullSlot, Turn<Numbered>)
     requires within { b < length collection.now.buckets }
     requires passes { AreOfLocks collection.now passes.old.buckets.items passes.old.board }
     requires free { IsFreeAt passes.old.buckets.items b }
@@ -104,7 +104,7 @@ pub(crate) fn give_by_keeper(
     keepers: &mut Keepers,
     turn: Turn<Numbered>,
     b: u32,
-    bucket: Bucket,
+    bucket: FullSlot,
 )
     requires within { b < length collection.now.buckets }
     requires passes { AreOfLocks collection.now passes.old.buckets.items passes.old.board }

@@ -4,18 +4,18 @@ ghost use Rattle.std.proofs.lemmas.Option.{none-some};
 ghost use Rattle.sc_keeper.specs.Part.{part_of};
 ghost use Rattle.sc_shared.specs.Buckets.{BucketName, name_of, IsSoundNumbered, Follows};
 
-use sc_bucket::Bucket;
+use sc_collection::FullSlot;
 use sc_keeper::Part;
 use sc_lock::Kept;
 use sc_record::Entry;
 
 /// A bucket with its number, and how many buckets the collection has: the ids of its writes are those that belong to the bucket of
-/// this number.
+/// this number. The bucket lies in a slot, so that a lock which moves this moves some forty bytes.
 #[derive(Drop)]
 pub struct Numbered {
     pub number: u32,
     pub buckets: u32,
-    pub bucket: Bucket,
+    pub bucket: FullSlot,
 }
 
 impl Kept for Numbered {
@@ -38,7 +38,7 @@ impl Kept for Numbered {
     ghost owned = { λ journal. None };
 
     fn entries(&self) -> u64 {
-        self.bucket.entries()
+        self.bucket.bucket().entries()
     }
 
     ghost steps_keep_name = { λ old new step. step.name };

@@ -13,7 +13,7 @@ use crate::numbered::Numbered;
 use crate::passes::Passes;
 use sc_board::Board;
 use sc_bucket::Bucket;
-use sc_collection::Desk;
+use sc_collection::{Desk, EmptySlot};
 use sc_lock::{Badge, Turn};
 use std::marker::{Brand, Model, PhantomData};
 use std::mem;
@@ -45,11 +45,12 @@ pub struct Shared<'a, R, N: Home> {
     home: PhantomData<N>,
 }
 
-/// A bucket that is out, by its number; whether its keeper has it; and the turn that is given back with it.
+/// A bucket that is out, by its number; whether its keeper has it; the turn that is given back with it; and its slot.
 pub(crate) struct TakenBucket {
     number: u32,
     by_keeper: bool,
     turn: Turn<Numbered>,
+    slot: EmptySlot,
 }
 
 /// The badges of the board that is out, and the turn that is given back with it.
@@ -163,13 +164,15 @@ impl<'a, R: Wait, N: Home> Desk for Shared<'a, R, N> {
     }
 
     fn hold(&mut self, b: u32) -> Bucket {
-        let (bucket, turn) = hold_bucket(self.rt, self.collection, &mut self.passes, b);
+        let (full, turn) = hold_bucket(self.rt, self.collection, &mut self.passes, b);
+        let (bucket, slot) = full.take();
         put(
             &mut self.bucket,
             TakenBucket {
                 number: b,
                 by_keeper: false,
                 turn,
+                slot,
             },
         );
         bucket
@@ -180,18 +183,22 @@ impl<'a, R: Wait, N: Home> Desk for Shared<'a, R, N> {
             number: _,
             by_keeper: _,
             turn,
+            slot,
         } = take(&mut self.bucket);
-        give_bucket(self.collection, &mut self.passes, turn, b, bucket);
+        let full = slot.put(bucket);
+        give_bucket(self.collection, &mut self.passes, turn, b, full);
     }
 
     fn hold_keeper(&mut self, keepers: &mut Keepers, b: u32) -> Bucket {
-        let (bucket, turn) = hold_by_keeper(self.rt, self.collection, &mut self.passes, keepers, b);
+        let (full, turn) = hold_by_keeper(self.rt, self.collection, &mut self.passes, keepers, b);
+        let (bucket, slot) = full.take();
         put(
             &mut self.bucket,
             TakenBucket {
                 number: b,
                 by_keeper: true,
                 turn,
+                slot,
             },
         );
         bucket
@@ -202,8 +209,10 @@ impl<'a, R: Wait, N: Home> Desk for Shared<'a, R, N> {
             number: _,
             by_keeper: _,
             turn,
+            slot,
         } = take(&mut self.bucket);
-        give_by_keeper(self.collection, &mut self.passes, keepers, turn, b, bucket);
+        let full = slot.put(bucket);
+        give_by_keeper(self.collection, &mut self.passes, keepers, turn, b, full);
     }
 
     fn hold_board(&mut self) -> Board<Keepers> {

@@ -1,12 +1,14 @@
 -- A bucket that its keeper took is out of the desk.
 use Rattle.std.proofs.Common.{◌<◌, length, sym, ap, subst}
+use Rattle.sc_bucket.specs.declared.bucket.Bucket.{Bucket}
 use Rattle.sc_shared.specs.Collections.{layout_of}
+use Rattle.sc_shared.specs.Holding.{IsHeldByKeeper}
 use Rattle.sc_shared.specs.Sharing.{SharedState, shared_of, Fit}
 use Rattle.sc_shared.proofs.KeeperLemmas.{held_is_keeper_hold, has_keeper_at}
 use Rattle.sc_shared.proofs.shared.SharedDesk.hold_keeper.Goals as goal
 
-pub hold_by_keeper-bucket-requires-clause-keeper : goal.hold_by_keeper-bucket-requires-clause-keeper
-hold_by_keeper-bucket-requires-clause-keeper g c =
+pub hold_by_keeper-full-requires-clause-keeper : goal.hold_by_keeper-full-requires-clause-keeper
+hold_by_keeper-full-requires-clause-keeper g c =
     has_keeper_at (shared_of c.self.inside.collection.now c.self.inside.passes c.self.inside.bucket c.self.inside.board)
     c.args.keepers.now.keepers.items c.args.b
     (subst (λ (desk : SharedState). Fit desk c.args.keepers.now.keepers.items) (sym c.self.view_is) c.requires.fits)
@@ -14,19 +16,31 @@ hold_by_keeper-bucket-requires-clause-keeper g c =
 
 pub invariant_of-self : goal.invariant_of-self
 invariant_of-self g c =
+    let held =
+    subst (λ (bucket : Bucket). IsHeldByKeeper c.self.inside.collection.now c.args.b
+    (record { passes = c.self.inside.passes; keepers = c.args.keepers.now.keepers.items })
+    (record { passes = c.hold_by_keeper-full.new.passes; keepers = c.hold_by_keeper-full.new.keepers.keepers.items }) bucket
+    c.hold_by_keeper-full.result.1)
+    (sym c.take-bucket.ensures) c.hold_by_keeper-full.ensures in
     record {
       shared_is = (held_is_keeper_hold c.self.inside.collection.now c.self.inside.passes _ c.self.inside.bucket _ c.self.inside.board c.args.self.now c.args.b
           _ _ c.args.keepers.now.keepers.items _ c.self.view_is c.self.invariant.shared_is c.requires.nothing_out c.requires.within c.requires.fits
-          c.hold_by_keeper-bucket.ensures c.put.ensures.full).leaves.is;
+          held c.put.ensures.full).leaves.is;
       locks_are = c.self.invariant.locks_are;
     }
 
 pub returns : goal.returns
 returns g c =
+    let held =
+    subst (λ (bucket : Bucket). IsHeldByKeeper c.self.inside.collection.now c.args.b
+    (record { passes = c.self.inside.passes; keepers = c.args.keepers.now.keepers.items })
+    (record { passes = c.hold_by_keeper-full.new.passes; keepers = c.hold_by_keeper-full.new.keepers.keepers.items }) bucket
+    c.hold_by_keeper-full.result.1)
+    (sym c.take-bucket.ensures) c.hold_by_keeper-full.ensures in
     let hold =
     held_is_keeper_hold c.self.inside.collection.now c.self.inside.passes _ c.self.inside.bucket _ c.self.inside.board c.args.self.now c.args.b
     _ _ c.args.keepers.now.keepers.items _ c.self.view_is c.self.invariant.shared_is c.requires.nothing_out c.requires.within c.requires.fits
-    c.hold_by_keeper-bucket.ensures c.put.ensures.full in
+    held c.put.ensures.full in
     record {
       handed = record {
         sound = hold.leaves.sound;

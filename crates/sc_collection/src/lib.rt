@@ -7,7 +7,8 @@
 //! bucket back with one event of the bucket's own at most (`sc_bucket`'s `IsStep`), which leaves the keeper's part as it was; to its
 //! keeper it hands the bucket out with the part as the keeper left it, and takes it back with one event of the keeper's at most
 //! (`sc_handover`'s `IsKeeperEvent`). The board it hands out has the keepers of all buckets while no split runs, and each bucket is then
-//! as the board says. `Alone` keeps all buckets in a plain list, for one thread.
+//! as the board says. `Alone` keeps all buckets in a plain list, for one thread. A desk keeps each bucket in a slot (`FullSlot`, and
+//! `EmptySlot` while the bucket is out), which is small: one copy takes a bucket out, another puts it back, and neither takes memory.
 //!
 //! Proved: `Alone` keeps the clauses of `Desk`: what it hands out is sound, the bucket that was asked for, with the part that its keeper
 //! left, and extends what was seen; the board that it hands out is sound, and where it has the keepers each bucket has the board's map,

@@ -13,7 +13,7 @@ invariant_of-self g c =
     let out = c.requires.is_out in
     let given =
     subst (λ (bucket : Bucket). IsGiven c.self.inside.collection.now c.args.b c.self.inside.passes c.give_bucket.new.passes c.take-turn.result.turn bucket)
-    c.put.ensures c.give_bucket.ensures in
+    c.put-full.ensures c.give_bucket.ensures in
     record {
       shared_is = (given_is_give c.self.inside.collection.now c.self.inside.passes _ c.self.inside.bucket _ c.self.inside.board c.args.self.now out.0
           c.take-turn.result c.args.b c.args.bucket c.self.view_is c.self.invariant.shared_is out.1 out.2 c.take-turn.ensures.was out.3 c.take-turn.ensures.empty
@@ -26,7 +26,7 @@ returns g c =
     let out = c.requires.is_out in
     let given =
     subst (λ (bucket : Bucket). IsGiven c.self.inside.collection.now c.args.b c.self.inside.passes c.give_bucket.new.passes c.take-turn.result.turn bucket)
-    c.put.ensures c.give_bucket.ensures in
+    c.put-full.ensures c.give_bucket.ensures in
     let give =
     given_is_give c.self.inside.collection.now c.self.inside.passes _ c.self.inside.bucket _ c.self.inside.board c.args.self.now out.0
     c.take-turn.result c.args.b c.args.bucket c.self.view_is c.self.invariant.shared_is out.1 out.2 c.take-turn.ensures.was out.3 c.take-turn.ensures.empty

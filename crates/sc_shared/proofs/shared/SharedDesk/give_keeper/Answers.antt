@@ -31,10 +31,10 @@ give_by_keeper-requires-clause-turn g c =
 pub give_by_keeper-requires-clause-event : goal.give_by_keeper-requires-clause-event
 give_by_keeper-requires-clause-event g c =
     let out = c.requires.is_out in
-    subst (λ (held : Held). IsKeeperEvent held.bucket c.put.result)
+    subst (λ (held : Held). IsKeeperEvent held.bucket c.put-full.result)
     (sym (held_is c.self.inside.collection.now c.self.inside.passes c.self.inside.bucket c.self.inside.board c.args.self.now out.0
     c.take-turn.result c.args.b c.self.view_is c.self.invariant.shared_is out.1 out.2 c.take-turn.ensures.was))
-    (subst (λ (bucket : Bucket). IsKeeperEvent out.0.bucket bucket) (sym c.put.ensures) out.3.event)
+    (subst (λ (bucket : Bucket). IsKeeperEvent out.0.bucket bucket) (sym c.put-full.ensures) out.3.event)
 
 pub invariant_of-self : goal.invariant_of-self
 invariant_of-self g c =
@@ -43,7 +43,7 @@ invariant_of-self g c =
     subst (λ (bucket : Bucket). IsGivenByKeeper c.self.inside.collection.now c.args.b
     (record { passes = c.self.inside.passes; keepers = c.args.keepers.now.keepers.items })
     (record { passes = c.give_by_keeper.new.passes; keepers = c.give_by_keeper.new.keepers.keepers.items }) c.take-turn.result.turn bucket)
-    c.put.ensures c.give_by_keeper.ensures in
+    c.put-full.ensures c.give_by_keeper.ensures in
     record {
       shared_is = (given_is_keeper_give c.self.inside.collection.now c.self.inside.passes c.self.inside.bucket c.self.inside.board c.args.self.now out.0
           c.take-turn.result c.args.b c.args.keepers.now.keepers.items c.self.view_is c.self.invariant.shared_is out.1 out.2 c.take-turn.ensures.was
@@ -58,7 +58,7 @@ returns g c =
     subst (λ (bucket : Bucket). IsGivenByKeeper c.self.inside.collection.now c.args.b
     (record { passes = c.self.inside.passes; keepers = c.args.keepers.now.keepers.items })
     (record { passes = c.give_by_keeper.new.passes; keepers = c.give_by_keeper.new.keepers.keepers.items }) c.take-turn.result.turn bucket)
-    c.put.ensures c.give_by_keeper.ensures in
+    c.put-full.ensures c.give_by_keeper.ensures in
     let give =
     given_is_keeper_give c.self.inside.collection.now c.self.inside.passes c.self.inside.bucket c.self.inside.board c.args.self.now out.0
     c.take-turn.result c.args.b c.args.keepers.now.keepers.items c.self.view_is c.self.invariant.shared_is out.1 out.2 c.take-turn.ensures.was

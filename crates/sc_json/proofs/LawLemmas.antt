@@ -34,7 +34,7 @@ use Rattle.sc_json.specs.RawDocs.{raw_number, raw_one, raw_items, raw_value, raw
 use Rattle.sc_json.specs.Laws.{HasItsBits, IsFieldInRange, ReadsBack}
 
 -- names are one just where they compare equal
-name_from : (k l : List ℕ) (o : Ordering) → slice_cmp nat_cmp k l ≡ o → bytes_eq l k ≡ is_eq o
+pub name_from : (k l : List ℕ) (o : Ordering) → slice_cmp nat_cmp k l ≡ o → bytes_eq l k ≡ is_eq o
 name_from k l o h = nat_list_eq_equiv.symm l k ∙ texts_ties k l ∙ ap is_eq h
 
 one_name : (k l : List ℕ) → slice_cmp nat_cmp k l ≡ Equal → l ≡ k
@@ -135,8 +135,8 @@ put_below k l d e ms h = ap (λ o. match_ordering o (member k d (member l e ms))
 data_of : Field → Data
 data_of field = field_data (kind_of field.name) field.values
 
-shown_first : (f : Field) (fields : List Field) → Ascends (f ∷ fields)
-    → members_of (map field_member (f ∷ fields)) ≡ member f.name (data_of f) (members_of (map field_member fields))
+pub shown_first : (f : Field) (fields : List Field) → Ascends (f ∷ fields)
+    → members_of (map field_member (f ∷ fields)) ≡ member f.name (field_data (kind_of f.name) f.values) (members_of (map field_member fields))
 unfolding data_of
 shown_first f [] a = refl
 shown_first f (g ∷ fields) a =
@@ -222,7 +222,7 @@ part_back name vs (Some (kind, many)) is fits range =
     rw (is, field_back kind many vs each count range) refl
 
 -- the name of a field is neither that of the id nor that of the version
-other_name : (name other : List ℕ) (vs : List Value) (b : Bool) → bytes_eq name other ≡ b → kind_of other ≡ None
+pub other_name : (name other : List ℕ) (vs : List Value) (b : Bool) → bytes_eq name other ≡ b → kind_of other ≡ None
     → fits_name (kind_of name) vs ≡ true → b ≡ false
 other_name name other vs false h none fits = refl
 other_name name other vs true h none fits =
@@ -230,11 +230,11 @@ other_name name other vs true h none fits =
     let nothing : fits_name None vs ≡ true = sym (ap (λ kind. fits_name kind vs) none) ∙ same in
     cc
 
-id-no_kind : kind_of (codes "id") ≡ None
+pub id-no_kind : kind_of (codes "id") ≡ None
 unfolding kind_of
 id-no_kind = refl
 
-version-no_kind : kind_of (codes "_version_") ≡ None
+pub version-no_kind : kind_of (codes "_version_") ≡ None
 unfolding kind_of
 version-no_kind = refl
 

@@ -6,3 +6,4 @@ pub mod TurnLemmas
 pub mod FlatLemmas
 pub mod PlaceLemmas
 pub mod LawLemmas
+pub mod SentLemmas

@@ -16,7 +16,7 @@ use Rattle.sc_json.specs.RawDocs.{raw_fields, raw_value}
 pub flipped : (j k : List ℕ) → slice_cmp nat_cmp j k ≡ Greater → slice_cmp nat_cmp k j ≡ Less
 flipped j k h = nat_list_cmp_total.antisymm k j ∙ ap ordering_reverse h
 
-after : (j k : List ℕ) → slice_cmp nat_cmp j k ≡ Less → slice_cmp nat_cmp k j ≡ Greater
+pub after : (j k : List ℕ) → slice_cmp nat_cmp j k ≡ Less → slice_cmp nat_cmp k j ≡ Greater
 after j k h = nat_list_cmp_total.antisymm k j ∙ ap ordering_reverse h
 
 holds_at : (P : List ℕ → Type 0) (fields : List RawField) (at : ℕ) (f : RawField) → AllByRecursion P (raw_names fields) → at < length fields → f ≡ get_or fields at f → P f.name

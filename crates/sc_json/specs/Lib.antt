@@ -3,4 +3,5 @@ pub mod Bodies
 pub mod RawDocs
 pub mod Flat
 pub mod Documents
+pub mod Sent
 pub mod Laws

@@ -1,15 +1,16 @@
 //! JSON (RFC 8259): the value that a body is, a document as a request gives it, and a document as it is shown.
 //!
-//! It may depend on the documents of `sc_record` and `sc_schema`, on the parser and printer of `serde_json`, and on the reader
-//! of `json` below it, which do all reading, printing and escaping. The layers above use the clauses of `read` and `raw_doc`,
-//! which say which value a body has and what its members are, those of `flat_docs` and `count_docs`, which read the common body
-//! and count its documents with no tree of its value, and those of `doc_value` and `print`, which say which text a document has.
+//! It may depend on the documents of `sc_record` and `sc_schema`, on the parser and printer of `serde_json`, on `serde`, by
+//! which a document is sent to that printer, and on the reader of `json` below it, which do all reading, printing and escaping.
+//! The layers above use the clauses of `read` and `raw_doc`, which say which value a body has and what its members are, those of
+//! `flat_docs` and `count_docs`, which read the common body and count its documents with no tree of its value, that of
+//! `ShownDocument`, which says what a document sends, and those of `print`, which say which text a value has.
 //!
-//! Proved: `read`, `raw_doc`, `doc_value` and `print` are the definitions in `specs/` over the JSON values of `serde_json`.
-//! The documents that `flat_docs` gives are those of the body's value, and the number that `count_docs` gives is theirs. Law
-//! `shown_document`: a document that is shown, sent back as it is, makes the same document, under the condition of its
-//! version. `limits_are_as_defined`: the code's limit for the fields of a document that is read as it comes is that of the
-//! definitions.
+//! Proved: `read`, `raw_doc` and `print` are the definitions in `specs/` over the JSON values of `serde_json`, and a
+//! `ShownDocument` sends what the value of its document would. The documents that `flat_docs` gives are those of the body's
+//! value, and the number that `count_docs` gives is theirs. Law `shown_document`: a document that is shown, sent back as it is,
+//! makes the same document, under the condition of its version. `limits_are_as_defined`: the code's limit for the fields of a
+//! document that is read as it comes is that of the definitions.
 //!
 //! Tested alone: the worked documents.
 //!
@@ -35,7 +36,7 @@ mod laws;
 
 pub use body::{JsonFault, read};
 pub use count::count_docs;
-pub use document::doc_value;
+pub use document::ShownDocument;
 pub use flat::flat_docs;
 pub use laws::{limits_are_as_defined, shown_document};
 pub use raw::{RawFault, raw_doc, raw_one};

@@ -1,5 +1,5 @@
 -- No answer has a number but whole ones.
-use Rattle.std.proofs.Common.{◌≡◌, ℕ, pos, List, [], ◌∷◌, ◌++◌, length, map, Bool, true, false, cond, codes, refl}
+use Rattle.std.proofs.Common.{◌≡◌, ℕ, pos, List, [], ◌∷◌, ◌++◌, length, map, Some, Bool, true, false, cond, codes, refl}
 use Rattle.std.specs.List.{flat_map, AllByRecursion}
 use Rattle.serde_json.specs.Data.{Data, boolean, string, no_members}
 use Rattle.serde_json.specs.View.{items_of}
@@ -8,7 +8,7 @@ use Rattle.sc_record.specs.declared.ack.Ack.{Ack}
 use Rattle.sc_record.specs.declared.write.Write.{Write}
 use Rattle.sc_json.specs.Documents.{object_of, array_of, whole_number, write_data}
 use Rattle.sc_json.proofs.FloatLemmas.{no_float-put_all, no_float-number, no_float-list, no_float-document}
-use Rattle.sc_reply.specs.Bodies.{acks_data, acks_member, acks_members, header_member, error_member, update_data, error_data, response_member, ids_data, select_data}
+use Rattle.sc_reply.specs.Bodies.{acks_data, acks_member, acks_members, header_member, error_member, update_data, error_data, get_data, response_member, ids_data, select_data}
 
 -- the value of a member is without such a number
 abbrev HasNoFloat : List ℕ × Data → Type 0
@@ -48,6 +48,10 @@ no_float-error code message adds deletes versions =
 
 no_float-write : (write : Write) → has_float (write_data write) ≡ false
 no_float-write write = no_float-document write.id write.version write.doc
+
+-- the answer to a get of one id that has a document
+pub no_float-get : (write : Write) → has_float (get_data (Some write)) ≡ false
+no_float-get write = no_float-object ((codes "doc", write_data write) ∷ []) (no_float-write write, tt)
 
 no_float-response : (found start : ℕ) (writes : List Write) → HasNoFloat (response_member found start writes)
 no_float-response found start writes =

@@ -1,5 +1,4 @@
 -- Facts on the texts of replies.
 pub mod TextLemmas
 pub mod FloatLemmas
-pub mod LiveLemmas
 pub mod PutLemmas

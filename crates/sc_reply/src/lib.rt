@@ -1,8 +1,9 @@
 //! What is answered: the bodies of all answers to updates, gets and searches, and the status and the message of each cause of
 //! a refusal (RFC 8259; Solr Reference Guide, "Response Writers").
 //!
-//! It may depend on `sc_record` and `sc_cluster`, whose limits its messages tell, and on `sc_json`, which shows documents and prints. The layers above use the clauses that give
-//! each body's whole text, and those of `Cause::status` and `Cause::message`.
+//! It may depend on `sc_record` and `sc_cluster`, whose limits its messages tell, on `sc_json`, which shows documents and prints,
+//! and on `serde`, by which an answer with documents is sent to the printer of `serde_json`. The layers above use the clauses
+//! that give each body's whole text, and those of `Cause::status` and `Cause::message`.
 //!
 //! Proved: the bodies of updates, errors and gets, and their messages, are the texts of `specs/Bodies` and `Refusals`.
 //!
@@ -14,6 +15,9 @@ mod cause;
 
 // The members of answers.
 mod parts;
+
+// Answers with documents, as they are written.
+mod shown;
 
 // The bodies of answers.
 mod documents;

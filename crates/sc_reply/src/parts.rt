@@ -1,6 +1,8 @@
 //! The members of answers, and their text.
 
-ghost use Rattle.std.specs.Prelude.{◌≡◌, ◌∷◌, [], false, IfOk, OnOk};
+ghost use Rattle.std.specs.Prelude.{◌≡◌, ◌∷◌, [], false, IfOk, OnOk, Some};
+ghost use Rattle.serde.specs.Event.{Log};
+ghost use Rattle.serde_json.specs.Sent.{IsTextOf};
 ghost use Rattle.serde_json.specs.Written.{has_float, compact_text};
 ghost use Rattle.serde_json.specs.View.{view, members_view};
 ghost use Rattle.sc_json.specs.Documents.{put_all};
@@ -8,6 +10,7 @@ ghost use Rattle.sc_reply.specs.Bodies as bodies;
 
 use sc_json::print;
 use sc_record::{Ack, List, Text};
+use serde::Serialize;
 use serde_json::{Map, Value, json, put};
 use std::alloc::{AllocError, Global};
 
@@ -90,4 +93,15 @@ pub fn text_of(alloc: Global, value: &Value) -> Result<Text, AllocError>
     ensures { IfOk result (λ text. text ≡ compact_text (view value.now)) }
 {
     print(alloc, value)
+}
+
+/// The text of an answer that sends itself.
+pub fn written<T: Serialize>(alloc: Global, answer: &T) -> Result<Text, AllocError>
+    ensures { IfOk result
+        (λ text. (log : Log) × T.writes answer.now (Some []) log × IsTextOf log text) }
+{
+    let Ok(text) = serde_json::to_string(alloc, answer) else {
+        return Err(AllocError);
+    };
+    Text::from_string(alloc, text)
 }

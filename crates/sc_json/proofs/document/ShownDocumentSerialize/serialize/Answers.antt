@@ -1,0 +1,16 @@
+-- The document that is sent is that of the write.
+use Rattle.std.proofs.Common.{◌≡◌, ℤ, Some, to_z, of_z, w64, subst, rules}
+use Rattle.std.proofs.lemmas.Result.{on_ok_weaker}
+use Rattle.serde_json.specs.Events.{SendsValue}
+use Rattle.sc_json.specs.Documents.{document_data}
+use Rattle.sc_json.proofs.document.ShownDocumentSerialize.serialize.Goals as goal
+
+pub returns-in-Some : goal.returns-in-Some
+returns-in-Some g c =
+    let write = c.args.self.now.0.now in
+    let old = g.S.Serializer.written c.args.out.now in
+    let new = g.S.Serializer.written c.send_document.new.out in
+    let fields : Some c.fields.result.now ≡ write.doc = search rules in
+    let version : to_z w64 (of_z w64 write.version) ≡ write.version = search rules in
+    on_ok_weaker c.send_document.result (λ sent. subst (λ doc. SendsValue (document_data write.id write.version doc) old new) fields
+    (subst (λ (z : ℤ). SendsValue (document_data write.id z (Some c.fields.result.now)) old new) version sent)) c.send_document.ensures

@@ -6,7 +6,9 @@ pub mod BoundsLemmas
 pub mod CarryLemmas
 pub mod EntryLemmas
 pub mod FlatLemmas
+pub mod FrontLemmas
 pub mod HasRowLemmas
+pub mod HeadLemmas
 pub mod IndexLemmas
 pub mod JoinLemmas
 pub mod MembersLemmas

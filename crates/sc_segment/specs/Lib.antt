@@ -3,6 +3,7 @@ pub mod Carrying
 pub mod Filing
 pub mod Flat
 pub mod Fresh
+pub mod Heads
 pub mod Index
 pub mod Joining
 pub mod Live

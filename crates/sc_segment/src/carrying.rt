@@ -83,7 +83,7 @@ fn carry_all<K: Key + Drop, L: Ledger>(
 }
 
 // The place of an added key among the stored keys of both lists. An error means that there are more than 2^32 - 1 of them.
-fn place_after<K>(old: &Keys<K>, added: &Keys<K>, at: usize) -> Result<u32, AllocError>
+fn place_after<K: Key>(old: &Keys<K>, added: &Keys<K>, at: usize) -> Result<u32, AllocError>
     requires { at < length added.now.keys }
     ensures { IfOk result (λ place. slice_get (old.now.stored ++ added.now.stored) place ≡ slice_get added.now.keys at) }
 {

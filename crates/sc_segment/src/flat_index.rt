@@ -151,13 +151,13 @@ impl<K> FlatIndex<K> {
 
 /// An index that is only read: the keys, where the rows of each key end, and the rows of all keys one after another.
 #[derive(Drop)]
-pub(crate) struct KeptIndex<K> {
+pub(crate) struct KeptIndex<K: Key> {
     keys: Keys<K>,
     ends: Vec<usize>,
     rows: Vec<u32>,
 }
 
-impl<K> Model for KeptIndex<K> {
+impl<K: Key> Model for KeptIndex<K> {
     ghost use Rattle.std.specs.Prelude.{◌≡◌, length};
     ghost use Rattle.sc_segment.specs.Flat.{entries_from, AreEnds};
     ghost use Rattle.sc_segment.specs.Storing.{KeptState};
@@ -169,7 +169,7 @@ impl<K> Model for KeptIndex<K> {
     ghost invariant = { λ a. (length a.keys.keys ≡ length a.ends.items) × AreEnds 0 a.ends.items (length a.rows.items) };
 }
 
-impl<K> KeptIndex<K> {
+impl<K: Key> KeptIndex<K> {
     // How many rows the keys before this place have.
     fn rows_before(&self, at: usize) -> usize
         requires { at ≤ length self.now.entries }
@@ -202,7 +202,7 @@ impl<K> KeptIndex<K> {
     }
 }
 
-impl<K: Drop> KeptIndex<K> {
+impl<K: Key + Drop> KeptIndex<K> {
     /// The index that was written with its keys. The room that is not used is given back. An error is one of `Keys::of`.
     pub(crate) fn of_written(alloc: Global, index: FlatIndex<K>) -> Result<KeptIndex<K>, AllocError>
         ensures { IfOk result (λ kept. kept.entries ≡ index.entries) }

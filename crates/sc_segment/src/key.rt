@@ -1,6 +1,6 @@
-ghost use Rattle.std.specs.Prelude.{◌≡◌, ◌+◌, IfOk};
+ghost use Rattle.std.specs.Prelude.{◌≡◌, ◌+◌, ◌<◌, ◌^◌, ℕ, IfOk};
 ghost use Rattle.std.specs.declared.cmp.Ordering.{Ordering};
-ghost use Rattle.std.specs.declared.cmp.Ordering.TheVariants.{Equal};
+ghost use Rattle.std.specs.declared.cmp.Ordering.TheVariants.{Less, Equal};
 ghost use Rattle.std.specs.Cmp.{IsTotalOrder};
 
 use crate::steps::Steps;
@@ -8,14 +8,20 @@ use std::alloc::AllocError;
 use std::cmp::Ordering;
 use std::sync::ledger::Ledger;
 
-/// What rows are found by. Two keys can be compared only at the cost of a step.
+/// What rows are found by. Two keys can be compared only at the cost of a step, by themselves or by their heads.
 pub trait Key: Sized {
     ghost order: { Self → Self → Ordering };
+
+    ghost heading: { Self → ℕ };
 
     /// Compares by the key's total order. An implementation calls `Steps::tick` once.
     fn compare<L: Ledger>(&self, other: &Self, steps: &mut Steps<L>) -> Ordering
         ensures answer { result ≡ order self.now other.now }
         ensures counted { steps.new ≡ steps.old + 1 };
+
+    /// The key's head: a number that goes with the order, by which keys are compared where their heads differ.
+    fn head(&self) -> u64
+        ensures { result ≡ heading self.now };
 
     /// One more key that compares equal. An error means out of memory.
     fn share(&self) -> Result<Self, AllocError>
@@ -28,4 +34,7 @@ pub trait Key: Sized {
     }
 
     ghost total: { IsTotalOrder order };
+
+    // Of two keys the one with the lesser head is the lesser one.
+    ghost goes_with: { (x y : Self) → heading y < 2 ^ 64 → heading x < heading y → order x y ≡ Less };
 }

@@ -1,4 +1,4 @@
-ghost use Rattle.std.specs.Prelude.{◌≡◌, ◌<◌, ◌++◌, length, slice_get, Some, IfOk, OnOk};
+ghost use Rattle.std.specs.Prelude.{◌≡◌, ◌<◌, ◌++◌, length, map, slice_get, Some, IfOk, IfSome, OnOk};
 ghost use Rattle.sc_segment.specs.Storing.{AreAlike, ArePlaces, HasPlaces, keys_at, keys_in, stored_in};
 
 use crate::key::Key;
@@ -31,27 +31,29 @@ impl<K> Piece<K> {
     }
 }
 
-/// The keys of an index in their order, each by its place among stored keys. These stand in pieces that are shared with the indexes from
-/// which this one was carried. Not each stored key has a place.
+/// The keys of an index in their order, each by its head and by its place among stored keys. These stand in pieces that are shared with
+/// the indexes from which this one was carried. Not each stored key has a place.
 #[derive(Drop)]
-pub(crate) struct Keys<K> {
+pub(crate) struct Keys<K: Key> {
     pieces: Vec<Piece<K>>,
     stored: u32,
     places: Vec<u32>,
+    heads: Vec<u64>,
 }
 
-impl<K> Model for Keys<K> {
-    ghost use Rattle.std.specs.Prelude.{◌≡◌, length};
+impl<K: Key> Model for Keys<K> {
+    ghost use Rattle.std.specs.Prelude.{◌≡◌, length, map};
     ghost use Rattle.sc_segment.specs.Storing.{KeysState, ArePlaces, keys_at, stored_in};
 
     ghost Value = { KeysState K };
 
     ghost view = { λ a. record { stored = stored_in a.pieces.items; keys = keys_at (stored_in a.pieces.items) a.places.items } };
 
-    ghost invariant = { λ a. (a.stored ≡ length (stored_in a.pieces.items)) × ArePlaces (stored_in a.pieces.items) a.places.items };
+    ghost invariant = { λ a. (a.stored ≡ length (stored_in a.pieces.items)) × ArePlaces (stored_in a.pieces.items) a.places.items
+        × (a.heads.items ≡ map K.heading (keys_at (stored_in a.pieces.items) a.places.items)) };
 }
 
-impl<K> Keys<K> {
+impl<K: Key> Keys<K> {
     /// How many keys there are.
     pub(crate) fn len(&self) -> usize
         ensures { result ≡ length self.now.keys }
@@ -65,6 +67,36 @@ impl<K> Keys<K> {
         ensures { slice_get self.now.keys at ≡ Some result.now }
     {
         stored_key(&self.pieces, self.places[at] as usize)
+    }
+
+    /// The head of the key with this number.
+    #[inline(always)]
+    pub(crate) fn head(&self, at: usize) -> u64
+        requires { at < length self.now.keys }
+        ensures { (key : K) → slice_get self.now.keys at ≡ Some key → result ≡ K.heading key }
+    {
+        self.heads[at]
+    }
+
+    // The first number from this one on whose key stands at this place, or else how many keys there are. Nothing but time depends on it.
+    fn pass_to(&self, from: usize, place: u32) -> usize {
+        for at in from..self.places.len() {
+            if self.places[at] == place {
+                return at;
+            }
+        }
+        self.places.len()
+    }
+
+    // The head of the stored key at this place, if it is the key with this number.
+    fn head_at(&self, at: usize, place: u32) -> Option<u64>
+        ensures { IfSome result (λ head. (key : K) → slice_get self.now.stored place ≡ Some key → head ≡ K.heading key) }
+    {
+        if at < self.places.len() && self.places[at] == place {
+            Some(self.heads[at])
+        } else {
+            None
+        }
     }
 
     /// The places of the keys.
@@ -82,7 +114,7 @@ impl<K> Keys<K> {
     }
 }
 
-impl<K: Drop> Keys<K> {
+impl<K: Key + Drop> Keys<K> {
     /// These keys, as one piece. An error means out of memory, or that there are more than 2^32 - 1.
     pub(crate) fn of(alloc: Global, keys: Vec<K>) -> Result<Keys<K>, AllocError>
         ensures { IfOk result (λ state. state.keys ≡ keys.items) }
@@ -91,6 +123,7 @@ impl<K: Drop> Keys<K> {
             return Err(AllocError);
         };
         let places = places_of(alloc, keys.as_slice(), stored)?;
+        let heads = heads_of(alloc, keys.as_slice())?;
         let mut pieces = Vec::new(alloc);
         pieces.push(Piece {
             keys: Arc::new(alloc, keys)?,
@@ -99,11 +132,10 @@ impl<K: Drop> Keys<K> {
             pieces,
             stored,
             places,
+            heads,
         })
     }
-}
 
-impl<K: Key + Drop> Keys<K> {
     /// The keys at these places among those that are stored with old keys, and those that are stored with added ones after them. Both
     /// are shared by whole pieces, and so all keep their places, unless too many have none or they stand in too many pieces: each key is
     /// shared alone then, and those without a place are let go. An error means out of memory, or that more than 2^32 - 1 are stored.
@@ -118,10 +150,12 @@ impl<K: Key + Drop> Keys<K> {
     {
         let pieces = pieces_of_both(alloc, old, added)?;
         let stored = old.stored.checked_add(added.stored).ok_or(AllocError)?;
+        let heads = heads_at(alloc, old, added, pieces.as_slice(), places.as_slice())?;
         let keys = Keys {
             pieces,
             stored,
             places,
+            heads,
         };
         if keys.is_worn() {
             keys.renewed(alloc)
@@ -164,8 +198,82 @@ fn places_of<K>(alloc: Global, keys: &[K], count: u32) -> Result<Vec<u32>, Alloc
     Ok(places)
 }
 
+// The heads of keys.
+fn heads_of<K: Key>(alloc: Global, keys: &[K]) -> Result<Vec<u64>, AllocError>
+    ensures { IfOk result (λ heads. heads.items ≡ map K.heading keys.now) }
+{
+    let mut heads = Vec::with_capacity(alloc, keys.len())?;
+    for key in keys {
+        heads.push(key.head())?;
+    }
+    Ok(heads)
+}
+
+// The heads of the keys at these places among those that are stored with both lists. The places of each list's keys come mostly in the
+// order of its keys, so that both lists are passed once and no key is touched.
+fn heads_at<K: Key>(
+    alloc: Global,
+    old: &Keys<K>,
+    added: &Keys<K>,
+    pieces: &[Piece<K>],
+    places: &[u32],
+) -> Result<Vec<u64>, AllocError>
+    requires stored { stored_in pieces.now ≡ old.now.stored ++ added.now.stored }
+    requires places { ArePlaces (stored_in pieces.now) places.now }
+    ensures { IfOk result (λ heads. heads.items ≡ map K.heading (keys_at (stored_in pieces.now) places.now)) }
+{
+    let mut heads = Vec::with_capacity(alloc, places.len())?;
+    let mut low = 0;
+    let mut high = 0;
+    for at in 0..places.len() {
+        let head = head_of(old, added, &mut low, &mut high, pieces, places[at]);
+        heads.push(head)?;
+    }
+    Ok(heads)
+}
+
+// The head of the key at this place, which is read from the key itself only where neither list has it after the numbers that were passed.
+fn head_of<K: Key>(
+    old: &Keys<K>,
+    added: &Keys<K>,
+    low: &mut usize,
+    high: &mut usize,
+    pieces: &[Piece<K>],
+    place: u32,
+) -> u64
+    requires stored { stored_in pieces.now ≡ old.now.stored ++ added.now.stored }
+    requires within { place < length (stored_in pieces.now) }
+    ensures { (key : K) → slice_get (stored_in pieces.now) place ≡ Some key → result ≡ K.heading key }
+{
+    match known_head(old, added, low, high, place) {
+        Some(head) => head,
+        None => stored_key(pieces, place as usize).head(),
+    }
+}
+
+// The head of the key at this place, if one of the lists has it after the numbers that were passed.
+fn known_head<K: Key>(
+    old: &Keys<K>,
+    added: &Keys<K>,
+    low: &mut usize,
+    high: &mut usize,
+    place: u32,
+) -> Option<u64>
+    ensures { IfSome result (λ head. (key : K) → slice_get (old.now.stored ++ added.now.stored) place ≡ Some key → head ≡ K.heading key) }
+{
+    let count = old.stored();
+    if place < count {
+        *low = old.pass_to(*low, place);
+        old.head_at(*low, place)
+    } else {
+        let own = place - count;
+        *high = added.pass_to(*high, own);
+        added.head_at(*high, own)
+    }
+}
+
 // A share of each piece of both lists.
-fn pieces_of_both<K: Drop>(
+fn pieces_of_both<K: Key + Drop>(
     alloc: Global,
     old: &Keys<K>,
     added: &Keys<K>,

@@ -1,4 +1,5 @@
-//! Posting lists: which rows have a key, found by a search among the keys that counts its comparisons.
+//! Posting lists: which rows have a key, found by a search among the keys that counts its comparisons. Two keys are compared by their
+//! heads, which are numbers that go with the order, and by themselves only where their heads are the same.
 //!
 //! A `Builder` takes pairs of a row and a key, which it finds by its hash, and becomes a `Segment`, which has the keys in order and gives
 //! the rows of a key. Where some rows change,
@@ -19,6 +20,7 @@
 mod builder;
 mod carrying;
 mod flat_index;
+mod front;
 mod joining;
 mod key;
 mod keys;
@@ -29,6 +31,7 @@ mod segment;
 mod steps;
 
 pub use builder::Builder;
+pub use front::front_number;
 pub use joining::{Kept, join};
 pub use key::Key;
 pub use live_bits::LiveBits;

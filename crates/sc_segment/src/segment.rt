@@ -70,15 +70,43 @@ pub(crate) fn search<K: Key, L: Ledger>(
     ensures counted { steps.old ≤ steps.new }
     ensures bound { 2 ^ (steps.new - steps.old) ≤ 2 * length keys.now.keys + 1 }
 {
+    let head = key.head();
     let mut low = from;
     let mut high = keys.len();
     'halving: while low < high {
         let middle = low + (high - low) / 2;
-        match key.compare(keys.get(middle), steps) {
+        match compare_at(keys, middle, key, head, steps) {
             Ordering::Less => high = middle,
             Ordering::Equal => return Ok(middle),
             Ordering::Greater => low = middle + 1,
         }
     }
     Err(low)
+}
+
+// How the key with this head compares to the one with this number: by their heads, and by the keys only where the heads are the same.
+#[inline(always)]
+fn compare_at<K: Key, L: Ledger>(
+    keys: &Keys<K>,
+    at: usize,
+    key: &K,
+    head: u64,
+    steps: &mut Steps<L>,
+) -> Ordering
+    requires within { at < length keys.now.keys }
+    requires head { head ≡ K.heading key.now }
+    ensures answer { (found : K) → slice_get keys.now.keys at ≡ Some found → result ≡ K.order key.now found }
+    ensures counted { steps.new ≡ steps.old + 1 }
+{
+    let other = keys.head(at);
+    if head == other {
+        key.compare(keys.get(at), steps)
+    } else {
+        steps.tick();
+        if head < other {
+            Ordering::Less
+        } else {
+            Ordering::Greater
+        }
+    }
 }

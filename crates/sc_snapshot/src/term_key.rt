@@ -6,10 +6,12 @@ ghost use Rattle.std.specs.Hash.{and-Alike, on_Alike, same_Alike};
 ghost use Rattle.std.specs.Ordering.{nat_cmp};
 ghost use Rattle.std.specs.Str.{bytes_eq};
 ghost use Rattle.std.proofs.lemmas.Cmp.{nat_list_cmp_total, and_equiv, on_equiv, on_total, then_total};
+ghost use Rattle.sc_segment.proofs.FrontLemmas.{front_number-first};
+ghost use Rattle.sc_segment.specs.Heads.{front_number};
 ghost use Rattle.sc_snapshot.specs.Keys.{key_cmp};
 
 use sc_record::Term;
-use sc_segment::{Key, Steps};
+use sc_segment::{Key, Steps, front_number};
 use std::alloc::AllocError;
 use std::cmp::Ordering;
 use std::hash::{Hash, Hasher};
@@ -103,9 +105,16 @@ impl Hash for TermKey {
 impl Key for TermKey {
     ghost order = { λ a b. key_cmp a.term b.term };
 
+    ghost heading = { λ a. front_number 8 a.term.key };
+
     fn compare<L: Ledger>(&self, other: &Self, steps: &mut Steps<L>) -> Ordering {
         steps.tick();
         self.cmp(other)
+    }
+
+    /// The first bytes of the text.
+    fn head(&self) -> u64 {
+        front_number(self.term.key.as_str().as_bytes())
     }
 
     /// The first bytes of the text and of the field: of two terms the lesser one has the lesser number, but where long texts begin alike.
@@ -123,6 +132,8 @@ impl Key for TermKey {
     }
 
     ghost total = { then_total (on_total (λ a. a.term.key) nat_list_cmp_total) (on_total (λ a. a.term.field) nat_list_cmp_total) };
+
+    ghost goes_with = { λ x y fits less. front_number-first 8 x.term.key y.term.key (slice_cmp nat_cmp x.term.field y.term.field) fits less };
 }
 
 // Puts as much of the text in the room as it has place for.

@@ -25,10 +25,16 @@ pub struct CountedKey<'a> {
 impl Key for CountedKey<'_> {
     ghost order = { λ a b. nat_cmp a.number b.number };
 
+    ghost heading = { λ a. a.number };
+
     fn compare<L: Ledger>(&self, other: &Self, steps: &mut Steps<L>) -> Ordering {
         self.compared.set(self.compared.get().saturating_add(1));
         steps.tick();
         self.number.cmp(&other.number)
+    }
+
+    fn head(&self) -> u64 {
+        u64::from(self.number)
     }
 
     fn share(&self) -> Result<Self, AllocError> {

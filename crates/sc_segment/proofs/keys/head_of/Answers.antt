@@ -1,6 +1,5 @@
 -- The head is known, or else it is read from the stored key.
 use Rattle.std.proofs.Common.{◌≡◌, List, slice_get, Some, sym, ap, subst, ◌∙◌}
-use Rattle.sc_segment.specs.Storing.{stored_in}
 use Rattle.sc_segment.proofs.keys.head_of.Goals as goal
 
 pub returns-in-Some : goal.returns-in-Some

@@ -10,3 +10,4 @@ pub mod CauseLemmas
 pub mod RunLemmas
 pub mod EnlistLemmas
 pub mod EndLemmas
+pub mod CrossingLemmas

@@ -1,9 +1,13 @@
 -- Each worker has done what it promises, and has its passes back.
 use Rattle.std.proofs.Common.{arith}
 use denote.Param.Send.{sendable}
+use Rattle.sc_server.proofs.CrossingLemmas.{worker_send}
 use Rattle.sc_server.proofs.WorkerLemmas.{has_read, worked_each, ready_each}
 use Rattle.sc_server.specs.Working.{IsReadyToWork}
 use Rattle.sc_server.proofs.server.work_all.Goals as goal
+
+pub for_each_mut-requires-send-T : goal.for_each_mut-requires-send-T
+for_each_mut-requires-send-T g c κs within = search (worker_send, sendable)
 
 pub for_each_mut-requires-clause-accepts : goal.for_each_mut-requires-clause-accepts
 for_each_mut-requires-clause-accepts g c κs within =

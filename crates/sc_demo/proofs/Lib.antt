@@ -13,3 +13,4 @@ pub mod PartLemmas
 pub mod SayLemmas
 pub mod DemoLemmas
 pub mod TellLemmas
+pub mod CrossingLemmas

@@ -1,9 +1,14 @@
 -- Each maker has made what it was to make, and has its passes back.
 use Rattle.std.proofs.Common.{arith}
+use denote.Param.Send.{sendable}
 use Rattle.sc_server.proofs.WorkerLemmas.{has_read}
+use Rattle.sc_demo.proofs.CrossingLemmas.{maker_send}
 use Rattle.sc_demo.proofs.MakerLemmas.{made_each, home_each}
 use Rattle.sc_demo.specs.Makers.{IsReadyToMake}
 use Rattle.sc_demo.proofs.makers.work_all.Goals as goal
+
+pub for_each_mut-requires-send-T : goal.for_each_mut-requires-send-T
+for_each_mut-requires-send-T g c κs within = search (maker_send, sendable)
 
 pub for_each_mut-requires-clause-accepts : goal.for_each_mut-requires-clause-accepts
 for_each_mut-requires-clause-accepts g c κs within =

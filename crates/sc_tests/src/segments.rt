@@ -3,6 +3,7 @@
 ghost use Rattle.std.specs.Ordering.{nat_cmp};
 ghost use Rattle.sc_segment.specs.Fresh.{IsFresh};
 ghost use Rattle.std.proofs.lemmas.Cmp.{on_total, nat_cmp_total};
+ghost use Rattle.sc_segment.proofs.JoinLemmas.{cmp_from_less};
 
 use sc_segment::{Builder, Kept, Key, LiveBits, Segment, Steps, join};
 use std::alloc::{AllocError, Global};
@@ -45,6 +46,8 @@ impl Key for CountedKey<'_> {
     }
 
     ghost total = { on_total (λ a. a.number) nat_cmp_total };
+
+    ghost goes_with = { λ x y fits less. cmp_from_less x.number y.number less };
 }
 
 // A segment of these rows, which ascend, and their keys.

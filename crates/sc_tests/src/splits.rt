@@ -205,6 +205,34 @@ fn conversed_at<R: Threads + Wait + Sync, N: Home>(
     told
 }
 
+/// What a thread talks by: requests over a collection, for passes of its own, and channels to one that works amid a split.
+#[derive(Drop)]
+struct Talk<'a, R> {
+    rt: &'a R,
+    alloc: Global,
+    collection: &'a Collection,
+    passes: Passes,
+    steps: Sender<SplitStep>,
+    done: Receiver<()>,
+    requests: &'a [&'a str],
+}
+
+/// What is answered to the requests of a talk.
+fn talked<R: Threads + Wait + Sync>(talk: Talk<'_, R>) -> Result<String, AllocError>
+    requires passes { ArePasses talk.collection.now talk.passes }
+{
+    let Talk {
+        rt,
+        alloc,
+        collection,
+        passes,
+        steps,
+        done,
+        requests,
+    } = talk;
+    conversed(rt, alloc, collection, passes, steps, done, requests)
+}
+
 /// What is answered to these requests over one desk, and then what to those that come amid the split, over another in another thread.
 fn told_by_two<R: Threads + Wait + Sync>(
     rt: &R,
@@ -220,12 +248,21 @@ fn told_by_two<R: Threads + Wait + Sync>(
 {
     let (steps, told_steps) = crossbeam_channel::unbounded(alloc)?;
     let (done, told_done) = crossbeam_channel::unbounded(alloc)?;
+    let talk = Talk {
+        rt,
+        alloc,
+        collection,
+        passes,
+        steps,
+        done: told_done,
+        requests,
+    };
     let (told, amid) = thread::join(
         rt,
         move || -> Result<String, AllocError>
-            requires passes { ArePasses collection.now passes }
+            requires passes { ArePasses talk.collection.now talk.passes }
             requires shared { IsSync R.row }
-        { conversed(rt, alloc, collection, passes, steps, told_done, requests) },
+        { talked(talk) },
         move || -> Result<String, AllocError>
             requires others { ArePasses collection.now others }
             requires shared { IsSync R.row }

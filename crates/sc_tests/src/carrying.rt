@@ -35,12 +35,12 @@ fn carried<'a>(
     old.carried(alloc, &moved(), &added)
 }
 
-fn assert_rows_of<L: Ledger>(
+fn assert_rows_of<'a, L: Ledger>(
     rt: &impl Abort,
-    segment: &Segment<CountedKey<'_>>,
+    segment: &Segment<CountedKey<'a>>,
     number: u32,
     rows: &[u32],
-    compared: &Cell<u32>,
+    compared: &'a Cell<u32>,
     steps: &mut Steps<L>,
 ) {
     assert_rows(

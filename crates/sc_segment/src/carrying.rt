@@ -24,7 +24,8 @@ impl<K: Key + Drop> Segment<K> {
     /// What becomes of a segment when some rows change: its rows under new numbers, and beside them those of another segment, which
     /// has the rows that are new or changed. `moved` has the new number of each old row, and None where it is gone; a row past its
     /// end is gone too. A key whose rows are all gone is left out. Each row that stays is looked up once in `moved`, and only the
-    /// keys that are added are sought. The keys are shared by whole pieces. An error means out of memory.
+    /// keys that are added are sought. The keys are shared by whole pieces. An error means out of memory, or that there might be more
+    /// than 2^32 - 1 rows, those of each key counted, or stored keys.
     pub fn carried(
         &self,
         alloc: Global,

@@ -1,4 +1,4 @@
-ghost use Rattle.std.specs.Prelude.{◌≡◌, ℕ, ◌+◌, ◌<◌, ◌≤◌, ◌↔◌, IsTrue, List, [], ◌∷◌, ◌++◌, length, take, slice_get, slice_index, All, Some, IfOk, OnOk, ◌-◌, vec_len, vec_capacity};
+ghost use Rattle.std.specs.Prelude.{◌≡◌, ℕ, ◌+◌, ◌^◌, ◌<◌, ◌≤◌, ◌↔◌, IsTrue, List, [], ◌∷◌, ◌++◌, length, take, slice_get, slice_index, All, Some, IfOk, OnOk, ◌-◌, vec_len, vec_capacity};
 ghost use Rattle.std.specs.Map.{keys_of};
 ghost use Rattle.sc_segment.specs.Carrying.{new_number, new_numbers, KeepsOrder, AreBefore};
 ghost use Rattle.sc_segment.specs.Flat.{FlatState, IsLaidOut, AreAllClosed, PutsKey, entries_from, key_ends, rows_among};
@@ -16,7 +16,7 @@ use std::marker::Model;
 #[derive(Drop)]
 pub(crate) struct FlatIndex<K> {
     keys: Vec<K>,
-    ends: Vec<usize>,
+    ends: Vec<u32>,
     rows: Vec<u32>,
 }
 
@@ -89,14 +89,16 @@ impl<K: Drop> FlatIndex<K> {
         Ok(())
     }
 
-    /// Puts a key at the end, whose rows are those that were added since the key before it.
+    /// Puts a key at the end, whose rows are those that were added since the key before it. An error means out of memory, or that all
+    /// keys so far have more than 2^32 - 1 rows.
     #[inline(always)]
     pub(crate) fn close(&mut self, key: K) -> Result<(), AllocError>
         ensures { OnOk result (self.new ≡ record { entries = self.old.entries ++ (key, self.old.pending) ∷ []; pending = [] }) }
     {
+        let end = as_end(self.rows.len())?;
         self.keys.reserve(1)?;
         self.ends.reserve(1)?;
-        self.ends.push_reserved(self.rows.len());
+        self.ends.push_reserved(end);
         self.keys.push_reserved(key);
         Ok(())
     }
@@ -104,7 +106,7 @@ impl<K: Drop> FlatIndex<K> {
 
 impl FlatIndex<u32> {
     /// Carries the keys of another index from one place up to another, each where rows of it are left, and is written with the places of
-    /// its stored keys. Room is made once for all of them.
+    /// its stored keys. Room is made once for all of them. An error means out of memory, or that there might be more than 2^32 - 1 rows.
     pub(crate) fn carry<K: Key + Drop>(
         &mut self,
         old: &KeptIndex<K>,
@@ -125,8 +127,9 @@ impl FlatIndex<u32> {
         let count = to - from;
         self.keys.reserve(count)?;
         self.ends.reserve(count)?;
-        self.rows
-            .reserve(old.rows_before(to) - old.rows_before(from))?;
+        let more = old.rows_before(to) - old.rows_before(from);
+        self.rows.reserve(more)?;
+        as_end(self.rows.len() + more)?;
         carry_range(
             &mut self.keys,
             &mut self.ends,
@@ -153,7 +156,7 @@ impl<K> FlatIndex<K> {
 #[derive(Drop)]
 pub(crate) struct KeptIndex<K: Key> {
     keys: Keys<K>,
-    ends: Vec<usize>,
+    ends: Vec<u32>,
     rows: Vec<u32>,
 }
 
@@ -197,7 +200,7 @@ impl<K: Key> KeptIndex<K> {
         ensures { (key : K) → slice_get (keys_of self.now.entries) at ≡ Some key → slice_get self.now.entries at ≡ Some (key, result.now) }
     {
         let start = start_of(&self.ends, at);
-        let end = self.ends[at];
+        let end = self.ends[at] as usize;
         &self.rows[start..end]
     }
 }
@@ -246,19 +249,30 @@ impl<K: Key + Drop> KeptIndex<K> {
 }
 
 // Where the rows of the key at this place begin, or those that follow the last key.
-fn start_of(ends: &[usize], at: usize) -> usize
+fn start_of(ends: &[u32], at: usize) -> usize
     requires { at ≤ length ends.now }
     ensures first { at ≡ 0 → result ≡ 0 }
     ensures later { 0 < at → result ≡ slice_index ends.now (at - 1) }
 {
-    if at == 0 { 0 } else { ends[at - 1] }
+    if at == 0 { 0 } else { ends[at - 1] as usize }
+}
+
+// Where the rows of a key end that has the last of so many rows. An error means that there are more than 2^32 - 1.
+fn as_end(rows: usize) -> Result<u32, AllocError>
+    ensures end { IfOk result (λ end. end ≡ rows) }
+    ensures fits { OnOk result (rows < 2 ^ 32) }
+{
+    match u32::try_from(rows) {
+        Ok(end) => Ok(end),
+        Err(_) => Err(AllocError),
+    }
 }
 
 // Carries the keys of an index from one place up to another to the three lists of an index of places, which have room for all of them.
 // Rows are put there ahead of their keys, up to the first that is gone, so that many short lists cost as much as a long one.
 fn carry_range<K: Key + Drop>(
     places: &mut Vec<u32>,
-    ends: &mut Vec<usize>,
+    ends: &mut Vec<u32>,
     rows: &mut Vec<u32>,
     old: &KeptIndex<K>,
     from: usize,
@@ -274,6 +288,7 @@ fn carry_range<K: Key + Drop>(
     requires room_for_places { vec_len places.old + to ≤ vec_capacity places.old + from }
     requires room_for_ends { vec_len ends.old + to ≤ vec_capacity ends.old + from }
     requires room_for_rows { vec_len rows.old + rows_among (take to old.now.entries) ≤ vec_capacity rows.old + rows_among (take from old.now.entries) }
+    requires fits { vec_len rows.old + rows_among (take to old.now.entries) < 2 ^ 32 + rows_among (take from old.now.entries) }
     ensures laid_out { IsLaidOut places.new.items ends.new.items rows.new.items }
     ensures none { AreAllClosed ends.new.items rows.new.items }
     ensures carried { (more : List K) (before : List (K × List ℕ)) → AreBefore K.order before old.now.entries from
@@ -286,7 +301,7 @@ fn carry_range<K: Key + Drop>(
     let mut passed = start_of(old_ends, from);
     let mut start = rows.len();
     'carrying: for at in from..to {
-        let old_end = old_ends[at];
+        let old_end = old_ends[at] as usize;
         passed = push_ahead(rows, old_rows, moved, passed, old_end);
         let end = rows.len() - (passed - old_end);
         put_place(places, ends, old_places[at], start, end);
@@ -296,16 +311,17 @@ fn carry_range<K: Key + Drop>(
 
 // Puts a place at the end, and where the rows of its key end, unless it has none.
 #[inline(always)]
-fn put_place(places: &mut Vec<u32>, ends: &mut Vec<usize>, place: u32, start: usize, end: usize)
+fn put_place(places: &mut Vec<u32>, ends: &mut Vec<u32>, place: u32, start: usize, end: usize)
     requires room_for_place { vec_len places.old < vec_capacity places.old }
     requires room_for_end { vec_len ends.old < vec_capacity ends.old }
+    requires fits { end < 2 ^ 32 }
     ensures puts { (rows : List ℕ) → end ≡ start + length rows
         → PutsKey place rows end (key_ends places.old.items ends.old.items) (key_ends places.new.items ends.new.items) }
     ensures place_room { (vec_capacity places.new ≡ vec_capacity places.old) × (vec_len places.new ≤ vec_len places.old + 1) }
     ensures end_room { (vec_capacity ends.new ≡ vec_capacity ends.old) × (vec_len ends.new ≤ vec_len ends.old + 1) }
 {
     if start < end {
-        ends.push_reserved(end);
+        ends.push_reserved(end as u32);
         places.push_reserved(place);
     }
 }

@@ -49,6 +49,7 @@ carrying-init g c =
       room_for_places = c.requires.room_for_places;
       room_for_ends = c.requires.room_for_ends;
       room_for_rows = omega (arith, all, first, last, c.requires.room_for_rows);
+      fits = omega (arith, all, first, last, c.requires.fits);
       carried = λ more before are so_far. subst (λ (rs : List ℕ). IsCarriedAt g.K.Key.order (c.args.old.now.stored ++ more) c.args.moved.now (take c.args.from c.args.old.now.entries) before (entries_from 0 c.args.places.now.items c.args.ends.now.items rs)) (sym whole) so_far;
     }
 
@@ -152,6 +153,7 @@ carrying-preserved g c =
       room_for_places = omega (arith, i.room_for_places, done.place_room.0, done.place_room.1);
       room_for_ends = omega (arith, i.room_for_ends, done.end_room.0, done.end_room.1);
       room_for_rows = omega (arith, i.room_for_rows, pushed.capacity, pushed.len);
+      fits = omega (arith, i.fits, pushed.len);
       carried = λ more before are so_far.
           let stored = c.args.old.now.stored ++ more in
           let now = entries_from 0 places ends (take start rows) in

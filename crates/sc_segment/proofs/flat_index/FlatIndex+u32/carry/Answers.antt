@@ -5,8 +5,8 @@ use Rattle.sc_segment.specs.Flat.{FlatState, last_end, entries_from}
 use Rattle.sc_segment.specs.Storing.{IsCarriedAt}
 use Rattle.sc_segment.proofs.flat_index.FlatIndex+u32.carry.Goals as goal
 
-pub overflow_sub-rows_before : goal.overflow_sub-rows_before
-overflow_sub-rows_before g c =
+pub overflow_sub-more : goal.overflow_sub-more
+overflow_sub-more g c =
     let rises = rows_among-rises c.args.old.now.entries c.args.from c.args.to c.requires.rises in
     omega (arith, rises, c.rows_before.ensures, c.rows_before-2.ensures)
 

@@ -25,13 +25,13 @@ module _ {K : Type 0} (keys roomy keys' : List K) (ends ends' rows : List ℕ) (
 
 pub invariant_of-self-2 : goal.invariant_of-self-2
 invariant_of-self-2 g c = (
-  as_long c.self.inside.keys.items c.reserve.new.self.items c.push_reserved-2.new.self.items c.self.inside.ends.items c.push_reserved.new.self.items c.self.inside.rows.items c.args.key c.len.result c.self.inside.rows.len
-      c.args.self.now c.self.invariant.0 c.self.invariant.1 c.reserve.ensures.items c.push_reserved-2.ensures.items c.len.ensures c.self.inside.rows.ok.0 (c.push_reserved.ensures.items ∙ ap (λ (es : List ℕ). es ++ c.len.result ∷ []) c.reserve-2.ensures.items),
-  still c.self.inside.keys.items c.reserve.new.self.items c.push_reserved-2.new.self.items c.self.inside.ends.items c.push_reserved.new.self.items c.self.inside.rows.items c.args.key c.len.result c.self.inside.rows.len
-      c.args.self.now c.self.invariant.0 c.self.invariant.1 c.reserve.ensures.items c.push_reserved-2.ensures.items c.len.ensures c.self.inside.rows.ok.0 (c.push_reserved.ensures.items ∙ ap (λ (es : List ℕ). es ++ c.len.result ∷ []) c.reserve-2.ensures.items),
+  as_long c.self.inside.keys.items c.reserve.new.self.items c.push_reserved-2.new.self.items c.self.inside.ends.items c.push_reserved.new.self.items c.self.inside.rows.items c.args.key c.in_ok-end.end c.len.result
+      c.args.self.now c.self.invariant.0 c.self.invariant.1 c.reserve.ensures.items c.push_reserved-2.ensures.items c.in_ok-end.ensures.end (c.len.ensures ∙ c.self.inside.rows.ok.0) (c.push_reserved.ensures.items ∙ ap (λ (es : List ℕ). es ++ c.in_ok-end.end ∷ []) c.reserve-2.ensures.items),
+  still c.self.inside.keys.items c.reserve.new.self.items c.push_reserved-2.new.self.items c.self.inside.ends.items c.push_reserved.new.self.items c.self.inside.rows.items c.args.key c.in_ok-end.end c.len.result
+      c.args.self.now c.self.invariant.0 c.self.invariant.1 c.reserve.ensures.items c.push_reserved-2.ensures.items c.in_ok-end.ensures.end (c.len.ensures ∙ c.self.inside.rows.ok.0) (c.push_reserved.ensures.items ∙ ap (λ (es : List ℕ). es ++ c.in_ok-end.end ∷ []) c.reserve-2.ensures.items),
 )
 
 pub returns : goal.returns
 returns g c =
-    closed c.self.inside.keys.items c.reserve.new.self.items c.push_reserved-2.new.self.items c.self.inside.ends.items c.push_reserved.new.self.items c.self.inside.rows.items c.args.key c.len.result c.self.inside.rows.len
-    c.args.self.now c.self.invariant.0 c.self.invariant.1 c.reserve.ensures.items c.push_reserved-2.ensures.items c.len.ensures c.self.inside.rows.ok.0 (c.push_reserved.ensures.items ∙ ap (λ (es : List ℕ). es ++ c.len.result ∷ []) c.reserve-2.ensures.items) c.self.view_is
+    closed c.self.inside.keys.items c.reserve.new.self.items c.push_reserved-2.new.self.items c.self.inside.ends.items c.push_reserved.new.self.items c.self.inside.rows.items c.args.key c.in_ok-end.end c.len.result
+    c.args.self.now c.self.invariant.0 c.self.invariant.1 c.reserve.ensures.items c.push_reserved-2.ensures.items c.in_ok-end.ensures.end (c.len.ensures ∙ c.self.inside.rows.ok.0) (c.push_reserved.ensures.items ∙ ap (λ (es : List ℕ). es ++ c.in_ok-end.end ∷ []) c.reserve-2.ensures.items) c.self.view_is

@@ -10,8 +10,8 @@ start_of-start-requires g c =
     let within = place_within c.self.inside.keys.keys c.self.inside.ends.items c.self.inside.rows.items (as_flat (drop (last_end 0 c.self.inside.ends.items) c.self.inside.rows.items) c.args.self.now) c.args.at c.self.invariant.0 (ap (as_flat (drop (last_end 0 c.self.inside.ends.items) c.self.inside.rows.items)) c.self.view_is) c.requires in
     rw c.deref.ensures.value (omega (arith, within))
 
-pub index-end-requires : goal.index-end-requires
-index-end-requires g c =
+pub index-requires : goal.index-requires
+index-requires g c =
     let within = place_within c.self.inside.keys.keys c.self.inside.ends.items c.self.inside.rows.items (as_flat (drop (last_end 0 c.self.inside.ends.items) c.self.inside.rows.items) c.args.self.now) c.args.at c.self.invariant.0 (ap (as_flat (drop (last_end 0 c.self.inside.ends.items) c.self.inside.rows.items)) c.self.view_is) c.requires in
     omega (arith, within, c.self.inside.ends.ok.0)
 
@@ -21,7 +21,7 @@ slice_bounds-result-count g c =
     let rows = c.self.inside.rows.items in
     let within = place_within c.self.inside.keys.keys ends rows (as_flat (drop (last_end 0 ends) rows) c.args.self.now) c.args.at c.self.invariant.0 (ap (as_flat (drop (last_end 0 ends) rows)) c.self.view_is) c.requires in
     let first = rw c.deref.ensures.value at (begin_from_clauses c.deref.result.now c.args.at c.start_of-start.result c.start_of-start.ensures.first c.start_of-start.ensures.later) in
-    let last = c.index-end.ensures ∙ get_or_default ends c.args.at c.index-end.result.now 0 within in
+    let last = c.index.ensures ∙ get_or_default ends c.args.at c.index.result.now 0 within in
     omega (arith, first, last, begin_before_end 0 ends (length rows) c.args.at c.self.invariant.1 within)
 
 pub slice_bounds-result-start : goal.slice_bounds-result-start
@@ -32,7 +32,7 @@ slice_bounds-result-end g c =
     let ends = c.self.inside.ends.items in
     let rows = c.self.inside.rows.items in
     let within = place_within c.self.inside.keys.keys ends rows (as_flat (drop (last_end 0 ends) rows) c.args.self.now) c.args.at c.self.invariant.0 (ap (as_flat (drop (last_end 0 ends) rows)) c.self.view_is) c.requires in
-    let last = c.index-end.ensures ∙ get_or_default ends c.args.at c.index-end.result.now 0 within in
+    let last = c.index.ensures ∙ get_or_default ends c.args.at c.index.result.now 0 within in
     let all = end_within 0 ends (length rows) c.args.at c.self.invariant.1 within in
     rw c.deref-2.ensures.value (omega (arith, last, all))
 
@@ -49,5 +49,5 @@ returns g c = λ key found.
     let rows = c.self.inside.rows.items in
     let within = place_within c.self.inside.keys.keys ends rows (as_flat (drop (last_end 0 ends) rows) c.args.self.now) c.args.at c.self.invariant.0 (ap (as_flat (drop (last_end 0 ends) rows)) c.self.view_is) c.requires in
     let first = rw c.deref.ensures.value at (begin_from_clauses c.deref.result.now c.args.at c.start_of-start.result c.start_of-start.ensures.first c.start_of-start.ensures.later) in
-    let last = c.index-end.ensures ∙ get_or_default ends c.args.at c.index-end.result.now 0 within in
-    rw c.deref-2.ensures.value (flat-rows_of c.self.inside.keys.keys ends rows (as_flat (drop (last_end 0 ends) rows) c.args.self.now) c.args.at c.start_of-start.result c.index-end.result.now key c.self.invariant.0 (ap (as_flat (drop (last_end 0 ends) rows)) c.self.view_is) within first last found)
+    let last = c.index.ensures ∙ get_or_default ends c.args.at c.index.result.now 0 within in
+    rw c.deref-2.ensures.value (flat-rows_of c.self.inside.keys.keys ends rows (as_flat (drop (last_end 0 ends) rows) c.args.self.now) c.args.at c.start_of-start.result c.index.result.now key c.self.invariant.0 (ap (as_flat (drop (last_end 0 ends) rows)) c.self.view_is) within first last found)

@@ -17,11 +17,26 @@ pub(crate) fn push_moved(list: &mut Vec<u32>, rows: &[u32], moved: &[Option<u32>
     ensures capacity { vec_capacity list.new ≡ vec_capacity list.old }
     ensures len { vec_len list.new ≤ vec_len list.old + length rows.now }
 {
+    let empty = Vec::new(*list.allocator());
+    *list = with_moved(mem::replace(list, empty), rows, moved);
+}
+
+// The list after `push_moved`. The list is the function's own, so that the loop keeps its length in a register: behind a reference it would
+// be read and written for each row.
+#[inline(always)]
+fn with_moved(list: Vec<u32>, rows: &[u32], moved: &[Option<u32>]) -> Vec<u32>
+    requires { vec_len list + length rows.now ≤ vec_capacity list }
+    ensures items { result.items ≡ list.items ++ new_numbers moved.now rows.now }
+    ensures capacity { vec_capacity result ≡ vec_capacity list }
+    ensures len { vec_len result ≤ vec_len list + length rows.now }
+{
+    let mut list = list;
     for row in rows {
         if let Some(number) = new_number(moved, *row) {
             list.push_reserved(number);
         }
     }
+    list
 }
 
 /// Puts the new numbers of rows at the end of a list, which has room for all rows, up to the first row that has none. Gives how many
@@ -41,8 +56,7 @@ pub(crate) fn push_kept(list: &mut Vec<u32>, rows: &[u32], moved: &[Option<u32>]
     count
 }
 
-// The list after `push_kept`, and how many rows have a number. The list is the function's own, so that the loop keeps its length in a
-// register: behind a reference it would be read and written for each row.
+// The list after `push_kept`, as its own too, and how many rows have a number.
 #[inline(always)]
 fn with_kept(list: Vec<u32>, rows: &[u32], moved: &[Option<u32>]) -> (Vec<u32>, usize)
     requires { vec_len list + length rows.now ≤ vec_capacity list }

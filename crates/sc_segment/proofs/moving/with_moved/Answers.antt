@@ -2,8 +2,8 @@
 use Rattle.std.proofs.Common.{ℕ, [], ◌++◌, Option, append-nil, sym, ap, ◌∙◌, arith}
 use Rattle.std.specs.List.{cons_option}
 use Rattle.sc_segment.proofs.CarryLemmas.{numbers-more}
-use Rattle.sc_segment.proofs.moving.push_moved.Goals.{in-Some, in_default}
-use Rattle.sc_segment.proofs.moving.push_moved.Goals as goal
+use Rattle.sc_segment.proofs.moving.with_moved.Goals.{in-Some, in_default}
+use Rattle.sc_segment.proofs.moving.with_moved.Goals as goal
 
 pub loop-row-preserved : goal.loop-row-preserved
 loop-row-preserved c =
@@ -12,14 +12,14 @@ loop-row-preserved c =
     let list = c.loop-row.list.items in
     elim c.match-new_number.branch [
       | in-Some w ↦ rw w.list-is (record {
-        items = numbers-more moved rows c.loop-row.row-index c.new_number.result c.args.list.now.items list w.push_reserved.new.self.items c.loop-row-test.true c.new_number.ensures c.loop-row.invariant.items
+        items = numbers-more moved rows c.loop-row.row-index c.new_number.result c.args.list.items list w.push_reserved.new.self.items c.loop-row-test.true c.new_number.ensures c.loop-row.invariant.items
             (w.push_reserved.ensures.items ∙ ap (λ (n : Option ℕ). list ++ cons_option n []) (sym w.in-Some.is));
         room = omega (arith, w.push_reserved.ensures.len, w.push_reserved.ensures.capacity, c.loop-row.invariant.room);
         capacity = w.push_reserved.ensures.capacity ∙ c.loop-row.invariant.capacity;
         len = omega (arith, w.push_reserved.ensures.len, c.loop-row.invariant.len);
       })
       | in_default w ↦ rw w.list-is (record {
-        items = numbers-more moved rows c.loop-row.row-index c.new_number.result c.args.list.now.items list list c.loop-row-test.true c.new_number.ensures c.loop-row.invariant.items
+        items = numbers-more moved rows c.loop-row.row-index c.new_number.result c.args.list.items list list c.loop-row-test.true c.new_number.ensures c.loop-row.invariant.items
             (sym (append-nil list) ∙ ap (λ (n : Option ℕ). list ++ cons_option n []) (sym w.in_default.is));
         room = omega (arith, c.loop-row.invariant.room);
         capacity = c.loop-row.invariant.capacity;

@@ -1,7 +1,7 @@
 -- The new numbers of the rows that were passed, and room for those that are left.
 use Rattle.std.proofs.Common.{◌≡◌, ◌+◌, ◌≤◌, ◌++◌, length, take, vec_len, vec_capacity}
 use Rattle.sc_segment.specs.Carrying.{new_numbers}
-use Rattle.sc_segment.proofs.moving.push_moved.Given as goal
+use Rattle.sc_segment.proofs.moving.with_moved.Given as goal
 
 abbrev pub invariant-loop-row : goal.invariant-loop-row
 invariant-loop-row l = record {

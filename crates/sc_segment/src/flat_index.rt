@@ -10,6 +10,7 @@ use crate::keys::Keys;
 use crate::moving::{push_ahead, push_below, push_moved};
 use std::alloc::{AllocError, Global};
 use std::marker::Model;
+use std::mem;
 
 /// An index while it is written, in three lists, whatever the number of its keys: the keys, or else their places, where the rows of each
 /// key end, and the rows of all keys one after another. It is written key after key: first the rows of a key, and then `close` with the key.
@@ -130,15 +131,12 @@ impl FlatIndex<u32> {
         let more = old.rows_before(to) - old.rows_before(from);
         self.rows.reserve(more)?;
         as_end(self.rows.len() + more)?;
-        carry_range(
-            &mut self.keys,
-            &mut self.ends,
-            &mut self.rows,
-            old,
-            from,
-            to,
-            moved,
-        );
+        let alloc = *self.rows.allocator();
+        let places = mem::replace(&mut self.keys, Vec::new(alloc));
+        let ends = mem::replace(&mut self.ends, Vec::new(alloc));
+        let (places, ends) = carry_range(places, ends, &mut self.rows, old, from, to, moved);
+        self.keys = places;
+        self.ends = ends;
         Ok(())
     }
 }
@@ -269,44 +267,49 @@ fn as_end(rows: usize) -> Result<u32, AllocError>
 }
 
 // Carries the keys of an index from one place up to another to the three lists of an index of places, which have room for all of them.
-// Rows are put there ahead of their keys, up to the first that is gone, so that many short lists cost as much as a long one.
+// Rows are put there ahead of their keys, up to the first that is gone, so that many short lists cost as much as a long one. The places and
+// the ends are the function's own and given back, so that the loop over keys keeps their lengths in registers.
+#[inline(always)]
 fn carry_range<K: Key + Drop>(
-    places: &mut Vec<u32>,
-    ends: &mut Vec<u32>,
+    places: Vec<u32>,
+    ends: Vec<u32>,
     rows: &mut Vec<u32>,
     old: &KeptIndex<K>,
     from: usize,
     to: usize,
     moved: &[Option<u32>],
-)
+) -> (Vec<u32>, Vec<u32>)
     requires moved { KeepsOrder moved.now }
     requires old { IsInOrder K.order old.now.entries }
     requires rises { from ≤ to }
     requires within { to ≤ length old.now.entries }
-    requires laid_out { IsLaidOut places.old.items ends.old.items rows.old.items }
-    requires none { AreAllClosed ends.old.items rows.old.items }
-    requires room_for_places { vec_len places.old + to ≤ vec_capacity places.old + from }
-    requires room_for_ends { vec_len ends.old + to ≤ vec_capacity ends.old + from }
+    requires laid_out { IsLaidOut places.items ends.items rows.old.items }
+    requires none { AreAllClosed ends.items rows.old.items }
+    requires room_for_places { vec_len places + to ≤ vec_capacity places + from }
+    requires room_for_ends { vec_len ends + to ≤ vec_capacity ends + from }
     requires room_for_rows { vec_len rows.old + rows_among (take to old.now.entries) ≤ vec_capacity rows.old + rows_among (take from old.now.entries) }
     requires fits { vec_len rows.old + rows_among (take to old.now.entries) < 2 ^ 32 + rows_among (take from old.now.entries) }
-    ensures laid_out { IsLaidOut places.new.items ends.new.items rows.new.items }
-    ensures none { AreAllClosed ends.new.items rows.new.items }
+    ensures laid_out { IsLaidOut result.0.items result.1.items rows.new.items }
+    ensures none { AreAllClosed result.1.items rows.new.items }
     ensures carried { (more : List K) (before : List (K × List ℕ)) → AreBefore K.order before old.now.entries from
-        → IsCarriedAt K.order (old.now.stored ++ more) moved.now (take from old.now.entries) before (entries_from 0 places.old.items ends.old.items rows.old.items)
-        → IsCarriedAt K.order (old.now.stored ++ more) moved.now (take to old.now.entries) before (entries_from 0 places.new.items ends.new.items rows.new.items) }
+        → IsCarriedAt K.order (old.now.stored ++ more) moved.now (take from old.now.entries) before (entries_from 0 places.items ends.items rows.old.items)
+        → IsCarriedAt K.order (old.now.stored ++ more) moved.now (take to old.now.entries) before (entries_from 0 result.0.items result.1.items rows.new.items) }
 {
     let old_places = old.keys.places();
     let old_ends = old.ends.as_slice();
     let old_rows = &old.rows.as_slice()[..start_of(old_ends, to)];
+    let mut places = places;
+    let mut ends = ends;
     let mut passed = start_of(old_ends, from);
     let mut start = rows.len();
     'carrying: for at in from..to {
         let old_end = old_ends[at] as usize;
         passed = push_ahead(rows, old_rows, moved, passed, old_end);
         let end = rows.len() - (passed - old_end);
-        put_place(places, ends, old_places[at], start, end);
+        put_place(&mut places, &mut ends, old_places[at], start, end);
         start = end;
     }
+    (places, ends)
 }
 
 // Puts a place at the end, and where the rows of its key end, unless it has none.

@@ -44,13 +44,13 @@ carrying-init g c =
     record {
       ahead = ahead-start c.args.moved.now (take c.start_of.result c.as_slice.result.now) (rows_among (take c.args.from c.args.old.now.entries)) c.start_of-passed.result c.len-start.result c.args.rows.now.items
           first (omega (arith, first, last, later, all)) count;
-      laid_out = subst (λ (rs : List ℕ). IsLaidOut c.args.places.now.items c.args.ends.now.items rs) (sym whole) c.requires.laid_out;
-      none = subst (λ (rs : List ℕ). AreAllClosed c.args.ends.now.items rs) (sym whole) c.requires.none;
+      laid_out = subst (λ (rs : List ℕ). IsLaidOut c.args.places.items c.args.ends.items rs) (sym whole) c.requires.laid_out;
+      none = subst (λ (rs : List ℕ). AreAllClosed c.args.ends.items rs) (sym whole) c.requires.none;
       room_for_places = c.requires.room_for_places;
       room_for_ends = c.requires.room_for_ends;
       room_for_rows = omega (arith, all, first, last, c.requires.room_for_rows);
       fits = omega (arith, all, first, last, c.requires.fits);
-      carried = λ more before are so_far. subst (λ (rs : List ℕ). IsCarriedAt g.K.Key.order (c.args.old.now.stored ++ more) c.args.moved.now (take c.args.from c.args.old.now.entries) before (entries_from 0 c.args.places.now.items c.args.ends.now.items rs)) (sym whole) so_far;
+      carried = λ more before are so_far. subst (λ (rs : List ℕ). IsCarriedAt g.K.Key.order (c.args.old.now.stored ++ more) c.args.moved.now (take c.args.from c.args.old.now.entries) before (entries_from 0 c.args.places.items c.args.ends.items rs)) (sym whole) so_far;
     }
 
 pub bounds-old_ends-at : goal.bounds-old_ends-at

@@ -10,10 +10,12 @@ overflow_sub-more g c =
     let rises = rows_among-rises c.args.old.now.entries c.args.from c.args.to c.requires.rises in
     omega (arith, rises, c.rows_before.ensures, c.rows_before-2.ensures)
 
-pub carry_range-requires-clause-none : goal.carry_range-requires-clause-none
-carry_range-requires-clause-none g c =
+pub carry_range-places-requires-clause-none : goal.carry_range-places-requires-clause-none
+carry_range-places-requires-clause-none g c =
     let none : drop (last_end 0 c.self.inside.ends.items) c.self.inside.rows.items ≡ [] = ap (λ (s : FlatState _). s.pending) c.self.view_is ∙ c.requires.none in
-    ap (last_end 0) c.reserve-2.ensures.items ∙ closed-from c.self.inside.ends.items c.self.inside.rows.items c.self.invariant.1 none ∙ sym (ap (λ (rs : List ℕ). length rs) c.reserve-3.ensures.items)
+    ap (last_end 0) (ap (λ list. list.items) c.replace-ends.ensures.value ∙ c.reserve-2.ensures.items)
+    ∙ closed-from c.self.inside.ends.items c.self.inside.rows.items c.self.invariant.1 none
+    ∙ sym (ap (λ (rs : List ℕ). length rs) c.reserve-3.ensures.items)
 
 -- the entries are the same after room was made
 as_reserved : (places places' ends ends' rows rows' : List ℕ) (state : FlatState ℕ) → flat places ends rows ≡ state → places' ≡ places → ends' ≡ ends → rows' ≡ rows
@@ -26,7 +28,8 @@ as_reserved places places' ends ends' rows rows' state was as_places as_ends as_
 
 pub returns-clause-carried : goal.returns-clause-carried
 returns-clause-carried g c = λ more before are so_far.
-    let same = as_reserved c.self.inside.keys.items c.reserve.new.self.items c.self.inside.ends.items c.reserve-2.new.self.items c.self.inside.rows.items c.reserve-3.new.self.items c.args.self.now
-    c.self.view_is c.reserve.ensures.items c.reserve-2.ensures.items c.reserve-3.ensures.items in
-    c.carry_range.ensures.carried more before are
+    let same = as_reserved c.self.inside.keys.items c.replace-places.result.items c.self.inside.ends.items c.replace-ends.result.items c.self.inside.rows.items c.reserve-3.new.self.items c.args.self.now
+    c.self.view_is (ap (λ list. list.items) c.replace-places.ensures.value ∙ c.reserve.ensures.items) (ap (λ list. list.items) c.replace-ends.ensures.value ∙ c.reserve-2.ensures.items)
+    c.reserve-3.ensures.items in
+    c.carry_range-places.ensures.carried more before are
     (subst (IsCarriedAt g.K.Key.order (c.args.old.now.stored ++ more) c.args.moved.now (take c.args.from c.args.old.now.entries) before) same so_far)

@@ -12,10 +12,10 @@ use std::mem;
 use std::sync::Arc;
 
 // So many cells a piece has that a change made, and no more.
-const MOST: usize = 128;
+const MOST: usize = 32;
 
 // A piece beside a change is copied into the change's where that has fewer cells, so that pieces stay few.
-const FEWEST: usize = 64;
+const FEWEST: usize = 16;
 
 /// New pieces as they are made. Contracts see the list of the rows so far.
 #[derive(Drop)]

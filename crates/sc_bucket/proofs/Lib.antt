@@ -24,6 +24,7 @@ pub mod ChangedLemmas
 pub mod DeliverLemmas
 pub mod TakenLemmas
 pub mod CommitLemmas
+pub mod StableLemmas
 pub mod ChangesLemmas
 pub mod NextLemmas
 pub mod DeliverAllLemmas

@@ -1,5 +1,5 @@
 -- Where nothing was written the searchers that are there are taken anew once they are at the journal's end, and the bucket is committed.
-use Rattle.std.proofs.Common.{◌≡◌, ◌∙◌, ℕ, ◌<◌, ◌-◌, List, [], ◌∷◌, ◌++◌, length, map, filter, refl, sym, ap, subst, All, Contains, Some, slice_get, arith, true}
+use Rattle.std.proofs.Common.{◌≡◌, ◌∙◌, ℕ, ◌<◌, ◌-◌, List, [], ◌∷◌, ◌++◌, length, map, filter, refl, sym, ap, subst, All, Contains, arith, true}
 use Rattle.std.specs.Arc.{arc_value}
 use Rattle.std.proofs.lemmas.List.Elements.{All-contains}
 use Rattle.std.proofs.lemmas.Simd.{map-map}
@@ -17,11 +17,10 @@ use Rattle.sc_bucket.specs.Events.{Commits}
 use Rattle.sc_bucket.specs.Kept.{JournalState}
 use Rattle.sc_bucket.specs.Moving.{moved_to, AreMoved, HasOwnRows, IsUnchanged}
 use Rattle.sc_bucket.specs.Room.{BucketHasRoom}
-use Rattle.sc_bucket.specs.Searchers.{StandingState, standing_of, standing_rows, AreOfEachSlice, ShowsCommitted, IsTaken, AreTaken, ArePrepared}
+use Rattle.sc_bucket.specs.Searchers.{StandingState, standing_of, standing_rows, ShowsCommitted, IsTaken, AreTaken, ArePrepared}
 use Rattle.sc_bucket.specs.Sound.{IsInRange, IsSound}
-use Rattle.sc_bucket.specs.Taking.{AreCommittedOf, AreChangesOf, IsLastOf}
+use Rattle.sc_bucket.specs.Taking.{IsLastOf}
 use Rattle.sc_bucket.specs.declared.bucket.Bucket.{Bucket}
-use Rattle.sc_bucket.specs.declared.phase.Phase.TheVariants as phases
 use Rattle.sc_bucket.specs.declared.standing.Standing.{Standing}
 use Rattle.sc_bucket.proofs.CommitLemmas.{IsSound-committed}
 use Rattle.sc_bucket.proofs.CoreLemmas.{element_from_map}

@@ -1,9 +1,9 @@
 -- What the parts of `searchers_at` do.
-use Rattle.std.specs.Prelude.{◌≡◌, ℕ, List, length, filter, map, Option, option_map, All, Contains}
+use Rattle.std.specs.Prelude.{◌≡◌, ℕ, List, length, filter, map, All, Contains}
 use Rattle.std.proofs.Common.{Bor}
 use Rattle.std.specs.Arc.{arc_value}
-use Rattle.std.specs.BTreeMap.{BTreeMap, get_by, values}
 use Rattle.std.specs.Cmp.Lexicographic.{slice_cmp}
+use Rattle.std.specs.List.Sorted.{IsSorted}
 use Rattle.std.specs.Ordering.{nat_cmp}
 use Rattle.std.specs.declared.alloc.Global.{Global}
 use Rattle.std.specs.declared.sync.Arc.{Arc}
@@ -53,18 +53,10 @@ pub record AreChangesOf (journal : List Entry) (slice : Slice) (changes : List W
   pub ascend : AscendById changes
   pub last : AreLastOf (filter (is_within slice.range) (uncommitted journal)) changes
 
--- cells that are lent, by the texts of ids
-abbrev pub LentCells : Type 0
-LentCells = BTreeMap (Bor (List ℕ)) (Bor (Arc Write Global))
+-- the ids do not descend by their bytes
+abbrev pub IsSortedById : List Write → Type 0
+IsSortedById writes = IsSorted (slice_cmp nat_cmp) (map (λ (write : Write). write.id) writes)
 
 -- the write of a cell that is lent
 abbrev pub lent : Bor (Arc Write Global) → Write
 lent cell = arc_value cell.now
-
--- the write that is lent under this id, where there is one
-abbrev pub lent_of : LentCells → List ℕ → Option Write
-lent_of cells id = option_map lent (get_by (λ (text : Bor (List ℕ)). slice_cmp nat_cmp id text.now) cells)
-
--- the writes that are lent, by the texts of their ids
-abbrev pub all_lent : LentCells → List Write
-all_lent cells = map lent (values cells)

@@ -1,18 +1,13 @@
 ghost use Rattle.std.specs.Prelude.{◌≡◌, ℕ, List, map, filter, IfOk};
 ghost use Rattle.std.specs.Arc.{arc_value};
-ghost use Rattle.std.specs.BTreeMap.{IsOrdered};
-ghost use Rattle.std.specs.Cmp.Lexicographic.{slice_cmp};
-ghost use Rattle.std.specs.Ordering.{nat_cmp};
 ghost use Rattle.sc_record.specs.Writes.{is_of, AscendById};
-ghost use Rattle.sc_journal.specs.Journal.{last_of};
 ghost use Rattle.sc_snapshot.specs.Rows.{is_within};
-ghost use Rattle.sc_bucket.specs.Taking.{AreLastOf, lent_of, all_lent};
+ghost use Rattle.sc_bucket.specs.Taking.{AreLastOf, IsSortedById, lent};
 
 use crate::feed::is_within;
 use sc_hash::Range;
 use sc_record::Cell;
 use std::alloc::{AllocError, Global};
-use std::collections::BTreeMap;
 use std::sync::Arc;
 
 /// Of these writes those whose hash is in the range, of each id the last, ascending by the ids' bytes. The only error is that memory
@@ -25,37 +20,52 @@ pub(crate) fn changes_in(
     ensures ascend { IfOk result (λ changes. AscendById (map arc_value changes.items)) }
     ensures last { IfOk result (λ changes. AreLastOf (filter (is_within range.now) (map arc_value writes.now)) (map arc_value changes.items)) }
 {
-    let last = last_of_each(alloc, writes, range)?;
-    let changes = shares(alloc, &last)?;
+    let found = within(alloc, writes, range)?;
+    let sorted = in_order(found)?;
+    let changes = last_of_each(alloc, sorted.as_slice())?;
     Ok(changes)
 }
 
-// Of these writes those whose hash is in the range, of each id the last.
-fn last_of_each<'a>(
-    alloc: Global,
-    writes: &'a [Cell],
-    range: &Range,
-) -> Result<BTreeMap<&'a str, &'a Cell>, AllocError>
-    ensures { IfOk result (λ last. (id : List ℕ) → lent_of last id ≡ last_of (filter (is_of id) (filter (is_within range.now) (map arc_value writes.now)))) }
+// Of these writes those whose hash is in the range, as they came.
+fn within<'a>(alloc: Global, writes: &'a [Cell], range: &Range) -> Result<Vec<&'a Cell>, AllocError>
+    ensures { IfOk result (λ found. map lent found.items ≡ filter (is_within range.now) (map arc_value writes.now)) }
 {
-    let mut last = BTreeMap::new(alloc);
+    let mut found = Vec::with_capacity(alloc, writes.len())?;
     for cell in writes {
         if is_within(range, cell) {
-            let id = cell.id.as_str();
-            last.insert(id, cell)?;
+            found.push(cell)?;
         }
     }
-    Ok(last)
+    Ok(found)
 }
 
-// A share of each cell, in the order of the ids.
-fn shares(alloc: Global, cells: &BTreeMap<&str, &Cell>) -> Result<Vec<Cell>, AllocError>
-    ensures shares { IfOk result (λ shares. map arc_value shares.items ≡ all_lent cells.now) }
-    ensures ordered { IsOrdered (λ x y. slice_cmp nat_cmp x.now y.now) cells.now }
+// These cells in the order of their ids, and those of one id in the order in which they came. Few ids are compared where they come in
+// order already.
+fn in_order<'a>(mut cells: Vec<&'a Cell>) -> Result<Vec<&'a Cell>, AllocError>
+    ensures sorted { IfOk result (λ sorted. IsSortedById (map lent sorted.items)) }
+    ensures stable { IfOk result (λ sorted. (id : List ℕ) → filter (is_of id) (map lent sorted.items) ≡ filter (is_of id) (map lent cells.entry.items)) }
+{
+    cells.sort_by(|left, right| left.id.cmp(&right.id))?;
+    Ok(cells)
+}
+
+// A share of the last cell of each id, where the cells come in the order of their ids.
+fn last_of_each(alloc: Global, cells: &[&Cell]) -> Result<Vec<Cell>, AllocError>
+    requires { IsSortedById (map lent cells.now) }
+    ensures ascend { IfOk result (λ shares. AscendById (map arc_value shares.items)) }
+    ensures last { IfOk result (λ shares. AreLastOf (map lent cells.now) (map arc_value shares.items)) }
 {
     let mut shares = Vec::with_capacity(alloc, cells.len())?;
-    for cell in cells.values() {
-        shares.push(Arc::try_clone(cell)?)?;
+    let Some((first, rest)) = cells.split_first() else {
+        return Ok(shares);
+    };
+    let mut latest = *first;
+    for cell in rest {
+        if cell.id != latest.id {
+            shares.push(Arc::try_clone(latest)?)?;
+        }
+        latest = *cell;
     }
+    shares.push(Arc::try_clone(latest)?)?;
     Ok(shares)
 }

@@ -1,11 +1,10 @@
--- So far each id has the last of the writes that were looked at.
-use Rattle.std.proofs.Common.{◌≡◌, ℕ, List, map, take, filter}
+-- What is shared, and then the last of each run of the latest cell and those that are still to come, are the last of each run of all.
+use Rattle.std.proofs.Common.{◌≡◌, ◌++◌, map, drop}
 use Rattle.std.specs.Arc.{arc_value}
-use Rattle.sc_record.specs.Writes.{is_of}
-use Rattle.sc_journal.specs.Journal.{last_of}
-use Rattle.sc_snapshot.specs.Rows.{is_within}
-use Rattle.sc_bucket.specs.Taking.{lent_of}
+use Rattle.sc_bucket.specs.Taking.{lent}
+use Rattle.sc_bucket.proofs.ChangesLemmas.{last_of_runs}
 use Rattle.sc_bucket.proofs.changes.last_of_each.Given as goal
 
 abbrev pub invariant-loop-cell : goal.invariant-loop-cell
-invariant-loop-cell l = (id : List ℕ) → lent_of l.last id ≡ last_of (filter (is_of id) (filter (is_within l.range) (map arc_value (take l.cell-index l.writes))))
+invariant-loop-cell l =
+    map arc_value l.shares.items ++ last_of_runs (arc_value l.latest) (map lent (drop l.cell-index l.rest)) ≡ last_of_runs (arc_value l.initial.latest) (map lent l.rest)

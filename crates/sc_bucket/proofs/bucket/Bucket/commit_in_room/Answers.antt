@@ -1,6 +1,4 @@
 -- Where a split is open its parent has a searcher; and where the bucket was not committed with the searchers that were there it is as it was.
-use Rattle.std.proofs.Common.{sym, subst}
-use Rattle.sc_bucket.specs.Sound.{IsSound}
 use Rattle.sc_bucket.proofs.TakenLemmas.{IsSearched-in_phase}
 use Rattle.sc_bucket.proofs.bucket.Bucket.commit_in_room.Goals as goal
 

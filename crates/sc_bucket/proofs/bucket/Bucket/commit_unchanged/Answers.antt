@@ -1,8 +1,7 @@
 -- With the entry that commits a bucket is sound, whose searchers are at the journal's end.
-use Rattle.std.proofs.Common.{◌≡◌, ◌∙◌, ◌-◌, ◌∷◌, [], ◌++◌, length, sym, ap, subst}
+use Rattle.std.proofs.Common.{◌∙◌, ◌-◌, ◌∷◌, [], ◌++◌, sym, ap, subst}
 use Rattle.sc_record.specs.declared.entry.Entry.TheVariants as entry
 use Rattle.sc_bucket.specs.Events.{Commits}
-use Rattle.sc_bucket.specs.Kept.{JournalState}
 use Rattle.sc_bucket.specs.Moving.{AreMoved}
 use Rattle.sc_bucket.specs.Sound.{IsSound}
 use Rattle.sc_bucket.specs.declared.bucket.Bucket.{Bucket}

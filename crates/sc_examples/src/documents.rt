@@ -10,7 +10,7 @@ use crate::words::word_and;
 use sc_json::{print, raw_doc, read};
 use sc_partial::resolve;
 use sc_record::{Change, Doc, Order};
-use sc_schema::{RawDoc, check_doc};
+use sc_schema::{RawDoc, RawField, check_doc};
 use serde_json::Value;
 use std::alloc::{AllocError, Global};
 
@@ -85,10 +85,13 @@ fn raw(alloc: Global, body: &str) -> Result<String, AllocError> {
 fn raw_line(alloc: Global, raw: &RawDoc) -> Result<String, AllocError> {
     let mut line = String::new(alloc);
     for field in raw.fields.as_slice() {
-        let text = format!(in alloc; "{} {:?};", field.name.as_str(), field.value)?;
-        line.push_str(text.as_str())?;
+        line.push_str(field_text(alloc, field)?.as_str())?;
     }
     Ok(line)
+}
+
+fn field_text(alloc: Global, field: &RawField) -> Result<String, AllocError> {
+    format!(in alloc; "{} {:?};", field.name.as_str(), field.value)
 }
 
 fn order(alloc: Global, body: &str) -> Result<String, AllocError> {
@@ -124,15 +127,21 @@ fn resolved(alloc: Global, text: &str) -> Result<String, AllocError> {
 /// What the changes of a body make of the document.
 fn changed(alloc: Global, old: Option<&Doc>, body: &str) -> Result<String, AllocError> {
     let order = order_of(alloc, body)?;
+    changed_by(alloc, old, &order)
+}
+
+fn changed_by(alloc: Global, old: Option<&Doc>, order: &Order) -> Result<String, AllocError> {
     let Change::Parts(changes) = &order.change else {
         return Err(AllocError);
     };
     match resolve(alloc, old, changes) {
-        Ok(doc) => {
-            let mut line = String::new(alloc);
-            push_fields(alloc, &mut line, doc.fields())?;
-            Ok(line)
-        }
+        Ok(doc) => doc_line(alloc, &doc),
         Err(fault) => format!(in alloc; "{fault}"),
     }
+}
+
+fn doc_line(alloc: Global, doc: &Doc) -> Result<String, AllocError> {
+    let mut line = String::new(alloc);
+    push_fields(alloc, &mut line, doc.fields())?;
+    Ok(line)
 }

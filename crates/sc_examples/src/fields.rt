@@ -1,16 +1,15 @@
 //! Fields, changes and orders as text: a text begins with `'`, and a number of 64 bits ends in `L`.
 
-use sc_record::{Change, Field, How, List, Order, Value};
+use sc_record::{Change, Field, FieldChange, How, List, Order, Value};
 use std::alloc::{AllocError, Global};
 
-fn push_value(alloc: Global, line: &mut String, value: &Value) -> Result<(), AllocError> {
-    let text = match value {
-        Value::Text(text) => format!(in alloc; "'{}", text.as_str())?,
-        Value::Int(number) => format!(in alloc; "{number}")?,
-        Value::Long(number) => format!(in alloc; "{number}L")?,
-        Value::Flag(flag) => format!(in alloc; "{flag}")?,
-    };
-    line.push_str(text.as_str())
+fn value_text(alloc: Global, value: &Value) -> Result<String, AllocError> {
+    match value {
+        Value::Text(text) => format!(in alloc; "'{}", text.as_str()),
+        Value::Int(number) => format!(in alloc; "{number}"),
+        Value::Long(number) => format!(in alloc; "{number}L"),
+        Value::Flag(flag) => format!(in alloc; "{flag}"),
+    }
 }
 
 /// Puts the mark and the values at the end, with commas between these.
@@ -25,7 +24,7 @@ pub fn push_values(
         if i > 0 {
             line.push_str(",")?;
         }
-        push_value(alloc, line, value)?;
+        line.push_str(value_text(alloc, value)?.as_str())?;
     }
     Ok(())
 }
@@ -53,19 +52,27 @@ fn push_how(alloc: Global, line: &mut String, how: &How) -> Result<(), AllocErro
     }
 }
 
+/// Puts the changes at the end, each after a space.
+fn push_parts(alloc: Global, line: &mut String, parts: &[FieldChange]) -> Result<(), AllocError> {
+    for part in parts {
+        line.push_str(" ")?;
+        line.push_str(part.name.as_str())?;
+        push_how(alloc, line, &part.how)?;
+    }
+    Ok(())
+}
+
+fn push_change(alloc: Global, line: &mut String, change: &Change) -> Result<(), AllocError> {
+    match change {
+        Change::Whole(doc) => push_fields(alloc, line, doc.fields()),
+        Change::Parts(parts) => push_parts(alloc, line, parts.as_slice()),
+        Change::Delete => line.push_str(" delete"),
+    }
+}
+
 /// The order in a line: its id, its condition, and its change.
 pub fn order_line(alloc: Global, order: &Order) -> Result<String, AllocError> {
     let mut line = format!(in alloc; "{} {}", order.id.as_str(), order.condition)?;
-    match &order.change {
-        Change::Whole(doc) => push_fields(alloc, &mut line, doc.fields())?,
-        Change::Parts(parts) => {
-            for part in parts.as_slice() {
-                line.push_str(" ")?;
-                line.push_str(part.name.as_str())?;
-                push_how(alloc, &mut line, &part.how)?;
-            }
-        }
-        Change::Delete => line.push_str(" delete")?,
-    }
+    push_change(alloc, &mut line, &order.change)?;
     Ok(line)
 }

@@ -81,11 +81,17 @@ fn shown(alloc: Global, text: &str) -> Result<String, AllocError> {
     format!(in alloc; "{live} {gone} {none}")
 }
 
-/// Whether a copy of the kept text is the text still, and how long it is.
-fn kept(alloc: Global, text: &str) -> Result<String, AllocError> {
+/// A copy of the kept text, which itself is gone.
+fn copy_of(alloc: Global, text: &str) -> Result<Text, AllocError> {
     let first = Text::new(alloc, text)?;
     let copy = first.clone_in(alloc)?;
     drop(first);
+    Ok(copy)
+}
+
+/// Whether a copy of the kept text is the text still, and how long it is.
+fn kept(alloc: Global, text: &str) -> Result<String, AllocError> {
+    let copy = copy_of(alloc, text)?;
     format!(in alloc; "{} {}", copy.as_str() == text, copy.as_str().len())
 }
 

@@ -19,19 +19,29 @@ use std::sync::Arc;
 const VERSION: i64 = 1_048_576_000;
 
 pub fn answer(alloc: Global, question: &str, text: &str) -> Result<String, AllocError> {
-    let body = match question {
-        "get" if text.is_empty() => get_body(alloc, None)?,
-        "get" => get_body(alloc, Some(&cell(alloc, text)?))?,
-        "ids" => ids(alloc, text)?,
-        "select" => select(alloc, text)?,
-        "cause" => return cause_line(alloc, text),
-        "update" => update(alloc, text)?,
-        "error" => error(alloc, text)?,
-        "ok" => Text::new(alloc, ok_body())?,
-        "memory" => Text::new(alloc, memory_body())?,
-        _ => return Err(AllocError),
-    };
+    if question == "cause" {
+        return cause_line(alloc, text);
+    }
+    let body = body_of(alloc, question, text)?;
     String::from_str(alloc, body.as_str())
+}
+
+fn body_of(alloc: Global, question: &str, text: &str) -> Result<Text, AllocError> {
+    match question {
+        "get" if text.is_empty() => get_body(alloc, None),
+        "get" => get(alloc, text),
+        "ids" => ids(alloc, text),
+        "select" => select(alloc, text),
+        "update" => update(alloc, text),
+        "error" => error(alloc, text),
+        "ok" => Text::new(alloc, ok_body()),
+        _ => Text::new(alloc, memory_body()),
+    }
+}
+
+fn get(alloc: Global, body: &str) -> Result<Text, AllocError> {
+    let cell = cell(alloc, body)?;
+    get_body(alloc, Some(&cell))
 }
 
 /// The first write of a document, whose id is `abc`.

@@ -115,14 +115,28 @@ fn after(alloc: Global, map: &mut ClusterMap, steps: &str) -> Result<String, All
     slices(alloc, map)
 }
 
+/// Whether the map allows a copy of the plan of such a split.
+fn is_allowed(alloc: Global, map: &ClusterMap, name: &str) -> Result<bool, AllocError>
+    requires { forming map.now ≡ [] }
+{
+    let plan = planned(alloc, map, name)?;
+    let copy = copied(alloc, &plan)?;
+    Ok(map.allows(&copy))
+}
+
+/// The slices of a copy of the map.
+fn slices_of_copy(alloc: Global, map: &ClusterMap) -> Result<String, AllocError> {
+    let copy = copied(alloc, map)?;
+    slices(alloc, &copy)
+}
+
 /// The map, or a copy of it, at each step of a split.
 fn during(alloc: Global, map: &mut ClusterMap, name: &str) -> Result<String, AllocError>
     requires { forming map.old ≡ [] }
 {
-    let plan = copied(alloc, &planned(alloc, map, name)?)?;
-    let allowed = map.allows(&plan);
+    let allowed = is_allowed(alloc, map, name)?;
     let parent = begun(alloc, map, name)?;
-    let began = slices(alloc, &copied(alloc, map)?)?;
+    let began = slices_of_copy(alloc, map)?;
     map.recovering(parent);
     let recovering = slices(alloc, map)?;
     map.switched(parent);

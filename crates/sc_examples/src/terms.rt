@@ -5,20 +5,23 @@
 use crate::documents::order_of;
 use crate::words::word_and;
 use sc_json::print;
-use sc_record::{Change, Kind, List, Order, Term};
+use sc_record::{Change, Kind, List, Order, Term, Text};
 use sc_schema::{fold_word, key_of, terms_of};
 use serde_json::Value;
 use std::alloc::{AllocError, Global};
 
 pub fn answer(alloc: Global, question: &str, text: &str) -> Result<String, AllocError> {
     match question {
-        "terms" => {
-            let terms = terms_of_order(alloc, &order_of(alloc, text)?)?;
-            term_line(alloc, &terms)
-        }
+        "terms" => terms(alloc, text),
         "words" => words(alloc, text),
         _ => key(alloc, text),
     }
+}
+
+fn terms(alloc: Global, body: &str) -> Result<String, AllocError> {
+    let order = order_of(alloc, body)?;
+    let terms = terms_of_order(alloc, &order)?;
+    term_line(alloc, &terms)
 }
 
 fn terms_of_order(alloc: Global, order: &Order) -> Result<List<Term>, AllocError> {
@@ -31,22 +34,41 @@ fn terms_of_order(alloc: Global, order: &Order) -> Result<List<Term>, AllocError
 fn term_line(alloc: Global, terms: &List<Term>) -> Result<String, AllocError> {
     let mut line = String::new(alloc);
     for term in terms.as_slice() {
-        let text = format!(in alloc; "{}:{}|", term.field.as_str(), term.key.as_str())?;
-        line.push_str(text.as_str())?;
+        line.push_str(term.field.as_str())?;
+        line.push_str(":")?;
+        line.push_str(term.key.as_str())?;
+        line.push_str("|")?;
     }
     Ok(line)
 }
 
+/// The text as JSON.
+fn quoted(alloc: Global, text: &str) -> Result<Text, AllocError> {
+    let value = Value::try_from_str(alloc, text)?;
+    print(alloc, &value)
+}
+
 /// The order to add a document with this text.
 fn order_with(alloc: Global, text: &str) -> Result<Order, AllocError> {
-    let value = Value::try_from_str(alloc, text)?;
-    let value = print(alloc, &value)?;
+    let value = quoted(alloc, text)?;
     let body = format!(in alloc; r#"{{"id":"a","t_t":{}}}"#, value.as_str())?;
     order_of(alloc, body.as_str())
 }
 
 fn words(alloc: Global, text: &str) -> Result<String, AllocError> {
-    let terms = terms_of_order(alloc, &order_with(alloc, text)?)?;
+    let words = words_found(alloc, text)?;
+    let word = one_word(alloc, text)?;
+    format!(in alloc; "{words}/{word}")
+}
+
+/// The words by which a document with this text is found, a bar behind each.
+fn words_found(alloc: Global, text: &str) -> Result<String, AllocError> {
+    let order = order_with(alloc, text)?;
+    let terms = terms_of_order(alloc, &order)?;
+    word_line(alloc, &terms)
+}
+
+fn word_line(alloc: Global, terms: &List<Term>) -> Result<String, AllocError> {
     let mut line = String::new(alloc);
     for term in terms.as_slice() {
         if term.field.as_str() == "t_t" {
@@ -54,11 +76,15 @@ fn words(alloc: Global, text: &str) -> Result<String, AllocError> {
             line.push_str("|")?;
         }
     }
-    line.push_str("/")?;
-    if let Some(word) = fold_word(alloc, text)? {
-        line.push_str(word.as_str())?;
-    }
     Ok(line)
+}
+
+/// The one word of the text; nothing where it has another number of words.
+fn one_word(alloc: Global, text: &str) -> Result<String, AllocError> {
+    match fold_word(alloc, text)? {
+        Some(word) => String::from_str(alloc, word.as_str()),
+        None => Ok(String::new(alloc)),
+    }
 }
 
 fn key(alloc: Global, text: &str) -> Result<String, AllocError> {

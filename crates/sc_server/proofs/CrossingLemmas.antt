@@ -1,4 +1,5 @@
--- A bucket may go from thread to thread, told from the inside out: a `search` that goes down through all of it runs out of steps.
+-- A collection, its passes and a worker may go from thread to thread, told from the inside out: a `search` that goes down through all of one
+-- runs out of steps.
 use denote.Param.Send.{IsSend, IsSync, sendable}
 use denote.RattleType.{RattleType}
 use denote.Ref.{NamedLft}

@@ -19,11 +19,12 @@ use std::sync::ledger::{Blank, Ledger};
 
 /// The first documents, at least `most`, of all of which the hits have the first `most`. The searchers are gone through in turn, and
 /// the first documents so far are kept; of a searcher of which none comes in only the first row is read. No document is shared, only
-/// what lends it is copied.
+/// what lends it is copied. Room for so many of these is made at once.
 pub(crate) fn first_of_all<'a, L: Ledger>(
     alloc: Global,
     all: &[Hits<'a>],
     most: usize,
+    room: usize,
     blank: Blank,
 ) -> Result<Vec<&'a Cell>, AllocError>
     requires { IsFresh blank L.name L.parts }
@@ -31,8 +32,8 @@ pub(crate) fn first_of_all<'a, L: Ledger>(
         → IsStartOf (all_of wholes) most (lent_in kept)) }
 {
     let mut steps = Steps::<L>::new(blank);
-    let mut kept = Vec::new(alloc);
-    let mut both = Vec::new(alloc);
+    let mut kept = Vec::with_capacity(alloc, room)?;
+    let mut both = Vec::with_capacity(alloc, room)?;
     for hits in all {
         if may_come_in(kept.as_slice(), hits, most, &mut steps) {
             merge(kept.as_slice(), hits, most, &mut both, &mut steps)?;

@@ -26,7 +26,8 @@ pub(crate) fn page(alloc: Global, ask: &Ask, found: u64, all: &[Hits]) -> Result
     ensures { IfOk result (IsPageOf (all_of (lists_of (criterion_of ask.now.query) all.now)) ask.now.start ask.now.rows) }
 {
     let most = reach(ask, found);
-    let kept = first_of_all::<Brand>(alloc, all, most, Blank::new(1))?;
+    let room = most.min(found as usize);
+    let kept = first_of_all::<Brand>(alloc, all, most, room, Blank::new(1))?;
     let docs = shared(alloc, between(kept.as_slice(), ask.start as usize, most))?;
     Ok(Page { found, docs })
 }

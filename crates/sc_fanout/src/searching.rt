@@ -1,4 +1,4 @@
-ghost use Rattle.std.specs.Prelude.{◌≡◌, ◌+◌, ◌<◌, ◌≤◌, length, filter, All, OnOk};
+ghost use Rattle.std.specs.Prelude.{◌≡◌, ◌+◌, ◌<◌, ◌≤◌, [], length, filter, All, OnOk};
 ghost use Rattle.sc_snapshot.specs.Rows.{AreRows};
 ghost use Rattle.sc_bucket.specs.Sound.{IsSound};
 ghost use Rattle.sc_bucket.specs.declared.standing.Searcher.{Searcher};
@@ -38,13 +38,23 @@ pub fn search<R: Threads + Sync, D: Desk>(
     ensures requests { trail.new.requests ≡ trail.old.requests }
 {
     let most = ask.start as usize + ask.rows as usize;
-    let mut searchers = Vec::new(alloc);
+    let mut searchers = with_room(alloc, desk.buckets());
     for b in 0..desk.buckets() {
         take_searchers(desk, trail, b, &ask.route, &mut searchers)?;
     }
     let parts = parts_for(rows_of(searchers.as_slice()));
     let found = find_in_parts(rt, alloc, &ask.query, searchers.as_slice(), most, parts)?;
     page(alloc, ask, found.count, found.hits.as_slice())
+}
+
+// No searchers, and room for so many, where there is memory for it.
+fn with_room(alloc: Global, count: u32) -> Vec<Searcher>
+    ensures { result.items ≡ [] }
+{
+    match Vec::with_capacity(alloc, count as usize) {
+        Ok(searchers) => searchers,
+        Err(_) => Vec::new(alloc),
+    }
 }
 
 // Puts the searchers of a bucket that the route asks for at the end of the others. They are taken in one hold, whose stop is kept.

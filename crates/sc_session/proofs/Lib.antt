@@ -1,6 +1,5 @@
 -- Facts on connections, lowest first.
 pub mod TextLemmas
-pub mod DigitLemmas
 pub mod AnswerLemmas
 pub mod ReadLemmas
 pub mod UpdateLemmas

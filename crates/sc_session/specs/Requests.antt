@@ -15,9 +15,10 @@ use Rattle.sc_model.specs.declared.message.Method.{Method}
 use Rattle.sc_model.specs.declared.message.Method.TheVariants as methods
 use Rattle.sc_model.specs.declared.message.Param.{Param}
 use Rattle.sc_model.specs.Heads.{form_params}
+use Rattle.sc_model.specs.Counts.{count_of}
 use Rattle.sc_model.specs.Parameters.{parameter, is_set_to, between_commas}
 use Rattle.sc_admin.specs.Commands.{AdminCommand, asked_admin}
-use Rattle.sc_session.specs.Parameters.{count_of, query_texts, other_fault}
+use Rattle.sc_session.specs.Parameters.{query_texts, other_fault}
 use Rattle.sc_session.specs.declared.path.Path.{Path}
 use Rattle.sc_session.specs.declared.path.Path.TheVariants as paths
 

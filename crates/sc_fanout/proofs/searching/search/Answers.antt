@@ -24,9 +24,9 @@ pub loop-b-init : goal.loop-b-init
 loop-b-init g c = record {
   looked = Looked-none (g.D.Desk.layout c.args.desk.now) (view_of (g.D.Desk.seen c.args.desk.now) c.args.trail.now.stops);
   far = λ rows. FoundSoFar-none (g.D.Desk.layout c.args.desk.now) (view_of (g.D.Desk.seen c.args.desk.now) c.args.trail.now.stops) c.args.ask.now
-      (map (found_in (criterion_of c.args.ask.now.query)) c.new-searchers.result.items)
-      (ap (map (found_in (criterion_of c.args.ask.now.query))) c.new-searchers.ensures.items);
-  terms = subst (All HaveTerms) (sym c.new-searchers.ensures.items) (All-nil HaveTerms);
+      (map (found_in (criterion_of c.args.ask.now.query)) c.with_room-searchers.result.items)
+      (ap (map (found_in (criterion_of c.args.ask.now.query))) c.with_room-searchers.ensures);
+  terms = subst (All HaveTerms) (sym c.with_room-searchers.ensures) (All-nil HaveTerms);
   layout = refl;
   rest = record { nothing_out = c.requires.nothing_out; legal = c.buckets-b-end.ensures.legal };
   stops = omega arith;

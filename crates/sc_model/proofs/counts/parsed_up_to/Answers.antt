@@ -1,7 +1,7 @@
 -- Digits that are no number of 32 bits are more than any.
 use Rattle.std.proofs.Common.{◌<◌, ◌^◌, rules}
-use Rattle.sc_session.proofs.DigitLemmas.{none_up_to}
-use Rattle.sc_session.proofs.select.parsed_up_to.Goals as goal
+use Rattle.sc_model.proofs.DigitLemmas.{none_up_to}
+use Rattle.sc_model.proofs.counts.parsed_up_to.Goals as goal
 
 pub returns-in-Err : goal.returns-in-Err
 returns-in-Err c =

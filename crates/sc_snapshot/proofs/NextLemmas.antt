@@ -4,6 +4,7 @@ use Rattle.std.proofs.Math.Seq.{take-length}
 use Rattle.std.proofs.Math.ListN.{get_or-eq_default}
 use Rattle.std.proofs.lemmas.Bool.{cases_lt}
 use Rattle.std.proofs.lemmas.Bool.Decides.{nat_tests}
+use Rattle.std.proofs.lemmas.List.{nil_from_length}
 use Rattle.std.proofs.lemmas.Option.{slice_get-get_or, slice_get-map, get_or_from_slice_get}
 use Rattle.std.specs.Cmp.{both_ways, IsTotalOrder}
 use Rattle.std.specs.List.{filter_map, cons_option}
@@ -21,7 +22,7 @@ use Rattle.sc_snapshot.specs.declared.change.Change.{Change}
 use Rattle.sc_snapshot.specs.declared.term_key.TermKey.{TermKey}
 use Rattle.sc_snapshot.proofs.ChangeLemmas.{kept_at}
 use Rattle.sc_snapshot.proofs.KeyLemmas.{key_cmp-total}
-use Rattle.sc_snapshot.proofs.PostingLemmas.{has_row-term, has_row-new, rows_ascend}
+use Rattle.sc_snapshot.proofs.PostingLemmas.{all_new, has_row-term, has_row-new, rows_ascend}
 
 one_number : (x y : ℕ) → (x == y) ≡ true → x ≡ y
 one_number x y h = grind (arith, nat_tests)
@@ -156,6 +157,16 @@ module _ (old new : List Write) (low high : ℕ) (change : Change) (is : IsChang
           (members spot.0 ∙ ap (has_term key.term) same ∙ parts.1)
           (get_or_from_slice_get moved spot.0 (Some number) None spot.1)
 
+  -- the other terms of all new rows that are none of the kept are filed
+  all_filed : length new ≡ high → IsIndexOf key_order (keyed_new moved 0 filed_new) change.added.index
+  all_filed all = subst (λ (rows : List Write). IsIndexOf key_order (keyed_new moved 0 (map without_ids rows)) change.added.index)
+      (ap (λ n. take n new) (sym all) ∙ take-length new) is.filed
+
+  -- where there are no old rows, what is filed is the index of the new ones
+  pub first_terms : length moved ≡ 0 → length new ≡ high → IsIndexOf key_order (keyed_rows 0 (map without_ids new)) change.added.index
+  first_terms none all = subst (λ (ps : List (ℕ × TermKey)). IsIndexOf key_order ps change.added.index)
+      (ap (λ (os : List (Option ℕ)). keyed_new os 0 filed_new) (nil_from_length moved none) ∙ all_new 0 filed_new) (all_filed all)
+
   -- the index that is carried is that of the new rows
   pub carried_terms : (index carried : List (TermKey × List ℕ)) → length new ≡ high → IsIndexOf key_order (keyed_rows 0 (map without_ids old)) index
       → IsCarried key_order moved index change.added.index carried → IsIndexOf key_order (keyed_rows 0 (map without_ids new)) carried
@@ -167,10 +178,6 @@ module _ (old new : List Write) (low high : ℕ) (change : Change) (is : IsChang
       (kept_rows key (rows_at key_order index key)
       (λ at. ap (λ (rs : List ℕ). has_row rs at) (rows_at-index keys_total (keyed_rows 0 filed_old) index terms key) ∙ has_row-term filed_old key at) number)
       ∙ ap (λ b. (is_kept moved number && has_term key.term (slice_get filed_new number)) || b)
-      (ap (λ (rs : List ℕ). has_row rs number) (rows_at-index keys_total (keyed_new moved 0 filed_new) change.added.index filed key) ∙ has_row-new moved filed_new key number)
+      (ap (λ (rs : List ℕ). has_row rs number) (rows_at-index keys_total (keyed_new moved 0 filed_new) change.added.index (all_filed all) key) ∙ has_row-new moved filed_new key number)
       ∙ by_kept (is_kept moved number) (has_term key.term (slice_get filed_new number))
       ∙ sym (has_row-term filed_new key number))
-    where
-      filed : IsIndexOf key_order (keyed_new moved 0 filed_new) change.added.index
-      filed = subst (λ (rows : List Write). IsIndexOf key_order (keyed_new moved 0 (map without_ids rows)) change.added.index)
-          (ap (λ n. take n new) (sym all) ∙ take-length new) is.filed

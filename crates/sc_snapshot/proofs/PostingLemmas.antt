@@ -104,7 +104,7 @@ has_row-new moved rows key number =
     ∙ ap (λ n. not (is_kept moved n) && has_term key.term (slice_get rows number)) (sym place)
 
 -- where none is kept, all are new
-all_new : (from : ℕ) (rows : List Write) → keyed_new [] from rows ≡ keyed_rows from rows
+pub all_new : (from : ℕ) (rows : List Write) → keyed_new [] from rows ≡ keyed_rows from rows
 all_new from [] = refl
 all_new from (row ∷ rows) = ap (λ (ps : List (ℕ × TermKey)). keyed from (live_terms row) ++ ps) (all_new (from + 1) rows)
 

@@ -162,7 +162,7 @@ fn next_segment(
     Ok(next)
 }
 
-// The same after the change, from those of the old rows.
+// The same after the change, from those of the old rows. Where there are no old rows, nothing is carried over.
 fn carried_segment(
     alloc: Global,
     segment: &Segment<TermKey>,
@@ -175,6 +175,10 @@ fn carried_segment(
 {
     let Change { moved, added } = change;
     let added = added.finish()?;
+    let is_first = moved.is_empty();
+    if is_first {
+        return Ok(added);
+    }
     let carried = segment.carried(alloc, moved.as_slice(), &added)?;
     Ok(carried)
 }

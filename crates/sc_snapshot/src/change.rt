@@ -1,10 +1,13 @@
-ghost use Rattle.std.specs.Prelude.{◌≡◌, ℕ, ◌+◌, ◌-◌, ◌^◌, ◌≤◌, ◌<◌, if◌then◌else◌, length, slice_get, IfOk, OnOk, Some, List};
+ghost use Rattle.std.specs.Prelude.{◌≡◌, ℕ, ◌+◌, ◌-◌, ◌^◌, ◌≤◌, ◌<◌, true, ◌&&◌, if◌then◌else◌, length, slice_get, IfOk, OnOk, Some, List};
+ghost use Rattle.std.specs.List.{list_all};
 ghost use Rattle.sc_record.specs.declared.write.Write.{Write};
 ghost use Rattle.sc_snapshot.specs.Change.{IsChange};
-ghost use Rattle.sc_snapshot.specs.Edits.{edited, AreInOrder};
+ghost use Rattle.sc_snapshot.specs.Edits.{put_in, edited, AreInOrder};
+ghost use Rattle.sc_snapshot.specs.Postings.{has_id_alone};
+ghost use Rattle.sc_snapshot.specs.declared.edits.Edit.{Edit};
 
 use crate::edits::Edit;
-use crate::filing::{file_others, live_terms};
+use crate::filing::file_row;
 use crate::pieces::Pieces;
 use crate::term_key::TermKey;
 use sc_record::Write;
@@ -18,6 +21,8 @@ pub(crate) struct Change {
     pub(crate) moved: Vec<Option<u32>>,
     /// The terms of the new rows that are none of the old, but for those of the field of ids.
     pub(crate) added: Builder<TermKey>,
+    /// Whether of the terms of the field of ids each of these rows has that of its own id alone, where it is live.
+    pub(crate) alone: bool,
 }
 
 impl Change {
@@ -27,8 +32,9 @@ impl Change {
         requires in_order { AreInOrder (length old.now) 0 edits.now }
         requires old { length old.now ≤ 2 ^ 24 }
         requires new { length (edited old.now 0 edits.now) ≤ 2 ^ 24 }
-        ensures { IfOk result (λ change. IsChange old.now (edited old.now 0 edits.now) (length old.now)
+        ensures change { IfOk result (λ change. IsChange old.now (edited old.now 0 edits.now) (length old.now)
             (length (edited old.now 0 edits.now)) change) }
+        ensures alone { IfOk result (λ change. change.alone ≡ list_all (λ (edit : Edit). has_id_alone (put_in edit)) edits.now) }
     {
         let mut change = Change::begin(alloc, old.len())?;
         let mut from = 0;
@@ -47,11 +53,13 @@ impl Change {
 
     /// No row is told yet.
     pub(crate) fn begin(alloc: Global, rows: usize) -> Result<Change, AllocError>
-        ensures { IfOk result (λ change. (old new : List Write) → IsChange old new 0 0 change) }
+        ensures change { IfOk result (λ change. (old new : List Write) → IsChange old new 0 0 change) }
+        ensures alone { IfOk result (λ change. change.alone ≡ true) }
     {
         Ok(Change {
             moved: Vec::with_capacity(alloc, rows)?,
             added: Builder::new(alloc),
+            alone: true,
         })
     }
 
@@ -60,6 +68,7 @@ impl Change {
         ensures change { OnOk result ((old new : List Write) (low high : ℕ) → IsChange old new low high self.old
             → IsChange old new (low + (if is_replaced then 1 else 0)) high self.new) }
         ensures added { OnOk result (self.new.added ≡ self.old.added) }
+        ensures alone { OnOk result (self.new.alone ≡ self.old.alone) }
     {
         if is_replaced {
             self.moved.push(None)?;
@@ -72,6 +81,7 @@ impl Change {
         ensures change { OnOk result ((old new : List Write) (low : ℕ) (row : Write) → IsChange old new low number self.old
             → slice_get old low ≡ Some row → slice_get new number ≡ Some row → IsChange old new (low + 1) (number + 1) self.new) }
         ensures added { OnOk result (self.new.added ≡ self.old.added) }
+        ensures alone { OnOk result (self.new.alone ≡ self.old.alone) }
     {
         self.moved.push(Some(number))?;
         Ok(())
@@ -85,6 +95,7 @@ impl Change {
             → ((k : ℕ) → k < to - from → slice_get old (from + k) ≡ slice_get new (number + k))
             → IsChange old new to (number + (to - from)) self.new) }
         ensures added { OnOk result (self.new.added ≡ self.old.added) }
+        ensures alone { OnOk result (self.new.alone ≡ self.old.alone) }
     {
         self.moved.reserve(to - from)?;
         for row in from..to {
@@ -100,8 +111,10 @@ impl Change {
         ensures change { OnOk result ((old new : List Write) (low : ℕ) → IsChange old new low number self.old
             → slice_get new number ≡ Some row.now → IsChange old new low (number + 1) self.new) }
         ensures last_row { OnOk result (self.new.added.last_row ≤ number) }
+        ensures alone { OnOk result (self.new.alone ≡ (self.old.alone && has_id_alone row.now)) }
     {
-        file_others(&mut self.added, number, live_terms(row))?;
+        let is_alone = file_row(&mut self.added, number, row)?;
+        self.alone &= is_alone;
         Ok(())
     }
 }

@@ -4,12 +4,9 @@ ghost use Rattle.std.specs.List.{list_all, list_any};
 ghost use Rattle.std.specs.List.Sorted.{IsStrictlyIncreasing};
 ghost use Rattle.sc_record.specs.Writes.{AscendById};
 ghost use Rattle.sc_segment.specs.Joining.{has_row};
-ghost use Rattle.sc_snapshot.specs.declared.edits.Edit.{Edit};
-ghost use Rattle.sc_snapshot.specs.Edits.{put_in};
 ghost use Rattle.sc_snapshot.specs.Ids.{IsPlaceOfId};
 ghost use Rattle.sc_snapshot.specs.Postings.{has_id_alone, is_id_alone, is_id_term, is_live_of, is_no_other_id, AreLiveRows};
 
-use crate::edits::Edit;
 use crate::pieces::Pieces;
 use sc_record::{Cell, Term, Text, Write};
 use sc_segment::Steps;
@@ -28,13 +25,6 @@ pub(crate) fn have_ids_alone(rows: &[Cell]) -> bool
     ensures { result ≡ list_all (λ cell. has_id_alone (arc_value cell)) rows.now }
 {
     rows.iter().all(|row| has_id_alone(row))
-}
-
-/// Whether the rows of the edits do.
-pub(crate) fn edits_have_ids_alone(edits: &[Edit]) -> bool
-    ensures { result ≡ list_all (λ (edit : Edit). has_id_alone (put_in edit)) edits.now }
-{
-    edits.iter().all(|edit| has_id_alone(&edit.cell))
 }
 
 // Whether the row does.

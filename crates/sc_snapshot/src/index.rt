@@ -13,7 +13,7 @@ ghost use Rattle.sc_snapshot.specs.Postings.{has_id_alone, has_term, key_order, 
 
 use crate::change::Change;
 use crate::edits::Edit;
-use crate::filing::{file_others, live_terms};
+use crate::filing::file_row;
 use crate::ids::{is_id_term, row_of_id};
 use crate::pieces::Pieces;
 use crate::survey::Survey;
@@ -68,8 +68,9 @@ impl Index {
         requires edited { new.now ≡ edited old.now 0 edits.now }
         ensures { IfOk result (IsIndexed new.now) }
     {
-        let segment = next_segment(alloc, &self.segment, old, edits)?;
-        let whole = next_whole(alloc, &self.whole, new, edits)?;
+        let change = Change::of(alloc, old, edits)?;
+        let whole = next_whole(alloc, &self.whole, new, change.alone)?;
+        let segment = carried_segment(alloc, &self.segment, change)?;
         let survey = self.survey.next(alloc, old, new, edits)?;
         Ok(Index {
             segment,
@@ -138,28 +139,10 @@ fn segment_of(alloc: Global, rows: &[Cell]) -> Result<Segment<TermKey>, AllocErr
     let mut builder = Builder::new(alloc);
     let mut number: u32 = 0;
     for row in rows {
-        file_others(&mut builder, number, live_terms(row))?;
+        file_row(&mut builder, number, row)?;
         number += 1;
     }
     builder.finish()
-}
-
-// The same after the edits, from those of the old rows.
-fn next_segment(
-    alloc: Global,
-    segment: &Segment<TermKey>,
-    old: &Pieces,
-    edits: &[Edit],
-) -> Result<Segment<TermKey>, AllocError>
-    requires terms { IsIndexOf key_order (keyed_rows 0 (map without_ids old.now)) segment.now }
-    requires in_order { AreInOrder (length old.now) 0 edits.now }
-    requires old { length old.now ≤ 2 ^ 24 }
-    requires new { length (edited old.now 0 edits.now) ≤ 2 ^ 24 }
-    ensures { IfOk result (IsIndexOf key_order (keyed_rows 0 (map without_ids (edited old.now 0 edits.now)))) }
-{
-    let change = Change::of(alloc, old, edits)?;
-    let next = carried_segment(alloc, segment, change)?;
-    Ok(next)
 }
 
 // The same after the change, from those of the old rows. Where there are no old rows, nothing is carried over.
@@ -173,7 +156,11 @@ fn carried_segment(
         → IsIndexOf key_order (keyed_rows 0 (map without_ids old)) segment.now
         → IsIndexOf key_order (keyed_rows 0 (map without_ids new)) carried) }
 {
-    let Change { moved, added } = change;
+    let Change {
+        moved,
+        added,
+        alone: _,
+    } = change;
     let added = added.finish()?;
     let is_first = moved.is_empty();
     if is_first {

@@ -1,15 +1,13 @@
-ghost use Rattle.std.specs.Prelude.{◌≡◌, List, length, map, true, IfOk};
+ghost use Rattle.std.specs.Prelude.{◌≡◌, List, map, true, IfOk};
 ghost use Rattle.std.specs.Arc.{arc_value};
 ghost use Rattle.std.specs.List.{list_all};
 ghost use Rattle.sc_record.specs.declared.write.Write.{Write};
 ghost use Rattle.sc_segment.specs.Index.{IsIndexOf};
-ghost use Rattle.sc_snapshot.specs.Edits.{edited, AreInOrder};
 ghost use Rattle.sc_snapshot.specs.Rows.{AreRows};
 ghost use Rattle.sc_snapshot.specs.Postings.{has_id_alone, key_order, keyed_rows, AreIdsFound};
 
-use crate::edits::Edit;
 use crate::filing::{file_terms, live_terms};
-use crate::ids::{edits_have_ids_alone, have_ids_alone};
+use crate::ids::have_ids_alone;
 use crate::pieces::Pieces;
 use crate::term_key::TermKey;
 use sc_record::Cell;
@@ -46,19 +44,19 @@ pub(crate) fn whole_of_part(
     }
 }
 
-/// The same of the new rows, which these edits make of the old ones. No row is looked at but those of the edits, where the new ones
-/// are found by their own ids alone.
+/// The same of the new rows. None is looked at where the old rows were found by their own ids alone and so are those that were put in, as
+/// `alone` tells.
 pub(crate) fn next_whole(
     alloc: Global,
     whole: &Option<Segment<TermKey>>,
     new: &Pieces,
-    edits: &[Edit],
+    alone: bool,
 ) -> Result<Option<Segment<TermKey>>, AllocError>
     requires { AreRows new.now }
-    ensures { IfOk result (λ next. (old : List Write) → AreIdsFound old whole.now → AreInOrder (length old) 0 edits.now
-        → new.now ≡ edited old 0 edits.now → AreIdsFound new.now next) }
+    ensures { IfOk result (λ next. (old : List Write) → AreIdsFound old whole.now
+        → (alone ≡ true → list_all has_id_alone old ≡ true → list_all has_id_alone new.now ≡ true) → AreIdsFound new.now next) }
 {
-    if whole.is_none() && edits_have_ids_alone(edits) {
+    if whole.is_none() && alone {
         return Ok(None);
     }
     let cells = cells_of(alloc, new)?;

@@ -7,12 +7,13 @@ use Rattle.sc_snapshot.proofs.change.Change.keep_all.Goals as goal
 
 pub loop-row-init : goal.loop-row-init
 loop-row-init c =
-    let roomy : Change = record { moved = c.reserve.new.self; added = c.args.self.now.added } in
+    let roomy : Change = record { moved = c.reserve.new.self; added = c.args.self.now.added; alone = c.args.self.now.alone } in
     record {
       change = λ old new is bounded alike. subst (λ n. IsChange old new c.args.from n roomy)
           (let none : c.args.number ≡ c.args.number + (c.args.from - c.args.from) = omega arith in none)
           (same-step old new c.args.from c.args.number c.args.self.now is roomy c.reserve.ensures.items refl);
       added = refl;
+      alone = refl;
       room = let enough = c.in_ok-reserve.ensures.ok in let order = c.requires.from in omega (arith, enough, order);
     }
 
@@ -22,7 +23,7 @@ loop-row-preserved c =
     let first = c.loop-row.auto.row in
     let within = c.loop-row-test.true in
     let next = c.args.number + (row - c.args.from) in
-    let told : Change = record { moved = c.push_reserved.new.self; added = c.loop-row.self.added } in
+    let told : Change = record { moved = c.push_reserved.new.self; added = c.loop-row.self.added; alone = c.loop-row.self.alone } in
     let i = c.loop-row.invariant in
     record {
       change = λ old new is bounded alike.
@@ -33,6 +34,7 @@ loop-row-preserved c =
           subst (λ n. IsChange old new (row + 1) n told) (let more : next + 1 ≡ c.args.number + (row + 1 - c.args.from) = omega (arith, first) in more)
           (keep-step old new row next c.loop-row.self (i.change old new is bounded alike) here.0 told c.push_reserved.ensures.items refl here.1 there);
       added = i.added;
+      alone = i.alone;
       room = omega (arith, i.room, c.push_reserved.ensures.len, c.push_reserved.ensures.capacity);
     }
 

@@ -10,5 +10,6 @@ invariant-loop-row l = record {
       → ((k : ℕ) → k < l.to - l.from → slice_get old (l.from + k) ≡ slice_get new (l.number + k))
       → IsChange old new l.row (l.number + (l.row - l.from)) l.self;
   added : l.self.added ≡ l.fn.self.added;
+  alone : l.self.alone ≡ l.fn.self.alone;
   room : vec_len l.self.moved + l.to ≤ vec_capacity l.self.moved + l.row;
 }

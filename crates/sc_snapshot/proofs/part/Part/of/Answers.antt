@@ -25,7 +25,7 @@ loop-row-init c =
     record {
       cells = ap (map arc_value) none;
       change = subst (λ (cells : List (Arc Write Global)). IsChange rows some 0 (length cells) c.in_ok-begin.field-0) (sym none)
-          (c.in_ok-begin.ensures rows some);
+          (c.in_ok-begin.ensures.change rows some);
     }
 
 pub look-requires : goal.look-requires

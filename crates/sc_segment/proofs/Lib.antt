@@ -2,9 +2,9 @@
 pub mod AddingLemmas
 pub mod AheadLemmas
 pub mod BitsLemmas
-pub mod BoundsLemmas
 pub mod CarryLemmas
 pub mod EntryLemmas
+pub mod FilingLemmas
 pub mod FlatLemmas
 pub mod FrontLemmas
 pub mod HasRowLemmas
@@ -12,8 +12,10 @@ pub mod HeadLemmas
 pub mod IndexLemmas
 pub mod JoinLemmas
 pub mod MembersLemmas
+pub mod PlacingLemmas
 pub mod RowsLemmas
 pub mod SameRowsLemmas
 pub mod SearchLemmas
 pub mod SortingLemmas
 pub mod StoringLemmas
+pub mod TallyLemmas

@@ -1,9 +1,9 @@
 -- Rows that ascend, and rows that come again.
-use Rattle.std.proofs.Common.{◌≡◌, ℕ, suc, ◌+◌, ◌-◌, ◌<◌, ◌≤◌, ◌==◌, ◌≢◌, Bool, false, List, [], ◌∷◌, ◌++◌, length, All, slice_get, Option, Some, unwrap_or, refl, sym, ap, ◌∙◌, arith}
+use Rattle.std.proofs.Common.{◌≡◌, ℕ, ◌+◌, ◌-◌, ◌<◌, ◌≤◌, ◌==◌, ◌≢◌, Bool, false, List, [], ◌∷◌, ◌++◌, length, All, slice_get, Some, refl, ap, arith}
 use native.Mathlib.Numerals.{unary_clauses}
 use Rattle.std.proofs.lemmas.Bool.Decides.{nat_tests}
 use Rattle.std.proofs.lemmas.Map.Keys.{sorted_head, sorted_tail, sorted_from_strictly_increasing}
-use Rattle.std.proofs.lemmas.Option.{slice_get-get_or, slice_get_within, get_or_from_slice_get}
+use Rattle.std.proofs.lemmas.Option.{slice_get_within, get_or_from_slice_get}
 use Rattle.std.specs.declared.cmp.Ordering.TheVariants.{Less}
 use Rattle.std.specs.List.{dedup, dedup_from}
 use Rattle.std.specs.List.Sorted.{IsStrictlyIncreasing, IsStrictlySortedBy}
@@ -42,15 +42,6 @@ dedup-again [] row up last = grind arith
 dedup-again (x ∷ xs) row up last =
     let at_end : slice_get (x ∷ xs) (length xs) ≡ Some row = simp unary_clauses at last in
     dedup_from-again x xs row (sorted_from_strictly_increasing (x ∷ xs) up) at_end
-
--- the last row of a list whose first row is this one
-pub last_row : (x : ℕ) (xs : List ℕ) (r : Option ℕ) → slice_get xs (length xs - 1) ≡ r → slice_get (x ∷ xs) (length (x ∷ xs) - 1) ≡ Some (unwrap_or r x)
-last_row x [] r last = rw (← last) refl
-last_row x (y ∷ ys) r last =
-    let there = slice_get-get_or (y ∷ ys) (length ys) x (omega arith) in
-    let at_end : slice_get (y ∷ ys) (length ys) ≡ r = simp unary_clauses at last in
-    let whole : slice_get (x ∷ y ∷ ys) (suc (length ys)) ≡ Some (unwrap_or r x) = rw (sym at_end ∙ there) there in
-    simp unary_clauses whole
 
 ascend-push : (low : ℕ) (xs : List ℕ) (row last : ℕ) → AscendFrom low xs → slice_get xs (length xs - 1) ≡ Some last → last < row → AscendFrom low (xs ++ row ∷ [])
 ascend-push low [] row last up at_end above = cc

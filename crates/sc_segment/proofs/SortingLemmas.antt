@@ -1,10 +1,10 @@
 -- The entries of an index in the order of their keys: the same entries, which a sort gives too where no two keys are equal.
-use Rattle.std.proofs.Common.{◌≡◌, ℕ, ◌+◌, ◌<◌, ◌≤◌, suc, Bool, true, false, cond, true≢false, List, [], ◌∷◌, length, All, Contains, ⊎_elim, Some, IsPermutation, IsSortedBy, refl, sym, ap, subst, ◌∙◌, arith}
+use Rattle.std.proofs.Common.{◌≡◌, ℕ, ◌+◌, ◌<◌, suc, Bool, true, false, cond, true≢false, List, [], ◌∷◌, length, Contains, ⊎_elim, Some, IsPermutation, IsSortedBy, refl, sym, ap, subst, ◌∙◌, arith}
 use Rattle.std.proofs.lemmas.Cmp.{eq_by_cmp_equiv, tied_itself}
 use Rattle.std.proofs.lemmas.List.{get_or-map}
-use Rattle.std.proofs.lemmas.List.Sorted.{IsPermutation-refl, IsPermutation-cons, IsPermutation-swap, IsPermutation-trans, IsPermutation-sym, IsPermutation-map, All-permutation, Contains-permutation, length_permutation}
+use Rattle.std.proofs.lemmas.List.Sorted.{IsPermutation-refl, IsPermutation-cons, IsPermutation-swap, IsPermutation-trans, IsPermutation-sym, IsPermutation-map, Contains-permutation, length_permutation}
 use Rattle.std.proofs.lemmas.Map.Entries.{length-keys_of}
-use Rattle.std.proofs.lemmas.Map.Keys.{sorted_head, sorted_tail, sorted_from_all_adjacent, IsDistinct-head, IsDistinct-tail, IsDistinct-IsPermutation, apart_from_distinct}
+use Rattle.std.proofs.lemmas.Map.Keys.{sorted_head, sorted_tail, sorted_from_all_adjacent, IsDistinct-head, IsDistinct-tail, IsDistinct-IsPermutation, IsDistinct-from_sorted, apart_from_distinct}
 use Rattle.std.specs.Cmp.{IsTotalOrder}
 use Rattle.std.specs.List.{AllByRecursion, IsDistinct}
 use Rattle.std.specs.List.Sorted.{IsStrictlySortedBy}
@@ -13,7 +13,10 @@ use Rattle.std.specs.Ordering.{is_eq, is_lt, is_gt, eq_by_cmp, ordering_reverse}
 use Rattle.std.specs.declared.cmp.Ordering.{Ordering}
 use Rattle.std.specs.declared.cmp.Ordering.TheVariants.{Less, Equal, Greater}
 use Rattle.sc_segment.proofs.MembersLemmas.{Contains-cases, Equal-from_is_eq}
-use Rattle.sc_segment.specs.Filing.{FilesRow, put_in_order, sorted_entries}
+use Rattle.sc_segment.proofs.FilingLemmas.{keys_of-entries_of}
+use Rattle.sc_segment.specs.Filing.{FilesRow, entries_of, put_in_order, rows_of, sorted_entries}
+use Rattle.sc_segment.specs.declared.tally.Posting.{Posting}
+use Rattle.sc_segment.specs.declared.tally.Tally.{Tally}
 
 -- two tests that don't pass together, in either order
 turned : {A : Type 0} (s t : Bool) (a b c : A) → (s ≡ true → t ≡ true → ⊥) → cond s a (cond t b c) ≡ cond t b (cond s a c)
@@ -70,7 +73,6 @@ module _ {K : Type 0} {order : K → K → Ordering} (o : IsTotalOrder order) wh
   FilesRow-sorted row key old new filed = record {
     lists = λ q. rw (lookup-sorted q new, lookup-sorted key old, lookup-sorted q old) (filed.lists q);
     size = rw (length_permutation new (sorted_entries order new) (permutes-sorted new), length_permutation old (sorted_entries order old) (permutes-sorted old), lookup-sorted key old) filed.size;
-    up_to = All-permutation (λ e. All (λ r. r ≤ row) e.1) new (sorted_entries order new) (permutes-sorted new) filed.up_to;
   }
 
   -- ---- in order
@@ -116,25 +118,6 @@ module _ {K : Type 0} {order : K → K → Ordering} (o : IsTotalOrder order) wh
   strict-sorted (e ∷ es) apart = strict-put e (sorted_entries order es)
       (strict-sorted es (IsDistinct-tail (eq_by_cmp order) e.0 (keys_of es) apart))
       (keys-sorted (λ k. eq_by_cmp order e.0 k ≡ false) es (IsDistinct-head (eq_by_cmp order) e.0 (keys_of es) apart))
-
-  -- where no two keys are equal, a sort leaves keys that ascend
-  pub strict-from_sort : (es : List Entry) → IsDistinct (eq_by_cmp order) (keys_of es) → IsSortedBy (λ a b. is_lt (order a.0 b.0)) es → IsStrictlySortedBy order (keys_of es)
-  strict-from_sort [] apart up = strict-nil
-  strict-from_sort (e ∷ es) apart up = sorted_from_all_adjacent o (keys_of (e ∷ es)) e.0 (λ k low.
-      let long : length (keys_of (e ∷ es)) ≡ length (e ∷ es) = length-keys_of (e ∷ es) in
-      let within : k + 1 < length (e ∷ es) = omega (arith, long, low) in
-      let first = get_or-map (λ (f : Entry). f.0) (e ∷ es) k e e.0 (omega arith) in
-      let next = get_or-map (λ (f : Entry). f.0) (e ∷ es) (k + 1) e e.0 within in
-      let differ = apart_from_distinct (eq_by_cmp order) (keys_of (e ∷ es)) k (k + 1) e.0 apart (omega arith) low in
-      less _ _ differ (rw (first, next) (up k e (omega arith) within)))
-    where
-      less : (x y : K) → eq_by_cmp order x y ≡ false → is_lt (order y x) ≡ false → order x y ≡ Less
-      less x y differ not_below = by (order x y) refl
-        where
-          by : (r : Ordering) → order x y ≡ r → order x y ≡ Less
-          by Less is = is
-          by Equal is = absurd (true≢false (sym (ap is_eq is) ∙ differ))
-          by Greater is = absurd (true≢false (sym (ap is_lt (o.antisymm y x ∙ ap ordering_reverse is)) ∙ not_below))
 
   -- ---- keys that ascend leave one order
   no_key_below_itself : (k : K) → order k k ≡ Less → ⊥
@@ -186,6 +169,38 @@ module _ {K : Type 0} {order : K → K → Ordering} (o : IsTotalOrder order) wh
       (λ e has. Contains-permutation es (sorted_entries order es) e (permutes-sorted es) (Contains-permutation ys es e (IsPermutation-sym es ys moved) has))
       (λ e has. Contains-permutation es ys e moved (Contains-permutation (sorted_entries order es) es e (IsPermutation-sym es (sorted_entries order es) (permutes-sorted es)) has))
 
+  -- the sorted entries of keys that ascend are these keys with the same rows
+  pub entries_of-sorted : (es ys : List (K × Tally)) (postings : List Posting) → IsPermutation es ys → IsStrictlySortedBy order (keys_of ys)
+      → entries_of ys postings ≡ sorted_entries order (entries_of es postings)
+  entries_of-sorted es ys postings moved up =
+      let ascending : IsStrictlySortedBy order (keys_of (entries_of ys postings)) = subst (IsStrictlySortedBy order) (sym (keys_of-entries_of ys postings)) up in
+      let there = IsPermutation-map (λ (e : K × Tally). (e.0, rows_of e.1.number postings)) es ys moved in
+      let back = IsPermutation-map (λ (e : Entry). e.0) (entries_of ys postings) (entries_of es postings) (IsPermutation-sym (entries_of es postings) (entries_of ys postings) there) in
+      let apart = IsDistinct-IsPermutation (eq_by_cmp order) (eq_by_cmp_equiv o).symm (keys_of (entries_of ys postings)) (keys_of (entries_of es postings)) back
+      (IsDistinct-from_sorted order (keys_of (entries_of ys postings)) ascending) in
+      sorted-from_sort (entries_of es postings) (entries_of ys postings) there apart ascending
+
+-- ---- a sort of keys with any values
+module _ {K V : Type 0} {order : K → K → Ordering} (o : IsTotalOrder order) where
   -- no two keys are equal after a sort
-  pub distinct-moved : (es ys : List Entry) → IsPermutation es ys → IsDistinct (eq_by_cmp order) (keys_of es) → IsDistinct (eq_by_cmp order) (keys_of ys)
-  distinct-moved es ys moved apart = IsDistinct-IsPermutation (eq_by_cmp order) (eq_by_cmp_equiv o).symm (keys_of es) (keys_of ys) (IsPermutation-map (λ (e : Entry). e.0) es ys moved) apart
+  pub distinct-moved : (es ys : List (K × V)) → IsPermutation es ys → IsDistinct (eq_by_cmp order) (keys_of es) → IsDistinct (eq_by_cmp order) (keys_of ys)
+  distinct-moved es ys moved apart = IsDistinct-IsPermutation (eq_by_cmp order) (eq_by_cmp_equiv o).symm (keys_of es) (keys_of ys) (IsPermutation-map (λ (e : K × V). e.0) es ys moved) apart
+
+  -- where no two keys are equal, a sort leaves keys that ascend
+  pub strict-from_sort : (es : List (K × V)) → IsDistinct (eq_by_cmp order) (keys_of es) → IsSortedBy (λ a b. is_lt (order a.0 b.0)) es → IsStrictlySortedBy order (keys_of es)
+  strict-from_sort [] apart up = strict-nil o
+  strict-from_sort (e ∷ es) apart up = sorted_from_all_adjacent o (keys_of (e ∷ es)) e.0 (λ k low.
+      let long : length (keys_of (e ∷ es)) ≡ length (e ∷ es) = length-keys_of (e ∷ es) in
+      let within : k + 1 < length (e ∷ es) = omega (arith, long, low) in
+      let first = get_or-map (λ (f : K × V). f.0) (e ∷ es) k e e.0 (omega arith) in
+      let next = get_or-map (λ (f : K × V). f.0) (e ∷ es) (k + 1) e e.0 within in
+      let differ = apart_from_distinct (eq_by_cmp order) (keys_of (e ∷ es)) k (k + 1) e.0 apart (omega arith) low in
+      less _ _ differ (rw (first, next) (up k e (omega arith) within)))
+    where
+      less : (x y : K) → eq_by_cmp order x y ≡ false → is_lt (order y x) ≡ false → order x y ≡ Less
+      less x y differ not_below = by (order x y) refl
+        where
+          by : (r : Ordering) → order x y ≡ r → order x y ≡ Less
+          by Less is = is
+          by Equal is = absurd (true≢false (sym (ap is_eq is) ∙ differ))
+          by Greater is = absurd (true≢false (sym (ap is_lt (o.antisymm y x ∙ ap ordering_reverse is)) ∙ not_below))

@@ -1,8 +1,12 @@
 -- What a builder keeps, and what becomes of it when a row is added.
-use Rattle.std.specs.Prelude.{◌≡◌, ℕ, ◌+◌, ◌≤◌, if◌then◌else◌, List, [], ◌∷◌, ◌++◌, length, All, Some, is_some, unwrap_or}
+use Rattle.std.specs.Prelude.{◌≡◌, ◌≢◌, ℕ, ◌+◌, ◌-◌, ◌<◌, ◌≤◌, ◌==◌, true, if◌then◌else◌, List, [], ◌∷◌, ◌++◌, length, map, filter, slice_get, All, Option, None, Some, is_some, unwrap_or}
 use Rattle.std.specs.declared.cmp.Ordering.{Ordering}
+use Rattle.std.specs.List.{IsDistinct, list_any}
+use Rattle.std.specs.List.Sorted.{IsStrictlyIncreasing}
 use Rattle.std.specs.Map.{lookup}
 use Rattle.std.specs.Ordering.{is_eq, is_gt}
+use Rattle.sc_segment.specs.declared.tally.Posting.{Posting}
+use Rattle.sc_segment.specs.declared.tally.Tally.{Tally}
 use Rattle.sc_segment.specs.Index.{without_repeats}
 
 -- a builder: its index of what was added, and the row that was added last, or 0
@@ -20,9 +24,48 @@ abbrev pub sorted_entries : {K : Type 0} → (K → K → Ordering) → List (K 
 sorted_entries order [] = []
 sorted_entries order (e ∷ entries) = put_in_order order e (sorted_entries order entries)
 
--- no row of an index is above this one
-abbrev pub NoRowAbove : {K : Type 0} → ℕ → List (K × List ℕ) → Type 0
-NoRowAbove row index = All (λ e. All (λ r. r ≤ row) e.1) index
+-- the rows of the key with this number, in the order in which they came
+abbrev pub rows_of : ℕ → List Posting → List ℕ
+rows_of number postings = map (λ p. p.row) (filter (λ p. number == p.number) postings)
+
+-- the keys with their rows
+abbrev pub entries_of : {K : Type 0} → List (K × Tally) → List Posting → List (K × List ℕ)
+entries_of keys postings = map (λ e. (e.0, rows_of e.1.number postings)) keys
+
+-- the numbers of keys
+abbrev pub numbers_of : List Tally → List ℕ
+numbers_of tallies = map (λ t. t.number) tallies
+
+-- a tally of these rows, which ascend
+pub record IsTallyOf (rows : List ℕ) (tally : Tally) : Type 0 where
+  pub count : tally.count ≡ length rows
+  pub last : slice_get rows (length rows - 1) ≡ Some tally.last
+  pub ascending : IsStrictlyIncreasing rows
+
+-- keys are numbered from 0 up, in any order
+pub record AreNumbered (tallies : List Tally) : Type 0 where
+  pub distinct : IsDistinct (λ m n. m == n) (numbers_of tallies)
+  pub below : All (λ n. n < length tallies) (numbers_of tallies)
+
+-- each posting is one of these keys, whose tallies are those of their rows
+pub record AreFiled (tallies : List Tally) (postings : List Posting) : Type 0 where
+  pub numbered : AreNumbered tallies
+  pub known : All (λ p. list_any (λ n. n == p.number) (numbers_of tallies) ≡ true) postings
+  pub counted : All (λ t. IsTallyOf (rows_of t.number postings) t) tallies
+
+-- no posting's row is above this one
+abbrev pub NoRowAbove : ℕ → List Posting → Type 0
+NoRowAbove row postings = All (λ p. p.row ≤ row) postings
+
+-- what becomes of a key's tally when a row is added, and the key's number where it is a row more
+abbrev pub Counts : ℕ → (old new : Tally) → Option ℕ → Type 0
+Counts row old new None = (old.last ≡ row) × (new ≡ old)
+Counts row old new (Some number) = (old.last ≢ row) × (number ≡ old.number) × (new.number ≡ old.number) × (new.count ≡ old.count + 1) × (new.last ≡ row)
+
+-- the posting of a row at the key with this number, if there is one
+abbrev pub posting_of : Option ℕ → ℕ → List Posting
+posting_of None row = []
+posting_of (Some number) row = record { number = number; row = row } ∷ []
 
 -- a new index has one row more at a key, and at each other key what the old one has
 pub record FilesRow {K : Type 0} (order : K → K → Ordering) (row : ℕ) (key : K) (old new : List (K × List ℕ)) : Type 0 where
@@ -31,4 +74,3 @@ pub record FilesRow {K : Type 0} (order : K → K → Ordering) (row : ℕ) (key
       then Some (without_repeats (unwrap_or (lookup (λ k. is_eq (order key k)) old) [] ++ row ∷ []))
       else lookup (λ k. is_eq (order other k)) old)
   pub size : length new ≡ length old + (if is_some (lookup (λ k. is_eq (order key k)) old) then 0 else 1)
-  pub up_to : NoRowAbove row new

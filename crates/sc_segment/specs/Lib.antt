@@ -7,5 +7,6 @@ pub mod Heads
 pub mod Index
 pub mod Joining
 pub mod Live
+pub mod Placing
 pub mod Searching
 pub mod Storing

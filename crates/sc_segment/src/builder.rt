@@ -1,15 +1,16 @@
-ghost use Rattle.std.specs.Prelude.{◌≡◌, ℕ, ◌≤◌, List, [], ◌∷◌, ◌++◌, All, IfOk, OnOk, OnErr};
+ghost use Rattle.std.specs.Prelude.{◌≡◌, ◌<◌, ◌≤◌, ℕ, List, [], ◌∷◌, ◌++◌, IfOk, OnOk, OnErr, vec_len, vec_capacity};
 ghost use Rattle.std.specs.HashMap.{IsUnchanged};
-ghost use Rattle.std.specs.List.Sorted.{IsStrictlySortedBy};
-ghost use Rattle.std.specs.Map.{keys_of};
-ghost use Rattle.sc_segment.specs.Index.{IsIndexOf, HasRows};
-ghost use Rattle.sc_segment.specs.Filing.{NoRowAbove, FilesRow, sorted_entries};
-ghost use Rattle.sc_segment.specs.Flat.{rows_among};
+ghost use Rattle.std.specs.List.Sorted.{IsPermutation, IsStrictlySortedBy};
+ghost use Rattle.std.specs.Map.{keys_of, values_of};
+ghost use Rattle.sc_segment.specs.Index.{IsIndexOf};
+ghost use Rattle.sc_segment.specs.Filing.{AreFiled, FilesRow, NoRowAbove, entries_of, posting_of};
+ghost use Rattle.sc_segment.specs.declared.tally.Posting.{Posting};
 
-use crate::flat_index::{FlatIndex, KeptIndex};
+use crate::flat_index::KeptIndex;
 use crate::key::Key;
-use crate::posting_list::PostingList;
+use crate::placing::laid_out;
 use crate::segment::Segment;
+use crate::tally::{Posting, Tally};
 use std::alloc::{AllocError, Global};
 use std::collections::HashMap;
 use std::collections::hash_map::Entry;
@@ -17,23 +18,26 @@ use std::hash::Hash;
 use std::marker::Model;
 
 /// Takes rows with their keys, in the order of the rows. It keeps each distinct key once, and each row
-/// once for each key. A key is found by its hash, and the keys are sorted once, at the end.
+/// once for each key. A key is found by its hash and has a number, by which all postings stand in one list as they come. The keys are
+/// sorted once, at the end, and each posting is then put to its place.
 #[derive(Drop)]
 pub struct Builder<K: Key + Ord + Hash> {
-    lists: HashMap<K, PostingList>,
+    keys: HashMap<K, Tally>,
+    postings: Vec<Posting>,
     last_row: u32,
     alloc: Global,
 }
 
 impl<K: Key + Ord + Hash> Model for Builder<K> {
     ghost use Rattle.std.specs.Prelude.{◌≡◌};
-    ghost use Rattle.sc_segment.specs.Filing.{BuilderState, NoRowAbove, sorted_entries};
+    ghost use Rattle.std.specs.Map.{values_of};
+    ghost use Rattle.sc_segment.specs.Filing.{AreFiled, BuilderState, NoRowAbove, entries_of, sorted_entries};
 
     ghost Value = { BuilderState K };
 
-    ghost view = { λ a. record { index = sorted_entries K.order a.lists.entries; last_row = a.last_row } };
+    ghost view = { λ a. record { index = sorted_entries K.order (entries_of a.keys.entries a.postings.items); last_row = a.last_row } };
 
-    ghost invariant = { λ a. ((x y : K) → K.cmp x y ≡ K.order x y) × NoRowAbove a.last_row a.lists.entries };
+    ghost invariant = { λ a. ((x y : K) → K.cmp x y ≡ K.order x y) × AreFiled (values_of a.keys.entries) a.postings.items × NoRowAbove a.last_row a.postings.items };
 }
 
 impl<K: Key + Ord + Hash + Drop> Builder<K> {
@@ -44,7 +48,8 @@ impl<K: Key + Ord + Hash + Drop> Builder<K> {
         ensures last_row { result.last_row ≡ 0 }
     {
         Builder {
-            lists: HashMap::new(alloc),
+            keys: HashMap::new(alloc),
+            postings: Vec::new(alloc),
             last_row: 0,
             alloc,
         }
@@ -58,7 +63,9 @@ impl<K: Key + Ord + Hash + Drop> Builder<K> {
         ensures last_row { OnOk result (self.new.last_row ≡ row) }
         ensures err { OnErr result (self.new ≡ self.old) }
     {
-        file_row(&mut self.lists, self.alloc, row, key)?;
+        self.postings.reserve(1)?;
+        let number = count_row(&mut self.keys, row, key)?;
+        put_posting(&mut self.postings, number, row);
         self.last_row = row;
         Ok(())
     }
@@ -68,75 +75,75 @@ impl<K: Key + Ord + Hash + Drop> Builder<K> {
         ensures { IfOk result (λ segment. segment ≡ self.index) }
     {
         let Builder {
-            lists,
+            keys,
+            postings,
             last_row: _,
             alloc,
         } = self;
-        let entries = sorted(alloc, lists)?;
-        let index = flattened(alloc, entries)?;
+        let entries = sorted(alloc, keys)?;
+        let index = laid_out(alloc, entries, postings)?;
         let kept = KeptIndex::of_written(alloc, index)?;
         Ok(Segment::new(kept))
     }
 }
 
-// The keys with their rows, in the order of the keys. Few keys are compared where they are nearly in order by their ranks.
+// The keys with their tallies, in the order of the keys. Few keys are compared where they are nearly in order by their ranks.
 fn sorted<K: Key + Ord + Hash + Drop>(
     alloc: Global,
-    lists: HashMap<K, PostingList>,
-) -> Result<Vec<(K, PostingList)>, AllocError>
-    ensures entries { IfOk result (λ entries. entries.items ≡ sorted_entries K.cmp lists.entries) }
+    keys: HashMap<K, Tally>,
+) -> Result<Vec<(K, Tally)>, AllocError>
+    ensures same { IfOk result (λ entries. IsPermutation keys.entries entries.items) }
     ensures ascending { IfOk result (λ entries. IsStrictlySortedBy K.cmp (keys_of entries.items)) }
 {
-    let mut entries: Vec<(K, PostingList)> = lists.into_iter().collect(alloc)?;
+    let mut entries: Vec<(K, Tally)> = keys.into_iter().collect(alloc)?;
     entries.sort_by_cached_key(|entry| entry.0.rank())?;
     entries.sort_by(|left, right| left.0.cmp(&right.0))?;
     Ok(entries)
 }
 
-// The keys with their rows, laid out flat.
-fn flattened<K: Drop>(
-    alloc: Global,
-    entries: Vec<(K, PostingList)>,
-) -> Result<FlatIndex<K>, AllocError>
-    ensures entries { IfOk result (λ index. index.entries ≡ entries.items) }
-    ensures rows { IfOk result (λ index. All HasRows index.entries) }
-{
-    let mut index = FlatIndex::with_room(alloc, entries.len(), count_rows(entries.as_slice()))?;
-    for (key, list) in entries {
-        let (first, later) = list.parts();
-        index.add_row(first)?;
-        index.add_rows(later)?;
-        index.close(key)?;
-    }
-    Ok(index)
-}
-
-// How many rows all keys have, but no more than can be counted.
-fn count_rows<K>(entries: &[(K, PostingList)]) -> usize
-    ensures { result ≤ rows_among entries.now }
-{
-    let mut count: usize = 0;
-    for (_, list) in entries {
-        count = count.saturating_add(list.len());
-    }
-    count
-}
-
-fn file_row<K: Ord + Hash + Drop>(
-    lists: &mut HashMap<K, PostingList>,
-    alloc: Global,
+// Counts a row at its key, which gets the next number where it is new. Gives the key's number, or None where the row is the key's last
+// one already.
+fn count_row<K: Ord + Hash + Drop>(
+    keys: &mut HashMap<K, Tally>,
     row: u32,
     key: K,
-) -> Result<(), AllocError>
-    requires { NoRowAbove row lists.old.entries }
-    ensures ok { OnOk result (FilesRow K.cmp row key lists.old.entries lists.new.entries) }
-    ensures err { OnErr result (IsUnchanged lists.old lists.new) }
+) -> Result<Option<u32>, AllocError>
+    ensures filed { IfOk result (λ number. (postings : List Posting) → AreFiled (values_of keys.old.entries) postings → NoRowAbove row postings
+        → AreFiled (values_of keys.new.entries) (postings ++ posting_of number row)) }
+    ensures index { IfOk result (λ number. (postings : List Posting) → AreFiled (values_of keys.old.entries) postings → NoRowAbove row postings
+        → FilesRow K.cmp row key (entries_of keys.old.entries postings) (entries_of keys.new.entries (postings ++ posting_of number row))) }
+    ensures err { OnErr result (IsUnchanged keys.old keys.new) }
 {
-    match lists.entry(key)? {
+    let next = number_after(keys.len())?;
+    match keys.entry(key)? {
         Entry::Occupied(entry) => entry.into_mut().add(row),
         Entry::Vacant(entry) => {
-            entry.insert(PostingList::with_row(alloc, row));
-            Ok(())
+            entry.insert(Tally {
+                number: next,
+                count: 1,
+                last: row,
+            });
+            Ok(Some(next))
         }
+    }
+}
+
+// The number of a key that is new after so many. An error means that there are more than 2^32 - 1.
+fn number_after(count: usize) -> Result<u32, AllocError>
+    ensures { IfOk result (λ number. number ≡ count) }
+{
+    match u32::try_from(count) {
+        Ok(number) => Ok(number),
+        Err(_) => Err(AllocError),
+    }
+}
+
+// Puts the posting of a row at the end, where its key's number is given. There is room for it.
+fn put_posting(postings: &mut Vec<Posting>, number: Option<u32>, row: u32)
+    requires { vec_len postings.old < vec_capacity postings.old }
+    ensures { postings.new.items ≡ postings.old.items ++ posting_of number row }
+{
+    if let Some(number) = number {
+        postings.push_reserved(Posting { number, row });
     }
 }

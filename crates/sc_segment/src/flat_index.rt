@@ -44,6 +44,14 @@ impl<K: Drop> FlatIndex<K> {
         })
     }
 
+    /// The index of these keys, where the rows of each end here.
+    pub(crate) fn of(keys: Vec<K>, ends: Vec<u32>, rows: Vec<u32>) -> Self
+        requires { IsLaidOut keys.items ends.items rows.items }
+        ensures { result.entries ≡ entries_from 0 keys.items ends.items rows.items }
+    {
+        FlatIndex { keys, ends, rows }
+    }
+
     /// The new numbers of rows, as rows more of the next key. Room is made once for all of them.
     pub(crate) fn add_moved(
         &mut self,

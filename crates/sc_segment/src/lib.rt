@@ -26,9 +26,10 @@ mod key;
 mod keys;
 mod live_bits;
 mod moving;
-mod posting_list;
+mod placing;
 mod segment;
 mod steps;
+mod tally;
 
 pub use builder::Builder;
 pub use front::front_number;

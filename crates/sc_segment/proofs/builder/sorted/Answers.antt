@@ -5,14 +5,14 @@ use Rattle.std.proofs.lemmas.List.Sorted.{ranks_by, IsPermutation-trans}
 use Rattle.std.specs.List.{IsDistinct}
 use Rattle.std.specs.Map.{keys_of}
 use Rattle.std.specs.Ordering.{eq_by_cmp, is_lt}
-use Rattle.sc_segment.proofs.BoundsLemmas.{eq-by_cmp}
-use Rattle.sc_segment.proofs.SortingLemmas.{strict-from_sort, sorted-from_sort, distinct-moved}
+use Rattle.sc_segment.proofs.FilingLemmas.{eq-by_cmp}
+use Rattle.sc_segment.proofs.SortingLemmas.{strict-from_sort, distinct-moved}
 use Rattle.sc_segment.proofs.builder.sorted.Goals as goal
 
 pub returns : goal.returns
 returns g c =
     let o = g.met.K.Ord.total in
-    let es = c.args.lists.entries in
+    let es = c.args.keys.entries in
     let mid = c.sort_by_cached_key.new.self.items in
     let ys = c.sort_by.new.self.items in
     let collected : c.in_ok-entries.entries.items ≡ es = search rules in
@@ -20,5 +20,4 @@ returns g c =
     let moved = IsPermutation-trans es mid ys ranked c.in_ok-sort_by.ensures.permutation in
     let apart : IsDistinct (eq_by_cmp g.K.Ord.cmp) (keys_of es) = rw (eq-by_cmp g.K.PartialEq.eq g.K.Ord.cmp g.met.K.Ord.matches_eq) at c.into_iter.ensures.into_iter_gives.4 in
     let up = c.in_ok-sort_by.ensures.sorted (λ a b. is_lt (g.K.Ord.cmp a.0 b.0)) (ranks_by o (λ e. e.0)) (always_returns_same _ _ _ (λ a r f' called. search rules)) in
-    let ascending = strict-from_sort o ys (distinct-moved o es ys moved apart) up in
-    record { entries = sorted-from_sort o es ys moved apart ascending; ascending = ascending }
+    record { same = moved; ascending = strict-from_sort o ys (distinct-moved o es ys moved apart) up }

@@ -56,7 +56,7 @@ impl<K: Key + Ord + Hash + Drop> Builder<K> {
     }
 
     /// Adds a row with one of its keys. The same key may be added again for the same row, and counts once.
-    /// An error means out of memory.
+    /// An error means out of memory, or that there are 2^32 keys, or that the key has 2^32 - 1 rows already.
     pub fn add(&mut self, row: u32, key: K) -> Result<(), AllocError>
         requires { self.old.last_row ≤ row }
         ensures ok { OnOk result ((added : List (ℕ × K)) → IsIndexOf K.order added self.old.index → IsIndexOf K.order (added ++ (row, key) ∷ []) self.new.index) }
@@ -70,7 +70,8 @@ impl<K: Key + Ord + Hash + Drop> Builder<K> {
         Ok(())
     }
 
-    /// The segment of what was added. An error means out of memory, and the builder is then gone.
+    /// The segment of what was added. An error means out of memory, or that there are more than 2^32 - 1 postings, and the builder is
+    /// then gone.
     pub fn finish(self) -> Result<Segment<K>, AllocError>
         ensures { IfOk result (λ segment. segment ≡ self.index) }
     {
@@ -102,7 +103,7 @@ fn sorted<K: Key + Ord + Hash + Drop>(
 }
 
 // Counts a row at its key, which gets the next number where it is new. Gives the key's number, or None where the row is the key's last
-// one already.
+// one already. An error means out of memory, or that there are 2^32 keys, or that the key has 2^32 - 1 rows already.
 fn count_row<K: Ord + Hash + Drop>(
     keys: &mut HashMap<K, Tally>,
     row: u32,

@@ -35,9 +35,9 @@ def percentile(values, part):
 class Process:
     """A program that runs in a new folder until it is stopped, with its processor time and its memory from /proc."""
 
-    def __init__(self, words, folder=None):
+    def __init__(self, words, folder=None, variables=()):
         self.folder = folder or tempfile.mkdtemp(prefix='bench_')
-        self.child = subprocess.Popen(words, cwd=self.folder, stdout=subprocess.PIPE, stderr=subprocess.DEVNULL, text=True)
+        self.child = subprocess.Popen(words, cwd=self.folder, env={**os.environ, **dict(variables)}, stdout=subprocess.PIPE, stderr=subprocess.DEVNULL, text=True)
 
     def pids(self):
         found = [self.child.pid]
@@ -83,10 +83,10 @@ class Process:
         shutil.rmtree(self.folder, ignore_errors=True)
 
 
-def serve(program=PROGRAM, port=0, workers=4, more=()):
-    """Starts `solr_split serve`, and returns it and its port once it listens."""
+def serve(program=PROGRAM, port=0, workers=4, more=(), variables=()):
+    """Starts `solr_split serve`, with these variables of its environment, and returns it and its port once it listens."""
     port = port or free_port()
-    server = Process([os.path.abspath(program), 'serve', '--port', str(port), '--workers', str(workers), *more])
+    server = Process([os.path.abspath(program), 'serve', '--port', str(port), '--workers', str(workers), *more], variables=variables)
     line = server.child.stdout.readline().strip()
     if line != f'listening {port}':
         server.stop()

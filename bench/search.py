@@ -3,9 +3,10 @@
 
 It makes documents of some 110 bytes of JSON and ten terms (an id, a language, a price, a title of five to ten words out of twenty thousand),
 loads them, commits, searches for one word, for two joined by AND and by OR, and commits after one changed document, after a thousand and after
-none. Costs are processor time of the server's threads alone, from /proc/PID/task; each count that a search gives is compared with the script's own. Where
+none. Costs are processor time of the server's threads alone, from /proc/PID/task; each count that a search gives is compared with the script's own. It
+does all this twice: with memory in pages of 4 KiB, and with memory in huge pages, which a variable of the server's environment asks the C library for. Where
 Lucene 8 stands in /usr/share/java (Debian: liblucene8-java) and `javac` is on the path, `LuceneSearch.java` then indexes the same documents and
-answers the same queries on one thread. Prints tables in Markdown; a million documents take some three minutes and 3 GB.
+answers the same queries on one thread, with its heap in huge pages. Prints tables in Markdown; a million documents take some two minutes and 3 GB.
 
     PROGRAM=crates/solr_split/out/solr_split bench/search.py --documents 1000000
 """
@@ -26,6 +27,8 @@ sys.dont_write_bytecode = True
 from loopback import PROGRAM, Client, serve, stop_at_signals, written_into
 
 VOCABULARY = 20000
+# What asks the GNU C library, from its version 2.35 on, for memory in huge pages where the system gives them to who asks.
+HUGE_PAGES = {'GLIBC_TUNABLES': 'glibc.malloc.hugetlb=1'}
 LANGUAGES = ('en', 'de', 'fr', 'es', 'it')
 JARS = '/usr/share/java/lucene-core-8.7.0.jar:/usr/share/java/lucene-analyzers-common-8.7.0.jar'
 
@@ -145,47 +148,55 @@ def lucene(options, queries):
         with open(f'{folder}/queries', 'w') as file:
             for one, other in queries:
                 file.write(f'{one}\t{other}\n')
-        said = subprocess.run(['java', '-Xmx2g', '-cp', f'{JARS}:{folder}', 'LuceneSearch', folder], check=True, stdout=subprocess.PIPE, text=True).stdout
+        said = subprocess.run(['java', '-Xmx2g', '-XX:+UseTransparentHugePages', '-cp', f'{JARS}:{folder}', 'LuceneSearch', folder], check=True, stdout=subprocess.PIPE, text=True).stdout
     finally:
         shutil.rmtree(folder, ignore_errors=True)
     return {line.split('\t')[0]: float(line.split('\t')[1]) for line in said.splitlines()}
 
 
-def tables(options):
-    load_before = os.getloadavg()[0]
-    queries = queries_of(options.queries)
-    server, port = serve(options.program, workers=1, more=['--buckets', str(options.buckets)])
+def costs(options, queries, variables):
+    """What the server costs that has these variables: rows of a table, and of each kind of search the milliseconds and the documents found."""
+    server, port = serve(options.program, workers=1, more=['--buckets', str(options.buckets)], variables=variables)
+    lines, searches = {}, {}
     try:
         client = Client(port, 600)
         start = nanoseconds(server)
         rows, size = load(client, options, {word for pair in queries for word in pair})
-        loaded = nanoseconds(server) - start
+        lines['to load a document'] = f'{(nanoseconds(server) - start) / 1e3 / options.documents:.1f} µs'
         before = server.memory()[0]
         first = spent(server, [lambda: commit(client)])
         after = server.memory()[0]
-        print(f'{os.cpu_count()} processors ({platform.machine()}), load before {load_before:.1f}; {options.documents} documents of {size / options.documents:.0f} bytes of JSON; {options.buckets} buckets.\n')
-        print('| What | costs |\n|---|---|')
-        print(f'| to load a document | {loaded / 1e3 / options.documents:.1f} µs |')
-        print(f'| first commit, a document | {first * 1000 / options.documents:.2f} µs |')
-        print(f'| memory before and after it, a document | {before * 2**20 / options.documents:.0f} and {after * 2**20 / options.documents:.0f} bytes |')
-        costs = {}
+        lines['first commit, a document'] = f'{first * 1000 / options.documents:.2f} µs'
+        lines['memory before and after it, a document'] = f'{before * 2**20 / options.documents:.0f} and {after * 2**20 / options.documents:.0f} bytes'
         for kind, asked in kinds(queries, rows):
             search(client, *asked[0])
-            costs[kind] = spent(server, [lambda one=one: search(client, *one) for one in asked]) / len(asked), sum(count for _, count in asked) / len(asked)
+            searches[kind] = spent(server, [lambda one=one: search(client, *one) for one in asked]) / len(asked), sum(count for _, count in asked) / len(asked)
         for count, rounds in ((0, 50), (1, 50), (1000, 10)):
             total = 0
             for turn in range(rounds):
                 if count:
                     change(client, options, turn * 31, count)
                 total += spent(server, [lambda: commit(client)])
-            print(f'| a commit after {count} changed documents | {total / rounds:.2f} ms |')
-        print(f'| memory at most, a document | {server.memory()[1] * 2**20 / options.documents:.0f} bytes |')
+            lines[f'a commit after {count} changed documents'] = f'{total / rounds:.2f} ms'
+        lines['memory at most, a document'] = f'{server.memory()[1] * 2**20 / options.documents:.0f} bytes'
     finally:
         server.stop()
+    return lines, searches, size / options.documents
+
+
+def tables(options):
+    load_before = os.getloadavg()[0]
+    queries = queries_of(options.queries)
+    small, searches, size = costs(options, queries, {})
+    huge, huge_searches, _ = costs(options, queries, HUGE_PAGES)
     other = lucene(options, queries)
-    print('\n| Search | found | processor time | Lucene 8, one thread |\n|---|---|---|---|')
-    for kind, (cost, found) in costs.items():
-        print(f'| {kind} | {found:.0f} | {cost:.3f} ms | ' + (f'{other[kind]:.3f} ms |' if kind in other else 'not measured |'))
+    print(f'{os.cpu_count()} processors ({platform.machine()}), load before {load_before:.1f}; {options.documents} documents of {size:.0f} bytes of JSON; {options.buckets} buckets.\n')
+    print('| What | costs | with huge pages |\n|---|---|---|')
+    for what, cost in small.items():
+        print(f'| {what} | {cost} | {huge[what]} |')
+    print('\n| Search | found | processor time | with huge pages | Lucene 8, one thread |\n|---|---|---|---|---|')
+    for kind, (cost, found) in searches.items():
+        print(f'| {kind} | {found:.0f} | {cost:.3f} ms | {huge_searches[kind][0]:.3f} ms | ' + (f'{other[kind]:.3f} ms |' if kind in other else 'not measured |'))
     if 'index' in other:
         print(f'\nLucene takes {other["index"]:.1f} µs to index a document.')
 

@@ -26,9 +26,22 @@ impl Stage {
         ensures out { IfOk result (λ stage. stage.collection.desk.out ≡ None) }
         ensures board_out { IfOk result (λ stage. stage.collection.desk.board_out ≡ None) }
     {
+        let collection = new_collection(alloc, &[])?;
+        Stage::with(alloc, collection)
+    }
+
+    // A stage with this collection and a new bucket.
+    fn with(alloc: Global, collection: Collection) -> Result<Stage, AllocError>
+        requires out { collection.desk.out ≡ None }
+        requires board_out { collection.desk.board_out ≡ None }
+        ensures sound { IfOk result (λ stage. IsSound stage.bucket) }
+        ensures out { IfOk result (λ stage. stage.collection.desk.out ≡ None) }
+        ensures board_out { IfOk result (λ stage. stage.collection.desk.board_out ≡ None) }
+    {
+        let bucket = new_bucket(alloc, &[])?;
         Ok(Stage {
-            bucket: new_bucket(alloc, &[])?,
-            collection: new_collection(alloc, &[])?,
+            bucket,
+            collection,
             now: 1000,
         })
     }

@@ -16,6 +16,7 @@ pub mod PlacingLemmas
 pub mod RowsLemmas
 pub mod SameRowsLemmas
 pub mod SearchLemmas
+pub mod SiftingLemmas
 pub mod SortingLemmas
 pub mod StoringLemmas
 pub mod TallyLemmas

@@ -9,4 +9,5 @@ pub mod Joining
 pub mod Live
 pub mod Placing
 pub mod Searching
+pub mod Sifting
 pub mod Storing

@@ -1,7 +1,8 @@
-ghost use Rattle.std.specs.Prelude.{◌≡◌, true, false, cond, [], ◌∷◌, ◌++◌, IfOk, OnOk};
+ghost use Rattle.std.specs.Prelude.{◌≡◌, Bool, true, false, not, cond, [], ◌∷◌, ◌++◌, IfOk, OnOk};
 ghost use Rattle.std.specs.List.Sorted.{IsStrictlyIncreasing};
 ghost use Rattle.sc_segment.specs.Joining.{IsJoin, keeps};
 
+use crate::sifting::Sieve;
 use std::alloc::{AllocError, Global};
 
 /// Which rows of two lists are kept.
@@ -15,9 +16,43 @@ pub enum Kept {
     LeftAlone,
 }
 
-/// Joins two lists of rows that ascend, in one pass over both. Room for all that may be kept is made once. The only error is that memory
-/// was refused.
+/// Joins two lists of rows that ascend. Room for all that may be kept is made once. The only error is that memory was refused.
 pub fn join(alloc: Global, how: Kept, left: &[u32], right: &[u32]) -> Result<Vec<u32>, AllocError>
+    requires left { IsStrictlyIncreasing left.now }
+    requires right { IsStrictlyIncreasing right.now }
+    ensures { IfOk result (λ rows. IsJoin how left.now right.now rows.items) }
+{
+    match how {
+        Kept::Both => of_left(alloc, Kept::Both, true, left, right),
+        Kept::Either => merged(alloc, Kept::Either, left, right),
+        Kept::LeftAlone => of_left(alloc, Kept::LeftAlone, false, left, right),
+    }
+}
+
+// Joins two lists of which no row is kept that the right one has alone: those of the left list that the right one has, or has not.
+fn of_left(
+    alloc: Global,
+    how: Kept,
+    wanted: bool,
+    left: &[u32],
+    right: &[u32],
+) -> Result<Vec<u32>, AllocError>
+    requires left { IsStrictlyIncreasing left.now }
+    requires right { IsStrictlyIncreasing right.now }
+    requires alone { (in_right : Bool) → keeps how false in_right ≡ false }
+    requires wanted { (in_right : Bool) → keeps how true in_right ≡ cond wanted in_right (not in_right) }
+    ensures { IfOk result (λ rows. IsJoin how left.now right.now rows.items) }
+{
+    let Some(sieve) = Sieve::of(alloc, right, left.len())? else {
+        return merged(alloc, how, left, right);
+    };
+    let mut rows = Vec::with_capacity(alloc, room_for(how, left.len(), right.len()))?;
+    sieve.sift(left, wanted, &mut rows)?;
+    Ok(rows)
+}
+
+// Joins two lists in one pass over both.
+fn merged(alloc: Global, how: Kept, left: &[u32], right: &[u32]) -> Result<Vec<u32>, AllocError>
     requires left { IsStrictlyIncreasing left.now }
     requires right { IsStrictlyIncreasing right.now }
     ensures { IfOk result (λ rows. IsJoin how left.now right.now rows.items) }

@@ -28,6 +28,7 @@ mod live_bits;
 mod moving;
 mod placing;
 mod segment;
+mod sifting;
 mod steps;
 mod tally;
 

@@ -2,7 +2,7 @@
 use Rattle.std.proofs.Common.{◌≡◌, ◌≤◌, ◌+◌, ◌-◌, ◌++◌, drop, length}
 use Rattle.sc_segment.specs.Joining.{keeps}
 use Rattle.sc_segment.proofs.JoinLemmas.{joined}
-use Rattle.sc_segment.proofs.joining.join.Given as goal
+use Rattle.sc_segment.proofs.joining.merged.Given as goal
 
 abbrev pub invariant-merging : goal.invariant-merging
 invariant-merging l = record {

@@ -3,8 +3,8 @@ use Rattle.std.proofs.Common.{◌≡◌, ℕ, true, false, cond, List, [], ◌++
 use Rattle.std.proofs.lemmas.List.{take_rest}
 use Rattle.sc_segment.specs.Joining.{keeps}
 use Rattle.sc_segment.proofs.JoinLemmas.{joined, rest-left, rest-right, IsJoin-joined}
-use Rattle.sc_segment.proofs.joining.join.Goals.{then-merging-test+else-high-right, else-merging-test}
-use Rattle.sc_segment.proofs.joining.join.Goals as goal
+use Rattle.sc_segment.proofs.joining.merged.Goals.{then-merging-test+else-high-right, else-merging-test}
+use Rattle.sc_segment.proofs.joining.merged.Goals as goal
 
 pub returns : goal.returns
 returns c =

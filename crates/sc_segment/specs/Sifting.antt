@@ -1,0 +1,14 @@
+-- Rows that are looked for in a list by marks.
+use Rattle.std.specs.Prelude.{◌≡◌, ℕ, ◌<◌, Bool, not, cond, List, All, Some, length, filter, slice_get}
+use Rattle.sc_segment.specs.declared.sifting.Sieve.{Sieve}
+use Rattle.sc_segment.specs.Joining.{has_row}
+
+-- the rows that the list has not are marked, up to an end that is above them all
+pub record IsSieve (rows : List ℕ) (sieve : Sieve) : Type 0 where
+  pub below : All (λ row. row < sieve.end) rows
+  pub as_long : length sieve.absent ≡ sieve.end
+  pub marks : (row : ℕ) → row < sieve.end → slice_get sieve.absent row ≡ Some (not (has_row rows row))
+
+-- of these rows those that the others have, or those that they have not
+abbrev pub sifted : (others : List ℕ) → Bool → List ℕ → List ℕ
+sifted others wanted rows = filter (λ row. cond wanted (has_row others row) (not (has_row others row))) rows

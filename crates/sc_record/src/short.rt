@@ -1,13 +1,19 @@
-ghost use Rattle.std.specs.Prelude.{◌≡◌, ◌<◌, ◌≤◌, length, IsSome, IfSome, ◌↔◌};
+ghost use Rattle.std.specs.Prelude.{◌≡◌, ◌+◌, ◌<◌, ◌≤◌, length, IsSome, IfSome, ◌↔◌};
+ghost use Rattle.std.specs.Cmp.Lexicographic.{slice_cmp};
+ghost use Rattle.std.specs.Ordering.{nat_cmp};
+ghost use Rattle.std.specs.Str.{bytes_eq};
 ghost use Rattle.sc_record.specs.declared.short.TheConstants.{MAX_SHORT_LENGTH};
+ghost use Rattle.sc_record.specs.Shorts.{word_at, words_cmp};
 
+use std::cmp::Ordering;
 use std::marker::Model;
 use std::str;
 
 /// The most bytes of a text that lies in the value itself, so that a `Text` takes 16 bytes.
 const MAX_SHORT_LENGTH: usize = 14;
 
-/// A text of at most 14 bytes, which lies in the value itself, and which contracts see as its UTF-8 bytes.
+/// A text of at most 14 bytes, which lies in the value itself, and which contracts see as its UTF-8 bytes. Zeros follow them, so that two
+/// texts compare by words, whatever their lengths.
 #[derive(Drop)]
 pub struct Short {
     length: u8,
@@ -15,13 +21,14 @@ pub struct Short {
 }
 
 impl Model for Short {
-    ghost use Rattle.std.specs.Prelude.{List, ℕ, ◌≤◌, take, IsUtf8};
+    ghost use Rattle.std.specs.Prelude.{List, ℕ, take};
+    ghost use Rattle.sc_record.specs.Shorts.{IsShort};
 
     ghost Value = { List ℕ };
 
     ghost view = { λ a. take a.length a.bytes };
 
-    ghost invariant = { λ a. (a.length ≤ 14) × ∥ IsUtf8 (take a.length a.bytes) ∥₁ };
+    ghost invariant = { λ a. IsShort a.length a.bytes };
 }
 
 impl Short {
@@ -57,4 +64,53 @@ impl Short {
     {
         unsafe { str::from_utf8_unchecked(&self.bytes[..self.length as usize]) }
     }
+
+    /// Whether the texts are the same.
+    pub fn is_same(&self, other: &Short) -> bool
+        ensures { result ≡ bytes_eq self.now other.now }
+    {
+        self.order(other).is_eq()
+    }
+
+    /// How the texts compare by their bytes.
+    pub fn order(&self, other: &Short) -> Ordering
+        ensures { result ≡ slice_cmp nat_cmp self.now other.now }
+    {
+        order_of_padded(&self.bytes, &other.bytes).then(self.length.cmp(&other.length))
+    }
+}
+
+// How the bytes compare.
+fn order_of_padded(mine: &[u8; MAX_SHORT_LENGTH], others: &[u8; MAX_SHORT_LENGTH]) -> Ordering
+    ensures { result ≡ slice_cmp nat_cmp mine.now others.now }
+{
+    order_of_words(mine, others)
+}
+
+// How the first eight bytes compare as a number, and where they are alike the last eight, which begin with two of the first.
+fn order_of_words(mine: &[u8; MAX_SHORT_LENGTH], others: &[u8; MAX_SHORT_LENGTH]) -> Ordering
+    ensures { result ≡ words_cmp mine.now others.now }
+{
+    match word_at(mine, 0).cmp(&word_at(others, 0)) {
+        Ordering::Less => Ordering::Less,
+        Ordering::Equal => word_at(mine, 6).cmp(&word_at(others, 6)),
+        Ordering::Greater => Ordering::Greater,
+    }
+}
+
+// The number that eight bytes from this place on spell, the greatest first.
+fn word_at(bytes: &[u8; MAX_SHORT_LENGTH], at: usize) -> u64
+    requires { at ≤ 6 }
+    ensures { result ≡ word_at bytes.now at }
+{
+    u64::from_be_bytes([
+        bytes[at],
+        bytes[at + 1],
+        bytes[at + 2],
+        bytes[at + 3],
+        bytes[at + 4],
+        bytes[at + 5],
+        bytes[at + 6],
+        bytes[at + 7],
+    ])
 }

@@ -132,7 +132,10 @@ impl PartialEq for Text {
     ghost laws = { partial_equiv_from_equiv nat_list_eq_equiv };
 
     fn eq(&self, other: &Text) -> bool {
-        self.as_str() == other.as_str()
+        match (&self.kept, &other.kept) {
+            (Kept::Short(short), Kept::Short(other)) => short.is_same(other),
+            _ => self.as_str() == other.as_str(),
+        }
     }
 }
 
@@ -160,6 +163,9 @@ impl Ord for Text {
     ghost matches_eq = { texts_ties };
 
     fn cmp(&self, other: &Text) -> Ordering {
-        self.as_str().cmp(other.as_str())
+        match (&self.kept, &other.kept) {
+            (Kept::Short(short), Kept::Short(other)) => short.order(other),
+            _ => self.as_str().cmp(other.as_str()),
+        }
     }
 }

@@ -1,6 +1,6 @@
 -- Two short texts compare as they do with zeros after them, and where these are alike as their lengths do; and 14 bytes compare as two words
 -- that overlap.
-use Rattle.std.proofs.Common.{◌≡◌, ◌∙◌, ◌⊎◌, inl, inr, ℕ, zero, suc, ◌+◌, ◌-◌, ◌*◌, ◌<◌, ◌≤◌, List, [], ◌∷◌, ◌++◌, length, get_or, refl, sym, ap, ap₂, subst, arith, take_all, drop-cons, take-append-drop}
+use Rattle.std.proofs.Common.{◌≡◌, ◌∙◌, ◌⊎◌, inl, inr, ℕ, zero, suc, ◌+◌, ◌-◌, ◌*◌, ◌<◌, ◌≤◌, List, [], ◌∷◌, ◌++◌, length, get_or, refl, sym, ap, ap₂, subst, arith, append-nil, take_all, drop-cons, take-append-drop}
 use Rattle.std.specs.Prelude.{replicate, take, drop}
 use Rattle.std.specs.Cmp.{nat_cmp_is, ranks}
 use Rattle.std.specs.Cmp.Lexicographic.{slice_cmp}
@@ -8,8 +8,10 @@ use Rattle.std.specs.Ordering.{nat_cmp, ordering_then, MatchOrdering}
 use Rattle.std.specs.declared.cmp.Ordering.{Ordering}
 use Rattle.std.specs.declared.cmp.Ordering.TheVariants.{Less, Equal, Greater}
 use Rattle.std.specs.Slice.Scan.{big_endian}
-use Rattle.std.proofs.lemmas.List.{length-append, length-replicate, length-take-le, length-drop, get_or-drop, drop-replicate}
+use Rattle.std.proofs.lemmas.List.{length-append, length-replicate, length-take-le, length-drop, get_or-drop, drop-replicate, take_at, drop_all}
+use Rattle.std.proofs.lemmas.Slice.{take-put_mid}
 use Rattle.std.proofs.Math.Seq.{take-append_seam, take-add}
+use borrow.Rule.Slice.PartMut.{put_mid}
 use Rattle.sc_record.specs.Shorts.{padded, word_at, words_cmp}
 
 -- ---- zeros
@@ -210,3 +212,24 @@ words-order xs ys count other_count small other_small =
     ∙ (λ i. ordering_then (slice_cmp nat_cmp (first_eight xs i) (first_eight ys i)) (slice_cmp nat_cmp (last_eight xs count i) (last_eight ys other_count i)))
     ∙ overlap_order (take 6 xs) (take 6 ys) (take 2 (drop 6 xs)) (take 2 (drop 6 ys)) (drop 2 (drop 6 xs)) (drop 2 (drop 6 ys)) front middle
     ∙ (λ i. slice_cmp nat_cmp (three_parts xs i) (three_parts ys i))
+
+-- ---- copies
+-- the first two of 14 bytes, the next four and the last eight, written over others, are all of them
+pub pieces-whole : (bytes front middle back others : List ℕ) → length bytes ≡ 14 → length others ≡ 12
+    → front ≡ take 2 bytes → middle ≡ take 4 (drop 2 bytes) → back ≡ take 8 (drop 6 bytes)
+    → put_mid 6 8 (put_mid 2 4 (front ++ others) middle) back ≡ bytes
+pieces-whole bytes front middle back others count rest_count front_is middle_is back_is =
+    let two : length front ≡ 2 = ap length front_is ∙ length-take-le 2 bytes (omega arith) in
+    let four : length middle ≡ 4 = ap length middle_is ∙ length-take-le 4 (drop 2 bytes) (omega (arith, length-drop 2 bytes)) in
+    let first : List ℕ = front ++ others in
+    let first_count : length first ≡ 14 = omega (arith, length-append front others) in
+    let second : List ℕ = put_mid 2 4 first middle in
+    let second_count : length second ≡ 14 =
+    omega (arith, length-append (take 2 first) (middle ++ drop 4 (drop 2 first)), length-append middle (drop 4 (drop 2 first)), length-take-le 2 first (omega arith), length-drop 4 (drop 2 first), length-drop 2 first) in
+    let start : take 6 second ≡ front ++ middle = take-put_mid 2 4 first middle 6 (omega arith) (omega arith) ∙ ap (λ two. two ++ middle) (take_at front others 2 two) in
+    let nothing : drop 8 (drop 6 second) ≡ [] = drop_all 8 (drop 6 second) (omega (arith, length-drop 6 second)) in
+    let last : back ≡ drop 6 bytes = back_is ∙ take_all 8 (drop 6 bytes) (omega (arith, length-drop 6 bytes)) in
+    (λ i. start i ++ (back ++ nothing i))
+    ∙ (λ i. (front_is i ++ middle_is i) ++ append-nil back i)
+    ∙ (λ i. sym (take-add 2 4 bytes) i ++ last i)
+    ∙ take-append-drop 6 bytes

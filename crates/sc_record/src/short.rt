@@ -55,7 +55,7 @@ impl Short {
     {
         Short {
             length: self.length,
-            bytes: self.bytes,
+            bytes: copy_of(&self.bytes),
         }
     }
 
@@ -78,6 +78,17 @@ impl Short {
     {
         order_of_padded(&self.bytes, &other.bytes).then(self.length.cmp(&other.length))
     }
+}
+
+// The same bytes. They are copied by two, four and eight, which fit registers, as 14 do not.
+fn copy_of(bytes: &[u8; MAX_SHORT_LENGTH]) -> [u8; MAX_SHORT_LENGTH]
+    ensures { result ≡ bytes.now }
+{
+    let mut copy = [0; MAX_SHORT_LENGTH];
+    copy[..2].copy_from_slice(&bytes[..2]);
+    copy[2..6].copy_from_slice(&bytes[2..6]);
+    copy[6..].copy_from_slice(&bytes[6..]);
+    copy
 }
 
 // How the bytes compare.

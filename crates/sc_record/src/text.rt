@@ -59,6 +59,18 @@ impl Kept {
             Err(_) => Ok(None),
         }
     }
+
+    /// The same text. It stands apart from `Text::clone`, which copies a short one where it is called.
+    #[inline(never)]
+    fn share(&self) -> Result<Kept, AllocError>
+        ensures { IfOk result (λ kept. text_bytes kept ≡ text_bytes self.now) }
+    {
+        match self {
+            Kept::Short(short) => Ok(Kept::Short(short.copy())),
+            Kept::Medium(medium) => Ok(Kept::Medium(Arc::try_clone(medium)?)),
+            Kept::Long(long) => Ok(Kept::Long(Arc::try_clone(long)?)),
+        }
+    }
 }
 
 impl Text {
@@ -98,11 +110,11 @@ impl Text {
 impl Clone for Text {
     ghost is_clone = { λ original copy. copy ≡ original };
 
+    #[inline]
     fn clone(&self) -> Result<Text, AllocError> {
         let kept = match &self.kept {
             Kept::Short(short) => Kept::Short(short.copy()),
-            Kept::Medium(medium) => Kept::Medium(Arc::try_clone(medium)?),
-            Kept::Long(long) => Kept::Long(Arc::try_clone(long)?),
+            kept => kept.share()?,
         };
         Ok(Text { kept })
     }

@@ -119,6 +119,18 @@ then_twice Equal Equal q = refl
 then_twice Equal Greater q = refl
 then_twice Greater p q = refl
 
+-- numbers that differ decide
+pub unlike_decide : (x y : ℕ) (q : Ordering) → (x ≡ y → ⊥) → nat_cmp x y ≡ ordering_then (nat_cmp x y) q
+unlike_decide x y q unlike = by (nat_cmp x y) (ranks x y) where
+  by : (o : Ordering) → MatchOrdering o (x < y) (x ≡ y) (y < x) → o ≡ ordering_then o q
+  by Less below = refl
+  by Equal same = absurd (unlike same)
+  by Greater above = refl
+
+-- and numbers that are alike do not
+pub alike_pass : (x y : ℕ) (q : Ordering) → x ≡ y → q ≡ ordering_then (nat_cmp x y) q
+alike_pass x y q same = ap (λ o. ordering_then o q) (nat_cmp_is x y Equal same)
+
 -- numbers with one more digit compare as they do without it, and then as their digits do
 digit : (n m u v : ℕ) → u < 256 → v < 256 → nat_cmp (n * 256 + u) (m * 256 + v) ≡ ordering_then (nat_cmp n m) (nat_cmp u v)
 digit n m u v small other_small = sym (nat_cmp_is (n * 256 + u) (m * 256 + v) (ordering_then (nat_cmp n m) (nat_cmp u v)) (by (nat_cmp n m) (nat_cmp u v) (ranks n m) (ranks u v)))

@@ -73,6 +73,7 @@ impl Short {
     }
 
     /// How the texts compare by their bytes.
+    #[inline]
     pub fn order(&self, other: &Short) -> Ordering
         ensures { result ≡ slice_cmp nat_cmp self.now other.now }
     {
@@ -102,11 +103,15 @@ fn order_of_padded(mine: &[u8; MAX_SHORT_LENGTH], others: &[u8; MAX_SHORT_LENGTH
 fn order_of_words(mine: &[u8; MAX_SHORT_LENGTH], others: &[u8; MAX_SHORT_LENGTH]) -> Ordering
     ensures { result ≡ words_cmp mine.now others.now }
 {
-    match word_at(mine, 0).cmp(&word_at(others, 0)) {
-        Ordering::Less => Ordering::Less,
-        Ordering::Equal => word_at(mine, 6).cmp(&word_at(others, 6)),
-        Ordering::Greater => Ordering::Greater,
+    let (first, other_first) = (word_at(mine, 0), word_at(others, 0));
+    if first != other_first {
+        return first.cmp(&other_first);
     }
+    let (last, other_last) = (word_at(mine, 6), word_at(others, 6));
+    if last != other_last {
+        return last.cmp(&other_last);
+    }
+    Ordering::Equal
 }
 
 // The number that eight bytes from this place on spell, the greatest first.

@@ -105,6 +105,23 @@ impl Text {
             Kept::Long(long) => long.as_str(),
         }
     }
+
+    // Whether the texts are the same, however they are kept. It and `order` stand apart from `eq` and `cmp`, which compare two short
+    // texts where they are called.
+    #[inline(never)]
+    fn is_same(&self, other: &Text) -> bool
+        ensures { result ≡ bytes_eq self.now other.now }
+    {
+        self.as_str() == other.as_str()
+    }
+
+    // How the texts compare, however they are kept.
+    #[inline(never)]
+    fn order(&self, other: &Text) -> Ordering
+        ensures { result ≡ slice_cmp nat_cmp self.now other.now }
+    {
+        self.as_str().cmp(other.as_str())
+    }
 }
 
 impl Clone for Text {
@@ -143,10 +160,11 @@ impl PartialEq for Text {
 
     ghost laws = { partial_equiv_from_equiv nat_list_eq_equiv };
 
+    #[inline]
     fn eq(&self, other: &Text) -> bool {
         match (&self.kept, &other.kept) {
             (Kept::Short(short), Kept::Short(other)) => short.is_same(other),
-            _ => self.as_str() == other.as_str(),
+            _ => self.is_same(other),
         }
     }
 }
@@ -174,10 +192,11 @@ impl Ord for Text {
 
     ghost matches_eq = { texts_ties };
 
+    #[inline]
     fn cmp(&self, other: &Text) -> Ordering {
         match (&self.kept, &other.kept) {
             (Kept::Short(short), Kept::Short(other)) => short.order(other),
-            _ => self.as_str().cmp(other.as_str()),
+            _ => self.order(other),
         }
     }
 }

@@ -12,7 +12,7 @@ use Rattle.std.proofs.lemmas.List.{length-append, length-replicate, length-take-
 use Rattle.std.proofs.lemmas.Slice.{take-put_mid}
 use Rattle.std.proofs.Math.Seq.{take-append_seam, take-add}
 use borrow.Rule.Slice.PartMut.{put_mid}
-use Rattle.sc_record.specs.Shorts.{padded, word_at, words_cmp}
+use Rattle.sc_record.specs.Shorts.{IsShort, padded, word_at, words_cmp}
 
 -- ---- zeros
 -- how texts compare
@@ -89,6 +89,17 @@ pub padded-order : (count : ℕ) (xs ys : List ℕ) → length xs ≤ count → 
     → ordering_then (slice_cmp nat_cmp (padded count xs) (padded count ys)) (nat_cmp (length xs) (length ys)) ≡ slice_cmp nat_cmp xs ys
 unfolding order
 padded-order count xs ys few other_few = with_zeros xs ys (count - length xs) (count - length ys) (omega (arith, few, other_few))
+
+-- short texts compare as their 14 bytes, and where these are alike as their lengths
+pub short-order : (n m : ℕ) (bytes other_bytes mine others : List ℕ) → IsShort n bytes → IsShort m other_bytes → length bytes ≡ 14 → length other_bytes ≡ 14
+    → take n bytes ≡ mine → take m other_bytes ≡ others → ordering_then (slice_cmp nat_cmp bytes other_bytes) (nat_cmp n m) ≡ slice_cmp nat_cmp mine others
+short-order n m bytes other_bytes mine others short other_short count other_count view other_view =
+    let length_is : length mine ≡ n = ap length (sym view) ∙ length-take-le n bytes (omega (arith, count, short.few)) in
+    let other_length_is : length others ≡ m = ap length (sym other_view) ∙ length-take-le m other_bytes (omega (arith, other_count, other_short.few)) in
+    let bytes_are : bytes ≡ padded 14 mine = short.zeros ∙ ap (padded 14) view in
+    let other_bytes_are : other_bytes ≡ padded 14 others = other_short.zeros ∙ ap (padded 14) other_view in
+    ap₂ ordering_then (λ i. slice_cmp nat_cmp (bytes_are i) (other_bytes_are i)) (λ i. nat_cmp (sym length_is i) (sym other_length_is i))
+    ∙ padded-order 14 mine others (omega (arith, length_is, short.few)) (omega (arith, other_length_is, other_short.few))
 
 -- a text that is written over the first of so many zeros is the text with zeros after it
 pub padded-written : (count : ℕ) (text : List ℕ) → (take (length text) (text ++ drop (length text) (replicate count 0)) ≡ text)

@@ -77,7 +77,11 @@ impl Short {
     pub fn order(&self, other: &Short) -> Ordering
         ensures { result ≡ slice_cmp nat_cmp self.now other.now }
     {
-        order_of_padded(&self.bytes, &other.bytes).then(self.length.cmp(&other.length))
+        match order_of_padded(&self.bytes, &other.bytes) {
+            Ordering::Less => Ordering::Less,
+            Ordering::Equal => self.length.cmp(&other.length),
+            Ordering::Greater => Ordering::Greater,
+        }
     }
 }
 

@@ -59,18 +59,6 @@ impl Kept {
             Err(_) => Ok(None),
         }
     }
-
-    /// The same text. It stands apart from `Text::clone`, which copies a short one where it is called.
-    #[inline(never)]
-    fn share(&self) -> Result<Kept, AllocError>
-        ensures { IfOk result (λ kept. text_bytes kept ≡ text_bytes self.now) }
-    {
-        match self {
-            Kept::Short(short) => Ok(Kept::Short(short.copy())),
-            Kept::Medium(medium) => Ok(Kept::Medium(Arc::try_clone(medium)?)),
-            Kept::Long(long) => Ok(Kept::Long(Arc::try_clone(long)?)),
-        }
-    }
 }
 
 impl Text {
@@ -131,7 +119,8 @@ impl Clone for Text {
     fn clone(&self) -> Result<Text, AllocError> {
         let kept = match &self.kept {
             Kept::Short(short) => Kept::Short(short.copy()),
-            kept => kept.share()?,
+            Kept::Medium(medium) => Kept::Medium(Arc::try_clone(medium)?),
+            Kept::Long(long) => Kept::Long(Arc::try_clone(long)?),
         };
         Ok(Text { kept })
     }
@@ -178,6 +167,7 @@ impl PartialOrd for Text {
 
     ghost laws = { texts_po };
 
+    #[inline]
     fn partial_cmp(&self, other: &Text) -> Option<Ordering> {
         Some(self.cmp(other))
     }

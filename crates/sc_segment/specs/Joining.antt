@@ -1,9 +1,10 @@
 -- Lists of rows, and what is kept of two of them.
-use Rattle.std.specs.Prelude.{◌≡◌, ◌==◌, ℕ, Bool, not, ◌&&◌, ◌||◌, List}
+use Rattle.std.specs.Prelude.{◌≡◌, ◌==◌, ℕ, Bool, not, ◌&&◌, ◌||◌, List, length, take}
 use Rattle.std.specs.List.{list_any}
 use Rattle.std.specs.List.Sorted.{IsStrictlyIncreasing}
 use Rattle.sc_segment.specs.declared.joining.Kept.{Kept}
 use Rattle.sc_segment.specs.declared.joining.Kept.TheVariants.{Both, Either, LeftAlone}
+use Rattle.sc_segment.specs.declared.start.Start.{Start}
 
 -- whether a row is in the list
 abbrev pub has_row : List ℕ → ℕ → Bool
@@ -19,3 +20,8 @@ keeps LeftAlone left right = left && not right
 pub record IsJoin (how : Kept) (left right rows : List ℕ) : Type 0 where
   pub members : (row : ℕ) → has_row rows row ≡ keeps how (has_row left row) (has_row right row)
   pub ascending : IsStrictlyIncreasing rows
+
+-- how many rows a list has, and the first of them, at most so many
+pub record IsStart (most : ℕ) (rows : List ℕ) (start : Start) : Type 0 where
+  pub count : start.count ≡ length rows
+  pub first : start.rows.items ≡ take most rows

@@ -29,6 +29,7 @@ mod moving;
 mod placing;
 mod segment;
 mod sifting;
+mod start;
 mod steps;
 mod tally;
 
@@ -38,4 +39,5 @@ pub use joining::{Kept, join};
 pub use key::Key;
 pub use live_bits::LiveBits;
 pub use segment::Segment;
+pub use start::{Start, join_start};
 pub use steps::Steps;

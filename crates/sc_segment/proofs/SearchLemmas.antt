@@ -1,7 +1,9 @@
 -- A search by halves among keys that ascend.
-use Rattle.std.proofs.Common.{◌≡◌, ℕ, ◌+◌, ◌-◌, ◌*◌, ◌^◌, ◌<◌, ◌≤◌, suc, Bool, List, [], ◌∷◌, length, slice_get, Some, refl, ap, sym, ◌∙◌, arith, mul-le-mul_left, pow-suc, ⊎_elim}
-use Rattle.std.proofs.lemmas.Bool.{cases_eq}
+use Rattle.std.proofs.Common.{◌≡◌, ℕ, ◌+◌, ◌-◌, ◌*◌, ◌^◌, ◌<◌, ◌≤◌, zero, suc, Bool, List, [], ◌∷◌, length, slice_get, Some, refl, ap, sym, ◌∙◌, arith, mul-le-mul_left, pow-suc, ⊎_elim}
+use Rattle.std.proofs.Math.Nat.{pow-le-pow_right}
+use Rattle.std.proofs.lemmas.Bool.{cases_eq, cases_lt}
 use Rattle.std.proofs.lemmas.Cmp.{eq_by_cmp_equiv}
+use Rattle.std.proofs.lemmas.Nat.{pow-add}
 use Rattle.std.proofs.lemmas.Map.Keys.{Less-from_sorted, IsDistinct-from_sorted}
 use Rattle.std.proofs.lemmas.Map.Entries.{lookup_from_place}
 use Rattle.std.proofs.lemmas.Option.{slice_get_within, get_or_from_slice_get}
@@ -12,6 +14,7 @@ use Rattle.std.specs.declared.cmp.Ordering.TheVariants.{Less, Equal, Greater}
 use Rattle.std.specs.List.Sorted.{IsStrictlySortedBy}
 use Rattle.std.specs.Map.{keys_of, lookup}
 use Rattle.std.specs.Ordering.{is_eq, ordering_reverse}
+use Rattle.sc_segment.specs.Searching.{IsRangeFor}
 
 module _ {K : Type 0} {R : K → K → Ordering} (o : IsTotalOrder R) where
   pub in_order : (ks : List K) (i j : ℕ) (k m : K) → IsStrictlySortedBy R ks → i < j → slice_get ks i ≡ Some k → slice_get ks j ≡ Some m → R k m ≡ Less
@@ -39,6 +42,21 @@ module _ {K : Type 0} {R : K → K → Ordering} (o : IsTotalOrder R) where
       let back : R k q ≡ Less = o.antisymm k q ∙ ap ordering_reverse greater in
       o.antisymm q m ∙ ap ordering_reverse (o.trans m k q (in_order ks j i m k sorted before at_j at_i) back))
       (cases_eq i j)
+
+  -- a key above the one sought leaves the keys before it
+  pub range-before : (q : K) (ks : List K) (low high at : ℕ) (k : K) → IsStrictlySortedBy R ks → slice_get ks at ≡ Some k → Less ≡ R q k → IsRangeFor R ks q low high → IsRangeFor R ks q low at
+  range-before q ks low high at k sorted found less range = record {
+    before = range.before;
+    after = less_from q ks at k sorted found (sym less);
+  }
+
+  -- a key below the one sought leaves the keys after it
+  pub range-after : (q : K) (ks : List K) (low high at next : ℕ) (k : K) → IsStrictlySortedBy R ks → slice_get ks at ≡ Some k → Greater ≡ R q k → next ≤ at + 1 → IsRangeFor R ks q low high
+      → IsRangeFor R ks q next high
+  range-after q ks low high at next k sorted found greater within range = record {
+    before = λ j m earlier at_j. greater_up_to q ks at k sorted found (sym greater) j m (omega arith) at_j;
+    after = range.after;
+  }
 
 module _ {K X : Type 0} where
   -- tests that agree at each key find the same
@@ -69,3 +87,33 @@ pub bound_more : (p w n : ℕ) → p * w ≤ n → 0 < w → p * 2 ≤ 2 * n + 1
 bound_more p w n within some =
     let one : 1 ≤ w = omega arith in
     let h = mul-le-mul_left p one in omega (arith, h)
+
+-- among less than 64 keys there are at most six steps
+few_steps : (u w : ℕ) → 2 ^ u ≤ 2 * w + 1 → w < 64 → 2 ^ u ≤ 64
+few_steps u w bound few =
+    let two : 0 < 2 = omega arith in
+    ⊎_elim
+    (λ (below : u < 7). let most : u ≤ 6 = omega arith in
+    pow-le-pow_right two most)
+    (λ (many : 7 ≤ u). let power : 2 ^ 7 ≤ 2 ^ u = pow-le-pow_right two many in
+    absurd (omega (arith, power)))
+    (cases_lt u 7)
+
+-- the steps among the tops and those among the keys between two of them
+both_parts : (t u m w n : ℕ) → 2 ^ t ≤ 2 * m + 1 → 2 ^ u ≤ 2 * w + 1 → 64 * m ≤ n → w < 64 → w ≤ n → 2 ^ (t + u) ≤ 2 * n + 1
+both_parts zero u m w n tops bound whole few within =
+    let none : zero + u ≡ u = omega arith in
+    let same = ap (λ (x : ℕ). 2 ^ x) none in
+    omega (arith, same)
+both_parts (suc t) u m w n tops bound whole few within =
+    let double : 2 ^ (suc t) ≡ 2 ^ t * 2 = pow-suc 2 t in
+    let even : 2 ^ (suc t) ≤ 2 * m = omega (arith, double) in
+    let product = pow-add 2 (suc t) u in
+    let most = mul-le-mul_left (2 ^ (suc t)) (few_steps u w bound few) in
+    omega (arith, product, most, even)
+
+pub bound_both : (before middle after m w n : ℕ) → before ≤ middle → middle ≤ after → 2 ^ (middle - before) ≤ 2 * m + 1 → 2 ^ (after - middle) ≤ 2 * w + 1 → 64 * m ≤ n → w < 64 → w ≤ n
+    → 2 ^ (after - before) ≤ 2 * n + 1
+bound_both before middle after m w n first second tops bound whole few within =
+    let sum : after - before ≡ (middle - before) + (after - middle) = omega arith in
+    rw sum (both_parts (middle - before) (after - middle) m w n tops bound whole few within)

@@ -17,6 +17,7 @@ use Rattle.sc_segment.specs.declared.keys.Piece.{Piece}
 use Rattle.sc_segment.specs.Flat.{entries_from, entry_for}
 use Rattle.sc_segment.specs.Index.{HasRows}
 use Rattle.sc_segment.specs.Joining.{has_row}
+use Rattle.sc_segment.specs.Searching.{StandsAt}
 use Rattle.sc_segment.specs.Storing.{KeysState, HasPlaces, keys_in, stored_in, keys_at, ArePlaces, entries_at, AreAlike, AreEntriesAlike, IsCarriedAt}
 
 -- ---- an element at a place
@@ -37,6 +38,13 @@ module _ {X : Type 0} where
   found-after (x ∷ xs) ys i =
       let next : length (x ∷ xs) + i ≡ suc (length xs + i) = omega arith in
       ap (slice_get ((x ∷ xs) ++ ys)) next ∙ found-after xs ys i
+
+module _ {K : Type 0} (R : K → K → Ordering) where
+  -- the key there is one that compares equal
+  pub stands : (q : K) (ks : List K) (at : ℕ) → at < length ks → ((k : K) → slice_get ks at ≡ Some k → Equal ≡ R q k) → StandsAt R ks q at
+  stands q ks at within equal =
+      let here = found-within ks at within in
+      (here.0, here.1, sym (equal here.0 here.1))
 
 -- ---- the pieces
 module _ {K : Type 0} where

@@ -14,6 +14,11 @@ module _ {K : Type 0} (order : K → K → Ordering) where
     pub before : (i : ℕ) (k : K) → i < at → slice_get keys i ≡ Some k → order key k ≡ Greater
     pub after : (i : ℕ) (k : K) → at ≤ i → slice_get keys i ≡ Some k → order key k ≡ Less
 
+  -- the keys before the first place are below the key, and those from the second one on above it
+  pub record IsRangeFor (keys : List K) (key : K) (low high : ℕ) : Type 0 where
+    pub before : (i : ℕ) (k : K) → i < low → slice_get keys i ≡ Some k → order key k ≡ Greater
+    pub after : (i : ℕ) (k : K) → high ≤ i → slice_get keys i ≡ Some k → order key k ≡ Less
+
   -- what a search answers: where the key stands, or else where it would have to stand
   abbrev pub IsKeyPlace : List K → K → Result ℕ ℕ → Type 0
   IsKeyPlace keys key (Ok at) = StandsAt keys key at

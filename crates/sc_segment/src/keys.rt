@@ -1,4 +1,5 @@
-ghost use Rattle.std.specs.Prelude.{◌≡◌, ◌<◌, ◌++◌, length, map, slice_get, Some, IfOk, IfSome, OnOk};
+ghost use Rattle.std.specs.Prelude.{◌≡◌, ◌+◌, ◌*◌, ◌/◌, ◌<◌, ◌++◌, length, map, slice_get, Some, IfOk, IfSome, OnOk};
+ghost use Rattle.sc_segment.specs.Heads.{AreTops};
 ghost use Rattle.sc_segment.specs.Storing.{AreAlike, ArePlaces, HasPlaces, keys_at, keys_in, stored_in};
 
 use crate::key::Key;
@@ -13,6 +14,10 @@ const MOST_PIECES: usize = 64;
 const KEPT_FOR_GONE: usize = 16;
 
 const ALWAYS_GONE: usize = 64;
+
+/// One head of so many is a top, and stands in a list of its own too, in which a key is sought first. So the list of the tops of some ten
+/// thousand keys stays in the processor's caches, and between two tops at most eight lines of memory are left.
+pub(crate) const HEADS_OF_A_TOP: usize = 64;
 
 /// Keys that are shared as one.
 #[derive(Drop)]
@@ -32,17 +37,19 @@ impl<K> Piece<K> {
 }
 
 /// The keys of an index in their order, each by its head and by its place among stored keys. These stand in pieces that are shared with
-/// the indexes from which this one was carried. Not each stored key has a place.
+/// the indexes from which this one was carried. Not each stored key has a place. The last head of each whole block of heads is a top.
 #[derive(Drop)]
 pub(crate) struct Keys<K: Key> {
     pieces: Vec<Piece<K>>,
     stored: u32,
     places: Vec<u32>,
     heads: Vec<u64>,
+    tops: Vec<u64>,
 }
 
 impl<K: Key> Model for Keys<K> {
     ghost use Rattle.std.specs.Prelude.{◌≡◌, length, map};
+    ghost use Rattle.sc_segment.specs.Heads.{AreTops};
     ghost use Rattle.sc_segment.specs.Storing.{KeysState, ArePlaces, keys_at, stored_in};
 
     ghost Value = { KeysState K };
@@ -50,7 +57,7 @@ impl<K: Key> Model for Keys<K> {
     ghost view = { λ a. record { stored = stored_in a.pieces.items; keys = keys_at (stored_in a.pieces.items) a.places.items } };
 
     ghost invariant = { λ a. (a.stored ≡ length (stored_in a.pieces.items)) × ArePlaces (stored_in a.pieces.items) a.places.items
-        × (a.heads.items ≡ map K.heading (keys_at (stored_in a.pieces.items) a.places.items)) };
+        × (a.heads.items ≡ map K.heading (keys_at (stored_in a.pieces.items) a.places.items)) × AreTops a.heads.items a.tops.items };
 }
 
 impl<K: Key> Keys<K> {
@@ -76,6 +83,22 @@ impl<K: Key> Keys<K> {
         ensures { (key : K) → slice_get self.now.keys at ≡ Some key → result ≡ K.heading key }
     {
         self.heads[at]
+    }
+
+    /// How many tops there are, one for each whole block of keys.
+    pub(crate) fn top_count(&self) -> usize
+        ensures { result ≡ length self.now.keys / 64 }
+    {
+        self.tops.len()
+    }
+
+    /// The top with this number: the head of the last key of the block with this number.
+    #[inline(always)]
+    pub(crate) fn top(&self, block: usize) -> u64
+        requires { 64 * block + 63 < length self.now.keys }
+        ensures { (key : K) → slice_get self.now.keys (64 * block + 63) ≡ Some key → result ≡ K.heading key }
+    {
+        self.tops[block]
     }
 
     // The first number from this one on whose key stands at this place, or else how many keys there are. Nothing but time depends on it.
@@ -124,6 +147,7 @@ impl<K: Key + Drop> Keys<K> {
         };
         let places = places_of(alloc, keys.as_slice(), stored)?;
         let heads = heads_of(alloc, keys.as_slice())?;
+        let tops = tops_of(alloc, heads.as_slice())?;
         let mut pieces = Vec::new(alloc);
         pieces.push(Piece {
             keys: Arc::new(alloc, keys)?,
@@ -133,6 +157,7 @@ impl<K: Key + Drop> Keys<K> {
             stored,
             places,
             heads,
+            tops,
         })
     }
 
@@ -151,11 +176,13 @@ impl<K: Key + Drop> Keys<K> {
         let pieces = pieces_of_both(alloc, old, added)?;
         let stored = old.stored.checked_add(added.stored).ok_or(AllocError)?;
         let heads = heads_at(alloc, old, added, pieces.as_slice(), places.as_slice())?;
+        let tops = tops_of(alloc, heads.as_slice())?;
         let keys = Keys {
             pieces,
             stored,
             places,
             heads,
+            tops,
         };
         if keys.is_worn() {
             keys.renewed(alloc)
@@ -207,6 +234,18 @@ fn heads_of<K: Key>(alloc: Global, keys: &[K]) -> Result<Vec<u64>, AllocError>
         heads.push(key.head())?;
     }
     Ok(heads)
+}
+
+// The tops of heads, in a list with room for no more.
+fn tops_of(alloc: Global, heads: &[u64]) -> Result<Vec<u64>, AllocError>
+    ensures { IfOk result (λ tops. AreTops heads.now tops.items) }
+{
+    let count = heads.len() / HEADS_OF_A_TOP;
+    let mut tops = Vec::with_capacity(alloc, count)?;
+    for block in 0..count {
+        tops.push(heads[HEADS_OF_A_TOP * block + (HEADS_OF_A_TOP - 1)])?;
+    }
+    Ok(tops)
 }
 
 // The heads of the keys at these places among those that are stored with both lists. The places of each list's keys come mostly in the

@@ -1,5 +1,6 @@
 //! Posting lists: which rows have a key, found by a search among the keys that counts its comparisons. Two keys are compared by their
-//! heads, which are numbers that go with the order, and by themselves only where their heads are the same.
+//! heads, which are numbers that go with the order, and by themselves only where their heads are the same. Each 64th head is a top, among
+//! which a key is sought first.
 //!
 //! A `Builder` takes pairs of a row and a key, which it finds by its hash, and becomes a `Segment`, which has the keys in order and gives
 //! the rows of a key. Where some rows change,

@@ -1,65 +1,13 @@
--- A comparison leaves half of the keys, be it by heads or by the keys.
-use Rattle.std.proofs.Common.{◌+◌, ◌-◌, ◌^◌, ◌/◌, length, sym, ap, ◌∙◌, arith}
-use Rattle.sc_segment.proofs.SearchLemmas.{less_from, greater_up_to, pow-step, halved_more, bound_more}
-use Rattle.sc_segment.proofs.StoringLemmas.{found-within}
+-- The comparisons among the tops, and those among less than 64 keys.
+use Rattle.std.proofs.Common.{◌+◌, ◌-◌, ◌*◌, ◌/◌, ◌<◌, ◌≤◌, length, arith}
+use Rattle.sc_segment.proofs.SearchLemmas.{bound_both}
 use Rattle.sc_segment.proofs.segment.search.Goals as goal
 
-pub halving-preserved-in-Less : goal.halving-preserved-in-Less
-halving-preserved-in-Less g c =
-    let i = c.halving.invariant in
-    let middle = c.halving.low + (c.halving.high - c.halving.low) / 2 in
-    let here = found-within c.args.keys.now.keys middle (omega (arith, i.within)) in
-    let k = here.0 in
-    let at_middle = here.1 in
-    let steps = ap (λ n. 2 ^ (n - c.args.steps.now)) c.in-Less.ensures.counted ∙ pow-step c.args.steps.now c.halving.steps i.counted in
-    record {
-      from = omega (arith, i.from);
-      in_order = omega arith;
-      within = omega arith;
-      greater = i.greater;
-      less = less_from g.met.K.Key.total c.args.key.now c.args.keys.now.keys middle k c.requires.ascending at_middle (sym (c.in-Less.ensures.answer k at_middle));
-      counted = omega (arith, c.in-Less.ensures.counted);
-      halved = rw steps (halved_more (2 ^ (c.halving.steps - c.args.steps.now)) (c.halving.high - c.halving.low) (middle - c.halving.low) (length c.args.keys.now.keys) i.halved (omega arith));
-      bound = rw steps (bound_more _ _ _ i.halved (omega arith));
-    }
-
-pub halving-preserved : goal.halving-preserved
-halving-preserved g c =
-    let i = c.halving.invariant in
-    let middle = c.halving.low + (c.halving.high - c.halving.low) / 2 in
-    let here = found-within c.args.keys.now.keys middle (omega (arith, i.within)) in
-    let k = here.0 in
-    let at_middle = here.1 in
-    let steps = ap (λ n. 2 ^ (n - c.args.steps.now)) c.in-Greater.ensures.counted ∙ pow-step c.args.steps.now c.halving.steps i.counted in
-    record {
-      from = omega (arith, i.from);
-      in_order = omega arith;
-      within = i.within;
-      greater = greater_up_to g.met.K.Key.total c.args.key.now c.args.keys.now.keys middle k c.requires.ascending at_middle (sym (c.in-Greater.ensures.answer k at_middle));
-      less = i.less;
-      counted = omega (arith, c.in-Greater.ensures.counted);
-      halved = rw steps (halved_more (2 ^ (c.halving.steps - c.args.steps.now)) (c.halving.high - c.halving.low) (c.halving.high - (middle + 1)) (length c.args.keys.now.keys) i.halved (omega arith));
-      bound = rw steps (bound_more _ _ _ i.halved (omega arith));
-    }
-
-pub returns-in-Equal-clause-place : goal.returns-in-Equal-clause-place
-returns-in-Equal-clause-place g c =
-    let i = c.halving.invariant in
-    let middle = c.halving.low + (c.halving.high - c.halving.low) / 2 in
-    let here = found-within c.args.keys.now.keys middle (omega (arith, i.within)) in
-    (here.0, here.1, sym (c.in-Equal.ensures.answer here.0 here.1))
-
-pub returns-in-Equal-clause-bound : goal.returns-in-Equal-clause-bound
-returns-in-Equal-clause-bound g c =
-    let i = c.halving.invariant in
-    let steps = ap (λ n. 2 ^ (n - c.args.steps.now)) c.in-Equal.ensures.counted ∙ pow-step c.args.steps.now c.halving.steps i.counted in
-    rw steps (bound_more _ _ _ i.halved (omega arith))
-
-pub returns-clause-place : goal.returns-clause-place
-returns-clause-place g c =
-    let i = c.halving.invariant in
-    record {
-      within = omega (arith, i.in_order, i.within);
-      before = i.greater;
-      after = λ j k later at. i.less j k (omega arith) at;
-    }
+pub returns-in-Err-clause-bound : goal.returns-in-Err-clause-bound
+returns-in-Err-clause-bound g c =
+    let n = length c.args.keys.now.keys in
+    let w = 64 * c.in-Err.block + c.min.result - c.max.result in
+    let few : w < 64 = omega (arith, c.min.ensures, c.max.ensures) in
+    let within : w ≤ n = omega (arith, c.min.ensures, c.max.ensures, c.len-count.ensures, c.in-Err.ensures.within) in
+    bound_both c.args.steps.now c.block_of.new.steps c.search_between.new.steps (n / 64) w n
+    c.block_of.ensures.counted c.search_between.ensures.counted c.block_of.ensures.bound c.search_between.ensures.bound (omega arith) few within

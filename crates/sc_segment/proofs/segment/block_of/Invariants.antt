@@ -1,0 +1,18 @@
+-- In which blocks the key can still stand, and how many comparisons there were.
+use Rattle.std.proofs.Common.{◌+◌, ◌-◌, ◌*◌, ◌/◌, ◌^◌, ◌≤◌, length}
+use Rattle.sc_segment.specs.Searching.{IsRangeFor}
+use Rattle.sc_segment.proofs.segment.block_of.Given as goal
+
+abbrev pub invariant-halving : goal.invariant-halving
+invariant-halving g l = record {
+  first : l.first ≤ l.low;
+  in_order : l.low ≤ l.high;
+  within : l.high ≤ length l.keys.keys / 64;
+  range : IsRangeFor g.K.Key.order l.keys.keys l.key (64 * l.low) (64 * l.high + 63);
+  counted : l.initial.steps ≤ l.steps;
+  halved : 2 ^ (l.steps - l.initial.steps) * (l.high - l.low) ≤ length l.keys.keys / 64;
+  bound : 2 ^ (l.steps - l.initial.steps) ≤ 2 * (length l.keys.keys / 64) + 1;
+}
+
+abbrev pub decreases-halving : goal.decreases-halving
+decreases-halving g l = l.high - l.low

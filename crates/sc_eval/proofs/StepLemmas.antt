@@ -1,5 +1,5 @@
 -- How many steps a search takes: those of its leaves, and one for each row that is read.
-use Rattle.std.proofs.Common.{◌≡◌, ℕ, ◌+◌, ◌-◌, ◌*◌, ◌^◌, ◌<◌, ◌≤◌, List, [], ◌∷◌, ◌++◌, length, refl, subst, sym, ap, arith, inl, inr}
+use Rattle.std.proofs.Common.{◌≡◌, ℕ, Bool, ◌+◌, ◌-◌, ◌*◌, ◌^◌, ◌<◌, ◌≤◌, List, [], ◌∷◌, ◌++◌, length, subst, sym, ap, arith, inl, inr}
 use Rattle.std.proofs.Math.Nat.{pow-le-pow_right, mul-le-mul_right}
 use Rattle.std.proofs.lemmas.Bool.{cases_lt}
 use Rattle.sc_record.specs.declared.write.Write.{Write}
@@ -8,8 +8,12 @@ use Rattle.sc_segment.specs.declared.joining.Kept.{Kept}
 use Rattle.sc_snapshot.specs.Postings.{term_count}
 use Rattle.sc_eval.specs.Criteria.{Criterion, criterion_of}
 use Rattle.sc_eval.specs.Operands.{joined_by, criterion_with}
-use Rattle.sc_eval.specs.Numbers.{is_match, leaves, IsLookUp, AreNumbersOf, AreStepsOfLeaves, AreStepsOfSearch}
+use Rattle.sc_eval.specs.Numbers.{numbers_of, is_match, leaves, IsLookUp, AreNumbersOf, AreStepsOfLeaves, AreStepsOfSearch}
+use Rattle.sc_eval.specs.Unjoined.{IsJoined, WillBeNumbersOf}
+use Rattle.sc_eval.specs.declared.numbers.Numbers.{Numbers}
 use Rattle.sc_eval.specs.declared.operand.Right.{Right}
+use Rattle.sc_eval.specs.declared.unjoined.Unjoined.{Unjoined}
+use Rattle.sc_eval.specs.declared.unjoined.Unjoined.TheVariants.{One, Two}
 use Rattle.sc_eval.proofs.NumberLemmas.{as-many, numbers-there}
 use Rattle.sc_eval.proofs.OperandLemmas.{size, criterion_with-back, joined-leaves, with-leaves, right-smaller, joined-numbers}
 
@@ -39,11 +43,11 @@ module _ (rows : List Write) where
       let product = ap (λ n. n * most) (joined-leaves how left right) in
       omega (arith, here, there, product, le)
 
-  -- what was found of the left of a query, and in how many steps, while the rest waits
-  pub record IsFoundSoFar (whole : Criterion) (waiting : List Right) (numbers : List ℕ) (steps : ℕ) : Type 0 where
+  -- what was found of the left of a query, not joined yet, and in how many steps, while the rest waits
+  pub record IsFoundSoFar (whole : Criterion) (waiting : List Right) (unjoined : Unjoined) (steps : ℕ) : Type 0 where
     pub left : Criterion
     pub is_whole : whole ≡ criterion_with waiting left
-    pub found : AreNumbersOf (is_match left) rows numbers
+    pub found : WillBeNumbersOf (is_match left) rows unjoined
     pub bound : AreStepsOfLeaves left rows steps
 
   -- steps of what stands leftmost are steps of the whole
@@ -56,19 +60,28 @@ module _ (rows : List Write) where
   pub no-steps : (criterion : Criterion) (before after : ℕ) → after ≡ before → AreStepsOfLeaves criterion rows (after - before)
   no-steps criterion before after same = λ most enough. omega (arith, same)
 
+  -- one list is what it is
+  pub one-list : (test : Write → Bool) (numbers : Numbers) → AreNumbersOf test rows (numbers_of numbers) → WillBeNumbersOf test rows (One numbers)
+  one-list test numbers are = record { ascend = tt; joined = λ list is. subst (AreNumbersOf test rows) (sym is) are }
+
   -- the leftmost operand was looked up
-  pub first-found : (whole left : Criterion) (waiting : List Right) (numbers found : List ℕ) (start middle after : ℕ)
-      → whole ≡ criterion_with waiting left → AreNumbersOf (is_match left) rows numbers → found ≡ numbers
+  pub first-found : (whole left : Criterion) (waiting : List Right) (unjoined found : Unjoined) (start middle after : ℕ)
+      → whole ≡ criterion_with waiting left → WillBeNumbersOf (is_match left) rows unjoined → found ≡ unjoined
       → AreStepsOfLeaves left rows (middle - start) → after ≡ middle → IsFoundSoFar whole waiting found (after - start)
-  first-found whole left waiting numbers found start middle after is are found_is steps after_is = record {
+  first-found whole left waiting unjoined found start middle after is are found_is steps after_is = record {
     left = left;
     is_whole = is;
-    found = subst (AreNumbersOf (is_match left) rows) (sym found_is) are;
+    found = subst (WillBeNumbersOf (is_match left) rows) (sym found_is) are;
     bound = subst (λ n. AreStepsOfLeaves left rows (n - start)) (sym after_is) steps;
   }
 
-  module _ (whole : Criterion) (waiting popped : List Right) (one : Right) (numbers : List ℕ) (start before after : ℕ)
-      (far : IsFoundSoFar whole waiting numbers (before - start)) (pops : waiting ≡ popped ++ one ∷ [])
+  -- steps so far are steps of the whole
+  pub so-far : (whole : Criterion) (waiting : List Right) (unjoined : Unjoined) (steps : ℕ)
+      → IsFoundSoFar whole waiting unjoined steps → AreStepsOfLeaves whole rows steps
+  so-far whole waiting unjoined steps far = first-steps whole far.left waiting steps far.is_whole far.bound
+
+  module _ (whole : Criterion) (waiting popped : List Right) (one : Right) (unjoined : Unjoined) (start before after : ℕ)
+      (far : IsFoundSoFar whole waiting unjoined (before - start)) (pops : waiting ≡ popped ++ one ∷ [])
       (rises : start ≤ before) (rises_again : before ≤ after)
       (steps : AreStepsOfLeaves (criterion_of one.operand.now) rows (after - before)) where
     back : whole ≡ criterion_with popped (joined_by one.how far.left (criterion_of one.operand.now))
@@ -83,28 +96,40 @@ module _ (rows : List Write) where
     pub right-steps : AreStepsOfLeaves whole rows (after - start)
     right-steps = first-steps whole (joined_by one.how far.left (criterion_of one.operand.now)) popped (after - start) back joined-steps
 
-    -- and what was found of it is joined to what was found
-    pub right-found : (others both : List ℕ) → AreNumbersOf (is_match (criterion_of one.operand.now)) rows others
-        → IsJoin one.how numbers others both → IsFoundSoFar whole popped both (after - start)
-    right-found others both are joined = record {
-      left = joined_by one.how far.left (criterion_of one.operand.now);
-      is_whole = back;
-      found = joined-numbers one.how far.left (criterion_of one.operand.now) rows numbers others both far.found are joined;
-      bound = joined-steps;
-    }
+    -- what was found is joined, and then what was found of the right operand stands beside it
+    pub right-found : (left right : Numbers) → IsJoined unjoined (numbers_of left)
+        → AreNumbersOf (is_match (criterion_of one.operand.now)) rows (numbers_of right)
+        → IsFoundSoFar whole popped (Two one.how left right) (after - start)
+    right-found left right is are =
+        let lefts = far.found.joined (numbers_of left) is in
+        record {
+          left = joined_by one.how far.left (criterion_of one.operand.now);
+          is_whole = back;
+          found = record {
+            ascend = (lefts.ascending, are.ascending);
+            joined = λ both joined. joined-numbers one.how far.left (criterion_of one.operand.now) rows
+                (numbers_of left) (numbers_of right) both lefts are joined;
+          };
+          bound = joined-steps;
+        }
 
     pub right-less : size (criterion_of one.operand.now) < size whole
     right-less = right-smaller popped one whole far.left back
 
-  -- what was found stays where nothing of a right operand, whatever it is, changes it
-  pub left-stays : (whole : Criterion) (waiting popped : List Right) (one : Right) (numbers : List ℕ) (start now : ℕ)
-      → IsFoundSoFar whole waiting numbers (now - start) → waiting ≡ popped ++ one ∷ [] → start ≤ now
-      → ((right : List ℕ) → IsJoin one.how numbers right numbers) → IsFoundSoFar whole popped numbers (now - start)
-  left-stays whole waiting popped one numbers start now far pops rises stays =
-      let criterion = criterion_of one.operand.now in
-      let others = numbers-there (is_match criterion) rows in
-      right-found whole waiting popped one numbers start now now far pops rises (omega arith) (no-steps criterion now now refl)
-      others.0 numbers others.1 (stays others.0)
+    -- what was found, once it is joined, stays where nothing of the right operand, whatever it is, changes it
+    pub left-stays : (left : Numbers) → IsJoined unjoined (numbers_of left)
+        → ((right : List ℕ) → IsJoin one.how (numbers_of left) right (numbers_of left)) → IsFoundSoFar whole popped (One left) (after - start)
+    left-stays left is stays =
+        let lefts = far.found.joined (numbers_of left) is in
+        let others = numbers-there (is_match (criterion_of one.operand.now)) rows in
+        let criterion = joined_by one.how far.left (criterion_of one.operand.now) in
+        record {
+          left = criterion;
+          is_whole = back;
+          found = one-list (is_match criterion) left (joined-numbers one.how far.left (criterion_of one.operand.now) rows
+              (numbers_of left) others.0 (numbers_of left) lefts others.1 (stays others.0));
+          bound = joined-steps;
+        }
 
 -- the rows that match are read, each once
 pub search-steps : (criterion : Criterion) (rows : List Write) (numbers : List ℕ) (start between after : ℕ)

@@ -5,4 +5,5 @@ pub mod Spine
 pub mod Matching
 pub mod Operands
 pub mod Numbers
+pub mod Unjoined
 pub mod Laws

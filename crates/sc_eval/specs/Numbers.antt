@@ -1,5 +1,5 @@
 -- Which rows a criterion finds, by their numbers, and in how many steps.
-use Rattle.std.specs.Prelude.{◌≡◌, ℕ, ◌+◌, ◌*◌, ◌^◌, ◌<◌, ◌≤◌, Bool, false, ◌&&◌, if◌then◌else◌, List, filter, length, Option, None, Some, slice_get}
+use Rattle.std.specs.Prelude.{◌≡◌, ℕ, ◌+◌, ◌*◌, ◌^◌, ◌<◌, ◌≤◌, Bool, false, ◌&&◌, if◌then◌else◌, List, filter, length, take, Option, None, Some, slice_get}
 use Rattle.std.specs.List.Sorted.{IsStrictlyIncreasing}
 use Rattle.sc_hash.specs.Bounds.{bounds, contains}
 use Rattle.sc_hash.specs.declared.range.Range.{Range}
@@ -8,6 +8,7 @@ use Rattle.sc_segment.specs.Joining.{has_row}
 use Rattle.sc_snapshot.specs.Postings.{term_count}
 use Rattle.sc_eval.specs.Criteria.{Criterion}
 use Rattle.sc_eval.specs.Matching.{matches, is_live, finds}
+use Rattle.sc_eval.specs.declared.numbers.Matches.{Matches}
 use Rattle.sc_eval.specs.declared.numbers.Numbers.{Numbers}
 use Rattle.sc_eval.specs.declared.numbers.Numbers.TheVariants.{Lent, Made}
 
@@ -38,6 +39,19 @@ row_in range (Some row) = if contains row.hash (bounds range) then Some row else
 pub record AreNumbersOf (test : Write → Bool) (rows : List Write) (numbers : List ℕ) : Type 0 where
   pub members : (number : ℕ) → has_row numbers number ≡ passes test (slice_get rows number)
   pub ascending : IsStrictlyIncreasing numbers
+
+-- how many numbers there are, and the first of them, at most so many
+pub record AreFirst (most : ℕ) (numbers : List ℕ) (found : Matches) : Type 0 where
+  pub count : found.count ≡ length numbers
+  pub first : numbers_of found.first ≡ take most numbers
+
+-- how many rows the criterion finds in the range, and the numbers of the first of them, at most so many
+pub record AreMatches (range : Range) (criterion : Criterion) (rows : List Write) (most : ℕ) (found : Matches) : Type 0 where
+  pub numbers : List ℕ
+  pub members : (number : ℕ) → has_row numbers number ≡ finds_at range criterion (slice_get rows number)
+  pub ascending : IsStrictlyIncreasing numbers
+  pub count : found.count ≡ length numbers
+  pub first : numbers_of found.first ≡ take most numbers
 
 -- how many leaves a criterion has
 abbrev pub leaves : Criterion → ℕ

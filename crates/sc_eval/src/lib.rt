@@ -5,16 +5,17 @@
 //! found by, on `sc_segment` for joining lists and for counting steps, on `sc_snapshot` for the rows and their posting lists, on
 //! `sc_journal` for what is true of their terms, on `sc_hash` for the range, and on `thiserror`. It does no input and no output.
 //! The layers above use the contract of `bind`, which says of each query which criterion it is or where its fault is, and those of
-//! `find`, which gives the numbers of the rows that are found, and of `evaluate`, which gives these rows as a filter of all.
+//! `find`, which gives how many rows are found and the numbers of the first of them, and of `evaluate`, which gives all as a filter of the rows.
 //!
 //! Proved: `bind` gives the criteria that a query's leaves ask for by their fields' kinds, or the place of the first leaf
-//! at fault (`specs/Criteria`); `find` and `evaluate` give exactly the live rows of a snapshot that match and whose hashes are
-//! in a range, in order of their ids (`specs/Matching`), and look up each leaf once at most and read no row that does not match
-//! (`AreStepsOfSearch`). Laws in `specs/Laws`: NOT of NOT, De Morgan, AND, parts of a range.
+//! at fault (`specs/Criteria`); `evaluate` gives exactly the live rows of a snapshot that match and whose hashes are in a range, in
+//! order of their ids (`specs/Matching`), and `find` counts them and gives the numbers of the first (`AreMatches`); both look up each leaf
+//! once at most and read no row that does not match (`AreStepsOfSearch`). Laws in `specs/Laws`: NOT of NOT, De Morgan, AND, parts of a range.
 //!
 //! Tested alone: the worked queries.
 //!
-//! Neither: speed; how long a join of two lists takes; that no posting list is copied, to be joined or to be found, holds by construction.
+//! Neither: speed; how long a join of two lists takes; that no posting list is copied, to be joined or to be found, and that of the
+//! outermost join of a query no more numbers are kept than `find` is asked for, holds by construction.
 #![tactic(auto)]
 
 // Why a query can't be bound.
@@ -29,6 +30,7 @@ mod matching;
 mod numbers;
 mod operand;
 mod searcher;
+mod unjoined;
 
 // What follows from the definitions.
 mod laws;
@@ -37,5 +39,5 @@ pub use binder::bind;
 pub use bound::Bound;
 pub use fault::BindFault;
 pub use laws::{queries_are_bound_or_at_fault, queries_find_as_logic_says};
-pub use numbers::Numbers;
+pub use numbers::{Matches, Numbers};
 pub use searcher::{evaluate, find};

@@ -6,12 +6,14 @@ ghost use Rattle.sc_journal.specs.Legal.{HasTerms};
 ghost use Rattle.std.specs.List.Sorted.{IsStrictlyIncreasing};
 ghost use Rattle.sc_segment.specs.Joining.{IsJoin};
 ghost use Rattle.sc_eval.specs.Criteria.{Criterion, criterion_of};
-ghost use Rattle.sc_eval.specs.Numbers.{numbers_of, is_match, AreNumbersOf, AreStepsOfLeaves};
+ghost use Rattle.sc_eval.specs.Numbers.{numbers_of, is_match, AreFirst, AreNumbersOf, AreStepsOfLeaves};
+ghost use Rattle.sc_eval.specs.Unjoined.{WillBeNumbersOf};
 
 use crate::bound::Bound;
-use crate::numbers::Numbers;
+use crate::numbers::{Matches, Numbers};
 use crate::operand::{Operand, Right, first_operand};
-use sc_segment::{Kept, Steps, join};
+use crate::unjoined::Unjoined;
+use sc_segment::{Kept, Steps};
 use sc_snapshot::{Snapshot, TermKey};
 use std::alloc::{AllocError, Global};
 use std::sync::ledger::Ledger;
@@ -30,21 +32,56 @@ pub(crate) fn matching<'a, L: Ledger>(
     ensures counted { steps.old ≤ steps.new }
     ensures bound { AreStepsOfLeaves (criterion_of query.now) snapshot.now.rows (steps.new - steps.old) }
 {
+    unjoined(alloc, query, snapshot, steps)?.joined(alloc)
+}
+
+/// How many live rows match the query, and the numbers of the first of them, `most` or all. They are looked up as by `matching`, but for
+/// the outermost join, of which not all numbers are kept.
+pub(crate) fn matching_start<'a, L: Ledger>(
+    alloc: Global,
+    query: &Bound,
+    snapshot: &'a Snapshot,
+    most: usize,
+    steps: &mut Steps<L>,
+) -> Result<Matches<'a>, AllocError>
+    requires { All (λ (row : Write). HasTerms row.id row.doc row.terms) snapshot.now.rows }
+    ensures found { IfOk result (λ found. (numbers : List ℕ)
+        × AreNumbersOf (is_match (criterion_of query.now)) snapshot.now.rows numbers × AreFirst most numbers found) }
+    ensures counted { steps.old ≤ steps.new }
+    ensures bound { AreStepsOfLeaves (criterion_of query.now) snapshot.now.rows (steps.new - steps.old) }
+{
+    unjoined(alloc, query, snapshot, steps)?.start(alloc, most)
+}
+
+// The numbers of the live rows that match the query, where the outermost join is not made yet.
+fn unjoined<'a, L: Ledger>(
+    alloc: Global,
+    query: &Bound,
+    snapshot: &'a Snapshot,
+    steps: &mut Steps<L>,
+) -> Result<Unjoined<'a>, AllocError>
+    requires { All (λ (row : Write). HasTerms row.id row.doc row.terms) snapshot.now.rows }
+    ensures numbers { IfOk result (WillBeNumbersOf (is_match (criterion_of query.now)) snapshot.now.rows) }
+    ensures counted { steps.old ≤ steps.new }
+    ensures bound { AreStepsOfLeaves (criterion_of query.now) snapshot.now.rows (steps.new - steps.old) }
+{
     let mut waiting = Vec::new(alloc);
     let mut found = match first_operand(&mut waiting, query)? {
-        Operand::All => Numbers::Lent(snapshot.live()),
-        Operand::Leaf(key) => numbers_with(key, snapshot, steps),
+        Operand::All => Unjoined::One(Numbers::Lent(snapshot.live())),
+        Operand::Leaf(key) => Unjoined::One(numbers_with(key, snapshot, steps)),
         Operand::Not(operand) => {
-            let left_out = matching(alloc, operand, snapshot, steps)?;
-            all_but(alloc, snapshot, left_out)?
+            let left_out = unjoined(alloc, operand, snapshot, steps)?.joined(alloc)?;
+            all_but(snapshot, left_out)
         }
     };
     while let Some(Right { how, operand }) = waiting.pop() {
-        if stays_empty(how, &found) {
-            continue;
-        }
-        let others = matching(alloc, operand, snapshot, steps)?;
-        found = joined(alloc, how, found, others)?;
+        let left = found.joined(alloc)?;
+        found = if stays_empty(how, &left) {
+            Unjoined::One(left)
+        } else {
+            let right = unjoined(alloc, operand, snapshot, steps)?.joined(alloc)?;
+            Unjoined::Two { how, left, right }
+        };
     }
     Ok(found)
 }
@@ -70,32 +107,16 @@ fn stays_empty(how: Kept, left: &Numbers<'_>) -> bool
     how != Kept::Either && left.as_slice().is_empty()
 }
 
-// The numbers of all live rows but these.
-fn all_but<'a>(
-    alloc: Global,
-    snapshot: &Snapshot,
-    left_out: Numbers<'_>,
-) -> Result<Numbers<'a>, AllocError>
+// The numbers of all live rows but these, which are still to be left out.
+fn all_but<'a>(snapshot: &'a Snapshot, left_out: Numbers<'a>) -> Unjoined<'a>
     requires { IsStrictlyIncreasing (numbers_of left_out) }
-    ensures { IfOk result (λ found. (operand : Criterion) → AreNumbersOf (is_match operand) snapshot.now.rows (numbers_of left_out.entry)
-        → AreNumbersOf (is_match (Criterion.Not operand)) snapshot.now.rows (numbers_of found)) }
+    ensures { (operand : Criterion) → AreNumbersOf (is_match operand) snapshot.now.rows (numbers_of left_out.entry)
+        → WillBeNumbersOf (is_match (Criterion.Not operand)) snapshot.now.rows result }
 {
-    let live = snapshot.live();
-    let rest = join(alloc, Kept::LeftAlone, live, left_out.as_slice())?;
-    Ok(Numbers::Made(rest))
-}
-
-// The numbers that are kept of two lists.
-fn joined<'a>(
-    alloc: Global,
-    how: Kept,
-    left: Numbers<'_>,
-    right: Numbers<'_>,
-) -> Result<Numbers<'a>, AllocError>
-    requires left { IsStrictlyIncreasing (numbers_of left) }
-    requires right { IsStrictlyIncreasing (numbers_of right) }
-    ensures { IfOk result (λ both. IsJoin how (numbers_of left.entry) (numbers_of right.entry) (numbers_of both)) }
-{
-    let both = join(alloc, how, left.as_slice(), right.as_slice())?;
-    Ok(Numbers::Made(both))
+    let live = Numbers::Lent(snapshot.live());
+    Unjoined::Two {
+        how: Kept::LeftAlone,
+        left: live,
+        right: left_out,
+    }
 }

@@ -1,5 +1,5 @@
 ghost use Rattle.std.specs.Prelude.{◌≡◌, take};
-ghost use Rattle.sc_eval.specs.Numbers.{numbers_of};
+ghost use Rattle.sc_eval.specs.Numbers.{numbers_of, AreFirst};
 
 /// Room for so many numbers is worth giving back.
 const MUCH_ROOM: usize = 64;
@@ -9,6 +9,13 @@ const MUCH_ROOM: usize = 64;
 pub enum Numbers<'a> {
     Lent(&'a [u32]),
     Made(Vec<u32>),
+}
+
+/// How many rows a query finds, and the numbers of the first of them.
+#[derive(Drop)]
+pub struct Matches<'a> {
+    pub count: usize,
+    pub first: Numbers<'a>,
 }
 
 impl<'a> Numbers<'a> {
@@ -22,9 +29,18 @@ impl<'a> Numbers<'a> {
         }
     }
 
-    /// The first of the numbers, `most` of them or all. A list that is lent stays lent; of one that was made the room that is not needed is
-    /// given back where it is much.
-    pub fn limited_to(self, most: usize) -> Numbers<'a>
+    /// How many numbers there are, and the first of them, `most` or all.
+    pub(crate) fn start(self, most: usize) -> Matches<'a>
+        ensures { AreFirst most (numbers_of self.entry) result }
+    {
+        let count = self.as_slice().len();
+        let first = self.limited_to(most);
+        Matches { count, first }
+    }
+
+    // The first of the numbers, `most` of them or all. A list that is lent stays lent; of one that was made the room that is not needed is
+    // given back where it is much.
+    fn limited_to(self, most: usize) -> Numbers<'a>
         ensures { numbers_of result ≡ take most (numbers_of self.entry) }
     {
         match self {

@@ -1,19 +1,17 @@
-ghost use Rattle.std.specs.Prelude.{◌≡◌, ℕ, ◌+◌, ◌-◌, ◌≤◌, true, map, filter, length, slice_get, is_some, option_copied, option_map, option_to_list, IfOk, All};
+ghost use Rattle.std.specs.Prelude.{◌≡◌, ◌+◌, ◌-◌, ◌≤◌, true, map, filter, length, slice_get, is_some, option_copied, option_map, option_to_list, IfOk, All};
 ghost use Rattle.std.specs.Bool.{OnTrue};
 ghost use Rattle.std.specs.Arc.{arc_value};
 ghost use Rattle.std.specs.List.{flat_map};
-ghost use Rattle.std.specs.List.Sorted.{IsStrictlyIncreasing};
 ghost use Rattle.sc_hash.specs.Bounds.{bounds, contains};
 ghost use Rattle.sc_record.specs.declared.write.Write.{Write};
 ghost use Rattle.sc_journal.specs.Legal.{HasTerms};
-ghost use Rattle.sc_segment.specs.Joining.{has_row};
 ghost use Rattle.sc_eval.specs.Criteria.{criterion_of};
 ghost use Rattle.sc_eval.specs.Matching.{finds};
-ghost use Rattle.sc_eval.specs.Numbers.{finds_at, numbers_of, row_in, AreStepsOfSearch};
+ghost use Rattle.sc_eval.specs.Numbers.{numbers_of, row_in, AreMatches, AreStepsOfSearch};
 
 use crate::bound::Bound;
-use crate::matching::matching;
-use crate::numbers::Numbers;
+use crate::matching::{matching, matching_start};
+use crate::numbers::{Matches, Numbers};
 use sc_hash::Range;
 use sc_record::{Cell, List};
 use sc_segment::Steps;
@@ -22,28 +20,29 @@ use std::alloc::{AllocError, Global};
 use std::sync::Arc;
 use std::sync::ledger::Ledger;
 
-/// The numbers of the rows that the query finds in the range, counted from 0 and ascending, so in the order of their ids. A step
-/// is one comparison of terms, or one row that is read: none is where the hashes of all rows are in the range, and then the posting
-/// list of a term is lent as it is. The only error is that memory was refused.
+/// How many rows the query finds in the range, and the numbers of the first of them, `most` or all, counted from 0 and ascending, so in
+/// the order of their ids. A step is one comparison of terms, or one row that is read: none is where the hashes of all rows are in the
+/// range, and then the start of a term's posting list is lent as it is, and of the outermost join of the query no more numbers are
+/// kept. The only error is that memory was refused.
 pub fn find<'a, L: Ledger>(
     alloc: Global,
     query: &Bound,
     snapshot: &'a Snapshot,
     range: &Range,
+    most: usize,
     steps: &mut Steps<L>,
-) -> Result<Numbers<'a>, AllocError>
+) -> Result<Matches<'a>, AllocError>
     requires { All (λ (row : Write). HasTerms row.id row.doc row.terms) snapshot.now.rows }
-    ensures members { IfOk result (λ found. (number : ℕ)
-        → has_row (numbers_of found) number ≡ finds_at range.now (criterion_of query.now) (slice_get snapshot.now.rows number)) }
-    ensures ascending { IfOk result (λ found. IsStrictlyIncreasing (numbers_of found)) }
+    ensures found { IfOk result (AreMatches range.now (criterion_of query.now) snapshot.now.rows most) }
     ensures counted { steps.old ≤ steps.new }
     ensures bound { AreStepsOfSearch (criterion_of query.now) snapshot.now.rows (steps.new - steps.old) }
 {
-    let numbers = matching(alloc, query, snapshot, steps)?;
     if has_all(range, snapshot) {
-        return Ok(numbers);
+        return matching_start(alloc, query, snapshot, most, steps);
     }
-    numbers_in(alloc, snapshot, range, numbers.as_slice(), steps)
+    let numbers = matching(alloc, query, snapshot, steps)?;
+    let found = numbers_in(alloc, snapshot, range, numbers.as_slice(), steps)?;
+    Ok(found.start(most))
 }
 
 /// The rows of a snapshot that the query finds in the range, in their order, so ascending by the ids' bytes. Each row that

@@ -1,17 +1,16 @@
 -- What was found of the left of the query, and in how many steps, while the rest waits.
 use Rattle.std.proofs.Common.{◌-◌, ◌≤◌, vec_len}
 use Rattle.sc_eval.specs.Criteria.{criterion_of}
-use Rattle.sc_eval.specs.Numbers.{numbers_of}
 use Rattle.sc_eval.proofs.OperandLemmas.{size}
 use Rattle.sc_eval.proofs.StepLemmas.{IsFoundSoFar}
-use Rattle.sc_eval.proofs.matching.+matching.Given as goal
+use Rattle.sc_eval.proofs.matching.+unjoined.Given as goal
 
-abbrev pub decreases-matching : goal.decreases-matching
-decreases-matching g l = size (criterion_of l.query.now)
+abbrev pub decreases-unjoined : goal.decreases-unjoined
+decreases-unjoined g l = size (criterion_of l.query.now)
 
 abbrev pub invariant-loop-how : goal.invariant-loop-how
 invariant-loop-how g l = record {
-  far : IsFoundSoFar l.snapshot.rows (criterion_of l.fn.query) l.waiting.items (numbers_of l.found) (l.steps - l.fn.steps);
+  far : IsFoundSoFar l.snapshot.rows (criterion_of l.fn.query) l.waiting.items l.found (l.steps - l.fn.steps);
   counted : l.fn.steps ≤ l.steps;
 }
 

@@ -18,5 +18,6 @@ pub mod SameRowsLemmas
 pub mod SearchLemmas
 pub mod SiftingLemmas
 pub mod SortingLemmas
+pub mod StartLemmas
 pub mod StoringLemmas
 pub mod TallyLemmas

@@ -35,10 +35,10 @@ below_end rows end up last =
     let high : slice_index rows i ≤ slice_index rows (length rows - 1) = rw there at low in
     omega (arith, high, last))
 
-is_same : (m n : ℕ) → m ≡ n → (m == n) ≡ true
+pub is_same : (m n : ℕ) → m ≡ n → (m == n) ≡ true
 is_same m n h = grind (arith, nat_tests)
 
-is_other : (m n : ℕ) → m ≢ n → (m == n) ≡ false
+pub is_other : (m n : ℕ) → m ≢ n → (m == n) ≡ false
 is_other m n h = grind (arith, nat_tests)
 
 or_true : (b : Bool) → (b || true) ≡ true

@@ -51,8 +51,13 @@ fn of_left(
     Ok(rows)
 }
 
-// Joins two lists in one pass over both.
-fn merged(alloc: Global, how: Kept, left: &[u32], right: &[u32]) -> Result<Vec<u32>, AllocError>
+/// Joins two lists in one pass over both.
+pub(crate) fn merged(
+    alloc: Global,
+    how: Kept,
+    left: &[u32],
+    right: &[u32],
+) -> Result<Vec<u32>, AllocError>
     requires left { IsStrictlyIncreasing left.now }
     requires right { IsStrictlyIncreasing right.now }
     ensures { IfOk result (λ rows. IsJoin how left.now right.now rows.items) }
@@ -83,8 +88,8 @@ fn room_for(how: Kept, left: usize, right: usize) -> usize {
     }
 }
 
-// Puts the row at the end where it is kept.
-fn push_kept(rows: &mut Vec<u32>, kept: bool, row: u32) -> Result<(), AllocError>
+/// Puts the row at the end where it is kept.
+pub(crate) fn push_kept(rows: &mut Vec<u32>, kept: bool, row: u32) -> Result<(), AllocError>
     ensures { OnOk result (rows.new.items ≡ rows.old.items ++ cond kept (row ∷ []) []) }
 {
     if kept {

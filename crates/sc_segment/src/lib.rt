@@ -5,15 +5,17 @@
 //! A `Builder` takes pairs of a row and a key, which it finds by its hash, and becomes a `Segment`, which has the keys in order and gives
 //! the rows of a key. Where some rows change,
 //! `Segment::carried` gives the segment of the new rows out of the old one and a small one of what changed. `join` makes
-//! of two lists of rows the list of those in both, in one of them, or in the first alone. A `LiveBits` says which
-//! rows are live. The crate depends on std alone. Contracts see a builder's index and
+//! of two lists of rows the list of those in both, in one of them, or in the first alone; `join_start` gives only how many rows
+//! that list has, and the first of them, for a caller who shows no more: the others are counted, and no list is made of them.
+//! A `LiveBits` says which rows are live. The crate depends on std alone. Contracts see a builder's index and
 //! a segment as the list of the distinct keys with their rows, and a layer above says by `IsIndexOf` which
 //! pairs it has added: `Segment::postings` then gives a filter of these pairs, and `Steps` bounds the number
 //! of comparisons. `proofs/IndexLemmas.antt` says of which pairs an index in order is one, by the rows that it has for each key.
 //!
 //! Proved: `Segment::postings` gives exactly the rows of a key, ascending and each once, within a bound on comparisons;
 //! `Segment::carried` has for each key exactly the rows that stay, under their new numbers, and those that are added;
-//! `join` keeps exactly the rows that it says, ascending and each once; `LiveBits` is the list of its bits.
+//! `join` keeps exactly the rows that it says, ascending and each once, and `join_start` gives their exact number and the first
+//! of them; `LiveBits` is the list of its bits.
 //!
 //! Neither: speed.
 #![tactic(auto)]

@@ -1,4 +1,4 @@
-ghost use Rattle.std.specs.Prelude.{◌≡◌, ℕ, ◌<◌, ◌++◌, not, cond, List, All, IfOk, IfSome, OnOk};
+ghost use Rattle.std.specs.Prelude.{◌≡◌, ℕ, ◌<◌, ◌≤◌, ◌++◌, not, cond, List, All, length, IfOk, IfSome, OnOk};
 ghost use Rattle.std.specs.List.Sorted.{IsStrictlyIncreasing};
 ghost use Rattle.sc_segment.specs.Joining.{has_row};
 ghost use Rattle.sc_segment.specs.Sifting.{IsSieve, sifted};
@@ -46,9 +46,9 @@ impl Sieve {
         row < self.end && !self.absent.is_live(row)
     }
 
-    // Whether the list has the row, or has it not.
+    /// Whether the list has the row, or has it not.
     #[inline(always)]
-    fn passes(&self, row: u32, wanted: bool) -> bool
+    pub(crate) fn passes(&self, row: u32, wanted: bool) -> bool
         requires { (rows : List ℕ) × IsSieve rows self.now }
         ensures { (rows : List ℕ) → IsSieve rows self.now → result ≡ cond wanted (has_row rows row) (not (has_row rows row)) }
     {
@@ -75,6 +75,19 @@ impl Sieve {
             }
         }
         Ok(())
+    }
+
+    /// How many of these rows the list has, or has not.
+    pub(crate) fn count(&self, rows: &[u32], wanted: bool) -> usize
+        requires { (others : List ℕ) × IsSieve others self.now }
+        ensures counted { (others : List ℕ) → IsSieve others self.now → result ≡ length (sifted others wanted rows.now) }
+        ensures within { result ≤ length rows.now }
+    {
+        let mut count = 0;
+        for row in rows {
+            count += usize::from(self.passes(*row, wanted));
+        }
+        count
     }
 }
 

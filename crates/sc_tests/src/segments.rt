@@ -5,7 +5,7 @@ ghost use Rattle.sc_segment.specs.Fresh.{IsFresh};
 ghost use Rattle.std.proofs.lemmas.Cmp.{on_total, nat_cmp_total};
 ghost use native.Mathlib.Omega.{arith};
 
-use sc_segment::{Builder, Kept, Key, LiveBits, Segment, Steps, join};
+use sc_segment::{Builder, Kept, Key, LiveBits, Segment, Steps, join, join_start};
 use std::alloc::{AllocError, Global};
 use std::cell::Cell;
 use std::cmp::Ordering;
@@ -145,6 +145,34 @@ fn joins_two_lists(rt: HostRuntime) -> Result<(), Fail> {
         joined(alloc, Kept::LeftAlone)?.as_slice(),
         [1, 5, 9].as_slice()
     );
+    Ok(())
+}
+
+// So many rows are kept of the two lists, and these are the first two of them.
+fn assert_start(
+    rt: &impl Abort,
+    alloc: Global,
+    how: Kept,
+    count: usize,
+    rows: &[u32],
+) -> Result<(), AllocError> {
+    let start = join_start(alloc, how, &[1, 2, 5, 7, 9], &[2, 3, 7, 10], 2)?;
+    assert_eq!(rt; start.count, count);
+    assert_eq!(rt; start.rows.as_slice(), rows);
+    Ok(())
+}
+
+#[test]
+fn counts_and_begins_a_join(rt: HostRuntime) -> Result<(), Fail> {
+    let alloc = rt.alloc();
+    assert_start(&rt, alloc, Kept::Both, 2, &[2, 7])?;
+    assert_start(&rt, alloc, Kept::Either, 7, &[1, 2])?;
+    assert_start(&rt, alloc, Kept::LeftAlone, 3, &[1, 5])?;
+
+    // Marks up to row 1,000 would take more words than both lists have rows.
+    let start = join_start(alloc, Kept::Both, &[1, 1000], &[1000], 1)?;
+    assert_eq!(rt; start.count, 1);
+    assert_eq!(rt; start.rows.as_slice(), [1000].as_slice());
     Ok(())
 }
 

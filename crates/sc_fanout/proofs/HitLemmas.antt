@@ -1,5 +1,5 @@
 -- The hits of a searcher lead to the first documents that it finds.
-use Rattle.std.proofs.Common.{◌≡◌, ℕ, ◌+◌, ◌-◌, ◌<◌, ◌≤◌, List, [], ◌∷◌, ◌++◌, length, map, take, drop, slice_get, option_to_list, Option, Some, Result, Ok, Err, IfOk, refl, sym, ap, subst, ◌∙◌, arith, inl, inr, All}
+use Rattle.std.proofs.Common.{◌≡◌, ℕ, ◌+◌, ◌-◌, ◌<◌, ◌≤◌, List, [], ◌∷◌, ◌++◌, length, map, take, drop, slice_get, option_to_list, Option, Some, refl, sym, ap, subst, ◌∙◌, arith, inl, inr, All}
 use Rattle.std.specs.List.{flat_map, AllByRecursion}
 use Rattle.std.proofs.lemmas.Bool.{cases_lt}
 use Rattle.std.proofs.lemmas.List.{take-map, take-take, take_all, drop-map, drop-take, length-map, length-take-le}
@@ -8,19 +8,22 @@ use Rattle.std.proofs.lemmas.List.Elements.{recursion_from_All}
 use Rattle.sc_record.specs.declared.write.Write.{Write}
 use Rattle.sc_bucket.specs.declared.standing.Searcher.{Searcher}
 use Rattle.sc_eval.specs.Criteria.{Criterion}
-use Rattle.sc_eval.specs.Numbers.{numbers_of}
+use Rattle.sc_eval.specs.Matching.{finds}
+use Rattle.sc_eval.specs.Numbers.{numbers_of, AreMatches}
+use Rattle.sc_eval.specs.declared.numbers.Matches.{Matches}
+use Rattle.sc_eval.proofs.NumberLemmas.{led}
 use Rattle.sc_fanout.specs.Steps.{searcher_rows, found_in}
-use Rattle.sc_fanout.specs.Hits.{StandAt, AreHits, BeginAlike, hit_rows, lists_of}
+use Rattle.sc_fanout.specs.Hits.{StandAt, HasMatches, AreHits, BeginAlike, hit_rows, lists_of}
 use Rattle.sc_fanout.specs.declared.hits.Hits.{Hits}
 
 -- the first rows stand at the first numbers
-pub stand-first : (rows : List Write) (numbers : List ℕ) (these : List Write) (most : ℕ) → StandAt rows numbers these
+stand-first : (rows : List Write) (numbers : List ℕ) (these : List Write) (most : ℕ) → StandAt rows numbers these
     → StandAt rows (take most numbers) (take most these)
 stand-first rows numbers these most stand =
     sym (take-map (slice_get rows) most numbers) ∙ ap (take most) stand ∙ take-map (λ (write : Write). Some write) most these
 
 -- there are as many rows as numbers
-pub stand-count : (rows : List Write) (numbers : List ℕ) (these : List Write) → StandAt rows numbers these → length numbers ≡ length these
+stand-count : (rows : List Write) (numbers : List ℕ) (these : List Write) → StandAt rows numbers these → length numbers ≡ length these
 stand-count rows numbers these stand =
     sym (length-map numbers (slice_get rows)) ∙ ap (λ (os : List (Option Write)). length os) stand ∙ length-map these (λ (write : Write). Some write)
 
@@ -56,15 +59,20 @@ hits-begin criterion most far all le are = by all (recursion_from_All (AreHits c
         ap (λ (l : List Write). l ∷ map (take most) (map hit_rows hs)) here
         ∙ ap (λ (ls : List (List Write)). take most (found_in criterion hits.searcher.now) ∷ ls) later
 
--- the hits of a searcher, of the numbers of all that it finds
-pub first-hits : (criterion : Criterion) (most : ℕ) (searcher : Searcher) (numbers : List ℕ) (hits : Hits)
-    → StandAt (searcher_rows searcher) numbers (found_in criterion searcher)
-    → hits.searcher.now ≡ searcher → numbers_of hits.numbers ≡ take most numbers → AreHits criterion most hits
-first-hits criterion most searcher numbers hits stand same is =
-    let here = stand-first (searcher_rows searcher) numbers (found_in criterion searcher) most stand in
-    let of_searcher : StandAt (searcher_rows hits.searcher.now) (take most numbers) (take most (found_in criterion hits.searcher.now)) =
-    subst (λ (s : Searcher). StandAt (searcher_rows s) (take most numbers) (take most (found_in criterion s))) (sym same) here in
-    subst (λ (ns : List ℕ). StandAt (searcher_rows hits.searcher.now) ns (take most (found_in criterion hits.searcher.now))) (sym is) of_searcher
+-- the first that a search of its rows gives are the first that a searcher finds, and it counts them all
+pub has-matches : (criterion : Criterion) (most : ℕ) (searcher : Searcher) (rows : List Write) (found : Matches)
+    → rows ≡ searcher_rows searcher → AreMatches searcher.range criterion rows most found → HasMatches criterion most searcher found
+has-matches criterion most searcher rows found same are =
+    let these = searcher_rows searcher in
+    let here : AreMatches searcher.range criterion these most found =
+    subst (λ (ws : List Write). AreMatches searcher.range criterion ws most found) same are in
+    let stand : StandAt these here.numbers (found_in criterion searcher) =
+    led (finds searcher.range criterion) these here.numbers (record { members = here.members; ascending = here.ascending }) in
+    record {
+      count = here.count ∙ stand-count these here.numbers (found_in criterion searcher) stand;
+      first = subst (λ (ns : List ℕ). StandAt these ns (take most (found_in criterion searcher))) (sym here.first)
+          (stand-first these here.numbers (found_in criterion searcher) most stand);
+    }
 
 -- a part of a list, between two places that are cut to its end
 pub between-part : {C : Type 0} (value : C → Write) (cells : List C) (from to begin end : ℕ)
@@ -92,8 +100,3 @@ between-part value cells from to begin end low few last first within past =
     ] in
     ap (map value) (cut ∙ begins ∙ ap (drop from) ends) ∙ sym (drop-map value from (take to cells))
     ∙ ap (drop from) (sym (take-map value to cells))
-
--- what both of two facts say of a result
-pub IfOk-both : {T E : Type 0} {P Q R : T → Type 0} (r : Result T E) → ((x : T) → P x → Q x → R x) → IfOk r P → IfOk r Q → IfOk r R
-IfOk-both (Ok x) f p q = f x p q
-IfOk-both (Err e) f p q = p

@@ -9,6 +9,7 @@ use Rattle.sc_bucket.specs.declared.standing.Searcher.{Searcher}
 use Rattle.sc_bucket.specs.Taking.{lent}
 use Rattle.sc_eval.specs.Criteria.{Criterion}
 use Rattle.sc_eval.specs.Numbers.{numbers_of}
+use Rattle.sc_eval.specs.declared.numbers.Matches.{Matches}
 use Rattle.sc_fanout.specs.Pages.{all_of}
 use Rattle.sc_fanout.specs.Steps.{searcher_rows, found_in}
 use Rattle.sc_fanout.specs.declared.hits.Hits.{Hits}
@@ -17,6 +18,11 @@ use Rattle.sc_fanout.specs.declared.hits.Found.{Found}
 -- at these numbers, counted from 0, these rows stand, in this order
 abbrev pub StandAt : (rows : List Write) (numbers : List ℕ) (these : List Write) → Type 0
 StandAt rows numbers these = map (slice_get rows) numbers ≡ map (λ (write : Write). Some write) these
+
+-- this is how many rows the criterion finds in the searcher's rows, and the numbers of the first of them, at most so many
+pub record HasMatches (criterion : Criterion) (most : ℕ) (searcher : Searcher) (found : Matches) : Type 0 where
+  pub count : found.count ≡ length (found_in criterion searcher)
+  pub first : StandAt (searcher_rows searcher) (numbers_of found.first) (take most (found_in criterion searcher))
 
 -- the hits are the numbers of the first rows that the criterion finds in their searcher's rows, at most so many
 abbrev pub AreHits : Criterion → (most : ℕ) → Hits → Type 0

@@ -1,16 +1,15 @@
-ghost use Rattle.std.specs.Prelude.{◌≡◌, ◌≤◌, length, take, All, IfOk};
+ghost use Rattle.std.specs.Prelude.{◌≤◌, length, All, IfOk};
 ghost use Rattle.sc_record.specs.declared.write.Write.{Write};
 ghost use Rattle.sc_eval.specs.Criteria.{criterion_of};
-ghost use Rattle.sc_eval.specs.Numbers.{numbers_of};
 ghost use Rattle.sc_journal.specs.Legal.{HasTerms};
 ghost use Rattle.sc_segment.specs.Fresh.{IsFresh};
 ghost use Rattle.sc_snapshot.specs.Rows.{AreRows};
-ghost use Rattle.sc_fanout.specs.Hits.{HasFound, StandAt};
-ghost use Rattle.sc_fanout.specs.Steps.{searcher_rows, found_in, HaveTerms};
+ghost use Rattle.sc_fanout.specs.Hits.{HasFound, HasMatches};
+ghost use Rattle.sc_fanout.specs.Steps.{searcher_rows, HaveTerms};
 
 use crate::hits::{Found, Hits};
 use sc_bucket::Searcher;
-use sc_eval::{Bound, Numbers, find};
+use sc_eval::{Bound, Matches, Numbers, find};
 use sc_segment::Steps;
 use std::alloc::{AllocError, Global};
 use std::marker::Brand;
@@ -30,50 +29,48 @@ pub(crate) fn find_all<'a>(
     let mut count: u64 = 0;
     let mut hits = Vec::with_capacity(alloc, searchers.len())?;
     for searcher in searchers {
-        let numbers = find_in(alloc, query, searcher)?;
-        count += numbers.as_slice().len() as u64;
-        hits.push(hits_of(searcher, numbers, most))?;
+        let found = find_in(alloc, query, searcher, most)?;
+        count += found.count as u64;
+        hits.push(Hits {
+            searcher,
+            numbers: found.first,
+        })?;
     }
     Ok(Found { count, hits })
 }
 
-// The first hits of a searcher, where these are the numbers of all that is found.
-fn hits_of<'a>(searcher: &'a Searcher, numbers: Numbers<'a>, most: usize) -> Hits<'a>
-    ensures searcher { result.searcher.now ≡ searcher.now }
-    ensures numbers { numbers_of result.numbers ≡ take most (numbers_of numbers.entry) }
-{
-    let numbers = numbers.limited_to(most);
-    Hits { searcher, numbers }
-}
-
-// The numbers of a searcher's rows that the query finds. Where there are no rows, no term is looked up.
+// How many of a searcher's rows the query finds, and the numbers of the first of them, `most` or all. Where there are no rows, no term is
+// looked up.
 fn find_in<'a>(
     alloc: Global,
     query: &Bound,
     searcher: &'a Searcher,
-) -> Result<Numbers<'a>, AllocError>
+    most: usize,
+) -> Result<Matches<'a>, AllocError>
     requires { HaveTerms searcher.now }
-    ensures found { IfOk result (λ numbers.
-        StandAt (searcher_rows searcher.now) (numbers_of numbers) (found_in (criterion_of query.now) searcher.now)) }
+    ensures found { IfOk result (HasMatches (criterion_of query.now) most searcher.now) }
     ensures rows { AreRows (searcher_rows searcher.now) }
 {
     if searcher.snapshot.rows() == 0 {
-        return Ok(Numbers::Lent(&[]));
+        return Ok(Matches {
+            count: 0,
+            first: Numbers::Lent(&[]),
+        });
     }
-    numbers_in::<Brand>(alloc, query, searcher, Blank::new(1))
+    matches_in::<Brand>(alloc, query, searcher, most, Blank::new(1))
 }
 
 // The same, with a count of its own.
-fn numbers_in<'a, L: Ledger>(
+fn matches_in<'a, L: Ledger>(
     alloc: Global,
     query: &Bound,
     searcher: &'a Searcher,
+    most: usize,
     blank: Blank,
-) -> Result<Numbers<'a>, AllocError>
+) -> Result<Matches<'a>, AllocError>
     requires terms { HaveTerms searcher.now }
     requires fresh { IsFresh blank L.name L.parts }
-    ensures { IfOk result (λ numbers.
-        StandAt (searcher_rows searcher.now) (numbers_of numbers) (found_in (criterion_of query.now) searcher.now)) }
+    ensures { IfOk result (HasMatches (criterion_of query.now) most searcher.now) }
 {
     let mut steps = Steps::<L>::new(blank);
     find(
@@ -81,6 +78,7 @@ fn numbers_in<'a, L: Ledger>(
         query,
         &searcher.snapshot,
         &searcher.range,
+        most,
         &mut steps,
     )
 }

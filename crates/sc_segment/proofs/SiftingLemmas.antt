@@ -11,7 +11,7 @@ use Rattle.std.specs.Prelude.{filter}
 use Rattle.std.specs.List.Sorted.{IsStrictlyIncreasing}
 use Rattle.sc_segment.specs.declared.joining.Kept.{Kept}
 use Rattle.sc_segment.specs.Joining.{has_row, keeps, IsJoin}
-use Rattle.sc_segment.specs.Sifting.{sifted}
+use Rattle.sc_segment.specs.Sifting.{KeepsOfLeft, sifted}
 
 -- rows that ascend are farther apart than their places
 rises : (rows : List ℕ) → IsStrictlyIncreasing rows → (i d : ℕ) → i + d < length rows → slice_index rows i ≤ slice_index rows (i + d)
@@ -114,14 +114,13 @@ some_exact (Some x) P exact Q is of = of x is.1
 
 -- those of the left list that are kept, where no row is kept that the right one has alone, are the join
 pub IsJoin-sifted : (how : Kept) (wanted : Bool) (left right : List ℕ) → IsStrictlyIncreasing left
-    → ((in_right : Bool) → keeps how false in_right ≡ false) → ((in_right : Bool) → keeps how true in_right ≡ cond wanted in_right (not in_right))
-    → IsJoin how left right (sifted right wanted left)
-IsJoin-sifted how wanted left right up alone kept =
+    → KeepsOfLeft how wanted → IsJoin how left right (sifted right wanted left)
+IsJoin-sifted how wanted left right up kept =
     record {
       members = λ row. has_row-filter (λ r. cond wanted (has_row right r) (not (has_row right r))) left row ∙ both (has_row left row) (has_row right row);
       ascending = IsStrictlyIncreasing-filter (λ r. cond wanted (has_row right r) (not (has_row right r))) left up;
     }
   where
     both : (in_left in_right : Bool) → (in_left && cond wanted in_right (not in_right)) ≡ keeps how in_left in_right
-    both true in_right = sym (kept in_right)
-    both false in_right = sym (alone in_right)
+    both true in_right = sym (kept.left in_right)
+    both false in_right = sym (kept.others in_right)

@@ -1,7 +1,8 @@
 -- Rows that are looked for in a list by marks.
-use Rattle.std.specs.Prelude.{◌≡◌, ℕ, ◌<◌, Bool, not, cond, List, All, Some, length, filter, slice_get}
+use Rattle.std.specs.Prelude.{◌≡◌, ℕ, ◌<◌, Bool, true, false, not, cond, List, All, Some, length, filter, slice_get}
 use Rattle.sc_segment.specs.declared.sifting.Sieve.{Sieve}
-use Rattle.sc_segment.specs.Joining.{has_row}
+use Rattle.sc_segment.specs.declared.joining.Kept.{Kept}
+use Rattle.sc_segment.specs.Joining.{has_row, keeps}
 
 -- the rows that the list has not are marked, up to an end that is above them all
 pub record IsSieve (rows : List ℕ) (sieve : Sieve) : Type 0 where
@@ -12,3 +13,8 @@ pub record IsSieve (rows : List ℕ) (sieve : Sieve) : Type 0 where
 -- of these rows those that the others have, or those that they have not
 abbrev pub sifted : (others : List ℕ) → Bool → List ℕ → List ℕ
 sifted others wanted rows = filter (λ row. cond wanted (has_row others row) (not (has_row others row))) rows
+
+-- of two lists those rows of the left one are kept that the right one has, or those that it has not, and no others
+pub record KeepsOfLeft (how : Kept) (wanted : Bool) : Type 0 where
+  pub left : (in_right : Bool) → keeps how true in_right ≡ cond wanted in_right (not in_right)
+  pub others : (in_right : Bool) → keeps how false in_right ≡ false

@@ -1,6 +1,9 @@
-ghost use Rattle.std.specs.Prelude.{◌≡◌, Bool, true, false, not, cond, [], ◌∷◌, ◌++◌, IfOk, OnOk};
+ghost use Rattle.std.specs.Prelude.{◌≡◌, true, false, cond, [], ◌∷◌, ◌++◌, IfOk, OnOk};
+ghost use Rattle.std.specs.Option.{MatchOption};
 ghost use Rattle.std.specs.List.Sorted.{IsStrictlyIncreasing};
+ghost use Rattle.sc_segment.specs.declared.joining.Kept.TheVariants.{Either};
 ghost use Rattle.sc_segment.specs.Joining.{IsJoin, keeps};
+ghost use Rattle.sc_segment.specs.Sifting.{KeepsOfLeft};
 
 use crate::sifting::Sieve;
 use std::alloc::{AllocError, Global};
@@ -22,10 +25,20 @@ pub fn join(alloc: Global, how: Kept, left: &[u32], right: &[u32]) -> Result<Vec
     requires right { IsStrictlyIncreasing right.now }
     ensures { IfOk result (λ rows. IsJoin how left.now right.now rows.items) }
 {
+    match wanted_of_left(how) {
+        Some(wanted) => of_left(alloc, how, wanted, left, right),
+        None => merged(alloc, how, left, right),
+    }
+}
+
+/// Where only rows of the left list are kept, whether those that the right one has, or those that it has not.
+pub(crate) fn wanted_of_left(how: Kept) -> Option<bool>
+    ensures { MatchOption result (how ≡ Either) (KeepsOfLeft how) }
+{
     match how {
-        Kept::Both => of_left(alloc, Kept::Both, true, left, right),
-        Kept::Either => merged(alloc, Kept::Either, left, right),
-        Kept::LeftAlone => of_left(alloc, Kept::LeftAlone, false, left, right),
+        Kept::Both => Some(true),
+        Kept::Either => None,
+        Kept::LeftAlone => Some(false),
     }
 }
 
@@ -39,8 +52,7 @@ fn of_left(
 ) -> Result<Vec<u32>, AllocError>
     requires left { IsStrictlyIncreasing left.now }
     requires right { IsStrictlyIncreasing right.now }
-    requires alone { (in_right : Bool) → keeps how false in_right ≡ false }
-    requires wanted { (in_right : Bool) → keeps how true in_right ≡ cond wanted in_right (not in_right) }
+    requires wanted { KeepsOfLeft how wanted }
     ensures { IfOk result (λ rows. IsJoin how left.now right.now rows.items) }
 {
     let Some(sieve) = Sieve::of(alloc, right, left.len())? else {

@@ -6,7 +6,7 @@ ghost use Rattle.sc_segment.specs.declared.joining.Kept.TheVariants.{Either};
 ghost use Rattle.sc_segment.specs.Joining.{IsJoin, IsStart};
 ghost use Rattle.sc_segment.specs.Sifting.{IsSieve, sifted};
 
-use crate::joining::{Kept, merged, push_kept};
+use crate::joining::{Kept, merged, push_kept, wanted_of_left};
 use crate::sifting::Sieve;
 use std::alloc::{AllocError, Global};
 
@@ -33,10 +33,9 @@ pub fn join_start(
     let Some(sieve) = Sieve::of(alloc, right, left.len())? else {
         return start_of_merged(alloc, how, left, right, most);
     };
-    match how {
-        Kept::Both => start_of_sifted(alloc, &sieve, left, true, most),
-        Kept::Either => start_of_either(alloc, &sieve, left, right, most),
-        Kept::LeftAlone => start_of_sifted(alloc, &sieve, left, false, most),
+    match wanted_of_left(how) {
+        Some(wanted) => start_of_sifted(alloc, &sieve, left, wanted, most),
+        None => start_of_either(alloc, &sieve, left, right, most),
     }
 }
 

@@ -13,7 +13,7 @@ use Rattle.sc_segment.proofs.JoinLemmas.{AscendFrom, ascend_weaker, increasing_f
 use Rattle.sc_segment.proofs.SameRowsLemmas.{same_rows}
 use Rattle.sc_eval.specs.Criteria.{Criterion}
 use Rattle.sc_eval.specs.Matching.{matches, is_live, finds}
-use Rattle.sc_eval.specs.Numbers.{passes, is_match, finds_at, row_in, AreFirst, AreMatches, AreNumbersOf}
+use Rattle.sc_eval.specs.Numbers.{passes, is_match, finds_at, row_in, IsBeginning, AreMatches, AreNumbersOf}
 use Rattle.sc_eval.specs.declared.numbers.Matches.{Matches}
 
 apart : (x y : ℕ) → x < y → (x == y) ≡ false
@@ -170,13 +170,12 @@ module _ (range : Range) (criterion : Criterion) (rows : List Write) where
 
   -- the numbers of the rows that are found, counted, and the first of them are what a search gives
   pub are-matches : (numbers : List ℕ) (most : ℕ) (found : Matches) → AreNumbersOf (finds range criterion) rows numbers
-      → AreFirst most numbers found → AreMatches range criterion rows most found
+      → IsBeginning most numbers found → AreMatches range criterion rows most found
   are-matches numbers most found are first = record {
     numbers = numbers;
     members = are.members;
     ascending = are.ascending;
-    count = first.count;
-    first = first.first;
+    beginning = first;
   }
 
   led-in : (numbers : List ℕ) (ws : List Write) → map (slice_get rows) numbers ≡ map (λ (row : Write). Some row) ws

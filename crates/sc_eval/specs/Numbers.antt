@@ -41,7 +41,7 @@ pub record AreNumbersOf (test : Write → Bool) (rows : List Write) (numbers : L
   pub ascending : IsStrictlyIncreasing numbers
 
 -- how many numbers there are, and the first of them, at most so many
-pub record AreFirst (most : ℕ) (numbers : List ℕ) (found : Matches) : Type 0 where
+pub record IsBeginning (most : ℕ) (numbers : List ℕ) (found : Matches) : Type 0 where
   pub count : found.count ≡ length numbers
   pub first : numbers_of found.first ≡ take most numbers
 
@@ -50,8 +50,7 @@ pub record AreMatches (range : Range) (criterion : Criterion) (rows : List Write
   pub numbers : List ℕ
   pub members : (number : ℕ) → has_row numbers number ≡ finds_at range criterion (slice_get rows number)
   pub ascending : IsStrictlyIncreasing numbers
-  pub count : found.count ≡ length numbers
-  pub first : numbers_of found.first ≡ take most numbers
+  pub beginning : IsBeginning most numbers found
 
 -- how many leaves a criterion has
 abbrev pub leaves : Criterion → ℕ

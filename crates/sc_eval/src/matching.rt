@@ -6,7 +6,7 @@ ghost use Rattle.sc_journal.specs.Legal.{HasTerms};
 ghost use Rattle.std.specs.List.Sorted.{IsStrictlyIncreasing};
 ghost use Rattle.sc_segment.specs.Joining.{IsJoin};
 ghost use Rattle.sc_eval.specs.Criteria.{Criterion, criterion_of};
-ghost use Rattle.sc_eval.specs.Numbers.{numbers_of, is_match, AreFirst, AreNumbersOf, AreStepsOfLeaves};
+ghost use Rattle.sc_eval.specs.Numbers.{numbers_of, is_match, IsBeginning, AreNumbersOf, AreStepsOfLeaves};
 ghost use Rattle.sc_eval.specs.Unjoined.{WillBeNumbersOf};
 
 use crate::bound::Bound;
@@ -46,7 +46,7 @@ pub(crate) fn matching_start<'a, L: Ledger>(
 ) -> Result<Matches<'a>, AllocError>
     requires { All (λ (row : Write). HasTerms row.id row.doc row.terms) snapshot.now.rows }
     ensures found { IfOk result (λ found. (numbers : List ℕ)
-        × AreNumbersOf (is_match (criterion_of query.now)) snapshot.now.rows numbers × AreFirst most numbers found) }
+        × AreNumbersOf (is_match (criterion_of query.now)) snapshot.now.rows numbers × IsBeginning most numbers found) }
     ensures counted { steps.old ≤ steps.new }
     ensures bound { AreStepsOfLeaves (criterion_of query.now) snapshot.now.rows (steps.new - steps.old) }
 {

@@ -1,5 +1,5 @@
 ghost use Rattle.std.specs.Prelude.{◌≡◌, take};
-ghost use Rattle.sc_eval.specs.Numbers.{numbers_of, AreFirst};
+ghost use Rattle.sc_eval.specs.Numbers.{numbers_of, IsBeginning};
 
 /// Room for so many numbers is worth giving back.
 const MUCH_ROOM: usize = 64;
@@ -31,7 +31,7 @@ impl<'a> Numbers<'a> {
 
     /// How many numbers there are, and the first of them, `most` or all.
     pub(crate) fn start(self, most: usize) -> Matches<'a>
-        ensures { AreFirst most (numbers_of self.entry) result }
+        ensures { IsBeginning most (numbers_of self.entry) result }
     {
         let count = self.as_slice().len();
         let first = self.limited_to(most);

@@ -1,7 +1,7 @@
 //! The outermost join of a query is put off until it is known what is asked of it: all that it keeps, or how much that is and the first of it.
 
 ghost use Rattle.std.specs.Prelude.{List, ℕ, IfOk};
-ghost use Rattle.sc_eval.specs.Numbers.{numbers_of, AreFirst};
+ghost use Rattle.sc_eval.specs.Numbers.{numbers_of, IsBeginning};
 ghost use Rattle.sc_eval.specs.Unjoined.{Ascend, IsJoined};
 
 use crate::numbers::{Matches, Numbers};
@@ -37,7 +37,7 @@ impl<'a> Unjoined<'a> {
     /// How many numbers there are, and the first of them, `most` or all. Two lists are counted as they are joined.
     pub(crate) fn start(self, alloc: Global, most: usize) -> Result<Matches<'a>, AllocError>
         requires { Ascend self }
-        ensures { IfOk result (λ found. (numbers : List ℕ) × IsJoined self.entry numbers × AreFirst most numbers found) }
+        ensures { IfOk result (λ found. (numbers : List ℕ) × IsJoined self.entry numbers × IsBeginning most numbers found) }
     {
         match self {
             Unjoined::One(numbers) => Ok(numbers.start(most)),

@@ -15,7 +15,7 @@ use Rattle.sc_record.specs.declared.write.Write.{Write}
 use Rattle.sc_record.specs.Writes.{is_of, AscendById}
 use Rattle.sc_cluster.proofs.ItemLemmas.{find_from_count}
 use Rattle.sc_journal.proofs.JournalLemmas.{is_of_own, id_from_is_of}
-use Rattle.sc_fanout.specs.Pages.{IsSortedById}
+use Rattle.sc_fanout.specs.Pages.{SortsById}
 use Rattle.sc_fanout.specs.Merging.{goes_before}
 use Rattle.sc_fanout.proofs.MergeLemmas.{Ascends}
 use Rattle.sc_fanout.proofs.OrderLemmas.{ascends-in_order}
@@ -157,7 +157,7 @@ strictly (w ∷ ws) up once = (
 )
 
 -- all in order are exactly the same, and ascend
-pub AreExactly-sorted : (P : Write → Type 0) (all sorted : List Write) → AreExactly P all → IsSortedById all sorted
+pub AreExactly-sorted : (P : Write → Type 0) (all sorted : List Write) → AreExactly P all → SortsById all sorted
     → AscendById sorted × ((write : Write) → Contains sorted write ↔ P write)
 AreExactly-sorted P all sorted are order = (
   strictly sorted (ascends-in_order all sorted order)

@@ -69,8 +69,8 @@ has-matches criterion most searcher rows found same are =
     let stand : StandAt these here.numbers (found_in criterion searcher) =
     led (finds searcher.range criterion) these here.numbers (record { members = here.members; ascending = here.ascending }) in
     record {
-      count = here.count ∙ stand-count these here.numbers (found_in criterion searcher) stand;
-      first = subst (λ (ns : List ℕ). StandAt these ns (take most (found_in criterion searcher))) (sym here.first)
+      count = here.beginning.count ∙ stand-count these here.numbers (found_in criterion searcher) stand;
+      first = subst (λ (ns : List ℕ). StandAt these ns (take most (found_in criterion searcher))) (sym here.beginning.first)
           (stand-first these here.numbers (found_in criterion searcher) most stand);
     }
 

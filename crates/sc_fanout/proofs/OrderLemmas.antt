@@ -8,7 +8,7 @@ use Rattle.std.proofs.lemmas.List.Sorted.{ranks_by, sorted_far}
 use Rattle.std.proofs.lemmas.Map.Keys.{sorted_head, sorted_tail}
 use Rattle.sc_record.specs.declared.write.Write.{Write}
 use Rattle.sc_record.specs.Writes.{AscendById}
-use Rattle.sc_fanout.specs.Pages.{IsSortedById}
+use Rattle.sc_fanout.specs.Pages.{SortsById}
 use Rattle.sc_fanout.specs.Merging.{goes_before}
 use Rattle.sc_fanout.proofs.MergeLemmas.{Ascends, IsOrder, sorted-from_ascends, ascends-from_far}
 
@@ -57,14 +57,14 @@ ascends-by_id (w ∷ ws) ascend = (
   ascends-by_id ws (sorted_tail (slice_cmp nat_cmp) w.id (map (λ (x : Write). x.id) ws) ascend),
 )
 
-pub in_order : (all sorted : List Write) → IsPermutation all sorted → Ascends goes_before sorted → IsSortedById all sorted
+pub in_order : (all sorted : List Write) → IsPermutation all sorted → Ascends goes_before sorted → SortsById all sorted
 in_order all sorted moved up = record {
   same = moved;
   ascend = sorted-from_ascends goes_before (λ (x y : Write). is_lt (slice_cmp nat_cmp x.id y.id))
       (λ x y h. not_lt-le (slice_cmp nat_cmp y.id x.id) (sym (ap is_le (nat_list_cmp_total.antisymm x.id y.id)) ∙ h)) sorted up;
 }
 
-pub ascends-in_order : (all sorted : List Write) → IsSortedById all sorted → Ascends goes_before sorted
+pub ascends-in_order : (all sorted : List Write) → SortsById all sorted → Ascends goes_before sorted
 ascends-in_order all sorted order =
     ascends-from_far goes_before (λ (x y : Write). is_lt (slice_cmp nat_cmp x.id y.id))
     (λ x y h. ap is_le (nat_list_cmp_total.antisymm x.id y.id) ∙ le-not_lt (slice_cmp nat_cmp y.id x.id) h) sorted

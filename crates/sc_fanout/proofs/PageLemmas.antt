@@ -14,7 +14,7 @@ use Rattle.std.proofs.lemmas.List.Sums.{sum_by-cons}
 use Rattle.std.proofs.lemmas.Slice.Eq.{bytes_eq-Decides}
 use Rattle.sc_record.specs.declared.write.Write.{Write}
 use Rattle.sc_fanout.specs.declared.shown.Page.{Page}
-use Rattle.sc_fanout.specs.Pages.{IsSortedById}
+use Rattle.sc_fanout.specs.Pages.{SortsById}
 use Rattle.sc_fanout.specs.Merging.{goes_before}
 use Rattle.sc_fanout.specs.Laws.{IsOneOfEachId, PageIsDetermined, PagesFollowOn, ArePages, PagesAreTheWhole}
 use Rattle.sc_fanout.proofs.MergeLemmas.{Ascends}
@@ -79,7 +79,7 @@ same-lists all one (x ∷ xs) (y ∷ ys) inx iny upx upy counts =
     λ i. head i ∷ tail i
 
 -- there is one order
-same-order : (all : List Write) → IsOneOfEachId all → (xs ys : List Write) → IsSortedById all xs → IsSortedById all ys → xs ≡ ys
+same-order : (all : List Write) → IsOneOfEachId all → (xs ys : List Write) → SortsById all xs → SortsById all ys → xs ≡ ys
 same-order all one xs ys first second =
     same-lists all one xs ys
     (recursion_from_All (Contains all) xs (All-permutation (Contains all) all xs first.same (All-contains_itself all)))
@@ -110,7 +110,7 @@ follow_on all start rows more one next both each first second whole =
     (ap (take more) (drop-drop rows start whole.sorted) ∙ ap (λ (l : List Write). take more (drop (start + rows) l)) b ∙ sym second.docs)
 
 -- pages laid end to end are one page, of as many rows as all of them
-laid_out : (all sorted : List Write) → IsOneOfEachId all → IsSortedById all sorted → (rows start : ℕ) (pages : List Page)
+laid_out : (all sorted : List Write) → IsOneOfEachId all → SortsById all sorted → (rows start : ℕ) (pages : List Page)
     → ArePages all rows start pages
     → flat_map (λ (page : Page). map arc_value page.docs) pages ≡ take (length pages * rows) (drop start sorted)
 laid_out all sorted each order rows start [] are =

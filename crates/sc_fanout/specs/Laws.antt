@@ -4,7 +4,7 @@ use Rattle.std.specs.Arc.{arc_value}
 use Rattle.std.specs.List.{flat_map}
 use Rattle.sc_record.specs.declared.write.Write.{Write}
 use Rattle.sc_fanout.specs.declared.shown.Page.{Page}
-use Rattle.sc_fanout.specs.Pages.{IsSortedById, IsPageOf}
+use Rattle.sc_fanout.specs.Pages.{SortsById, IsPageOf}
 
 -- two writes of one id are one write
 abbrev pub IsOneOfEachId : List Write → Type 0
@@ -29,6 +29,6 @@ ArePages all rows start (page ∷ pages) = IsPageOf all start rows page × ArePa
 
 -- pages from the first on, enough of them for all writes, laid end to end are all writes in order
 abbrev pub PagesAreTheWhole : Type 0
-PagesAreTheWhole = (all sorted : List Write) (rows : ℕ) (pages : List Page) → IsOneOfEachId all → IsSortedById all sorted
+PagesAreTheWhole = (all sorted : List Write) (rows : ℕ) (pages : List Page) → IsOneOfEachId all → SortsById all sorted
     → ArePages all rows 0 pages → length all ≤ length pages * rows
     → flat_map (λ (page : Page). map arc_value page.docs) pages ≡ sorted

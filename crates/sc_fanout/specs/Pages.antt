@@ -19,19 +19,19 @@ abbrev pub all_of : List (List Write) → List Write
 all_of lists = flat_map (λ (writes : List Write). writes) lists
 
 -- all writes, ascending by the bytes of their ids
-pub record IsSortedById (all sorted : List Write) : Type 0 where
+pub record SortsById (all sorted : List Write) : Type 0 where
   pub same : IsPermutation all sorted
   pub ascend : IsSortedByKey (λ (write : Write). write.id) (slice_cmp nat_cmp) sorted
 
 -- all writes in order begin as these do, as far as the first `most`
 pub record IsStartOf (all : List Write) (most : ℕ) (kept : List Write) : Type 0 where
   pub sorted : List Write
-  pub order : IsSortedById all sorted
+  pub order : SortsById all sorted
   pub start : take most kept ≡ take most sorted
 
 -- the page has the count of all writes, and of all in order those from `start` on, counted from 0, at most `rows`
 pub record IsPageOf (all : List Write) (start rows : ℕ) (page : Page) : Type 0 where
   pub found : page.found ≡ length all
   pub sorted : List Write
-  pub order : IsSortedById all sorted
+  pub order : SortsById all sorted
   pub docs : map arc_value page.docs ≡ take rows (drop start sorted)

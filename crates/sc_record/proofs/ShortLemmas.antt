@@ -12,7 +12,7 @@ use Rattle.std.proofs.lemmas.List.{length-append, length-replicate, length-take-
 use Rattle.std.proofs.lemmas.Slice.{take-put_mid}
 use Rattle.std.proofs.Math.Seq.{take-append_seam, take-add}
 use borrow.Rule.Slice.PartMut.{put_mid}
-use Rattle.sc_record.specs.Shorts.{IsShort, padded, word_at, words_cmp}
+use Rattle.sc_record.specs.Shorts.{IsShort, padded, eight_bytes_at, words_cmp}
 
 -- ---- zeros
 -- how texts compare
@@ -189,7 +189,7 @@ word_spelled xs i within =
 
 -- words compare as the bytes that spell them
 word_order : (xs ys : List ℕ) (i : ℕ) → i + 8 ≤ length xs → i + 8 ≤ length ys → ((k : ℕ) → get_or xs k 0 < 256) → ((k : ℕ) → get_or ys k 0 < 256)
-    → nat_cmp (word_at xs i) (word_at ys i) ≡ slice_cmp nat_cmp (take 8 (drop i xs)) (take 8 (drop i ys))
+    → nat_cmp (eight_bytes_at xs i) (eight_bytes_at ys i) ≡ slice_cmp nat_cmp (take 8 (drop i xs)) (take 8 (drop i ys))
 word_order xs ys i within other_within small other_small =
     let mine : (k : ℕ) → get_or (drop i xs) k 0 < 256 = λ k. subst (λ b. b < 256) (sym (get_or-drop i xs k 0)) (small (i + k)) in
     let others : (k : ℕ) → get_or (drop i ys) k 0 < 256 = λ k. subst (λ b. b < 256) (sym (get_or-drop i ys k 0)) (other_small (i + k)) in

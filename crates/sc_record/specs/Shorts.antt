@@ -15,11 +15,11 @@ pub record IsShort (count : ℕ) (bytes : List ℕ) : Type 0 where
   pub zeros : bytes ≡ padded 14 (take count bytes)
 
 -- the number that eight bytes from a place on spell, the greatest first
-abbrev pub word_at : List ℕ → ℕ → ℕ
-word_at bytes at = from_be_bytes w64
+abbrev pub eight_bytes_at : List ℕ → ℕ → ℕ
+eight_bytes_at bytes at = from_be_bytes w64
     (slice_index bytes at ∷ slice_index bytes (at + 1) ∷ slice_index bytes (at + 2) ∷ slice_index bytes (at + 3)
     ∷ slice_index bytes (at + 4) ∷ slice_index bytes (at + 5) ∷ slice_index bytes (at + 6) ∷ slice_index bytes (at + 7) ∷ [])
 
 -- 14 bytes compare as their first eight, and where these are alike as their last eight
 abbrev pub words_cmp : List ℕ → List ℕ → Ordering
-words_cmp xs ys = ordering_then (nat_cmp (word_at xs 0) (word_at ys 0)) (nat_cmp (word_at xs 6) (word_at ys 6))
+words_cmp xs ys = ordering_then (nat_cmp (eight_bytes_at xs 0) (eight_bytes_at ys 0)) (nat_cmp (eight_bytes_at xs 6) (eight_bytes_at ys 6))

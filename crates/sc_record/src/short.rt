@@ -3,7 +3,7 @@ ghost use Rattle.std.specs.Cmp.Lexicographic.{slice_cmp};
 ghost use Rattle.std.specs.Ordering.{nat_cmp};
 ghost use Rattle.std.specs.Str.{bytes_eq};
 ghost use Rattle.sc_record.specs.declared.short.TheConstants.{MAX_SHORT_LENGTH};
-ghost use Rattle.sc_record.specs.Shorts.{word_at, words_cmp};
+ghost use Rattle.sc_record.specs.Shorts.{eight_bytes_at, words_cmp};
 
 use std::cmp::Ordering;
 use std::marker::Model;
@@ -107,11 +107,11 @@ fn order_of_padded(mine: &[u8; MAX_SHORT_LENGTH], others: &[u8; MAX_SHORT_LENGTH
 fn order_of_words(mine: &[u8; MAX_SHORT_LENGTH], others: &[u8; MAX_SHORT_LENGTH]) -> Ordering
     ensures { result ≡ words_cmp mine.now others.now }
 {
-    let (first, other_first) = (word_at(mine, 0), word_at(others, 0));
+    let (first, other_first) = (eight_bytes_at(mine, 0), eight_bytes_at(others, 0));
     if first != other_first {
         return first.cmp(&other_first);
     }
-    let (last, other_last) = (word_at(mine, 6), word_at(others, 6));
+    let (last, other_last) = (eight_bytes_at(mine, 6), eight_bytes_at(others, 6));
     if last != other_last {
         return last.cmp(&other_last);
     }
@@ -119,9 +119,9 @@ fn order_of_words(mine: &[u8; MAX_SHORT_LENGTH], others: &[u8; MAX_SHORT_LENGTH]
 }
 
 // The number that eight bytes from this place on spell, the greatest first.
-fn word_at(bytes: &[u8; MAX_SHORT_LENGTH], at: usize) -> u64
+fn eight_bytes_at(bytes: &[u8; MAX_SHORT_LENGTH], at: usize) -> u64
     requires { at ≤ 6 }
-    ensures { result ≡ word_at bytes.now at }
+    ensures { result ≡ eight_bytes_at bytes.now at }
 {
     u64::from_be_bytes([
         bytes[at],

@@ -8,30 +8,30 @@ use Rattle.std.specs.List.{AllByRecursion, IsDistinct, list_any, slice_range}
 use Rattle.std.specs.Map.{keys_of, values_of}
 use Rattle.sc_segment.specs.declared.tally.Posting.{Posting}
 use Rattle.sc_segment.specs.declared.tally.Tally.{Tally}
-use Rattle.sc_segment.specs.Filing.{AreNumbered, AreFiled, IsTallyOf, rows_of, entries_of, numbers_of}
+use Rattle.sc_segment.specs.Filing.{AreNumbered, AreFiled, IsTallyOf, posting_rows, filed_entries, tally_numbers}
 use Rattle.sc_segment.specs.Flat.{IsLaidOut, entries_from, AreEnds}
 use Rattle.sc_segment.specs.Placing.{rows_counted, ends_from, IsPlaced, ArePlaced, IsBegun}
 
 -- ---- the rows of a key among postings
-rows_of-append : (m : ℕ) (done more : List Posting) → rows_of m (done ++ more) ≡ rows_of m done ++ rows_of m more
+rows_of-append : (m : ℕ) (done more : List Posting) → posting_rows m (done ++ more) ≡ posting_rows m done ++ posting_rows m more
 rows_of-append m done more =
     ap (map (λ p. p.row)) (filter-append (λ p. eqb m p.number) done more)
     ∙ map-append (λ p. p.row) (filter (λ p. eqb m p.number) done) (filter (λ p. eqb m p.number) more)
 
-pub rows_of-own : (m : ℕ) (done : List Posting) (p : Posting) → m ≡ p.number → rows_of m (done ++ p ∷ []) ≡ rows_of m done ++ p.row ∷ []
+pub rows_of-own : (m : ℕ) (done : List Posting) (p : Posting) → m ≡ p.number → posting_rows m (done ++ p ∷ []) ≡ posting_rows m done ++ p.row ∷ []
 rows_of-own m done p same =
     let yes = eq-eqb m p.number same in
     rows_of-append m done (p ∷ []) ∙ rw yes refl
 
-pub rows_of-other : (m : ℕ) (done : List Posting) (p : Posting) → eqb m p.number ≡ false → rows_of m (done ++ p ∷ []) ≡ rows_of m done
-rows_of-other m done p apart = rows_of-append m done (p ∷ []) ∙ rw apart (append-nil (rows_of m done))
+pub rows_of-other : (m : ℕ) (done : List Posting) (p : Posting) → eqb m p.number ≡ false → posting_rows m (done ++ p ∷ []) ≡ posting_rows m done
+rows_of-other m done p apart = rows_of-append m done (p ∷ []) ∙ rw apart (append-nil (posting_rows m done))
 
 -- a key has no fewer rows among more postings
-rows_of-fewer : (m : ℕ) (postings : List Posting) (i : ℕ) → length (rows_of m (take i postings)) ≤ length (rows_of m postings)
+rows_of-fewer : (m : ℕ) (postings : List Posting) (i : ℕ) → length (posting_rows m (take i postings)) ≤ length (posting_rows m postings)
 rows_of-fewer m postings i =
     let parts = rows_of-append m (take i postings) (drop i postings) in
-    let both : rows_of m (take i postings ++ drop i postings) ≡ rows_of m postings = ap (rows_of m) (take-append-drop i postings) in
-    let long = length-append (rows_of m (take i postings)) (rows_of m (drop i postings)) in
+    let both : posting_rows m (take i postings ++ drop i postings) ≡ posting_rows m postings = ap (posting_rows m) (take-append-drop i postings) in
+    let long = length-append (posting_rows m (take i postings)) (posting_rows m (drop i postings)) in
     let same = ap length (sym parts ∙ both) in
     omega (arith, long, same)
 
@@ -44,13 +44,13 @@ IsPlaced-same from own own' next next' rows rows' same_rows same_next same_place
 }
 
 placed_same : (from : ℕ) (ts : List Tally) (done done' : List Posting) (next next' rows rows' : List ℕ) → drop from rows' ≡ drop from rows
-    → AllByRecursion (λ m. (get_or next' m 0 ≡ get_or next m 0) × (rows_of m done' ≡ rows_of m done)) (numbers_of ts)
+    → AllByRecursion (λ m. (get_or next' m 0 ≡ get_or next m 0) × (posting_rows m done' ≡ posting_rows m done)) (tally_numbers ts)
     → ArePlaced from ts done next rows → ArePlaced from ts done' next' rows'
 placed_same from [] done done' next next' rows rows' rest agree placed = tt
 placed_same from (t ∷ ts) done done' next next' rows rows' rest agree placed =
     let later : drop (from + t.count) rows' ≡ drop (from + t.count) rows = sym (drop-drop t.count from rows') ∙ ap (drop t.count) rest ∙ drop-drop t.count from rows in (
-      IsPlaced-same from (rows_of t.number done) (rows_of t.number done') (get_or next t.number 0) (get_or next' t.number 0) rows rows' agree.0.1 agree.0.0
-          (ap (take (length (rows_of t.number done))) rest) placed.0,
+      IsPlaced-same from (posting_rows t.number done) (posting_rows t.number done') (get_or next t.number 0) (get_or next' t.number 0) rows rows' agree.0.1 agree.0.0
+          (ap (take (length (posting_rows t.number done))) rest) placed.0,
       placed_same (from + t.count) ts done done' next next' rows rows' later agree.1 placed.1,
     )
 
@@ -63,7 +63,7 @@ differ a b apart = by (eqb a b) refl
 
 -- a posting of another key and the next place of that key change nothing
 others_agree : (done : List Posting) (p : Posting) (next : List ℕ) (v n : ℕ) → n ≡ p.number → (ms : List ℕ) → AllByRecursion (λ m. eqb n m ≡ false) ms
-    → AllByRecursion (λ m. (get_or (set next p.number v) m 0 ≡ get_or next m 0) × (rows_of m (done ++ p ∷ []) ≡ rows_of m done)) ms
+    → AllByRecursion (λ m. (get_or (set next p.number v) m 0 ≡ get_or next m 0) × (posting_rows m (done ++ p ∷ []) ≡ posting_rows m done)) ms
 others_agree done p next v n same [] apart = tt
 others_agree done p next v n same (m ∷ ms) apart =
     let differs : m ≢ p.number = λ is. eqb-false n m apart.0 (same ∙ sym is) in
@@ -72,17 +72,17 @@ others_agree done p next v n same (m ∷ ms) apart =
 -- ---- the next place of a key is within its own rows
 module _ (done : List Posting) (p : Posting) (next rows : List ℕ) where
   abbrev IsKnown : List Tally → Type 0
-  IsKnown ts = list_any (λ n. eqb n p.number) (numbers_of ts) ≡ true
+  IsKnown ts = list_any (λ n. eqb n p.number) (tally_numbers ts) ≡ true
 
   -- no key has more rows than are counted
   abbrev Fits : List Tally → Type 0
-  Fits ts = AllByRecursion (λ t. length (rows_of t.number (done ++ p ∷ [])) ≤ t.count) ts
+  Fits ts = AllByRecursion (λ t. length (posting_rows t.number (done ++ p ∷ [])) ≤ t.count) ts
 
   next_from : (from : ℕ) (ts : List Tally) → IsKnown ts → ArePlaced from ts done next rows → from ≤ get_or next p.number 0
   next_from from [] known placed = absurd (true≢false (sym known))
   next_from from (t ∷ ts) known placed = by (eqb t.number p.number) refl known (λ here. next_from (from + t.count) ts here placed.1)
     where
-      by : (r : Bool) → eqb t.number p.number ≡ r → (r || list_any (λ n. eqb n p.number) (numbers_of ts)) ≡ true → (list_any (λ n. eqb n p.number) (numbers_of ts) ≡ true → from + t.count ≤ get_or next p.number 0) → from ≤ get_or next p.number 0
+      by : (r : Bool) → eqb t.number p.number ≡ r → (r || list_any (λ n. eqb n p.number) (tally_numbers ts)) ≡ true → (list_any (λ n. eqb n p.number) (tally_numbers ts) ≡ true → from + t.count ≤ get_or next p.number 0) → from ≤ get_or next p.number 0
       by true is here later =
           let same = ap (λ (n : ℕ). get_or next n 0) (eqb-true t.number p.number is) in
           let at = placed.0.next in
@@ -93,28 +93,28 @@ module _ (done : List Posting) (p : Posting) (next rows : List ℕ) where
   next_below from [] known fits placed = absurd (true≢false (sym known))
   next_below from (t ∷ ts) known fits placed = by (eqb t.number p.number) refl known (λ here. next_below (from + t.count) ts here fits.1 placed.1)
     where
-      by : (r : Bool) → eqb t.number p.number ≡ r → (r || list_any (λ n. eqb n p.number) (numbers_of ts)) ≡ true → (list_any (λ n. eqb n p.number) (numbers_of ts) ≡ true → get_or next p.number 0 < from + t.count + rows_counted ts)
+      by : (r : Bool) → eqb t.number p.number ≡ r → (r || list_any (λ n. eqb n p.number) (tally_numbers ts)) ≡ true → (list_any (λ n. eqb n p.number) (tally_numbers ts) ≡ true → get_or next p.number 0 < from + t.count + rows_counted ts)
           → get_or next p.number 0 < from + (t.count + rows_counted ts)
       by true is here later =
           let own = eqb-true t.number p.number is in
           let same = ap (λ (n : ℕ). get_or next n 0) own in
           let at = placed.0.next in
           let more = ap length (rows_of-own t.number done p own) in
-          let long = length_push (rows_of t.number done) p.row in
+          let long = length_push (posting_rows t.number done) p.row in
           let room = fits.0 in
           omega (arith, same, at, more, long, room)
       by false is here later = let rest = later here in omega (arith, rest)
 
   -- the posting's own key
   own_placed : (from : ℕ) (t : Tally) → t.number ≡ p.number → p.number < length next → get_or next p.number 0 < length rows
-      → IsPlaced from (rows_of t.number done) (get_or next t.number 0) rows
-      → IsPlaced from (rows_of t.number (done ++ p ∷ [])) (get_or (set next p.number (get_or next p.number 0 + 1)) t.number 0) (set rows (get_or next p.number 0) p.row)
+      → IsPlaced from (posting_rows t.number done) (get_or next t.number 0) rows
+      → IsPlaced from (posting_rows t.number (done ++ p ∷ [])) (get_or (set next p.number (get_or next p.number 0 + 1)) t.number 0) (set rows (get_or next p.number 0) p.row)
   own_placed from t own within room placed =
-      let rs = rows_of t.number done in
+      let rs = posting_rows t.number done in
       let v = get_or next p.number 0 in
       let is : v ≡ from + length rs = ap (λ (n : ℕ). get_or next n 0) (sym own) ∙ placed.next in
-      let more : rows_of t.number (done ++ p ∷ []) ≡ rs ++ p.row ∷ [] = rows_of-own t.number done p own in
-      let long : length (rows_of t.number (done ++ p ∷ [])) ≡ length rs + 1 = ap length more ∙ length_push rs p.row in
+      let more : posting_rows t.number (done ++ p ∷ []) ≡ rs ++ p.row ∷ [] = rows_of-own t.number done p own in
+      let long : length (posting_rows t.number (done ++ p ∷ [])) ≡ length rs + 1 = ap length more ∙ length_push rs p.row in
       let put : get_or (set next p.number (v + 1)) t.number 0 ≡ v + 1 = ap (λ (n : ℕ). get_or (set next p.number (v + 1)) n 0) own ∙ get_or-set_same next p.number (v + 1) 0 within in
       let left : length rs < length (drop from rows) = omega (arith, length-drop from rows, is, room) in
       let stand : take (length rs + 1) (drop from (set rows (from + length rs) p.row)) ≡ rs ++ p.row ∷ [] =
@@ -125,43 +125,43 @@ module _ (done : List Posting) (p : Posting) (next rows : List ℕ) where
       }
 
   -- a key before the posting's own
-  before_placed : (from : ℕ) (t : Tally) → eqb t.number p.number ≡ false → length (rows_of t.number (done ++ p ∷ [])) ≤ t.count → from + t.count ≤ get_or next p.number 0
-      → IsPlaced from (rows_of t.number done) (get_or next t.number 0) rows
-      → IsPlaced from (rows_of t.number (done ++ p ∷ [])) (get_or (set next p.number (get_or next p.number 0 + 1)) t.number 0) (set rows (get_or next p.number 0) p.row)
+  before_placed : (from : ℕ) (t : Tally) → eqb t.number p.number ≡ false → length (posting_rows t.number (done ++ p ∷ [])) ≤ t.count → from + t.count ≤ get_or next p.number 0
+      → IsPlaced from (posting_rows t.number done) (get_or next t.number 0) rows
+      → IsPlaced from (posting_rows t.number (done ++ p ∷ [])) (get_or (set next p.number (get_or next p.number 0 + 1)) t.number 0) (set rows (get_or next p.number 0) p.row)
   before_placed from t apart fits past placed =
-      let rs = rows_of t.number done in
+      let rs = posting_rows t.number done in
       let v = get_or next p.number 0 in
-      let same : rows_of t.number (done ++ p ∷ []) ≡ rs = rows_of-other t.number done p apart in
+      let same : posting_rows t.number (done ++ p ∷ []) ≡ rs = rows_of-other t.number done p apart in
       let room : length rs ≤ t.count = subst (λ (xs : List ℕ). length xs ≤ t.count) same fits in
       let is : v ≡ from + (v - from) = omega (arith, past) in
       let stay : take (length rs) (drop from (set rows v p.row)) ≡ take (length rs) (drop from rows) =
       ap (λ (n : ℕ). take (length rs) (drop from (set rows n p.row))) is ∙ ap (take (length rs)) (drop-set-add from rows (v - from) p.row)
       ∙ take-set-le (length rs) (drop from rows) (v - from) p.row (omega (arith, room, past)) in
-      IsPlaced-same from rs (rows_of t.number (done ++ p ∷ [])) (get_or next t.number 0) (get_or (set next p.number (v + 1)) t.number 0) rows (set rows v p.row) same
+      IsPlaced-same from rs (posting_rows t.number (done ++ p ∷ [])) (get_or next t.number 0) (get_or (set next p.number (v + 1)) t.number 0) rows (set rows v p.row) same
       (get_or-set_other next p.number t.number (v + 1) 0 (eqb-false t.number p.number apart)) stay placed
 
   -- one posting more is placed
-  placed_more : (from : ℕ) (ts : List Tally) → IsDistinct eqb (numbers_of ts) → IsKnown ts → Fits ts → p.number < length next → get_or next p.number 0 < length rows
+  placed_more : (from : ℕ) (ts : List Tally) → IsDistinct eqb (tally_numbers ts) → IsKnown ts → Fits ts → p.number < length next → get_or next p.number 0 < length rows
       → ArePlaced from ts done next rows → ArePlaced from ts (done ++ p ∷ []) (set next p.number (get_or next p.number 0 + 1)) (set rows (get_or next p.number 0) p.row)
   placed_more from [] distinct known fits within room placed = tt
   placed_more from (t ∷ ts) distinct known fits within room placed =
-      by (eqb t.number p.number) refl known (λ here. placed_more (from + t.count) ts (IsDistinct-tail eqb t.number (numbers_of ts) distinct) here fits.1 within room placed.1)
+      by (eqb t.number p.number) refl known (λ here. placed_more (from + t.count) ts (IsDistinct-tail eqb t.number (tally_numbers ts) distinct) here fits.1 within room placed.1)
     where
-      by : (r : Bool) → eqb t.number p.number ≡ r → (r || list_any (λ n. eqb n p.number) (numbers_of ts)) ≡ true
-          → (list_any (λ n. eqb n p.number) (numbers_of ts) ≡ true → ArePlaced (from + t.count) ts (done ++ p ∷ []) (set next p.number (get_or next p.number 0 + 1)) (set rows (get_or next p.number 0) p.row))
+      by : (r : Bool) → eqb t.number p.number ≡ r → (r || list_any (λ n. eqb n p.number) (tally_numbers ts)) ≡ true
+          → (list_any (λ n. eqb n p.number) (tally_numbers ts) ≡ true → ArePlaced (from + t.count) ts (done ++ p ∷ []) (set next p.number (get_or next p.number 0 + 1)) (set rows (get_or next p.number 0) p.row))
           → ArePlaced from (t ∷ ts) (done ++ p ∷ []) (set next p.number (get_or next p.number 0 + 1)) (set rows (get_or next p.number 0) p.row)
       by true is here later =
           let own = eqb-true t.number p.number is in
           let same = ap (λ (n : ℕ). get_or next n 0) own in
           let at = placed.0.next in
           let more = ap length (rows_of-own t.number done p own) in
-          let long = length_push (rows_of t.number done) p.row in
+          let long = length_push (posting_rows t.number done) p.row in
           let enough = fits.0 in
           let low : get_or next p.number 0 < from + t.count = omega (arith, same, at, more, long, enough) in (
             own_placed from t own within room placed.0,
             placed_same (from + t.count) ts done (done ++ p ∷ []) next (set next p.number (get_or next p.number 0 + 1)) rows (set rows (get_or next p.number 0) p.row)
                 (drop-set-lt (from + t.count) rows (get_or next p.number 0) p.row low)
-                (others_agree done p next (get_or next p.number 0 + 1) t.number own (numbers_of ts) (IsDistinct-head eqb t.number (numbers_of ts) distinct)) placed.1,
+                (others_agree done p next (get_or next p.number 0 + 1) t.number own (tally_numbers ts) (IsDistinct-head eqb t.number (tally_numbers ts) distinct)) placed.1,
           )
       by false is here later = (before_placed from t is fits.0 (next_from (from + t.count) ts here placed.1) placed.0, later here)
 
@@ -175,7 +175,7 @@ ends_from-push from [] t end is = ap (λ (n : ℕ). n ∷ []) (omega (arith, is)
 ends_from-push from (s ∷ ts) t end is = ap (λ (ns : List ℕ). (from + s.count) ∷ ns) (ends_from-push (from + s.count) ts t end (omega (arith, is)))
 
 -- one key more, of which nothing is placed
-pub begin-push : (from : ℕ) (ts : List Tally) (t : Tally) (next rows : List ℕ) (v : ℕ) → AllByRecursion (λ m. eqb t.number m ≡ false) (numbers_of ts) → t.number < length next
+pub begin-push : (from : ℕ) (ts : List Tally) (t : Tally) (next rows : List ℕ) (v : ℕ) → AllByRecursion (λ m. eqb t.number m ≡ false) (tally_numbers ts) → t.number < length next
     → v ≡ from + rows_counted ts → ArePlaced from ts [] next rows → ArePlaced from (ts ++ t ∷ []) [] (set next t.number v) rows
 begin-push from [] t next rows v apart within is placed =
     (record { next = get_or-set_same next t.number v 0 within ∙ omega (arith, is); stand = refl }, tt)
@@ -196,11 +196,11 @@ length-ends_from from (t ∷ ts) = ap suc (length-ends_from (from + t.count) ts)
 -- ---- all are placed
 -- placing by counts gives for each key just its rows among the postings, one key after another
 pub entries-placed : {K : Type 0} (from : ℕ) (es : List (K × Tally)) (postings : List Posting) (next rows : List ℕ)
-    → AllByRecursion (λ t. t.count ≡ length (rows_of t.number postings)) (values_of es) → ArePlaced from (values_of es) postings next rows
-    → entries_from from (keys_of es) (ends_from from (values_of es)) rows ≡ entries_of es postings
+    → AllByRecursion (λ t. t.count ≡ length (posting_rows t.number postings)) (values_of es) → ArePlaced from (values_of es) postings next rows
+    → entries_from from (keys_of es) (ends_from from (values_of es)) rows ≡ filed_entries es postings
 entries-placed from [] postings next rows counted placed = refl
 entries-placed {K} from (e ∷ es) postings next rows counted placed =
-    let own = rows_of e.1.number postings in
+    let own = posting_rows e.1.number postings in
     let wide : from + e.1.count - from ≡ length own = omega (arith, counted.0) in
     let here : slice_range rows from (from + e.1.count) ≡ own = ap (λ (n : ℕ). take n (drop from rows)) wide ∙ placed.0.stand in
     ap (λ (rs : List ℕ). (e.0, rs) ∷ entries_from (from + e.1.count) (keys_of es) (ends_from (from + e.1.count) (values_of es)) rows) here
@@ -220,9 +220,9 @@ laid_out_by {K} es keys ends rows as_keys as_ends room =
     }
 
 -- what is counted of each key, by its tally
-pub counted_rows : (ts : List Tally) (postings : List Posting) → AreFiled ts postings → AllByRecursion (λ t. t.count ≡ length (rows_of t.number postings)) ts
-counted_rows ts postings filed = recursion_from_All (λ t. t.count ≡ length (rows_of t.number postings)) ts
-    (All-weaker (λ t. IsTallyOf (rows_of t.number postings) t) (λ t. t.count ≡ length (rows_of t.number postings)) (λ t tally. tally.count) ts filed.counted)
+pub counted_rows : (ts : List Tally) (postings : List Posting) → AreFiled ts postings → AllByRecursion (λ t. t.count ≡ length (posting_rows t.number postings)) ts
+counted_rows ts postings filed = recursion_from_All (λ t. t.count ≡ length (posting_rows t.number postings)) ts
+    (All-weaker (λ t. IsTallyOf (posting_rows t.number postings) t) (λ t. t.count ≡ length (posting_rows t.number postings)) (λ t tally. tally.count) ts filed.counted)
 
 -- ---- at a place of a list
 -- a number that is one of these is below what they are all below
@@ -236,7 +236,7 @@ below_from_known (n ∷ ns) m limit known below = by (eqb n m) refl known (λ he
 
 -- the key at a place among those before it
 module _ (tallies : List Tally) (numbered : AreNumbered tallies) (i : ℕ) (t : Tally) (within : i < length tallies) (read : t ≡ get_or tallies i t) where
-  number_read : (d : ℕ) → get_or (numbers_of tallies) i d ≡ t.number
+  number_read : (d : ℕ) → get_or (tally_numbers tallies) i d ≡ t.number
   number_read d = get_or-map (λ (s : Tally). s.number) tallies i t d within ∙ ap (λ (s : Tally). s.number) (sym read)
 
   pub number_below : t.number < length tallies
@@ -249,9 +249,9 @@ module _ (tallies : List Tally) (numbered : AreNumbered tallies) (i : ℕ) (t : 
   pub taken : take (i + 1) tallies ≡ take i tallies ++ t ∷ []
   taken = take_more tallies i t within ∙ ap (λ (s : Tally). take i tallies ++ s ∷ []) (sym read)
 
-  pub apart_before : AllByRecursion (λ m. eqb t.number m ≡ false) (numbers_of (take i tallies))
+  pub apart_before : AllByRecursion (λ m. eqb t.number m ≡ false) (tally_numbers (take i tallies))
   apart_before =
-      let ns = numbers_of tallies in
+      let ns = tally_numbers tallies in
       let long = length-map tallies (λ (s : Tally). s.number) in
       subst (AllByRecursion (λ m. eqb t.number m ≡ false)) (take-map (λ (s : Tally). s.number) i tallies)
       (recursion_from_All (λ m. eqb t.number m ≡ false) (take i ns) (λ k d low.
@@ -267,21 +267,21 @@ module _ (tallies : List Tally) (postings : List Posting) (next0 rows0 : List �
   one_more : take (i + 1) postings ≡ take i postings ++ p ∷ []
   one_more = take_more postings i p within ∙ ap (λ (q : Posting). take i postings ++ q ∷ []) (sym read)
 
-  known : list_any (λ n. eqb n p.number) (numbers_of tallies) ≡ true
-  known = ap (λ (q : Posting). list_any (λ n. eqb n q.number) (numbers_of tallies)) read ∙ begun.filed.known i p within
+  known : list_any (λ n. eqb n p.number) (tally_numbers tallies) ≡ true
+  known = ap (λ (q : Posting). list_any (λ n. eqb n q.number) (tally_numbers tallies)) read ∙ begun.filed.known i p within
 
-  fits : AllByRecursion (λ t. length (rows_of t.number (take i postings ++ p ∷ [])) ≤ t.count) tallies
-  fits = recursion_from_All (λ t. length (rows_of t.number (take i postings ++ p ∷ [])) ≤ t.count) tallies
-      (All-weaker (λ t. IsTallyOf (rows_of t.number postings) t) (λ t. length (rows_of t.number (take i postings ++ p ∷ [])) ≤ t.count)
+  fits : AllByRecursion (λ t. length (posting_rows t.number (take i postings ++ p ∷ [])) ≤ t.count) tallies
+  fits = recursion_from_All (λ t. length (posting_rows t.number (take i postings ++ p ∷ [])) ≤ t.count) tallies
+      (All-weaker (λ t. IsTallyOf (posting_rows t.number postings) t) (λ t. length (posting_rows t.number (take i postings ++ p ∷ [])) ≤ t.count)
       (λ t tally.
       let fewer = rows_of-fewer t.number postings (i + 1) in
-      let same = ap (λ (ps : List Posting). length (rows_of t.number ps)) one_more in
+      let same = ap (λ (ps : List Posting). length (posting_rows t.number ps)) one_more in
       let all = tally.count in
       omega (arith, fewer, same, all)) tallies begun.filed.counted)
 
   pub number_within : p.number < length next
   number_within =
-      let low = below_from_known (numbers_of tallies) p.number (length tallies) known (recursion_from_All (λ n. n < length tallies) (numbers_of tallies) begun.filed.numbered.below) in
+      let low = below_from_known (tally_numbers tallies) p.number (length tallies) known (recursion_from_All (λ n. n < length tallies) (tally_numbers tallies) begun.filed.numbered.below) in
       let long = begun.as_long in
       omega (arith, low, long, as_next)
 

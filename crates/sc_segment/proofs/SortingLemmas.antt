@@ -14,7 +14,7 @@ use Rattle.std.specs.declared.cmp.Ordering.{Ordering}
 use Rattle.std.specs.declared.cmp.Ordering.TheVariants.{Less, Equal, Greater}
 use Rattle.sc_segment.proofs.MembersLemmas.{Contains-cases, Equal-from_is_eq}
 use Rattle.sc_segment.proofs.FilingLemmas.{keys_of-entries_of}
-use Rattle.sc_segment.specs.Filing.{FilesRow, entries_of, put_in_order, rows_of, sorted_entries}
+use Rattle.sc_segment.specs.Filing.{FilesRow, filed_entries, put_in_order, posting_rows, sorted_entries}
 use Rattle.sc_segment.specs.declared.tally.Posting.{Posting}
 use Rattle.sc_segment.specs.declared.tally.Tally.{Tally}
 
@@ -171,14 +171,14 @@ module _ {K : Type 0} {order : K → K → Ordering} (o : IsTotalOrder order) wh
 
   -- the sorted entries of keys that ascend are these keys with the same rows
   pub entries_of-sorted : (es ys : List (K × Tally)) (postings : List Posting) → IsPermutation es ys → IsStrictlySortedBy order (keys_of ys)
-      → entries_of ys postings ≡ sorted_entries order (entries_of es postings)
+      → filed_entries ys postings ≡ sorted_entries order (filed_entries es postings)
   entries_of-sorted es ys postings moved up =
-      let ascending : IsStrictlySortedBy order (keys_of (entries_of ys postings)) = subst (IsStrictlySortedBy order) (sym (keys_of-entries_of ys postings)) up in
-      let there = IsPermutation-map (λ (e : K × Tally). (e.0, rows_of e.1.number postings)) es ys moved in
-      let back = IsPermutation-map (λ (e : Entry). e.0) (entries_of ys postings) (entries_of es postings) (IsPermutation-sym (entries_of es postings) (entries_of ys postings) there) in
-      let apart = IsDistinct-IsPermutation (eq_by_cmp order) (eq_by_cmp_equiv o).symm (keys_of (entries_of ys postings)) (keys_of (entries_of es postings)) back
-      (IsDistinct-from_sorted order (keys_of (entries_of ys postings)) ascending) in
-      sorted-from_sort (entries_of es postings) (entries_of ys postings) there apart ascending
+      let ascending : IsStrictlySortedBy order (keys_of (filed_entries ys postings)) = subst (IsStrictlySortedBy order) (sym (keys_of-entries_of ys postings)) up in
+      let there = IsPermutation-map (λ (e : K × Tally). (e.0, posting_rows e.1.number postings)) es ys moved in
+      let back = IsPermutation-map (λ (e : Entry). e.0) (filed_entries ys postings) (filed_entries es postings) (IsPermutation-sym (filed_entries es postings) (filed_entries ys postings) there) in
+      let apart = IsDistinct-IsPermutation (eq_by_cmp order) (eq_by_cmp_equiv o).symm (keys_of (filed_entries ys postings)) (keys_of (filed_entries es postings)) back
+      (IsDistinct-from_sorted order (keys_of (filed_entries ys postings)) ascending) in
+      sorted-from_sort (filed_entries es postings) (filed_entries ys postings) there apart ascending
 
 -- ---- a sort of keys with any values
 module _ {K V : Type 0} {order : K → K → Ordering} (o : IsTotalOrder order) where

@@ -11,7 +11,7 @@ use Rattle.std.specs.List.{AllByRecursion, IsDistinct, list_any}
 use Rattle.std.specs.List.Sorted.{IsStrictlyIncreasing}
 use Rattle.sc_segment.specs.declared.tally.Posting.{Posting}
 use Rattle.sc_segment.specs.declared.tally.Tally.{Tally}
-use Rattle.sc_segment.specs.Filing.{AreFiled, IsTallyOf, NoRowAbove, numbers_of, posting_of, rows_of}
+use Rattle.sc_segment.specs.Filing.{AreFiled, IsTallyOf, NoRowAbove, tally_numbers, posting_of, posting_rows}
 use Rattle.sc_segment.proofs.PlacingLemmas.{below_from_known, differ, rows_of-other, rows_of-own}
 use Rattle.sc_segment.proofs.RowsLemmas.{increasing-push, last_below}
 
@@ -27,7 +27,7 @@ unfolding IsDistinct
 filed-none = record {
   numbered = record { distinct = tt; below = All-nil (λ n. n < 0) };
   known = All-nil (λ p. list_any (λ n. eqb n p.number) [] ≡ true);
-  counted = All-nil (λ t. IsTallyOf (rows_of t.number []) t);
+  counted = All-nil (λ t. IsTallyOf (posting_rows t.number []) t);
 }
 
 -- no two keys at two places have one number
@@ -37,16 +37,16 @@ apart_at ns i j distinct apart here there = ⊎_elim
     (λ (high : j ≤ i). eqb-symm (get_or ns i 0) (get_or ns j 0) ∙ apart_from_distinct eqb ns j i 0 distinct (omega (arith, high, apart)) here)
     (cases_lt i j)
 
-pub number_at : (ts : List Tally) (i : ℕ) (d : Tally) → i < length ts → get_or (numbers_of ts) i 0 ≡ (get_or ts i d).number
+pub number_at : (ts : List Tally) (i : ℕ) (d : Tally) → i < length ts → get_or (tally_numbers ts) i 0 ≡ (get_or ts i d).number
 number_at ts i d within = get_or-map (λ (t : Tally). t.number) ts i d 0 within
 
 -- ---- the tallies of other keys
 module _ (ts : List Tally) (ps ps' : List Posting) (filed : AreFiled ts ps) where
   -- a key has the same rows among the new postings
   abbrev KeepsRows : Tally → Type 0
-  KeepsRows t = rows_of t.number ps' ≡ rows_of t.number ps
+  KeepsRows t = posting_rows t.number ps' ≡ posting_rows t.number ps
 
-  tally_kept : (k : ℕ) (d : Tally) → k < length ts → KeepsRows (get_or ts k d) → IsTallyOf (rows_of (get_or ts k d).number ps') (get_or ts k d)
+  tally_kept : (k : ℕ) (d : Tally) → k < length ts → KeepsRows (get_or ts k d) → IsTallyOf (posting_rows (get_or ts k d).number ps') (get_or ts k d)
   tally_kept k d low keeps = subst (λ (rs : List ℕ). IsTallyOf rs (get_or ts k d)) (sym keeps) (filed.counted k d low)
 
 -- ---- one posting more of a key
@@ -65,7 +65,7 @@ module _ (ts : List Tally) (ps : List Posting) (filed : AreFiled ts ps) (row : �
         ascending = increasing-push rows row v.last tally.ascending tally.last (last_below rows row v.last low tally.last apart);
       }
 
-  rows_below : (n : ℕ) → All (λ r. r ≤ row) (rows_of n ps)
+  rows_below : (n : ℕ) → All (λ r. r ≤ row) (posting_rows n ps)
   rows_below n = All-map (λ r. r ≤ row) (λ (p : Posting). p.row) (filter (λ (p : Posting). eqb n p.number) ps) (All-filter (λ (p : Posting). eqb n p.number) (λ p. p.row ≤ row) ps bound)
 
   -- the key at a place has one row more
@@ -73,53 +73,53 @@ module _ (ts : List Tally) (ps : List Posting) (filed : AreFiled ts ps) (row : �
     abbrev more : Posting
     more = record { number = v.number; row = row }
 
-    numbers-set : numbers_of (set ts i w) ≡ numbers_of ts
+    numbers-set : tally_numbers (set ts i w) ≡ tally_numbers ts
     numbers-set =
-        let is : w.number ≡ get_or (numbers_of ts) i 0 = number ∙ sym (number_at ts i v within ∙ ap (λ (t : Tally). t.number) (at v)) in
-        map-set (λ (t : Tally). t.number) ts i w ∙ ap (set (numbers_of ts) i) is ∙ set-get_or (numbers_of ts) i 0
+        let is : w.number ≡ get_or (tally_numbers ts) i 0 = number ∙ sym (number_at ts i v within ∙ ap (λ (t : Tally). t.number) (at v)) in
+        map-set (λ (t : Tally). t.number) ts i w ∙ ap (set (tally_numbers ts) i) is ∙ set-get_or (tally_numbers ts) i 0
 
-    others_keep : (k : ℕ) (d : Tally) → k < length ts → k ≢ i → rows_of (get_or ts k d).number (ps ++ more ∷ []) ≡ rows_of (get_or ts k d).number ps
+    others_keep : (k : ℕ) (d : Tally) → k < length ts → k ≢ i → posting_rows (get_or ts k d).number (ps ++ more ∷ []) ≡ posting_rows (get_or ts k d).number ps
     others_keep k d low apart =
         let long = length-map ts (λ (t : Tally). t.number) in
-        let distinct = apart_at (numbers_of ts) k i filed.numbered.distinct apart (omega (arith, long, low)) (omega (arith, long, within)) in
-        let here : get_or (numbers_of ts) k 0 ≡ (get_or ts k d).number = number_at ts k d low in
-        let there : get_or (numbers_of ts) i 0 ≡ v.number = number_at ts i v within ∙ ap (λ (t : Tally). t.number) (at v) in
-        let differs : eqb (get_or ts k d).number v.number ≡ false = ap (λ (n : ℕ). eqb n v.number) (sym here) ∙ ap (eqb (get_or (numbers_of ts) k 0)) (sym there) ∙ distinct in
+        let distinct = apart_at (tally_numbers ts) k i filed.numbered.distinct apart (omega (arith, long, low)) (omega (arith, long, within)) in
+        let here : get_or (tally_numbers ts) k 0 ≡ (get_or ts k d).number = number_at ts k d low in
+        let there : get_or (tally_numbers ts) i 0 ≡ v.number = number_at ts i v within ∙ ap (λ (t : Tally). t.number) (at v) in
+        let differs : eqb (get_or ts k d).number v.number ≡ false = ap (λ (n : ℕ). eqb n v.number) (sym here) ∙ ap (eqb (get_or (tally_numbers ts) k 0)) (sym there) ∙ distinct in
         rows_of-other (get_or ts k d).number ps more differs
 
-    pub own_tally : IsTallyOf (rows_of v.number ps) v
-    own_tally = subst (λ (t : Tally). IsTallyOf (rows_of t.number ps) t) (at v) (filed.counted i v within)
+    pub own_tally : IsTallyOf (posting_rows v.number ps) v
+    own_tally = subst (λ (t : Tally). IsTallyOf (posting_rows t.number ps) t) (at v) (filed.counted i v within)
 
-    pub own_rows : rows_of w.number (ps ++ more ∷ []) ≡ rows_of v.number ps ++ row ∷ []
-    own_rows = ap (λ (n : ℕ). rows_of n (ps ++ more ∷ [])) number ∙ rows_of-own v.number ps more refl
+    pub own_rows : posting_rows w.number (ps ++ more ∷ []) ≡ posting_rows v.number ps ++ row ∷ []
+    own_rows = ap (λ (n : ℕ). posting_rows n (ps ++ more ∷ [])) number ∙ rows_of-own v.number ps more refl
 
-    pub own_ascends : v.last ≢ row → IsStrictlyIncreasing (rows_of v.number ps ++ row ∷ [])
-    own_ascends apart = increasing-push (rows_of v.number ps) row v.last own_tally.ascending own_tally.last (last_below (rows_of v.number ps) row v.last (rows_below v.number) own_tally.last apart)
+    pub own_ascends : v.last ≢ row → IsStrictlyIncreasing (posting_rows v.number ps ++ row ∷ [])
+    own_ascends apart = increasing-push (posting_rows v.number ps) row v.last own_tally.ascending own_tally.last (last_below (posting_rows v.number ps) row v.last (rows_below v.number) own_tally.last apart)
 
     pub filed-set : v.last ≢ row → w.count ≡ v.count + 1 → w.last ≡ row → AreFiled (set ts i w) (ps ++ more ∷ [])
     filed-set apart count last =
         let same_numbers = numbers-set in
         let same_length : length (set ts i w) ≡ length ts = length-set ts i w in
         let long = length-map ts (λ (t : Tally). t.number) in
-        let there : get_or (numbers_of ts) i 0 ≡ v.number = number_at ts i v within ∙ ap (λ (t : Tally). t.number) (at v) in
-        let is_known : list_any (λ n. eqb n v.number) (numbers_of ts) ≡ true =
-        list_any_at (λ n. eqb n v.number) (numbers_of ts) i 0 (omega (arith, long, within)) (eq-eqb (get_or (numbers_of ts) i 0) v.number there) in
+        let there : get_or (tally_numbers ts) i 0 ≡ v.number = number_at ts i v within ∙ ap (λ (t : Tally). t.number) (at v) in
+        let is_known : list_any (λ n. eqb n v.number) (tally_numbers ts) ≡ true =
+        list_any_at (λ n. eqb n v.number) (tally_numbers ts) i 0 (omega (arith, long, within)) (eq-eqb (get_or (tally_numbers ts) i 0) v.number there) in
         record {
           numbered = record {
             distinct = subst (IsDistinct eqb) (sym same_numbers) filed.numbered.distinct;
             below = subst (λ (ns : List ℕ). All (λ n. n < length (set ts i w)) ns) (sym same_numbers)
-                (subst (λ (l : ℕ). All (λ n. n < l) (numbers_of ts)) (sym same_length) filed.numbered.below);
+                (subst (λ (l : ℕ). All (λ n. n < l) (tally_numbers ts)) (sym same_length) filed.numbered.below);
           };
           known = subst (λ (ns : List ℕ). All (λ p. list_any (λ n. eqb n p.number) ns ≡ true) (ps ++ more ∷ [])) (sym same_numbers)
-              (All-push (λ p. list_any (λ n. eqb n p.number) (numbers_of ts) ≡ true) ps more filed.known is_known);
+              (All-push (λ p. list_any (λ n. eqb n p.number) (tally_numbers ts) ≡ true) ps more filed.known is_known);
           counted = λ k d low. ⊎_elim
               (λ (here : k ≡ i).
               let put : get_or (set ts i w) k d ≡ w = ap (λ (j : ℕ). get_or (set ts i w) j d) here ∙ get_or-set_same ts i w d within in
-              subst (λ (t : Tally). IsTallyOf (rows_of t.number (ps ++ more ∷ [])) t) (sym put)
-              (subst (λ (rs : List ℕ). IsTallyOf rs w) (sym own_rows) (tally-push (rows_of v.number ps) v w own_tally (rows_below v.number) apart count last)))
+              subst (λ (t : Tally). IsTallyOf (posting_rows t.number (ps ++ more ∷ [])) t) (sym put)
+              (subst (λ (rs : List ℕ). IsTallyOf rs w) (sym own_rows) (tally-push (posting_rows v.number ps) v w own_tally (rows_below v.number) apart count last)))
               (λ (other : k ≢ i).
               let before : k < length ts = omega (arith, low, same_length) in
-              subst (λ (t : Tally). IsTallyOf (rows_of t.number (ps ++ more ∷ [])) t) (sym (get_or-set_other ts i k w d other))
+              subst (λ (t : Tally). IsTallyOf (posting_rows t.number (ps ++ more ∷ [])) t) (sym (get_or-set_other ts i k w d other))
               (tally_kept ts ps (ps ++ more ∷ []) filed k d before (others_keep k d before other)))
               (cases_eq k i);
         }
@@ -136,20 +136,20 @@ module _ (ts : List Tally) (ps : List Posting) (filed : AreFiled ts ps) (row : �
         let is = number_at ts k d low in
         differ (get_or ts k d).number w.number (λ same. absurd (omega (arith, below, is, next, same)))
 
-    pub kept_new : (k : ℕ) (d : Tally) → k < length ts → rows_of (get_or ts k d).number (ps ++ first ∷ []) ≡ rows_of (get_or ts k d).number ps
+    pub kept_new : (k : ℕ) (d : Tally) → k < length ts → posting_rows (get_or ts k d).number (ps ++ first ∷ []) ≡ posting_rows (get_or ts k d).number ps
     kept_new k d low = rows_of-other (get_or ts k d).number ps first (below_next k d low)
 
     -- no posting is one of the new key
-    no_rows : (qs : List Posting) → AllByRecursion (λ p. list_any (λ n. eqb n p.number) (numbers_of ts) ≡ true) qs → rows_of w.number qs ≡ []
+    no_rows : (qs : List Posting) → AllByRecursion (λ p. list_any (λ n. eqb n p.number) (tally_numbers ts) ≡ true) qs → posting_rows w.number qs ≡ []
     no_rows [] known = refl
     no_rows (q ∷ qs) known =
-        let low = below_from_known (numbers_of ts) q.number (length ts) known.0 (recursion_from_All (λ n. n < length ts) (numbers_of ts) filed.numbered.below) in
+        let low = below_from_known (tally_numbers ts) q.number (length ts) known.0 (recursion_from_All (λ n. n < length ts) (tally_numbers ts) filed.numbered.below) in
         let apart : eqb w.number q.number ≡ false = differ w.number q.number (λ same. absurd (omega (arith, low, next, same))) in
         rw apart (no_rows qs known.1)
 
-    pub new_rows : rows_of w.number (ps ++ first ∷ []) ≡ row ∷ []
+    pub new_rows : posting_rows w.number (ps ++ first ∷ []) ≡ row ∷ []
     new_rows = rows_of-own w.number ps first refl
-        ∙ ap (λ (rs : List ℕ). rs ++ row ∷ []) (no_rows ps (recursion_from_All (λ p. list_any (λ n. eqb n p.number) (numbers_of ts) ≡ true) ps filed.known))
+        ∙ ap (λ (rs : List ℕ). rs ++ row ∷ []) (no_rows ps (recursion_from_All (λ p. list_any (λ n. eqb n p.number) (tally_numbers ts) ≡ true) ps filed.known))
 
     one_row : IsTallyOf (row ∷ []) w
     one_row = record { count = count; last = ap Some (sym last); ascending = λ k low. absurd (omega (arith, low)) }
@@ -162,17 +162,17 @@ module _ (ts : List Tally) (ps : List Posting) (filed : AreFiled ts ps) (row : �
 
     pub filed-new : AreFiled (w ∷ ts) (ps ++ first ∷ [])
     filed-new =
-        let P : Tally → Type 0 = λ t. IsTallyOf (rows_of t.number (ps ++ first ∷ [])) t in
+        let P : Tally → Type 0 = λ t. IsTallyOf (posting_rows t.number (ps ++ first ∷ [])) t in
         let yes = eq-eqb w.number w.number refl in
-        let is_known : list_any (λ n. eqb n w.number) (numbers_of (w ∷ ts)) ≡ true = rw yes refl in
+        let is_known : list_any (λ n. eqb n w.number) (tally_numbers (w ∷ ts)) ≡ true = rw yes refl in
         record {
           numbered = record {
-            distinct = IsDistinct-cons eqb w.number (numbers_of ts) (new_apart (numbers_of ts) (recursion_from_All (λ n. n < length ts) (numbers_of ts) filed.numbered.below)) filed.numbered.distinct;
-            below = All-cons (λ n. n < length (w ∷ ts)) w.number (numbers_of ts) (omega (arith, next))
-                (All-weaker (λ n. n < length ts) (λ n. n < length (w ∷ ts)) (λ n low. omega (arith, low)) (numbers_of ts) filed.numbered.below);
+            distinct = IsDistinct-cons eqb w.number (tally_numbers ts) (new_apart (tally_numbers ts) (recursion_from_All (λ n. n < length ts) (tally_numbers ts) filed.numbered.below)) filed.numbered.distinct;
+            below = All-cons (λ n. n < length (w ∷ ts)) w.number (tally_numbers ts) (omega (arith, next))
+                (All-weaker (λ n. n < length ts) (λ n. n < length (w ∷ ts)) (λ n low. omega (arith, low)) (tally_numbers ts) filed.numbered.below);
           };
-          known = All-push (λ p. list_any (λ n. eqb n p.number) (numbers_of (w ∷ ts)) ≡ true) ps first
-              (All-weaker (λ p. list_any (λ n. eqb n p.number) (numbers_of ts) ≡ true) (λ p. list_any (λ n. eqb n p.number) (numbers_of (w ∷ ts)) ≡ true)
+          known = All-push (λ p. list_any (λ n. eqb n p.number) (tally_numbers (w ∷ ts)) ≡ true) ps first
+              (All-weaker (λ p. list_any (λ n. eqb n p.number) (tally_numbers ts) ≡ true) (λ p. list_any (λ n. eqb n p.number) (tally_numbers (w ∷ ts)) ≡ true)
               (λ p here. either (eqb w.number p.number) here) ps filed.known)
               is_known;
           counted = All-cons P w ts (subst (λ (rs : List ℕ). IsTallyOf rs w) (sym new_rows) one_row)
@@ -186,16 +186,16 @@ module _ (ts : List Tally) (ps : List Posting) (filed : AreFiled ts ps) (row : �
 -- the order in which keys stand is no matter
 pub filed-permuted : (ts us : List Tally) (ps : List Posting) → IsPermutation ts us → AreFiled ts ps → AreFiled us ps
 filed-permuted ts us ps moved filed =
-    let P : Tally → Type 0 = λ t. IsTallyOf (rows_of t.number ps) t in
-    let numbers : IsPermutation (numbers_of ts) (numbers_of us) = IsPermutation-map (λ (t : Tally). t.number) ts us moved in
+    let P : Tally → Type 0 = λ t. IsTallyOf (posting_rows t.number ps) t in
+    let numbers : IsPermutation (tally_numbers ts) (tally_numbers us) = IsPermutation-map (λ (t : Tally). t.number) ts us moved in
     let as_long : length us ≡ length ts = length_permutation ts us moved in
     record {
       numbered = record {
-        distinct = IsDistinct-IsPermutation eqb eqb-symm (numbers_of ts) (numbers_of us) numbers filed.numbered.distinct;
-        below = subst (λ (l : ℕ). All (λ n. n < l) (numbers_of us)) (sym as_long) (All-permutation (λ n. n < length ts) (numbers_of ts) (numbers_of us) numbers filed.numbered.below);
+        distinct = IsDistinct-IsPermutation eqb eqb-symm (tally_numbers ts) (tally_numbers us) numbers filed.numbered.distinct;
+        below = subst (λ (l : ℕ). All (λ n. n < l) (tally_numbers us)) (sym as_long) (All-permutation (λ n. n < length ts) (tally_numbers ts) (tally_numbers us) numbers filed.numbered.below);
       };
-      known = All-weaker (λ p. list_any (λ n. eqb n p.number) (numbers_of ts) ≡ true) (λ p. list_any (λ n. eqb n p.number) (numbers_of us) ≡ true)
-          (λ p here. sym (list_any-IsPermutation (λ n. eqb n p.number) (numbers_of ts) (numbers_of us) numbers) ∙ here) ps filed.known;
+      known = All-weaker (λ p. list_any (λ n. eqb n p.number) (tally_numbers ts) ≡ true) (λ p. list_any (λ n. eqb n p.number) (tally_numbers us) ≡ true)
+          (λ p here. sym (list_any-IsPermutation (λ n. eqb n p.number) (tally_numbers ts) (tally_numbers us) numbers) ∙ here) ps filed.known;
       counted = All-permutation P ts us moved filed.counted;
     }
 

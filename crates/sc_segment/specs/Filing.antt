@@ -25,16 +25,16 @@ sorted_entries order [] = []
 sorted_entries order (e ∷ entries) = put_in_order order e (sorted_entries order entries)
 
 -- the rows of the key with this number, in the order in which they came
-abbrev pub rows_of : ℕ → List Posting → List ℕ
-rows_of number postings = map (λ p. p.row) (filter (λ p. number == p.number) postings)
+abbrev pub posting_rows : ℕ → List Posting → List ℕ
+posting_rows number postings = map (λ p. p.row) (filter (λ p. number == p.number) postings)
 
 -- the keys with their rows
-abbrev pub entries_of : {K : Type 0} → List (K × Tally) → List Posting → List (K × List ℕ)
-entries_of keys postings = map (λ e. (e.0, rows_of e.1.number postings)) keys
+abbrev pub filed_entries : {K : Type 0} → List (K × Tally) → List Posting → List (K × List ℕ)
+filed_entries keys postings = map (λ e. (e.0, posting_rows e.1.number postings)) keys
 
 -- the numbers of keys
-abbrev pub numbers_of : List Tally → List ℕ
-numbers_of tallies = map (λ t. t.number) tallies
+abbrev pub tally_numbers : List Tally → List ℕ
+tally_numbers tallies = map (λ t. t.number) tallies
 
 -- a tally of these rows, which ascend
 pub record IsTallyOf (rows : List ℕ) (tally : Tally) : Type 0 where
@@ -44,14 +44,14 @@ pub record IsTallyOf (rows : List ℕ) (tally : Tally) : Type 0 where
 
 -- keys are numbered from 0 up, in any order
 pub record AreNumbered (tallies : List Tally) : Type 0 where
-  pub distinct : IsDistinct (λ m n. m == n) (numbers_of tallies)
-  pub below : All (λ n. n < length tallies) (numbers_of tallies)
+  pub distinct : IsDistinct (λ m n. m == n) (tally_numbers tallies)
+  pub below : All (λ n. n < length tallies) (tally_numbers tallies)
 
 -- each posting is one of these keys, whose tallies are those of their rows
 pub record AreFiled (tallies : List Tally) (postings : List Posting) : Type 0 where
   pub numbered : AreNumbered tallies
-  pub known : All (λ p. list_any (λ n. n == p.number) (numbers_of tallies) ≡ true) postings
-  pub counted : All (λ t. IsTallyOf (rows_of t.number postings) t) tallies
+  pub known : All (λ p. list_any (λ n. n == p.number) (tally_numbers tallies) ≡ true) postings
+  pub counted : All (λ t. IsTallyOf (posting_rows t.number postings) t) tallies
 
 -- no posting's row is above this one
 abbrev pub NoRowAbove : ℕ → List Posting → Type 0

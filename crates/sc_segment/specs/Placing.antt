@@ -3,7 +3,7 @@ use Rattle.std.specs.Prelude.{◌≡◌, ℕ, ◌+◌, ◌<◌, ◌^◌, ⊤, Li
 use Rattle.sc_segment.specs.declared.placing.Layout.{Layout}
 use Rattle.sc_segment.specs.declared.tally.Posting.{Posting}
 use Rattle.sc_segment.specs.declared.tally.Tally.{Tally}
-use Rattle.sc_segment.specs.Filing.{AreFiled, rows_of}
+use Rattle.sc_segment.specs.Filing.{AreFiled, posting_rows}
 
 -- how many rows keys have
 abbrev pub rows_counted : List Tally → ℕ
@@ -23,7 +23,7 @@ pub record IsPlaced (from : ℕ) (own : List ℕ) (place : ℕ) (rows : List ℕ
 -- the rows of each key among these postings are placed, where those of the first key begin here; the next place of each key is known by its number
 abbrev pub ArePlaced : ℕ → List Tally → List Posting → (next rows : List ℕ) → Type 0
 ArePlaced from [] postings next rows = ⊤
-ArePlaced from (t ∷ tallies) postings next rows = IsPlaced from (rows_of t.number postings) (slice_index next t.number) rows × ArePlaced (from + t.count) tallies postings next rows
+ArePlaced from (t ∷ tallies) postings next rows = IsPlaced from (posting_rows t.number postings) (slice_index next t.number) rows × ArePlaced (from + t.count) tallies postings next rows
 
 -- where the rows of keys end, how many there are, and where those of each key begin
 pub record IsLayoutOf (tallies : List Tally) (layout : Layout) : Type 0 where

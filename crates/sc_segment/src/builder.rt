@@ -3,7 +3,7 @@ ghost use Rattle.std.specs.HashMap.{IsUnchanged};
 ghost use Rattle.std.specs.List.Sorted.{IsPermutation, IsStrictlySortedBy};
 ghost use Rattle.std.specs.Map.{keys_of, values_of};
 ghost use Rattle.sc_segment.specs.Index.{IsIndexOf};
-ghost use Rattle.sc_segment.specs.Filing.{AreFiled, FilesRow, NoRowAbove, entries_of, posting_of};
+ghost use Rattle.sc_segment.specs.Filing.{AreFiled, FilesRow, NoRowAbove, filed_entries, posting_of};
 ghost use Rattle.sc_segment.specs.declared.tally.Posting.{Posting};
 
 use crate::flat_index::KeptIndex;
@@ -31,11 +31,11 @@ pub struct Builder<K: Key + Ord + Hash> {
 impl<K: Key + Ord + Hash> Model for Builder<K> {
     ghost use Rattle.std.specs.Prelude.{◌≡◌};
     ghost use Rattle.std.specs.Map.{values_of};
-    ghost use Rattle.sc_segment.specs.Filing.{AreFiled, BuilderState, NoRowAbove, entries_of, sorted_entries};
+    ghost use Rattle.sc_segment.specs.Filing.{AreFiled, BuilderState, NoRowAbove, filed_entries, sorted_entries};
 
     ghost Value = { BuilderState K };
 
-    ghost view = { λ a. record { index = sorted_entries K.order (entries_of a.keys.entries a.postings.items); last_row = a.last_row } };
+    ghost view = { λ a. record { index = sorted_entries K.order (filed_entries a.keys.entries a.postings.items); last_row = a.last_row } };
 
     ghost invariant = { λ a. ((x y : K) → K.cmp x y ≡ K.order x y) × AreFiled (values_of a.keys.entries) a.postings.items × NoRowAbove a.last_row a.postings.items };
 }
@@ -112,7 +112,7 @@ fn count_row<K: Ord + Hash + Drop>(
     ensures filed { IfOk result (λ number. (postings : List Posting) → AreFiled (values_of keys.old.entries) postings → NoRowAbove row postings
         → AreFiled (values_of keys.new.entries) (postings ++ posting_of number row)) }
     ensures index { IfOk result (λ number. (postings : List Posting) → AreFiled (values_of keys.old.entries) postings → NoRowAbove row postings
-        → FilesRow K.cmp row key (entries_of keys.old.entries postings) (entries_of keys.new.entries (postings ++ posting_of number row))) }
+        → FilesRow K.cmp row key (filed_entries keys.old.entries postings) (filed_entries keys.new.entries (postings ++ posting_of number row))) }
     ensures err { OnErr result (IsUnchanged keys.old keys.new) }
 {
     let next = number_after(keys.len())?;

@@ -1,6 +1,6 @@
 ghost use Rattle.std.specs.Prelude.{◌≡◌, List, length, IfOk};
 ghost use Rattle.std.specs.Map.{keys_of, values_of};
-ghost use Rattle.sc_segment.specs.Filing.{AreFiled, AreNumbered, entries_of};
+ghost use Rattle.sc_segment.specs.Filing.{AreFiled, AreNumbered, filed_entries};
 ghost use Rattle.sc_segment.specs.Placing.{ArePlaced, IsBegun, IsLayoutOf};
 ghost use Rattle.sc_segment.specs.declared.tally.Tally.{Tally};
 
@@ -24,7 +24,7 @@ pub(crate) fn laid_out<K: Drop>(
     postings: Vec<Posting>,
 ) -> Result<FlatIndex<K>, AllocError>
     requires { AreFiled (values_of keys.items) postings.items }
-    ensures { IfOk result (λ index. index.entries ≡ entries_of keys.items postings.items) }
+    ensures { IfOk result (λ index. index.entries ≡ filed_entries keys.items postings.items) }
 {
     let layout = layout_of(alloc, keys.as_slice())?;
     let Layout {

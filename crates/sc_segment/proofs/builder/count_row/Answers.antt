@@ -5,7 +5,7 @@ use Rattle.std.specs.HashMap.Entry.{map_with_value}
 use Rattle.std.specs.Map.{values_of}
 use Rattle.sc_segment.specs.declared.tally.Posting.{Posting}
 use Rattle.sc_segment.specs.declared.tally.Tally.{Tally}
-use Rattle.sc_segment.specs.Filing.{AreFiled, Counts, FilesRow, NoRowAbove, entries_of, posting_of}
+use Rattle.sc_segment.specs.Filing.{AreFiled, Counts, FilesRow, NoRowAbove, filed_entries, posting_of}
 use Rattle.sc_segment.proofs.FilingLemmas.{eq-by_cmp, found_counted, new_counted, IfOk_then, OnErr_then}
 use Rattle.sc_segment.proofs.builder.count_row.Goals as goal
 
@@ -36,10 +36,10 @@ returns-in-Occupied-clause-index g c =
     let found = sym (rw c.in-Occupied.is at c.in_ok-entry.ensures.value) ∙ c.into_mut.ensures.value in
     let put = rw found at (c.in_ok-entry.ensures.update.1 w) in
     subst (λ (es : List _). IfOk c.add.result (λ number. (postings : List Posting) → AreFiled (values_of old) postings → NoRowAbove c.args.row postings
-    → FilesRow g.K.Ord.cmp c.args.row c.args.key (entries_of old postings) (entries_of es (postings ++ posting_of number c.args.row))))
+    → FilesRow g.K.Ord.cmp c.args.row c.args.key (filed_entries old postings) (filed_entries es (postings ++ posting_of number c.args.row))))
     (search rules)
     (IfOk_then (Counts c.args.row v w) (λ number. (postings : List Posting) → AreFiled (values_of old) postings → NoRowAbove c.args.row postings
-    → FilesRow g.K.Ord.cmp c.args.row c.args.key (entries_of old postings) (entries_of (map_with_value e w).entries (postings ++ posting_of number c.args.row))) c.add.result
+    → FilesRow g.K.Ord.cmp c.args.row c.args.key (filed_entries old postings) (filed_entries (map_with_value e w).entries (postings ++ posting_of number c.args.row))) c.add.result
     (λ number counts postings filed bound. (found_counted g.K.PartialEq.eq g.K.Ord.cmp one g.met.K.Ord.total old (map_with_value e w).entries c.args.row c.args.key w (c.in_ok-entry.ensures.update.0 w).0
     postings filed bound v found put number counts).1)
     c.add.ensures.ok)
@@ -78,6 +78,6 @@ returns-in-Vacant-clause-index g c = λ postings filed bound.
     let missed = rw c.in-Vacant.is at c.in_ok-entry.ensures.found in
     let put = rw missed at (c.in_ok-entry.ensures.update.1 w) in
     let len = rw (c.in_ok-entry.ensures.value, missed) at (c.in_ok-entry.ensures.len w) in
-    subst (λ (es : List _). FilesRow g.K.Ord.cmp c.args.row c.args.key (entries_of old postings) (entries_of es (postings ++ posting_of (Some c.in_ok-next.next) c.args.row))) (search rules)
+    subst (λ (es : List _). FilesRow g.K.Ord.cmp c.args.row c.args.key (filed_entries old postings) (filed_entries es (postings ++ posting_of (Some c.in_ok-next.next) c.args.row))) (search rules)
     (new_counted g.K.PartialEq.eq g.K.Ord.cmp one g.met.K.Ord.total old (map_with_value e w).entries c.args.row c.args.key w (c.in_ok-entry.ensures.update.0 w).0
     postings filed bound missed put (omega (arith, len)) (c.in_ok-next.ensures ∙ c.len.ensures.len) refl refl).1

@@ -2,7 +2,7 @@
 use Rattle.std.proofs.Common.{◌≡◌, ℕ, ◌++◌, List, Option, ap, sym, subst, ◌∙◌, arith}
 use Rattle.std.specs.Map.{values_of}
 use Rattle.sc_segment.specs.declared.tally.Posting.{Posting}
-use Rattle.sc_segment.specs.Filing.{AreFiled, FilesRow, NoRowAbove, entries_of, posting_of, sorted_entries}
+use Rattle.sc_segment.specs.Filing.{AreFiled, FilesRow, NoRowAbove, filed_entries, posting_of, sorted_entries}
 use Rattle.sc_segment.proofs.AddingLemmas.{IsIndexOf-push}
 use Rattle.sc_segment.proofs.FilingLemmas.{FilesRow-alike}
 use Rattle.sc_segment.proofs.SortingLemmas.{FilesRow-sorted}
@@ -28,7 +28,7 @@ invariant_of-self-2 g c =
 
 pub returns-clause-ok : goal.returns-clause-ok
 returns-clause-ok g c = λ added index.
-    let old = entries_of c.self.inside.keys.entries c.self.inside.postings.items in
+    let old = filed_entries c.self.inside.keys.entries c.self.inside.postings.items in
     let keys = c.count_row.new.keys.entries in
     let ps = c.self.inside.postings.items in
     let new = c.put_posting.new.postings.items in
@@ -36,8 +36,8 @@ returns-clause-ok g c = λ added index.
     let longer : new ≡ ps ++ posting_of number c.args.row = put ps c.reserve.new.self.items new number c.args.row c.reserve.ensures.items c.put_posting.ensures in
     let last = ap (λ s. s.last_row) c.self.view_is in
     let bound : NoRowAbove c.args.row ps = NoRowAbove-later c.self.inside.last_row c.args.row ps (omega (arith, last, c.requires)) c.self.invariant.2 in
-    let filed : FilesRow g.K.Ord.cmp c.args.row c.args.key old (entries_of keys new) =
-    subst (λ (qs : List Posting). FilesRow g.K.Ord.cmp c.args.row c.args.key old (entries_of keys qs)) (sym longer) (c.in_ok-number.ensures.index ps c.self.invariant.1 bound) in
-    IsIndexOf-push g.met.K.Key.total added c.args.row c.args.key (sorted_entries g.K.Key.order old) (sorted_entries g.K.Key.order (entries_of keys new))
-    (FilesRow-sorted g.met.K.Key.total c.args.row c.args.key old (entries_of keys new) (FilesRow-alike c.self.invariant.0 c.args.row c.args.key old (entries_of keys new) filed))
+    let filed : FilesRow g.K.Ord.cmp c.args.row c.args.key old (filed_entries keys new) =
+    subst (λ (qs : List Posting). FilesRow g.K.Ord.cmp c.args.row c.args.key old (filed_entries keys qs)) (sym longer) (c.in_ok-number.ensures.index ps c.self.invariant.1 bound) in
+    IsIndexOf-push g.met.K.Key.total added c.args.row c.args.key (sorted_entries g.K.Key.order old) (sorted_entries g.K.Key.order (filed_entries keys new))
+    (FilesRow-sorted g.met.K.Key.total c.args.row c.args.key old (filed_entries keys new) (FilesRow-alike c.self.invariant.0 c.args.row c.args.key old (filed_entries keys new) filed))
     (rw (← c.self.view_is) at index)

@@ -4,7 +4,7 @@ use Rattle.std.proofs.lemmas.List.Elements.{All-from_recursion, recursion_from_A
 use Rattle.std.proofs.lemmas.List.Sorted.{IsPermutation-map}
 use Rattle.std.specs.List.Sorted.{IsStrictlySortedBy}
 use Rattle.std.specs.Map.{keys_of, values_of}
-use Rattle.sc_segment.specs.Filing.{IsTallyOf, entries_of, rows_of}
+use Rattle.sc_segment.specs.Filing.{IsTallyOf, filed_entries, posting_rows}
 use Rattle.sc_segment.specs.Index.{HasRows}
 use Rattle.sc_segment.proofs.FilingLemmas.{HasRows-entries, IsStrictlySortedBy-alike, keys_of-entries_of, sorted_entries-alike}
 use Rattle.sc_segment.proofs.SortingLemmas.{entries_of-sorted}
@@ -29,8 +29,8 @@ new-requires g c =
           (subst (IsStrictlySortedBy g.K.Key.order) (sym (keys_of-entries_of entries postings))
           (IsStrictlySortedBy-alike c.self.invariant.0 (keys_of entries) c.in_ok-entries.ensures.ascending));
       rows = subst (λ (es : _). All HasRows es) (sym is)
-          (All-from_recursion HasRows (entries_of entries postings)
-          (HasRows-entries entries postings (recursion_from_All (λ t. IsTallyOf (rows_of t.number postings) t) (values_of entries) filed.counted)));
+          (All-from_recursion HasRows (filed_entries entries postings)
+          (HasRows-entries entries postings (recursion_from_All (λ t. IsTallyOf (posting_rows t.number postings) t) (values_of entries) filed.counted)));
     }
 
 pub returns : goal.returns
@@ -40,4 +40,4 @@ returns g c =
     let postings = c.self.inside.postings.items in
     c.new.ensures ∙ c.in_ok-kept.ensures ∙ c.in_ok-index.ensures
     ∙ entries_of-sorted g.met.K.Ord.total keys entries postings c.in_ok-entries.ensures.same c.in_ok-entries.ensures.ascending
-    ∙ sorted_entries-alike c.self.invariant.0 (entries_of keys postings) ∙ ap (λ s. s.index) c.self.view_is
+    ∙ sorted_entries-alike c.self.invariant.0 (filed_entries keys postings) ∙ ap (λ s. s.index) c.self.view_is

@@ -1,16 +1,16 @@
 -- How changes go into the rows of a snapshot.
 use Rattle.std.specs.Prelude.{◌≡◌, ℕ, ◌+◌, ◌-◌, ◌≤◌, if◌then◌else◌, List, [], ◌∷◌, ◌++◌, map, length, take, drop}
-use Rattle.std.specs.Arc.{arc_value}
 use Rattle.std.specs.Cmp.Lexicographic.{slice_cmp}
 use Rattle.std.specs.List.{AllByRecursion}
 use Rattle.std.specs.Ordering.{nat_cmp}
 use Rattle.std.specs.declared.cmp.Ordering.TheVariants.{Less}
 use Rattle.sc_record.specs.declared.write.Write.{Write}
 use Rattle.sc_snapshot.specs.declared.edits.Edit.{Edit}
+use Rattle.sc_snapshot.specs.Rows.{lent}
 
 -- the write that an edit puts in
 abbrev pub put_in : Edit → Write
-put_in edit = arc_value edit.cell
+put_in edit = lent edit.cell
 
 -- the number of the first old row after an edit: a row that is replaced is none
 abbrev pub next_of : Edit → ℕ

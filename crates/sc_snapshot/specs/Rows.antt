@@ -1,5 +1,9 @@
 -- The rows of a snapshot.
 use Rattle.std.specs.Prelude.{◌≡◌, ℕ, ◌≤◌, ◌^◌, Bool, if◌then◌else◌, is_some, List, length}
+use Rattle.std.proofs.Common.{Bor}
+use Rattle.std.specs.Arc.{arc_value}
+use Rattle.std.specs.declared.alloc.Global.{Global}
+use Rattle.std.specs.declared.sync.Arc.{Arc}
 use Rattle.sc_hash.specs.Bounds.{bounds, contains}
 use Rattle.sc_hash.specs.declared.range.Range.{Range}
 use Rattle.sc_record.specs.declared.write.Write.{Write}
@@ -22,3 +26,7 @@ AreChanged old changes new = (id : List ℕ) → write_of new id ≡ (if is_some
 -- the row's hash is in the range
 abbrev pub is_within : Range → Write → Bool
 is_within range row = contains row.hash (bounds range)
+
+-- the write of a cell that is lent
+abbrev pub lent : Bor (Arc Write Global) → Write
+lent cell = arc_value cell.now

@@ -43,7 +43,7 @@ impl Change {
             change.keep_all(from, edit.at, number)?;
             number += edit.at - from;
             change.leave(edit.replaces)?;
-            change.file(&edit.cell, number as u32)?;
+            change.file(edit.cell, number as u32)?;
             number += 1;
             from = edit.next();
         }

@@ -52,7 +52,7 @@ pub(crate) fn edited_pieces(
     let mut from = 0;
     for edit in edits {
         cutting.copy(rows, from, edit.at, false)?;
-        cutting.push(&edit.cell)?;
+        cutting.push(edit.cell)?;
         from = edit.next();
     }
     cutting.copy(rows, from, rows.len(), true)?;

@@ -1,47 +1,45 @@
 ghost use Rattle.std.specs.Prelude.{◌≡◌, ◌+◌, ◌^◌, ◌<◌, ◌≤◌, map, length, take, IfOk, MatchResult};
 ghost use Rattle.std.specs.Arc.{arc_value};
 ghost use Rattle.sc_record.specs.Writes.{AscendById};
+ghost use Rattle.sc_snapshot.specs.Rows.{lent};
 ghost use Rattle.sc_snapshot.specs.Edits.{put_in, next_of, AreBelow, IsPlace, AreEdits};
 
 use crate::pieces::Pieces;
 use sc_record::{Cell, Id};
 use std::alloc::{AllocError, Global};
 use std::cmp::Ordering;
-use std::sync::Arc;
 
-/// What one change does to the rows: its cell goes in before the row with this number, or in its place.
+/// What one change does to the rows: its cell goes in before the row with this number, or in its place. It borrows the cell.
 #[derive(Drop)]
-pub(crate) struct Edit {
+pub(crate) struct Edit<'a> {
     pub(crate) at: usize,
     /// Whether the cell takes the place of the row, which has its id.
     pub(crate) replaces: bool,
-    pub(crate) cell: Cell,
+    pub(crate) cell: &'a Cell,
 }
 
-impl Edit {
-    /// The edit that puts this change in the place of its id. No row before this number is looked at. The only error is that memory
-    /// was refused.
-    fn of(rows: &Pieces, from: usize, change: &Cell) -> Result<Edit, AllocError>
+impl<'a> Edit<'a> {
+    /// The edit that puts this change in the place of its id. No row before this number is looked at.
+    fn of(rows: &Pieces, from: usize, change: &'a Cell) -> Edit<'a>
         requires rows { AscendById rows.now }
         requires from { from ≤ length rows.now }
         requires before { AreBelow (arc_value change.now).id (take from rows.now) }
-        ensures change { IfOk result (λ edit. put_in edit ≡ arc_value change.now) }
-        ensures from { IfOk result (λ edit. from ≤ edit.at) }
-        ensures bounded { IfOk result (λ edit. next_of edit ≤ length rows.now) }
-        ensures place { IfOk result (λ edit. IsPlace rows.now edit.at (next_of edit) (put_in edit).id) }
+        ensures change { put_in result ≡ arc_value change.now }
+        ensures from { from ≤ result.at }
+        ensures bounded { next_of result ≤ length rows.now }
+        ensures place { IsPlace rows.now result.at (next_of result) (put_in result).id }
     {
-        let cell = Arc::try_clone(change)?;
         match search(rows, from, &change.id) {
-            Ok(at) => Ok(Edit {
+            Ok(at) => Edit {
                 at,
                 replaces: true,
-                cell,
-            }),
-            Err(at) => Ok(Edit {
+                cell: change,
+            },
+            Err(at) => Edit {
                 at,
                 replaces: false,
-                cell,
-            }),
+                cell: change,
+            },
         }
     }
 
@@ -55,20 +53,20 @@ impl Edit {
 }
 
 /// The edits that put these changes in the places of their ids, each found by one search. The only error is that memory was refused.
-pub(crate) fn edits_of(
+pub(crate) fn edits_of<'a>(
     alloc: Global,
     rows: &Pieces,
-    changes: &[Cell],
-) -> Result<Vec<Edit>, AllocError>
+    changes: &[&'a Cell],
+) -> Result<Vec<Edit<'a>>, AllocError>
     requires rows { AscendById rows.now }
     requires bounded { length rows.now ≤ 2 ^ 24 }
-    requires changes { AscendById (map arc_value changes.now) }
-    ensures { IfOk result (λ edits. AreEdits rows.now (map arc_value changes.now) edits.items) }
+    requires changes { AscendById (map lent changes.now) }
+    ensures { IfOk result (λ edits. AreEdits rows.now (map lent changes.now) edits.items) }
 {
     let mut edits = Vec::with_capacity(alloc, changes.len())?;
     let mut from = 0;
     for change in changes {
-        let edit = Edit::of(rows, from, change)?;
+        let edit = Edit::of(rows, from, *change);
         from = edit.next();
         edits.push(edit)?;
     }

@@ -4,7 +4,7 @@ ghost use Rattle.std.specs.List.Sorted.{IsStrictlyIncreasing};
 ghost use Rattle.sc_record.specs.declared.write.Write.{Write};
 ghost use Rattle.sc_record.specs.Writes.{AscendById};
 ghost use Rattle.sc_segment.specs.Joining.{has_row};
-ghost use Rattle.sc_snapshot.specs.Rows.{AreRows, AreChanged, is_within};
+ghost use Rattle.sc_snapshot.specs.Rows.{AreRows, AreChanged, is_within, lent};
 ghost use Rattle.sc_snapshot.specs.Postings.{has_term, term_count, is_live_at};
 
 use crate::cutting::{edited_pieces, pieces_of};
@@ -88,12 +88,12 @@ impl Snapshot {
     /// in order. What it takes grows with the changes, with a step for the number and the mark of each row, a look-up for each posting and a
     /// share of each key. Of the old rows only those are read among which a change's place is sought. The only error is that memory was
     /// refused.
-    pub fn next(&self, alloc: Global, place: u64, changes: &[Cell]) -> Result<Snapshot, AllocError>
-        requires ascend { AscendById (map arc_value changes.now) }
-        requires bounded { (rows : List Write) → AscendById rows → AreChanged self.now.rows (map arc_value changes.now) rows → length rows ≤ 2 ^ 24 }
+    pub fn next(&self, alloc: Global, place: u64, changes: &[&Cell]) -> Result<Snapshot, AllocError>
+        requires ascend { AscendById (map lent changes.now) }
+        requires bounded { (rows : List Write) → AscendById rows → AreChanged self.now.rows (map lent changes.now) rows → length rows ≤ 2 ^ 24 }
         ensures place { IfOk result (λ snapshot. snapshot.place ≡ place) }
         ensures rows { IfOk result (λ snapshot. AreRows snapshot.rows) }
-        ensures changed { IfOk result (λ snapshot. AreChanged self.now.rows (map arc_value changes.now) snapshot.rows) }
+        ensures changed { IfOk result (λ snapshot. AreChanged self.now.rows (map lent changes.now) snapshot.rows) }
     {
         let old = self.rows.pieces();
         let edits = edits_of(alloc, old, changes)?;

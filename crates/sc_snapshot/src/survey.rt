@@ -60,7 +60,7 @@ impl Survey {
             survey.keep_all(&self.live_bits, from, edit.at, number)?;
             number += edit.at - from;
             survey.mark(number as u32, edit.cell.doc.is_some())?;
-            survey.bound(&edit.cell);
+            survey.bound(edit.cell);
             number += 1;
             from = edit.next();
         }

@@ -1,8 +1,7 @@
 -- The rows after the edits are those after the changes.
 use Rattle.std.proofs.Common.{◌≡◌, ◌≤◌, List, map, length, sym, ap, subst, ◌∙◌}
-use Rattle.std.specs.Arc.{arc_value}
 use Rattle.sc_snapshot.specs.Edits.{edited}
-use Rattle.sc_snapshot.specs.Rows.{SnapshotState, AreRows, AreChanged}
+use Rattle.sc_snapshot.specs.Rows.{SnapshotState, AreRows, AreChanged, lent}
 use Rattle.sc_snapshot.specs.declared.edits.Edit.{Edit}
 use Rattle.sc_snapshot.proofs.EditedLemmas.{rows-after}
 use Rattle.sc_snapshot.proofs.snapshot.Snapshot.next.Goals as goal
@@ -10,7 +9,7 @@ use Rattle.sc_snapshot.proofs.snapshot.Snapshot.next.Goals as goal
 pub edited_pieces-requires-clause-new : goal.edited_pieces-requires-clause-new
 edited_pieces-requires-clause-new c =
     let old = c.pieces-old.result.now in
-    let changes = map arc_value c.args.changes.now in
+    let changes = map lent c.args.changes.now in
     let edits = c.in_ok-edits.edits.items in
     let same : old ≡ c.args.self.now.rows = c.pieces-old.ensures.rows ∙ ap (λ (s : SnapshotState). s.rows) c.self.view_is in
     let are = subst AreRows (sym c.pieces-old.ensures.rows) c.pieces-old.ensures.are_rows in
@@ -20,7 +19,7 @@ edited_pieces-requires-clause-new c =
 pub next-requires-clause-new : goal.next-requires-clause-new
 next-requires-clause-new c =
     let old = c.pieces-old.result.now in
-    let changes = map arc_value c.args.changes.now in
+    let changes = map lent c.args.changes.now in
     let edits = c.in_ok-edits.edits.items in
     let same : old ≡ c.args.self.now.rows = c.pieces-old.ensures.rows ∙ ap (λ (s : SnapshotState). s.rows) c.self.view_is in
     let are = subst AreRows (sym c.pieces-old.ensures.rows) c.pieces-old.ensures.are_rows in
@@ -30,7 +29,7 @@ next-requires-clause-new c =
 pub from_pieces-requires : goal.from_pieces-requires
 from_pieces-requires c =
     let old = c.pieces-old.result.now in
-    let changes = map arc_value c.args.changes.now in
+    let changes = map lent c.args.changes.now in
     let edits = c.in_ok-edits.edits.items in
     let same : old ≡ c.args.self.now.rows = c.pieces-old.ensures.rows ∙ ap (λ (s : SnapshotState). s.rows) c.self.view_is in
     let are = subst AreRows (sym c.pieces-old.ensures.rows) c.pieces-old.ensures.are_rows in
@@ -40,7 +39,7 @@ from_pieces-requires c =
 pub returns-clause-changed : goal.returns-clause-changed
 returns-clause-changed c =
     let old = c.pieces-old.result.now in
-    let changes = map arc_value c.args.changes.now in
+    let changes = map lent c.args.changes.now in
     let edits = c.in_ok-edits.edits.items in
     let same : old ≡ c.args.self.now.rows = c.pieces-old.ensures.rows ∙ ap (λ (s : SnapshotState). s.rows) c.self.view_is in
     let are = subst AreRows (sym c.pieces-old.ensures.rows) c.pieces-old.ensures.are_rows in

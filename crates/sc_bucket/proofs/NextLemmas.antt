@@ -289,9 +289,9 @@ bounded-changed b slice old changes sound is are rows ascend changed =
     subst (λ (these : List Write). length these ≤ 2 ^ 24) (sym same) cells.bounded
 
 -- a list of no length is empty
-pub no_cells : (cells : List (Arc Write Global)) → length cells ≡ 0 → map arc_value cells ≡ []
-no_cells [] none = refl
-no_cells (cell ∷ cells) none = absurd (omega (arith, none))
+pub no_cells : {C : Type 0} (value : C → Write) (cells : List C) → length cells ≡ 0 → map value cells ≡ []
+no_cells value [] none = refl
+no_cells value (cell ∷ cells) none = absurd (omega (arith, none))
 
 -- where all writes are committed nothing changes in any slice
 pub AreChangesOf-none : (journal : List Entry) (slice : Slice) → uncommitted journal ≡ [] → AreChangesOf journal slice []

@@ -1,16 +1,13 @@
 -- What the parts of `searchers_at` do.
 use Rattle.std.specs.Prelude.{◌≡◌, ℕ, List, length, filter, map, All, Contains}
-use Rattle.std.proofs.Common.{Bor}
-use Rattle.std.specs.Arc.{arc_value}
 use Rattle.std.specs.Cmp.Lexicographic.{slice_cmp}
 use Rattle.std.specs.List.Sorted.{IsSorted}
 use Rattle.std.specs.Ordering.{nat_cmp}
-use Rattle.std.specs.declared.alloc.Global.{Global}
-use Rattle.std.specs.declared.sync.Arc.{Arc}
 use Rattle.sc_record.specs.Writes.{is_of, write_of, AscendById}
 use Rattle.sc_record.specs.declared.entry.Entry.{Entry}
 use Rattle.sc_record.specs.declared.write.Write.{Write}
 use Rattle.sc_snapshot.specs.Rows.{SnapshotState, is_within}
+pub use Rattle.sc_snapshot.specs.Rows.{lent}
 use Rattle.sc_cluster.specs.declared.slice.State.TheVariants as states
 use Rattle.sc_cluster.specs.declared.slice.Slice.{Slice}
 use Rattle.sc_replica.specs.Core.{Core}
@@ -56,7 +53,3 @@ pub record AreChangesOf (journal : List Entry) (slice : Slice) (changes : List W
 -- the ids do not descend by their bytes
 abbrev pub IsSortedById : List Write → Type 0
 IsSortedById writes = IsSorted (slice_cmp nat_cmp) (map (λ (write : Write). write.id) writes)
-
--- the write of a cell that is lent
-abbrev pub lent : Bor (Arc Write Global) → Write
-lent cell = arc_value cell.now

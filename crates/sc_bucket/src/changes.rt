@@ -1,24 +1,23 @@
 ghost use Rattle.std.specs.Prelude.{◌≡◌, ℕ, List, map, filter, IfOk};
 ghost use Rattle.std.specs.Arc.{arc_value};
 ghost use Rattle.sc_record.specs.Writes.{is_of, AscendById};
-ghost use Rattle.sc_snapshot.specs.Rows.{is_within};
-ghost use Rattle.sc_bucket.specs.Taking.{AreLastOf, IsSortedById, lent};
+ghost use Rattle.sc_snapshot.specs.Rows.{is_within, lent};
+ghost use Rattle.sc_bucket.specs.Taking.{AreLastOf, IsSortedById};
 
 use crate::feed::is_within;
 use sc_hash::Range;
 use sc_record::Cell;
 use std::alloc::{AllocError, Global};
-use std::sync::Arc;
 
-/// Of these writes those whose hash is in the range, of each id the last, ascending by the ids' bytes. The only error is that memory
-/// was refused.
-pub(crate) fn changes_in(
+/// Of these writes those whose hash is in the range, of each id the last, ascending by the ids' bytes. None is shared. The only error is
+/// that memory was refused.
+pub(crate) fn changes_in<'a>(
     alloc: Global,
-    writes: &[Cell],
+    writes: &'a [Cell],
     range: &Range,
-) -> Result<Vec<Cell>, AllocError>
-    ensures ascend { IfOk result (λ changes. AscendById (map arc_value changes.items)) }
-    ensures last { IfOk result (λ changes. AreLastOf (filter (is_within range.now) (map arc_value writes.now)) (map arc_value changes.items)) }
+) -> Result<Vec<&'a Cell>, AllocError>
+    ensures ascend { IfOk result (λ changes. AscendById (map lent changes.items)) }
+    ensures last { IfOk result (λ changes. AreLastOf (filter (is_within range.now) (map arc_value writes.now)) (map lent changes.items)) }
 {
     let found = within(alloc, writes, range)?;
     let sorted = in_order(found)?;
@@ -49,23 +48,23 @@ fn in_order<'a>(mut cells: Vec<&'a Cell>) -> Result<Vec<&'a Cell>, AllocError>
     Ok(cells)
 }
 
-// A share of the last cell of each id, where the cells come in the order of their ids.
-fn last_of_each(alloc: Global, cells: &[&Cell]) -> Result<Vec<Cell>, AllocError>
+// The last cell of each id, where the cells come in the order of their ids.
+fn last_of_each<'a>(alloc: Global, cells: &[&'a Cell]) -> Result<Vec<&'a Cell>, AllocError>
     requires { IsSortedById (map lent cells.now) }
-    ensures ascend { IfOk result (λ shares. AscendById (map arc_value shares.items)) }
-    ensures last { IfOk result (λ shares. AreLastOf (map lent cells.now) (map arc_value shares.items)) }
+    ensures ascend { IfOk result (λ changes. AscendById (map lent changes.items)) }
+    ensures last { IfOk result (λ changes. AreLastOf (map lent cells.now) (map lent changes.items)) }
 {
-    let mut shares = Vec::with_capacity(alloc, cells.len())?;
+    let mut changes = Vec::with_capacity(alloc, cells.len())?;
     let Some((first, rest)) = cells.split_first() else {
-        return Ok(shares);
+        return Ok(changes);
     };
     let mut latest = *first;
     for cell in rest {
         if cell.id != latest.id {
-            shares.push(Arc::try_clone(latest)?)?;
+            changes.push(latest)?;
         }
         latest = *cell;
     }
-    shares.push(Arc::try_clone(latest)?)?;
-    Ok(shares)
+    changes.push(latest)?;
+    Ok(changes)
 }

@@ -1,8 +1,8 @@
 ghost use Rattle.std.specs.Prelude.{◌≡◌, ◌<◌, ◌+◌, ◌↔◌, Err, List, [], length, map, IsTrue, IsFalse, All, Contains, IfOk, OnOk, OnErr};
-ghost use Rattle.std.specs.Arc.{arc_value};
 ghost use Rattle.sc_hash.specs.Range.{IsWithin};
 ghost use Rattle.sc_record.specs.declared.write.Write.{Write};
 ghost use Rattle.sc_cluster.specs.declared.slice.State.TheVariants as states;
+ghost use Rattle.sc_snapshot.specs.Rows.{lent};
 ghost use Rattle.sc_replica.specs.Core.{Core};
 ghost use Rattle.sc_bucket.specs.Cores.{IsNewCore};
 ghost use Rattle.sc_bucket.specs.Room.{BucketHasRoom, BucketIsFull};
@@ -251,11 +251,11 @@ fn next_snapshot(
     bucket: &Bucket,
     slice: &Slice,
     last: &Snapshot,
-    changes: &[Cell],
+    changes: &[&Cell],
 ) -> Result<Snapshot, AllocError>
     requires sound { IsSound bucket.now }
     requires last { AreCommittedOf bucket.now slice.now last.now.rows }
-    requires changes { AreChangesOf bucket.now.journal.entries slice.now (map arc_value changes.now) }
+    requires changes { AreChangesOf bucket.now.journal.entries slice.now (map lent changes.now) }
     ensures { IfOk result (IsOfLeader bucket.now slice.now) }
 {
     if changes.is_empty() {

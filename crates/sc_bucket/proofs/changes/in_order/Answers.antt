@@ -13,7 +13,7 @@ use Rattle.sc_record.specs.Writes.{is_of}
 use Rattle.sc_record.specs.declared.write.Write.{Write}
 use Rattle.sc_cluster.proofs.ListLemmas.{filter-map}
 use Rattle.sc_journal.proofs.JournalLemmas.{id_from_is_of}
-use Rattle.sc_bucket.specs.Taking.{lent}
+use Rattle.sc_snapshot.specs.Rows.{lent}
 use Rattle.sc_bucket.proofs.StableLemmas.{IsSorted-keys, filter-stable}
 use Rattle.sc_bucket.proofs.changes.in_order.Goals as goal
 

@@ -4,7 +4,7 @@ use Rattle.std.proofs.lemmas.List.{drop_more, drop-drop, drop_all, length-take-l
 use Rattle.std.proofs.lemmas.Option.{slice_get_within}
 use Rattle.sc_record.specs.declared.write.Write.{Write}
 use Rattle.sc_snapshot.specs.declared.edits.Edit.{Edit}
-use Rattle.sc_snapshot.specs.Edits.{put_in, next_of, edited, AreInOrder}
+use Rattle.sc_snapshot.specs.Edits.{put_in, next_of, edited, AreInOrder, IsRest}
 
 -- ---- the n-th of lists
 -- within the first of two lists
@@ -41,12 +41,6 @@ order-bounded rows from (edit ∷ edits) order =
     let rest = order-bounded rows (next_of edit) edits order.1 in
     let first = order.0 in
     omega (arith, rest, first)
-
--- the rest of the new rows is what the rest of the edits makes of the rest of the old ones
-pub record IsRest (old new : List Write) (from number : ℕ) (edits : List Edit) : Type 0 where
-  pub rest : drop number new ≡ edited old from edits
-  pub within : number ≤ length new
-  pub in_order : AreInOrder (length old) from edits
 
 -- nothing is made yet
 pub rest-init : (old : List Write) (edits : List Edit) → AreInOrder (length old) 0 edits → IsRest old (edited old 0 edits) 0 0 edits

@@ -12,6 +12,7 @@ mod PlaceLemmas
 mod EditedLemmas
 mod PartLemmas
 mod SurveyLemmas
+mod MadeLemmas
 mod IdLemmas
 mod IdSearchLemmas
 pub mod CountLemmas

@@ -11,7 +11,7 @@ use Rattle.sc_record.specs.declared.write.Write.{Write}
 use Rattle.sc_snapshot.proofs.ChangeLemmas.{some_at, take-next}
 use Rattle.sc_snapshot.proofs.LiveLemmas.{passing-next, passing-live}
 use Rattle.sc_snapshot.specs.Postings.{is_live_at, AreLiveRows, IsSurvey}
-use Rattle.sc_snapshot.specs.Surveying.{live_numbers, AreSurveyed}
+use Rattle.sc_snapshot.specs.Surveying.{live_numbers, AreSurveyed, IsWithin, HasBoundsOf}
 use Rattle.sc_snapshot.specs.declared.survey.Survey.{Survey}
 
 -- whether a row is live
@@ -117,17 +117,23 @@ at_most a b same = omega (arith, ints)
 pub up_to : (a b c : ℤ) → a ≤ℤ b → b ≤ℤ c → a ≤ℤ c
 up_to a b c le more = omega (arith, ints)
 
--- the row's hash is within a survey's bounds
-abbrev pub IsWithin : Survey → Write → Type 0
-IsWithin survey row = (survey.least_hash ≤ℤ row.hash) × (row.hash ≤ℤ survey.greatest_hash)
+-- the bounds of a survey with the same ones hold its bounds, and those that hold these too
+pub same-bounds : (one other : Survey) → other.least_hash ≡ one.least_hash → other.greatest_hash ≡ one.greatest_hash → HasBoundsOf one other
+same-bounds one other least greatest =
+    (at_most other.least_hash one.least_hash least, at_most one.greatest_hash other.greatest_hash (sym greatest))
+
+pub bounds-on : (one two three : Survey) → HasBoundsOf one two → HasBoundsOf two three → HasBoundsOf one three
+bounds-on one two three first second = (
+  up_to three.least_hash two.least_hash one.least_hash second.0 first.0,
+  up_to one.greatest_hash two.greatest_hash three.greatest_hash first.1 second.1,
+)
 
 -- within wider bounds too
-pub wider : (one other : Survey) (rows : List Write) → other.least_hash ≤ℤ one.least_hash → one.greatest_hash ≤ℤ other.greatest_hash
-    → AllByRecursion (IsWithin one) rows → AllByRecursion (IsWithin other) rows
-wider one other [] least greatest all = tt
-wider one other (row ∷ rows) least greatest all = (
-  (up_to other.least_hash one.least_hash row.hash least all.0.0, up_to row.hash one.greatest_hash other.greatest_hash all.0.1 greatest),
-  wider one other rows least greatest all.1,
+pub wider : (one other : Survey) (rows : List Write) → HasBoundsOf one other → AllByRecursion (IsWithin one) rows → AllByRecursion (IsWithin other) rows
+wider one other [] bounds all = tt
+wider one other (row ∷ rows) bounds all = (
+  (up_to other.least_hash one.least_hash row.hash bounds.0 all.0.0, up_to row.hash one.greatest_hash other.greatest_hash all.0.1 bounds.1),
+  wider one other rows bounds all.1,
 )
 
 pub each-from_all : (P : Write → Type 0) (rows : List Write) → All P rows → AllByRecursion P rows

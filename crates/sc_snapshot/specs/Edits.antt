@@ -45,3 +45,9 @@ pub record AreEdits (old changes : List Write) (edits : List Edit) : Type 0 wher
   pub put_in_all : map put_in edits ≡ changes
   pub in_order : AreInOrder (length old) 0 edits
   pub places : AllByRecursion (λ (edit : Edit). IsPlace old edit.at (next_of edit) (put_in edit).id) edits
+
+-- the rest of the new rows is what the rest of the edits makes of the rest of the old ones
+pub record IsRest (old new : List Write) (from number : ℕ) (edits : List Edit) : Type 0 where
+  pub rest : drop number new ≡ edited old from edits
+  pub within : number ≤ length new
+  pub in_order : AreInOrder (length old) from edits

@@ -1,14 +1,12 @@
-ghost use Rattle.std.specs.Prelude.{◌≡◌, ℕ, ◌+◌, ◌-◌, ◌^◌, ◌≤◌, ◌<◌, true, ◌&&◌, if◌then◌else◌, length, slice_get, IfOk, OnOk, Some, List};
-ghost use Rattle.std.specs.List.{list_all};
+ghost use Rattle.std.specs.Prelude.{◌≡◌, ℕ, ◌+◌, ◌-◌, ◌^◌, ◌≤◌, ◌<◌, ◌∷◌, true, ◌&&◌, if◌then◌else◌, length, slice_get, IfOk, OnOk, Some, List};
 ghost use Rattle.sc_record.specs.declared.write.Write.{Write};
 ghost use Rattle.sc_snapshot.specs.Change.{IsChange};
-ghost use Rattle.sc_snapshot.specs.Edits.{put_in, edited, AreInOrder};
+ghost use Rattle.sc_snapshot.specs.Edits.{put_in, next_of, IsRest};
 ghost use Rattle.sc_snapshot.specs.Postings.{has_id_alone};
 ghost use Rattle.sc_snapshot.specs.declared.edits.Edit.{Edit};
 
 use crate::edits::Edit;
 use crate::filing::file_row;
-use crate::pieces::Pieces;
 use crate::term_key::TermKey;
 use sc_record::Write;
 use sc_segment::Builder;
@@ -26,31 +24,6 @@ pub(crate) struct Change {
 }
 
 impl Change {
-    /// What becomes of the old rows by these edits, and which rows are new. No row but those of the edits is looked at. The only error
-    /// is that memory was refused.
-    pub(crate) fn of(alloc: Global, old: &Pieces, edits: &[Edit]) -> Result<Change, AllocError>
-        requires in_order { AreInOrder (length old.now) 0 edits.now }
-        requires old { length old.now ≤ 2 ^ 24 }
-        requires new { length (edited old.now 0 edits.now) ≤ 2 ^ 24 }
-        ensures change { IfOk result (λ change. IsChange old.now (edited old.now 0 edits.now) (length old.now)
-            (length (edited old.now 0 edits.now)) change) }
-        ensures alone { IfOk result (λ change. change.alone ≡ list_all (λ (edit : Edit). has_id_alone (put_in edit)) edits.now) }
-    {
-        let mut change = Change::begin(alloc, old.len())?;
-        let mut from = 0;
-        let mut number = 0;
-        for edit in edits {
-            change.keep_all(from, edit.at, number)?;
-            number += edit.at - from;
-            change.leave(edit.replaces)?;
-            change.file(edit.cell, number as u32)?;
-            number += 1;
-            from = edit.next();
-        }
-        change.keep_all(from, old.len(), number)?;
-        Ok(change)
-    }
-
     /// No row is told yet.
     pub(crate) fn begin(alloc: Global, rows: usize) -> Result<Change, AllocError>
         ensures change { IfOk result (λ change. (old new : List Write) → IsChange old new 0 0 change) }
@@ -61,6 +34,25 @@ impl Change {
             added: Builder::new(alloc),
             alone: true,
         })
+    }
+
+    /// The old rows from this number up to the edit are the next new ones, and then the edit's row is a new one, in the place of an old one where
+    /// it replaces it. No other row is looked at. The only error is that memory was refused.
+    pub(crate) fn put(&mut self, from: usize, number: usize, edit: &Edit) -> Result<(), AllocError>
+        requires from { from ≤ edit.now.at }
+        requires number { number + (edit.now.at - from) < 2 ^ 24 }
+        requires last_row { self.old.added.last_row ≤ number }
+        ensures change { OnOk result ((old new : List Write) (edits : List Edit) → IsRest old new from number (edit.now ∷ edits)
+            → IsChange old new from number self.old
+            → IsChange old new (next_of edit.now) (number + (edit.now.at - from) + 1) self.new) }
+        ensures last_row { OnOk result (self.new.added.last_row ≤ number + (edit.now.at - from)) }
+        ensures alone { OnOk result (self.new.alone ≡ (self.old.alone && has_id_alone (put_in edit.now))) }
+    {
+        let place = number + (edit.at - from);
+        self.keep_all(from, edit.at, number)?;
+        self.leave(edit.replaces)?;
+        self.file(edit.cell, place as u32)?;
+        Ok(())
     }
 
     /// The next old row is not kept where it is replaced.
@@ -87,8 +79,13 @@ impl Change {
         Ok(())
     }
 
-    // These old rows are the next new ones.
-    fn keep_all(&mut self, from: usize, to: usize, number: usize) -> Result<(), AllocError>
+    /// These old rows are the next new ones.
+    pub(crate) fn keep_all(
+        &mut self,
+        from: usize,
+        to: usize,
+        number: usize,
+    ) -> Result<(), AllocError>
         requires from { from ≤ to }
         requires number { number + (to - from) ≤ 2 ^ 24 }
         ensures change { OnOk result ((old new : List Write) → IsChange old new from number self.old → to ≤ length old

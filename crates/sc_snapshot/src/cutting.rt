@@ -1,6 +1,6 @@
 ghost use Rattle.std.specs.Prelude.{◌≡◌, ◌+◌, ◌-◌, ◌^◌, ◌<◌, ◌≤◌, [], ◌∷◌, ◌++◌, map, length, take, drop, IfOk, IsTrue, OnOk};
 ghost use Rattle.std.specs.Arc.{arc_value};
-ghost use Rattle.sc_snapshot.specs.Edits.{edited, AreInOrder};
+ghost use Rattle.sc_snapshot.specs.Edits.{put_in};
 ghost use Rattle.sc_snapshot.specs.Pieces.{rows_in, start_of};
 
 use crate::edits::Edit;
@@ -19,7 +19,7 @@ const FEWEST: usize = 16;
 
 /// New pieces as they are made. Contracts see the list of the rows so far.
 #[derive(Drop)]
-struct Cutting {
+pub(crate) struct Cutting {
     pieces: Pieces,
     /// The last cells, which are in no piece yet.
     loose: Vec<Cell>,
@@ -36,29 +36,6 @@ impl Model for Cutting {
     ghost view = { λ a. a.pieces ++ map arc_value a.loose.items };
 }
 
-/// The rows after these edits: a piece that no edit falls into is shared, and no other cell is shared one by one than those of the
-/// pieces beside an edit. The only error is that memory was refused.
-pub(crate) fn edited_pieces(
-    alloc: Global,
-    rows: &Pieces,
-    edits: &[Edit],
-) -> Result<Pieces, AllocError>
-    requires in_order { AreInOrder (length rows.now) 0 edits.now }
-    requires old { length rows.now ≤ 2 ^ 24 }
-    requires new { length (edited rows.now 0 edits.now) ≤ 2 ^ 24 }
-    ensures { IfOk result (λ pieces. pieces ≡ edited rows.now 0 edits.now) }
-{
-    let mut cutting = Cutting::new(alloc);
-    let mut from = 0;
-    for edit in edits {
-        cutting.copy(rows, from, edit.at, false)?;
-        cutting.push(edit.cell)?;
-        from = edit.next();
-    }
-    cutting.copy(rows, from, rows.len(), true)?;
-    cutting.finish()
-}
-
 /// These cells in pieces of their own. The only error is that memory was refused.
 pub(crate) fn pieces_of(alloc: Global, cells: Vec<Cell>) -> Result<Pieces, AllocError>
     requires { length cells.items ≤ 2 ^ 24 }
@@ -70,7 +47,8 @@ pub(crate) fn pieces_of(alloc: Global, cells: Vec<Cell>) -> Result<Pieces, Alloc
 }
 
 impl Cutting {
-    fn new(alloc: Global) -> Cutting
+    /// No rows.
+    pub(crate) fn new(alloc: Global) -> Cutting
         ensures { result ≡ [] }
     {
         Cutting {
@@ -78,6 +56,19 @@ impl Cutting {
             loose: Vec::new(alloc),
             alloc,
         }
+    }
+
+    /// Puts the old rows from this number up to the edit at the end, and then a share of the edit's cell. A piece that no edit falls into is
+    /// shared, and no other cell is shared one by one than those of the pieces beside an edit. The only error is that memory was
+    /// refused.
+    pub(crate) fn put(&mut self, rows: &Pieces, from: usize, edit: &Edit) -> Result<(), AllocError>
+        requires from { from ≤ edit.now.at }
+        requires to { edit.now.at ≤ length rows.now }
+        requires bounded { length self.old + (edit.now.at - from) ≤ 2 ^ 24 }
+        ensures { OnOk result (self.new ≡ (self.old ++ take (edit.now.at - from) (drop from rows.now)) ++ put_in edit.now ∷ []) }
+    {
+        self.copy(rows, from, edit.at, false)?;
+        self.push(edit.cell)
     }
 
     // Puts the cell at the end.
@@ -88,8 +79,8 @@ impl Cutting {
         Ok(())
     }
 
-    // Puts these rows at the end: the last ones, or else those up to an edit.
-    fn copy(
+    /// Puts these rows at the end: the last ones, or else those up to an edit.
+    pub(crate) fn copy(
         &mut self,
         rows: &Pieces,
         from: usize,
@@ -164,8 +155,8 @@ impl Cutting {
         push_shares(&mut self.loose, cells)
     }
 
-    // All pieces.
-    fn finish(self) -> Result<Pieces, AllocError>
+    /// All pieces.
+    pub(crate) fn finish(self) -> Result<Pieces, AllocError>
         requires { length self ≤ 2 ^ 24 }
         ensures { IfOk result (λ pieces. pieces ≡ self) }
     {

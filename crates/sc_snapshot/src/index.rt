@@ -7,12 +7,10 @@ ghost use Rattle.sc_segment.specs.Carrying.{KeepsOrder};
 ghost use Rattle.sc_segment.specs.Index.{IsIndexOf};
 ghost use Rattle.sc_segment.specs.Joining.{has_row};
 ghost use Rattle.sc_snapshot.specs.Change.{IsChange};
-ghost use Rattle.sc_snapshot.specs.Edits.{edited, AreInOrder};
 ghost use Rattle.sc_snapshot.specs.Rows.{AreRows};
-ghost use Rattle.sc_snapshot.specs.Postings.{has_id_alone, has_term, key_order, keyed_rows, term_count, without_ids, IsIndexed};
+ghost use Rattle.sc_snapshot.specs.Postings.{has_id_alone, has_term, key_order, keyed_rows, term_count, without_ids, IsIndexed, IsSurvey};
 
 use crate::change::Change;
-use crate::edits::Edit;
 use crate::filing::file_row;
 use crate::ids::{is_id_term, row_of_id};
 use crate::pieces::Pieces;
@@ -52,26 +50,25 @@ impl Index {
         })
     }
 
-    /// The index of the new rows, which these edits make of the old ones, from that of the old ones: only the terms of the edits' rows
-    /// are filed. No other row is looked at, where rows are found by their own ids alone. The only error is that memory was refused.
+    /// The index of the new rows, which this change makes of the old ones, from that of the old ones and from the survey of the new ones: no
+    /// term is filed but those of the change. No row is looked at, where rows are found by their own ids alone. The only error is that
+    /// memory was refused.
     pub(crate) fn next(
         &self,
         alloc: Global,
-        old: &Pieces,
         new: &Pieces,
-        edits: &[Edit],
+        change: Change,
+        survey: Survey,
     ) -> Result<Index, AllocError>
-        requires indexed { IsIndexed old.now self.now }
-        requires old { AreRows old.now }
+        requires order { KeepsOrder change.moved.items }
         requires new { AreRows new.now }
-        requires in_order { AreInOrder (length old.now) 0 edits.now }
-        requires edited { new.now ≡ edited old.now 0 edits.now }
-        ensures { IfOk result (IsIndexed new.now) }
+        requires survey { IsSurvey new.now survey }
+        ensures { IfOk result (λ index. (old : List Write) → IsIndexed old self.now
+            → IsChange old new.now (length old) (length new.now) change
+            → (change.alone ≡ true → list_all has_id_alone old ≡ true → list_all has_id_alone new.now ≡ true) → IsIndexed new.now index) }
     {
-        let change = Change::of(alloc, old, edits)?;
         let whole = next_whole(alloc, &self.whole, new, change.alone)?;
         let segment = carried_segment(alloc, &self.segment, change)?;
-        let survey = self.survey.next(alloc, old, new, edits)?;
         Ok(Index {
             segment,
             whole,

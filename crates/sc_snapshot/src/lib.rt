@@ -27,6 +27,7 @@ mod filing;
 mod ids;
 mod index;
 mod laws;
+mod made;
 mod part;
 mod pieces;
 mod plain;

@@ -7,9 +7,10 @@ ghost use Rattle.sc_segment.specs.Joining.{has_row};
 ghost use Rattle.sc_snapshot.specs.Rows.{AreRows, AreChanged, is_within, lent};
 ghost use Rattle.sc_snapshot.specs.Postings.{has_term, term_count, is_live_at};
 
-use crate::cutting::{edited_pieces, pieces_of};
+use crate::cutting::pieces_of;
 use crate::edits::edits_of;
 use crate::index::Index;
+use crate::made::Made;
 use crate::part::Part;
 use crate::plain::Rows;
 use crate::term_key::TermKey;
@@ -97,10 +98,14 @@ impl Snapshot {
     {
         let old = self.rows.pieces();
         let edits = edits_of(alloc, old, changes)?;
-        let new = edited_pieces(alloc, old, edits.as_slice())?;
-        let index = self.index.next(alloc, old, &new, edits.as_slice())?;
+        let Made {
+            rows,
+            change,
+            survey,
+        } = Made::of(alloc, old, &self.index.survey, edits.as_slice())?;
+        let index = self.index.next(alloc, &rows, change, survey)?;
         Ok(Snapshot {
-            rows: Rows::from_pieces(alloc, place, new)?,
+            rows: Rows::from_pieces(alloc, place, rows)?,
             index: Arc::new(alloc, index)?,
         })
     }

@@ -2,12 +2,12 @@ ghost use Rattle.std.specs.Prelude.{◌≡◌, ℕ, ◌+◌, ◌-◌, ◌<◌, �
 ghost use Rattle.std.specs.Arc.{arc_value};
 ghost use Rattle.sc_record.specs.declared.write.Write.{Write};
 ghost use Rattle.sc_snapshot.specs.Rows.{AreRows};
-ghost use Rattle.sc_snapshot.specs.Edits.{edited, AreInOrder};
+ghost use Rattle.sc_snapshot.specs.Edits.{put_in, IsRest};
 ghost use Rattle.sc_snapshot.specs.Postings.{is_live_at, IsSurvey};
-ghost use Rattle.sc_snapshot.specs.Surveying.{AreSurveyed};
+ghost use Rattle.sc_snapshot.specs.Surveying.{AreSurveyed, HasBoundsOf, IsWithin};
+ghost use Rattle.sc_snapshot.specs.declared.edits.Edit.{Edit};
 
 use crate::edits::Edit;
-use crate::pieces::Pieces;
 use sc_record::{Cell, Write};
 use sc_segment::LiveBits;
 use std::alloc::{AllocError, Global};
@@ -37,35 +37,43 @@ impl Survey {
         Ok(survey)
     }
 
-    /// The survey of the new rows, which these edits make of those that this one is of. No row but those of the edits is looked at. The
-    /// only error is that memory was refused.
-    pub(crate) fn next(
-        &self,
-        alloc: Global,
-        old: &Pieces,
-        new: &Pieces,
-        edits: &[Edit],
-    ) -> Result<Survey, AllocError>
-        requires survey { IsSurvey old.now self.now }
-        requires old { AreRows old.now }
-        requires new { AreRows new.now }
-        requires in_order { AreInOrder (length old.now) 0 edits.now }
-        requires edited { new.now ≡ edited old.now 0 edits.now }
-        ensures { IfOk result (IsSurvey new.now) }
+    /// None of so many rows is surveyed yet, and the hashes have the bounds that they had before.
+    pub(crate) fn after(alloc: Global, last: &Survey, rows: usize) -> Result<Survey, AllocError>
+        requires { rows ≤ 2 ^ 24 }
+        ensures surveyed { IfOk result (λ survey. (new : List Write) → length new ≡ rows → AreSurveyed new 0 survey) }
+        ensures size { IfOk result (λ survey. length survey.live_bits ≡ rows) }
+        ensures hashes { IfOk result (HasBoundsOf last.now) }
     {
-        let mut survey = Survey::begin(alloc, new.len(), self.least_hash, self.greatest_hash)?;
-        let mut from = 0;
-        let mut number = 0;
-        for edit in edits {
-            survey.keep_all(&self.live_bits, from, edit.at, number)?;
-            number += edit.at - from;
-            survey.mark(number as u32, edit.cell.doc.is_some())?;
-            survey.bound(edit.cell);
-            number += 1;
-            from = edit.next();
-        }
-        survey.keep_all(&self.live_bits, from, old.len(), number)?;
+        let survey = Survey::begin(alloc, rows, last.least_hash, last.greatest_hash)?;
         Ok(survey)
+    }
+
+    /// The old rows from this number up to the edit are marked as they were, and then the edit's row as it is. No other row is looked at. The
+    /// only error is that memory was refused.
+    pub(crate) fn put(
+        &mut self,
+        last: &Survey,
+        from: usize,
+        number: usize,
+        edit: &Edit,
+    ) -> Result<(), AllocError>
+        requires from { from ≤ edit.now.at }
+        requires to { edit.now.at ≤ length last.now.live_bits }
+        requires old { length last.now.live_bits ≤ 2 ^ 24 }
+        requires number { number + (edit.now.at - from) < length self.old.live_bits }
+        requires new { length self.old.live_bits ≤ 2 ^ 24 }
+        ensures surveyed { OnOk result ((old new : List Write) (edits : List Edit) → last.now.live_bits ≡ map (λ (row : Write). is_some row.doc) old
+            → IsRest old new from number (edit.now ∷ edits) → AreSurveyed new number self.old
+            → AreSurveyed new (number + (edit.now.at - from) + 1) self.new) }
+        ensures size { OnOk result (length self.new.live_bits ≡ length self.old.live_bits) }
+        ensures bounds { OnOk result (HasBoundsOf self.old self.new) }
+        ensures hash { OnOk result (IsWithin self.new (put_in edit.now)) }
+    {
+        let place = number + (edit.at - from);
+        self.keep_all(&last.live_bits, from, edit.at, number)?;
+        self.mark(place as u32, edit.cell.doc.is_some())?;
+        self.bound(edit.cell);
+        Ok(())
     }
 
     // No row is surveyed yet, and each counts as live.
@@ -122,8 +130,8 @@ impl Survey {
         Ok(())
     }
 
-    // Marks the next rows as these old ones were.
-    fn keep_all(
+    /// Marks the next rows as these old ones were.
+    pub(crate) fn keep_all(
         &mut self,
         old: &LiveBits,
         from: usize,

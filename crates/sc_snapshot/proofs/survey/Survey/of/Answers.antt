@@ -7,9 +7,9 @@ use Rattle.std.specs.declared.sync.Arc.{Arc}
 use Rattle.sc_record.specs.declared.write.Write.{Write}
 use Rattle.sc_snapshot.proofs.EditedLemmas.{row_at}
 use Rattle.sc_snapshot.proofs.LoopLemmas.{all-next}
-use Rattle.sc_snapshot.proofs.SurveyLemmas.{surveyed-same, surveyed-all, up_to, IsWithin}
+use Rattle.sc_snapshot.proofs.SurveyLemmas.{surveyed-same, surveyed-all, up_to}
 use Rattle.sc_snapshot.specs.Postings.{is_live_at}
-use Rattle.sc_snapshot.specs.Surveying.{AreSurveyed}
+use Rattle.sc_snapshot.specs.Surveying.{AreSurveyed, IsWithin}
 use Rattle.sc_snapshot.proofs.survey.Survey.of.Goals as goal
 
 pub overflow_add-number : goal.overflow_add-number

@@ -1,0 +1,228 @@
+-- The rows up to one edit more are made.
+use Rattle.std.proofs.Common.{◌≡◌, ◌+◌, ◌-◌, ◌<◌, ◌≤◌, ◌∷◌, ◌++◌, [], Bool, ℕ, List, true, is_some, map, take, drop, length, sym, ap, ap₂, subst, ◌∙◌, ◌&&◌, arith, append_assoc}
+use Rattle.std.proofs.lemmas.List.{take_all}
+use Rattle.std.proofs.lemmas.List.Elements.{All-from_recursion}
+use Rattle.std.proofs.lemmas.List.Folds.{list_all_more}
+use Rattle.std.specs.List.{list_all, AllByRecursion}
+use Rattle.sc_record.specs.declared.write.Write.{Write}
+use Rattle.sc_snapshot.specs.Change.{IsChange}
+use Rattle.sc_snapshot.specs.Edits.{edited, next_of, put_in, IsRest, AreInOrder}
+use Rattle.sc_snapshot.specs.Postings.{has_id_alone}
+use Rattle.sc_snapshot.specs.Surveying.{AreSurveyed, IsWithin, HasBoundsOf}
+use Rattle.sc_snapshot.specs.declared.edits.Edit.{Edit}
+use Rattle.sc_snapshot.proofs.EditLemmas.{rest-init, rest-at, rest-end, edit-bounded, rest-within, rest-next, last-bounded, last-kept, last-size, left-at, some-rows, last-rows}
+use Rattle.sc_snapshot.proofs.EditedLemmas.{each-edited}
+use Rattle.sc_snapshot.proofs.LoopLemmas.{one-more}
+use Rattle.sc_snapshot.proofs.PlaceLemmas.{each-append}
+use Rattle.sc_snapshot.proofs.MadeLemmas.{edit-within, bits-size}
+use Rattle.sc_snapshot.proofs.SurveyLemmas.{surveyed-all, wider, same-bounds, bounds-on, each-from_all}
+use Rattle.sc_snapshot.proofs.made.Made.of.Goals as goal
+
+pub loop-edit-init : goal.loop-edit-init
+loop-edit-init c =
+    let old = c.args.old.now in
+    let edits = c.args.edits.now in
+    let new = edited old 0 edits in
+    let begun = c.in_ok-survey.ensures in
+    let rows = c.rows_after.ensures in
+    record {
+      rest = rest-init old edits c.requires.in_order;
+      rows = ap (λ (ws : List Write). ws ++ new) c.new-cutting.ensures;
+      change = c.in_ok-change.ensures.change old new;
+      alone = c.in_ok-change.ensures.alone;
+      surveyed = begun.surveyed new (sym rows);
+      size = begun.size ∙ rows;
+      bounds = begun.hashes;
+      hashes = tt;
+    }
+
+pub put-requires-clause-to : goal.put-requires-clause-to
+put-requires-clause-to c =
+    let old = c.args.old.now in
+    let all = c.args.edits.now in
+    let new = edited old 0 all in
+    let i = c.loop-edit.invariant in
+    let within = edit-within old new c.loop-edit.from c.loop-edit.number all c.loop-edit.edit-index c.edit-item.result c.loop-edit-test.true c.edit-item.is i.rest in
+    within.0
+
+pub put-requires-clause-bounded : goal.put-requires-clause-bounded
+put-requires-clause-bounded c =
+    let old = c.args.old.now in
+    let all = c.args.edits.now in
+    let new = edited old 0 all in
+    let from = c.loop-edit.from in
+    let index = c.loop-edit.edit-index in
+    let edit = c.edit-item.result in
+    let within = c.loop-edit-test.true in
+    let is = c.edit-item.is in
+    let i = c.loop-edit.invariant in
+    let cutting = c.loop-edit.cutting in
+    let order = left-at (AreInOrder (length old) from) all index edit within is i.rest.in_order in
+    let whole = left-at (λ (es : List Edit). cutting ++ edited old from es ≡ new) all index edit within is i.rows in
+    let few = some-rows old cutting new from edit (drop (index + 1) all) order whole in
+    let bound = c.requires.new in
+    omega (arith, few, bound)
+
+pub put-requires-in-loop-edit-clause-number : goal.put-requires-in-loop-edit-clause-number
+put-requires-in-loop-edit-clause-number c =
+    let old = c.args.old.now in
+    let all = c.args.edits.now in
+    let new = edited old 0 all in
+    let i = c.loop-edit.invariant in
+    let within = edit-within old new c.loop-edit.from c.loop-edit.number all c.loop-edit.edit-index c.edit-item.result c.loop-edit-test.true c.edit-item.is i.rest in
+    let bound = c.requires.new in
+    omega (arith, within.1, bound)
+
+pub put-requires-in-loop-edit-2-clause-to : goal.put-requires-in-loop-edit-2-clause-to
+put-requires-in-loop-edit-2-clause-to c =
+    let old = c.args.old.now in
+    let all = c.args.edits.now in
+    let new = edited old 0 all in
+    let i = c.loop-edit.invariant in
+    let within = edit-within old new c.loop-edit.from c.loop-edit.number all c.loop-edit.edit-index c.edit-item.result c.loop-edit-test.true c.edit-item.is i.rest in
+    let size = bits-size old c.args.last.now.live_bits c.requires.survey.live_bits in
+    omega (arith, within.0, size)
+
+pub put-requires-in-loop-edit-2-clause-number : goal.put-requires-in-loop-edit-2-clause-number
+put-requires-in-loop-edit-2-clause-number c =
+    let old = c.args.old.now in
+    let all = c.args.edits.now in
+    let new = edited old 0 all in
+    let i = c.loop-edit.invariant in
+    let within = edit-within old new c.loop-edit.from c.loop-edit.number all c.loop-edit.edit-index c.edit-item.result c.loop-edit-test.true c.edit-item.is i.rest in
+    omega (arith, within.1, i.size)
+
+pub overflow_add-number : goal.overflow_add-number
+overflow_add-number c =
+    let old = c.args.old.now in
+    let all = c.args.edits.now in
+    let new = edited old 0 all in
+    let i = c.loop-edit.invariant in
+    let within = edit-within old new c.loop-edit.from c.loop-edit.number all c.loop-edit.edit-index c.edit-item.result c.loop-edit-test.true c.edit-item.is i.rest in
+    let bound = c.requires.new in
+    omega (arith, within.1, bound)
+
+pub overflow_add-number-in-loop-edit : goal.overflow_add-number-in-loop-edit
+overflow_add-number-in-loop-edit c =
+    let old = c.args.old.now in
+    let all = c.args.edits.now in
+    let new = edited old 0 all in
+    let i = c.loop-edit.invariant in
+    let within = edit-within old new c.loop-edit.from c.loop-edit.number all c.loop-edit.edit-index c.edit-item.result c.loop-edit-test.true c.edit-item.is i.rest in
+    let bound = c.requires.new in
+    omega (arith, within.1, bound)
+
+pub next-from-requires : goal.next-from-requires
+next-from-requires c =
+    let old = c.args.old.now in
+    let all = c.args.edits.now in
+    let new = edited old 0 all in
+    let i = c.loop-edit.invariant in
+    let within = edit-within old new c.loop-edit.from c.loop-edit.number all c.loop-edit.edit-index c.edit-item.result c.loop-edit-test.true c.edit-item.is i.rest in
+    let bound = c.requires.old.bounded in
+    omega (arith, within.0, bound)
+
+pub keep_all-requires-clause-number : goal.keep_all-requires-clause-number
+keep_all-requires-clause-number c =
+    let old = c.args.old.now in
+    let all = c.args.edits.now in
+    let new = edited old 0 all in
+    let i = c.loop-edit.invariant in
+    let rest = rest-end old new c.loop-edit.from c.loop-edit.number all c.loop-edit.edit-index c.loop-edit-test.false i.rest in
+    let whole = last-size old new c.loop-edit.from c.loop-edit.number rest in
+    let bound = c.requires.new in
+    omega (arith, whole, bound, c.len-3.ensures)
+
+pub keep_all-requires-2-clause-number : goal.keep_all-requires-2-clause-number
+keep_all-requires-2-clause-number c =
+    let old = c.args.old.now in
+    let all = c.args.edits.now in
+    let new = edited old 0 all in
+    let i = c.loop-edit.invariant in
+    let rest = rest-end old new c.loop-edit.from c.loop-edit.number all c.loop-edit.edit-index c.loop-edit-test.false i.rest in
+    let whole = last-size old new c.loop-edit.from c.loop-edit.number rest in
+    omega (arith, whole, i.size, c.len-4.ensures)
+
+pub loop-edit-preserved : goal.loop-edit-preserved
+loop-edit-preserved c =
+    let old = c.args.old.now in
+    let all = c.args.edits.now in
+    let new = edited old 0 all in
+    let edit = c.edit-item.result in
+    let from = c.loop-edit.from in
+    let number = c.loop-edit.number in
+    let index = c.loop-edit.edit-index in
+    let edits = drop (index + 1) all in
+    let i = c.loop-edit.invariant in
+    let rest = rest-at old new from number all index edit c.loop-edit-test.true c.edit-item.is i.rest in
+    let cutting = c.loop-edit.cutting in
+    let front = take (edit.at - from) (drop from old) in
+    let more = edited old (next_of edit) edits in
+    let whole = left-at (λ (es : List Edit). cutting ++ edited old from es ≡ new) all index edit c.loop-edit-test.true c.edit-item.is i.rows in
+    let cut = c.in_ok-put.ensures in
+    let told = c.in_ok-put-2.ensures in
+    let marked = c.in_ok-put-3.ensures in
+    let before = c.loop-edit.survey in
+    let now = c.put-in-loop-edit-2.new.self in
+    record {
+      rest = subst (λ n. IsRest old new n (number + (edit.at - from) + 1) edits) (sym c.next-from.ensures) (rest-next old new from number edit edits rest);
+      rows = ap (λ n. c.put.new.self ++ edited old n edits) c.next-from.ensures
+          ∙ ap (λ (ws : List Write). ws ++ more) cut
+          ∙ append_assoc (cutting ++ front) (put_in edit ∷ []) more
+          ∙ append_assoc cutting front (put_in edit ∷ more)
+          ∙ whole;
+      change = subst (λ n. IsChange old new n (number + (edit.at - from) + 1) c.put-in-loop-edit.new.self) (sym c.next-from.ensures) (told.change old new edits rest i.change);
+      alone = told.alone ∙ ap₂ (λ b (e : Edit). b && has_id_alone (put_in e)) i.alone c.edit-item.is
+          ∙ sym (list_all_more (λ (e : Edit). has_id_alone (put_in e)) all index edit c.loop-edit-test.true);
+      surveyed = marked.surveyed old new edits c.requires.survey.live_bits rest i.surveyed;
+      size = marked.size ∙ i.size;
+      bounds = bounds-on c.args.last.now before now i.bounds marked.bounds;
+      hashes = subst (AllByRecursion (IsWithin now)) (sym (one-more put_in all index edit c.loop-edit-test.true c.edit-item.is))
+          (each-append (IsWithin now) (map put_in (take index all)) (put_in edit ∷ [])
+          (wider before now (map put_in (take index all)) marked.bounds i.hashes) (marked.hash, tt));
+    }
+
+pub returns-clause-change : goal.returns-clause-change
+returns-clause-change c =
+    let old = c.args.old.now in
+    let all = c.args.edits.now in
+    let new = edited old 0 all in
+    let from = c.loop-edit.from in
+    let number = c.loop-edit.number in
+    let i = c.loop-edit.invariant in
+    let rest = rest-end old new from number all c.loop-edit.edit-index c.loop-edit-test.false i.rest in
+    let size = c.len-3.ensures in
+    let kept = c.in_ok-keep_all.ensures.change old new i.change (let most : c.len-3.result ≤ length old = omega (arith, size) in most)
+    (λ k below. last-kept old new from number rest k (let few : k < length old - from = omega (arith, below, size) in few)) in
+    subst (λ n. IsChange old new (length old) n c.keep_all.new.self) (last-size old new from number rest)
+    (subst (λ n. IsChange old new n (number + (n - from)) c.keep_all.new.self) size kept)
+
+pub returns-clause-alone : goal.returns-clause-alone
+returns-clause-alone c =
+    c.in_ok-keep_all.ensures.alone ∙ c.loop-edit.invariant.alone
+    ∙ ap (list_all (λ (e : Edit). has_id_alone (put_in e))) (take_all c.loop-edit.edit-index c.args.edits.now c.loop-edit-test.false)
+
+pub returns-clause-survey : goal.returns-clause-survey
+returns-clause-survey c =
+    let old = c.args.old.now in
+    let all = c.args.edits.now in
+    let new = edited old 0 all in
+    let last = c.args.last.now in
+    let from = c.loop-edit.from in
+    let number = c.loop-edit.number in
+    let i = c.loop-edit.invariant in
+    let rest = rest-end old new from number all c.loop-edit.edit-index c.loop-edit-test.false i.rest in
+    let whole = last-size old new from number rest in
+    let size = c.len-4.ensures in
+    let kept = c.in_ok-keep_all-2.ensures in
+    let survey = c.keep_all-2.new.self in
+    let before = c.loop-edit.survey in
+    let told = kept.surveyed new old c.requires.survey.live_bits i.surveyed
+    (let few : number + (c.len-4.result - from) ≤ length new = omega (arith, whole, size) in few)
+    (λ k below. last-kept old new from number rest k (let few : k < length old - from = omega (arith, below, size) in few)) in
+    let same = same-bounds before survey kept.least_hash kept.greatest_hash in
+    let changes = wider before survey (map put_in all) same
+    (subst (λ (es : List Edit). AllByRecursion (IsWithin before) (map put_in es)) (take_all c.loop-edit.edit-index all c.loop-edit-test.false) i.hashes) in
+    let rows = wider last survey old (bounds-on last before survey i.bounds same) (each-from_all (IsWithin last) old c.requires.survey.hashes) in
+    surveyed-all new (number + (c.len-4.result - from)) survey told (omega (arith, whole, size))
+    (All-from_recursion (IsWithin survey) new (each-edited (IsWithin survey) old 0 all c.requires.in_order rows changes))

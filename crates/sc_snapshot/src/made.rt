@@ -1,0 +1,83 @@
+ghost use Rattle.std.specs.Prelude.{◌≡◌, ◌^◌, ◌≤◌, length, IfOk};
+ghost use Rattle.std.specs.List.{list_all};
+ghost use Rattle.sc_snapshot.specs.Change.{IsChange};
+ghost use Rattle.sc_snapshot.specs.Edits.{edited, put_in, AreInOrder};
+ghost use Rattle.sc_snapshot.specs.Postings.{has_id_alone, IsSurvey};
+ghost use Rattle.sc_snapshot.specs.Rows.{AreRows};
+ghost use Rattle.sc_snapshot.specs.declared.edits.Edit.{Edit};
+
+use crate::change::Change;
+use crate::cutting::Cutting;
+use crate::edits::Edit;
+use crate::pieces::Pieces;
+use crate::survey::Survey;
+use std::alloc::{AllocError, Global};
+
+/// What edits make of the rows of a snapshot.
+#[derive(Drop)]
+pub(crate) struct Made {
+    /// The new rows.
+    pub(crate) rows: Pieces,
+    /// What becomes of the old rows.
+    pub(crate) change: Change,
+    /// The survey of the new rows.
+    pub(crate) survey: Survey,
+}
+
+impl Made {
+    /// What these edits make of the old rows, of which this is the survey. The edits are passed once: each cell is shared, marked and
+    /// filed when it is first read. No other row is looked at. The only error is that memory was refused.
+    pub(crate) fn of(
+        alloc: Global,
+        old: &Pieces,
+        last: &Survey,
+        edits: &[Edit],
+    ) -> Result<Made, AllocError>
+        requires survey { IsSurvey old.now last.now }
+        requires old { AreRows old.now }
+        requires in_order { AreInOrder (length old.now) 0 edits.now }
+        requires new { length (edited old.now 0 edits.now) ≤ 2 ^ 24 }
+        ensures rows { IfOk result (λ made. made.rows ≡ edited old.now 0 edits.now) }
+        ensures change { IfOk result (λ made. IsChange old.now (edited old.now 0 edits.now) (length old.now)
+            (length (edited old.now 0 edits.now)) made.change) }
+        ensures alone { IfOk result (λ made. made.change.alone ≡ list_all (λ (edit : Edit). has_id_alone (put_in edit)) edits.now) }
+        ensures survey { IfOk result (λ made. IsSurvey (edited old.now 0 edits.now) made.survey) }
+    {
+        let mut cutting = Cutting::new(alloc);
+        let mut change = Change::begin(alloc, old.len())?;
+        let mut survey = Survey::after(alloc, last, rows_after(old, edits))?;
+        let mut from = 0;
+        let mut number = 0;
+        for edit in edits {
+            cutting.put(old, from, edit)?;
+            change.put(from, number, edit)?;
+            survey.put(last, from, number, edit)?;
+            number = number + (edit.at - from) + 1;
+            from = edit.next();
+        }
+        cutting.copy(old, from, old.len(), true)?;
+        change.keep_all(from, old.len(), number)?;
+        survey.keep_all(&last.live_bits, from, old.len(), number)?;
+        Ok(Made {
+            rows: cutting.finish()?,
+            change,
+            survey,
+        })
+    }
+}
+
+// How many rows there are after these edits. No cell is read.
+fn rows_after(old: &Pieces, edits: &[Edit]) -> usize
+    requires in_order { AreInOrder (length old.now) 0 edits.now }
+    requires old { length old.now ≤ 2 ^ 24 }
+    requires new { length (edited old.now 0 edits.now) ≤ 2 ^ 24 }
+    ensures { result ≡ length (edited old.now 0 edits.now) }
+{
+    let mut from = 0;
+    let mut number = 0;
+    for edit in edits {
+        number = number + (edit.at - from) + 1;
+        from = edit.next();
+    }
+    number + (old.len() - from)
+}

@@ -25,8 +25,8 @@ pub(crate) struct Made {
 }
 
 impl Made {
-    /// What these edits make of the old rows, of which this is the survey. The edits are passed once: each cell is shared, marked and
-    /// filed when it is first read. No other row is looked at. The only error is that memory was refused.
+    /// What these edits make of the old rows, of which this is the survey. The edits' cells are passed once: each is shared, marked and filed
+    /// when it is first read. No other row is read. The only error is that memory was refused.
     pub(crate) fn of(
         alloc: Global,
         old: &Pieces,

@@ -1,13 +1,13 @@
 -- One change more has its edit.
 use Rattle.std.proofs.Common.{◌≤◌, List, [], ◌∷◌, ◌++◌, map, take, length, sym, ap, subst, ◌∙◌, arith}
 use Rattle.std.proofs.lemmas.List.{map-append}
-use Rattle.sc_snapshot.specs.Rows.{lent}
 use Rattle.std.specs.List.{AllByRecursion}
 use Rattle.sc_record.specs.declared.write.Write.{Write}
 use Rattle.sc_snapshot.proofs.EditedLemmas.{end_of, end-bounded, end-push, order-push, below-next, row_at, later-above}
 use Rattle.sc_snapshot.proofs.LoopLemmas.{one-more}
 use Rattle.sc_snapshot.proofs.PlaceLemmas.{order, each-append}
 use Rattle.sc_snapshot.specs.Edits.{put_in, next_of, AreInOrder, AreBelow, IsPlace}
+use Rattle.sc_snapshot.specs.Rows.{lent}
 use Rattle.sc_snapshot.specs.declared.edits.Edit.{Edit}
 use Rattle.sc_snapshot.proofs.edits.edits_of.Goals as goal
 

@@ -1,8 +1,7 @@
 -- One edit more is told.
-use Rattle.std.proofs.Common.{◌+◌, ◌-◌, ◌&&◌, Some, sym, ap, ap₂, ◌∙◌, arith}
+use Rattle.std.proofs.Common.{◌+◌, ◌-◌, Some, sym, ap, ◌∙◌}
 use Rattle.sc_record.specs.declared.write.Write.{Write}
 use Rattle.sc_snapshot.specs.Edits.{next_of}
-use Rattle.sc_snapshot.specs.Postings.{has_id_alone}
 use Rattle.sc_snapshot.proofs.EditLemmas.{edit-bounded, rest-kept, rest-put}
 use Rattle.sc_snapshot.proofs.change.Change.put.Goals as goal
 

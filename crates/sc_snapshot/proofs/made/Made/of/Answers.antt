@@ -1,5 +1,5 @@
 -- The rows up to one edit more are made.
-use Rattle.std.proofs.Common.{◌≡◌, ◌+◌, ◌-◌, ◌<◌, ◌≤◌, ◌∷◌, ◌++◌, [], Bool, ℕ, List, true, is_some, map, take, drop, length, sym, ap, ap₂, subst, ◌∙◌, ◌&&◌, arith, append_assoc}
+use Rattle.std.proofs.Common.{◌≡◌, ◌+◌, ◌-◌, ◌<◌, ◌≤◌, ◌∷◌, ◌++◌, [], List, map, take, drop, length, sym, ap, ap₂, subst, ◌∙◌, ◌&&◌, arith, append_assoc}
 use Rattle.std.proofs.lemmas.List.{take_all}
 use Rattle.std.proofs.lemmas.List.Elements.{All-from_recursion}
 use Rattle.std.proofs.lemmas.List.Folds.{list_all_more}
@@ -8,9 +8,9 @@ use Rattle.sc_record.specs.declared.write.Write.{Write}
 use Rattle.sc_snapshot.specs.Change.{IsChange}
 use Rattle.sc_snapshot.specs.Edits.{edited, next_of, put_in, IsRest, AreInOrder}
 use Rattle.sc_snapshot.specs.Postings.{has_id_alone}
-use Rattle.sc_snapshot.specs.Surveying.{AreSurveyed, IsWithin, HasBoundsOf}
+use Rattle.sc_snapshot.specs.Surveying.{IsWithin}
 use Rattle.sc_snapshot.specs.declared.edits.Edit.{Edit}
-use Rattle.sc_snapshot.proofs.EditLemmas.{rest-init, rest-at, rest-end, edit-bounded, rest-within, rest-next, last-bounded, last-kept, last-size, left-at, some-rows, last-rows}
+use Rattle.sc_snapshot.proofs.EditLemmas.{rest-init, rest-at, rest-end, rest-next, last-kept, last-size, left-at, some-rows}
 use Rattle.sc_snapshot.proofs.EditedLemmas.{each-edited}
 use Rattle.sc_snapshot.proofs.LoopLemmas.{one-more}
 use Rattle.sc_snapshot.proofs.PlaceLemmas.{each-append}

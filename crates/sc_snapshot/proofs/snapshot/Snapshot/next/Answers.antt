@@ -1,6 +1,5 @@
 -- The rows after the edits are those after the changes, and the index is theirs.
 use Rattle.std.proofs.Common.{◌≡◌, ◌≤◌, List, true, map, length, sym, ap, subst, ◌∙◌}
-use Rattle.std.specs.Arc.{arc_value}
 use Rattle.std.specs.List.{list_all}
 use Rattle.sc_record.specs.declared.write.Write.{Write}
 use Rattle.sc_snapshot.specs.Change.{IsChange}

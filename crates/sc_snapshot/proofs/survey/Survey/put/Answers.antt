@@ -1,5 +1,5 @@
 -- The rows up to one edit more are surveyed.
-use Rattle.std.proofs.Common.{◌≡◌, ◌≤ℤ◌, ◌+◌, ◌-◌, ◌<◌, ◌≤◌, Bool, ℤ, List, is_some, length, slice_get, sym, ap, subst, ◌∙◌, arith}
+use Rattle.std.proofs.Common.{◌≡◌, ◌≤ℤ◌, ◌+◌, ◌-◌, ◌≤◌, Bool, ℤ, List, is_some, length, slice_get, sym, ap, subst, ◌∙◌, arith}
 use Rattle.sc_record.specs.declared.write.Write.{Write}
 use Rattle.sc_snapshot.specs.Postings.{is_live_at}
 use Rattle.sc_snapshot.specs.Surveying.{IsWithin}

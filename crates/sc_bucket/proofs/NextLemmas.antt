@@ -1,11 +1,8 @@
 -- The rows that a slice's searcher shows, after what was written in the slice's range since the last commit, are its leader's cells.
 use Rattle.std.proofs.Common.{◌≡◌, ◌∙◌, ◌≤◌, ◌^◌, ◌⊎◌, inl, inr, ℕ, ℤ, Bool, true, false, cond, List, [], ◌∷◌, ◌++◌, length, find, map, Option, Some, None, refl, sym, ap, subst, All, Contains, arith}
 use Rattle.std.specs.Prelude.{is_some, if◌then◌else◌, Result, Ok, Err, IfOk}
-use Rattle.std.specs.Arc.{arc_value}
 use Rattle.std.specs.List.{filter}
 use Rattle.std.specs.declared.alloc.AllocError.{AllocError}
-use Rattle.std.specs.declared.alloc.Global.{Global}
-use Rattle.std.specs.declared.sync.Arc.{Arc}
 use Rattle.std.proofs.lemmas.List.{append-nil, append_assoc}
 use Rattle.std.proofs.lemmas.List.Elements.{All-head, All-tail, All-contains, All-contains_itself, All-filter, All-weaker, Contains-append_right, filter-append, filter_passes}
 use Rattle.std.proofs.lemmas.Option.{none-some}

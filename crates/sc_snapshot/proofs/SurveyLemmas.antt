@@ -11,7 +11,7 @@ use Rattle.sc_record.specs.declared.write.Write.{Write}
 use Rattle.sc_snapshot.proofs.ChangeLemmas.{some_at, take-next}
 use Rattle.sc_snapshot.proofs.LiveLemmas.{passing-next, passing-live}
 use Rattle.sc_snapshot.specs.Postings.{is_live_at, AreLiveRows, IsSurvey}
-use Rattle.sc_snapshot.specs.Surveying.{live_numbers, AreSurveyed, IsWithin, HasBoundsOf}
+use Rattle.sc_snapshot.specs.Surveying.{live_numbers, AreSurveyed, BoundsHashOf, HasBoundsOf}
 use Rattle.sc_snapshot.specs.declared.survey.Survey.{Survey}
 
 -- whether a row is live
@@ -129,7 +129,7 @@ bounds-on one two three first second = (
 )
 
 -- within wider bounds too
-pub wider : (one other : Survey) (rows : List Write) → HasBoundsOf one other → AllByRecursion (IsWithin one) rows → AllByRecursion (IsWithin other) rows
+pub wider : (one other : Survey) (rows : List Write) → HasBoundsOf one other → AllByRecursion (BoundsHashOf one) rows → AllByRecursion (BoundsHashOf other) rows
 wider one other [] bounds all = tt
 wider one other (row ∷ rows) bounds all = (
   (up_to other.least_hash one.least_hash row.hash bounds.0 all.0.0, up_to row.hash one.greatest_hash other.greatest_hash all.0.1 bounds.1),

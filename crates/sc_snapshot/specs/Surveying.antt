@@ -15,8 +15,8 @@ pub record AreSurveyed (rows : List Write) (count : ℕ) (survey : Survey) : Typ
   pub live_bits : survey.live_bits ≡ map (λ (row : Write). is_some row.doc) (take count rows) ++ replicate (length rows - count) true
 
 -- the row's hash is within a survey's bounds
-abbrev pub IsWithin : Survey → Write → Type 0
-IsWithin survey row = (survey.least_hash ≤ℤ row.hash) × (row.hash ≤ℤ survey.greatest_hash)
+abbrev pub BoundsHashOf : Survey → Write → Type 0
+BoundsHashOf survey row = (survey.least_hash ≤ℤ row.hash) × (row.hash ≤ℤ survey.greatest_hash)
 
 -- what is within the bounds of one survey is within those of the other
 abbrev pub HasBoundsOf : (one other : Survey) → Type 0

@@ -4,7 +4,7 @@ ghost use Rattle.sc_record.specs.declared.write.Write.{Write};
 ghost use Rattle.sc_snapshot.specs.Rows.{AreRows};
 ghost use Rattle.sc_snapshot.specs.Edits.{put_in, IsRest};
 ghost use Rattle.sc_snapshot.specs.Postings.{is_live_at, IsSurvey};
-ghost use Rattle.sc_snapshot.specs.Surveying.{AreSurveyed, HasBoundsOf, IsWithin};
+ghost use Rattle.sc_snapshot.specs.Surveying.{AreSurveyed, HasBoundsOf, BoundsHashOf};
 ghost use Rattle.sc_snapshot.specs.declared.edits.Edit.{Edit};
 
 use crate::edits::Edit;
@@ -67,7 +67,7 @@ impl Survey {
             → AreSurveyed new (number + (edit.now.at - from) + 1) self.new) }
         ensures size { OnOk result (length self.new.live_bits ≡ length self.old.live_bits) }
         ensures bounds { OnOk result (HasBoundsOf self.old self.new) }
-        ensures hash { OnOk result (IsWithin self.new (put_in edit.now)) }
+        ensures hash { OnOk result (BoundsHashOf self.new (put_in edit.now)) }
     {
         let place = number + (edit.at - from);
         self.keep_all(&last.live_bits, from, edit.at, number)?;

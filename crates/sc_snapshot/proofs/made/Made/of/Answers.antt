@@ -8,7 +8,7 @@ use Rattle.sc_record.specs.declared.write.Write.{Write}
 use Rattle.sc_snapshot.specs.Change.{IsChange}
 use Rattle.sc_snapshot.specs.Edits.{edited, next_of, put_in, IsRest, AreInOrder}
 use Rattle.sc_snapshot.specs.Postings.{has_id_alone}
-use Rattle.sc_snapshot.specs.Surveying.{IsWithin}
+use Rattle.sc_snapshot.specs.Surveying.{BoundsHashOf}
 use Rattle.sc_snapshot.specs.declared.edits.Edit.{Edit}
 use Rattle.sc_snapshot.proofs.EditLemmas.{rest-init, rest-at, rest-end, rest-next, last-kept, last-size, left-at, some-rows}
 use Rattle.sc_snapshot.proofs.EditedLemmas.{each-edited}
@@ -177,8 +177,8 @@ loop-edit-preserved c =
       surveyed = marked.surveyed old new edits c.requires.survey.live_bits rest i.surveyed;
       size = marked.size ∙ i.size;
       bounds = bounds-on c.args.last.now before now i.bounds marked.bounds;
-      hashes = subst (AllByRecursion (IsWithin now)) (sym (one-more put_in all index edit c.loop-edit-test.true c.edit-item.is))
-          (each-append (IsWithin now) (map put_in (take index all)) (put_in edit ∷ [])
+      hashes = subst (AllByRecursion (BoundsHashOf now)) (sym (one-more put_in all index edit c.loop-edit-test.true c.edit-item.is))
+          (each-append (BoundsHashOf now) (map put_in (take index all)) (put_in edit ∷ [])
           (wider before now (map put_in (take index all)) marked.bounds i.hashes) (marked.hash, tt));
     }
 
@@ -222,7 +222,7 @@ returns-clause-survey c =
     (λ k below. last-kept old new from number rest k (let few : k < length old - from = omega (arith, below, size) in few)) in
     let same = same-bounds before survey kept.least_hash kept.greatest_hash in
     let changes = wider before survey (map put_in all) same
-    (subst (λ (es : List Edit). AllByRecursion (IsWithin before) (map put_in es)) (take_all c.loop-edit.edit-index all c.loop-edit-test.false) i.hashes) in
-    let rows = wider last survey old (bounds-on last before survey i.bounds same) (each-from_all (IsWithin last) old c.requires.survey.hashes) in
+    (subst (λ (es : List Edit). AllByRecursion (BoundsHashOf before) (map put_in es)) (take_all c.loop-edit.edit-index all c.loop-edit-test.false) i.hashes) in
+    let rows = wider last survey old (bounds-on last before survey i.bounds same) (each-from_all (BoundsHashOf last) old c.requires.survey.hashes) in
     surveyed-all new (number + (c.len-4.result - from)) survey told (omega (arith, whole, size))
-    (All-from_recursion (IsWithin survey) new (each-edited (IsWithin survey) old 0 all c.requires.in_order rows changes))
+    (All-from_recursion (BoundsHashOf survey) new (each-edited (BoundsHashOf survey) old 0 all c.requires.in_order rows changes))

@@ -4,7 +4,7 @@ use Rattle.std.specs.List.{list_all, AllByRecursion}
 use Rattle.sc_snapshot.specs.Change.{IsChange}
 use Rattle.sc_snapshot.specs.Edits.{edited, put_in, IsRest}
 use Rattle.sc_snapshot.specs.Postings.{has_id_alone}
-use Rattle.sc_snapshot.specs.Surveying.{AreSurveyed, IsWithin, HasBoundsOf}
+use Rattle.sc_snapshot.specs.Surveying.{AreSurveyed, BoundsHashOf, HasBoundsOf}
 use Rattle.sc_snapshot.specs.declared.edits.Edit.{Edit}
 use Rattle.sc_snapshot.proofs.made.Made.of.Given as goal
 
@@ -17,5 +17,5 @@ invariant-loop-edit l = record {
   surveyed : AreSurveyed (edited l.old 0 l.edits) l.number l.survey;
   size : length l.survey.live_bits ≡ length (edited l.old 0 l.edits);
   bounds : HasBoundsOf l.last l.survey;
-  hashes : AllByRecursion (IsWithin l.survey) (map put_in (take l.edit-index l.edits));
+  hashes : AllByRecursion (BoundsHashOf l.survey) (map put_in (take l.edit-index l.edits));
 }

@@ -9,7 +9,7 @@ use Rattle.sc_snapshot.proofs.EditedLemmas.{row_at}
 use Rattle.sc_snapshot.proofs.LoopLemmas.{all-next}
 use Rattle.sc_snapshot.proofs.SurveyLemmas.{surveyed-same, surveyed-all, up_to}
 use Rattle.sc_snapshot.specs.Postings.{is_live_at}
-use Rattle.sc_snapshot.specs.Surveying.{AreSurveyed, IsWithin}
+use Rattle.sc_snapshot.specs.Surveying.{AreSurveyed, BoundsHashOf}
 use Rattle.sc_snapshot.proofs.survey.Survey.of.Goals as goal
 
 pub overflow_add-number : goal.overflow_add-number
@@ -41,9 +41,9 @@ loop-row-preserved c =
       surveyed = subst (λ n. AreSurveyed rows n now) (let next : number + 1 ≡ at + 1 = omega (arith, i.number) in next)
           (surveyed-same rows (number + 1) c.mark.new.self now surveyed c.bound.ensures.live_rows c.bound.ensures.live_bits);
       size = ap (λ (l : List Bool). length l) c.bound.ensures.live_bits ∙ marked.size ∙ i.size;
-      hashes = all-next arc_value cells at c.row-item.result test c.row-item.is (IsWithin old) (IsWithin now)
+      hashes = all-next arc_value cells at c.row-item.result test c.row-item.is (BoundsHashOf old) (BoundsHashOf now)
           (λ w within. (up_to now.least_hash old.least_hash w.hash least within.0, up_to w.hash old.greatest_hash now.greatest_hash within.1 greatest)) i.hashes
-          (subst (IsWithin now) c.deref-in-loop-row.ensures (c.bound.ensures.least.0, c.bound.ensures.greatest.0));
+          (subst (BoundsHashOf now) c.deref-in-loop-row.ensures (c.bound.ensures.least.0, c.bound.ensures.greatest.0));
       number = omega (arith, i.number);
     }
 
@@ -55,4 +55,4 @@ returns c =
     let all : c.loop-row.row-index ≡ length cells = omega (arith, c.loop-row-test.false, c.loop-row.auto.row-index-end) in
     let taken = ap (λ n. take n cells) all ∙ take-length cells in
     surveyed-all (map arc_value cells) c.loop-row.row-index c.loop-row.survey i.surveyed (omega (arith, size, all))
-    (subst (λ (xs : List (Arc Write Global)). All (IsWithin c.loop-row.survey) (map arc_value xs)) taken i.hashes)
+    (subst (λ (xs : List (Arc Write Global)). All (BoundsHashOf c.loop-row.survey) (map arc_value xs)) taken i.hashes)

@@ -2,7 +2,7 @@
 use Rattle.std.proofs.Common.{◌≡◌, ◌≤ℤ◌, ◌+◌, ◌-◌, ◌≤◌, Bool, ℤ, List, is_some, length, slice_get, sym, ap, subst, ◌∙◌, arith}
 use Rattle.sc_record.specs.declared.write.Write.{Write}
 use Rattle.sc_snapshot.specs.Postings.{is_live_at}
-use Rattle.sc_snapshot.specs.Surveying.{IsWithin}
+use Rattle.sc_snapshot.specs.Surveying.{BoundsHashOf}
 use Rattle.sc_snapshot.proofs.EditLemmas.{rest-kept, rest-put, rest-within}
 use Rattle.sc_snapshot.proofs.SurveyLemmas.{surveyed-same}
 use Rattle.sc_snapshot.proofs.survey.Survey.put.Goals as goal
@@ -38,4 +38,4 @@ returns-clause-bounds c =
     (least, greatest)
 
 pub returns-clause-hash : goal.returns-clause-hash
-returns-clause-hash c = subst (IsWithin c.bound.new.self) c.deref-2.ensures (c.bound.ensures.least.0, c.bound.ensures.greatest.0)
+returns-clause-hash c = subst (BoundsHashOf c.bound.new.self) c.deref-2.ensures (c.bound.ensures.least.0, c.bound.ensures.greatest.0)

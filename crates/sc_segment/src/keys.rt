@@ -102,6 +102,7 @@ impl<K: Key> Keys<K> {
     }
 
     // The first number from this one on whose key stands at this place, or else how many keys there are. Nothing but time depends on it.
+    #[inline(always)]
     fn pass_to(&self, from: usize, place: u32) -> usize {
         for at in from..self.places.len() {
             if self.places[at] == place {
@@ -112,6 +113,7 @@ impl<K: Key> Keys<K> {
     }
 
     // The head of the stored key at this place, if it is the key with this number.
+    #[inline(always)]
     fn head_at(&self, at: usize, place: u32) -> Option<u64>
         ensures { IfSome result (λ head. (key : K) → slice_get self.now.stored place ≡ Some key → head ≡ K.heading key) }
     {
@@ -266,12 +268,13 @@ fn heads_at<K: Key>(
     let mut high = 0;
     for at in 0..places.len() {
         let head = head_of(old, added, &mut low, &mut high, pieces, places[at]);
-        heads.push(head)?;
+        heads.push_reserved(head);
     }
     Ok(heads)
 }
 
 // The head of the key at this place, which is read from the key itself only where neither list has it after the numbers that were passed.
+#[inline(always)]
 fn head_of<K: Key>(
     old: &Keys<K>,
     added: &Keys<K>,
@@ -290,7 +293,8 @@ fn head_of<K: Key>(
     }
 }
 
-// The head of the key at this place, if one of the lists has it after the numbers that were passed.
+// The head of the key at this place, if one of the lists has it after the numbers that were passed. Its number is passed then.
+#[inline(always)]
 fn known_head<K: Key>(
     old: &Keys<K>,
     added: &Keys<K>,
@@ -302,12 +306,14 @@ fn known_head<K: Key>(
 {
     let count = old.stored();
     if place < count {
-        *low = old.pass_to(*low, place);
-        old.head_at(*low, place)
+        let at = old.pass_to(*low, place);
+        *low = at.saturating_add(1);
+        old.head_at(at, place)
     } else {
         let own = place - count;
-        *high = added.pass_to(*high, own);
-        added.head_at(*high, own)
+        let at = added.pass_to(*high, own);
+        *high = at.saturating_add(1);
+        added.head_at(at, own)
     }
 }
 

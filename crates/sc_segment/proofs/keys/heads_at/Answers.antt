@@ -26,13 +26,16 @@ loop-at-preserved g c =
     let here = found-within stored place low in
     let read = slice_get_read places (length places) at place refl within (get_or_default places at 0 place within) in
     let found : slice_get keys at ≡ Some here.0 = key_of_place stored places at place c.requires.places read ∙ here.1 in
-    c.in_ok-push.ensures.items
-    ∙ ap (λ (hs : List ℕ). hs ++ c.head_of-head.result ∷ []) c.loop-at.invariant
-    ∙ ap (λ (n : ℕ). map heading (take at keys) ++ n ∷ []) (c.head_of-head.ensures here.0 here.1)
-    ∙ sym (ap (map heading) (take-place keys at here.0 found) ∙ map-append heading (take at keys) (here.0 ∷ []))
+    record {
+      heads = c.push_reserved.ensures.items
+          ∙ ap (λ (hs : List ℕ). hs ++ c.head_of-head.result ∷ []) c.loop-at.invariant.heads
+          ∙ ap (λ (n : ℕ). map heading (take at keys) ++ n ∷ []) (c.head_of-head.ensures here.0 here.1)
+          ∙ sym (ap (map heading) (take-place keys at here.0 found) ∙ map-append heading (take at keys) (here.0 ∷ []));
+      room = omega (arith, c.loop-at.invariant.room, c.push_reserved.ensures.len, c.push_reserved.ensures.capacity);
+    }
 
 pub returns : goal.returns
 returns g c =
     let keys = keys_at (stored_in c.args.pieces.now) c.args.places.now in
     let all = length-keys_at (stored_in c.args.pieces.now) c.args.places.now c.requires.places in
-    c.loop-at.invariant ∙ ap (map g.K.Key.heading) (take_all c.loop-at.at keys (omega (arith, all, c.loop-at-test.false)))
+    c.loop-at.invariant.heads ∙ ap (map g.K.Key.heading) (take_all c.loop-at.at keys (omega (arith, all, c.loop-at-test.false)))

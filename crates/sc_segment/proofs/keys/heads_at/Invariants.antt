@@ -1,7 +1,10 @@
--- The heads that were put are those of the keys at the places that were passed.
-use Rattle.std.proofs.Common.{◌≡◌, map, take}
+-- The heads that were put are those of the keys at the places that were passed, and there is room for those that are left.
+use Rattle.std.proofs.Common.{◌≡◌, ◌+◌, ◌≤◌, length, map, take, vec_len, vec_capacity}
 use Rattle.sc_segment.specs.Storing.{keys_at, stored_in}
 use Rattle.sc_segment.proofs.keys.heads_at.Given as goal
 
 abbrev pub invariant-loop-at : goal.invariant-loop-at
-invariant-loop-at g l = l.heads.items ≡ map g.K.Key.heading (take l.at (keys_at (stored_in l.pieces) l.places))
+invariant-loop-at g l = record {
+  heads : l.heads.items ≡ map g.K.Key.heading (take l.at (keys_at (stored_in l.pieces) l.places));
+  room : vec_len l.heads + length l.places ≤ vec_capacity l.heads + l.at;
+}

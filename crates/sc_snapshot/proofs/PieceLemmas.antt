@@ -18,6 +18,13 @@ rows_of-next pieces place piece is =
     ∙ ap (λ (p : Piece). rows_of (take place pieces) ++ (rows_in p ++ [])) (get_or_from_slice_get pieces place piece piece is)
     ∙ ap (λ (rows : List Write). rows_of (take place pieces) ++ rows) (append-nil (rows_in piece))
 
+-- a piece ends after the rows before it and its own
+pub ends-after : (pieces : List Piece) (place : ℕ) (piece : Piece) → HaveEnds pieces → slice_get pieces place ≡ Some piece
+    → piece.end ≡ length (rows_of (take place pieces)) + length (rows_in piece)
+ends-after pieces place piece ends is =
+    ends place piece is ∙ ap (λ (rows : List Write). length rows) (rows_of-next pieces place piece is)
+    ∙ length-append (rows_of (take place pieces)) (rows_in piece)
+
 -- the rows are those before a piece, its own and those after it
 rows_of-split : (pieces : List Piece) (place : ℕ) (piece : Piece) → slice_get pieces place ≡ Some piece
     → rows_of pieces ≡ rows_of (take place pieces) ++ (rows_in piece ++ rows_of (drop (place + 1) pieces))

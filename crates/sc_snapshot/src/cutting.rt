@@ -4,15 +4,12 @@ ghost use Rattle.sc_snapshot.specs.Edits.{put_in};
 ghost use Rattle.sc_snapshot.specs.Pieces.{rows_in, start_of};
 
 use crate::edits::Edit;
-use crate::pieces::{Piece, Pieces};
+use crate::pieces::{MOST, Piece, Pieces};
 use sc_record::{Cell, List};
 use std::alloc::{AllocError, Global};
 use std::marker::Model;
 use std::mem;
 use std::sync::Arc;
-
-// So many cells a piece has that a change made, and no more.
-const MOST: usize = 32;
 
 // A piece beside a change is copied into the change's where that has fewer cells, so that pieces stay few.
 const FEWEST: usize = 16;

@@ -1,4 +1,4 @@
-ghost use Rattle.std.specs.Prelude.{◌≡◌, ◌+◌, ◌-◌, ◌^◌, ◌<◌, ◌≤◌, [], ◌++◌, map, length, take, drop, slice_get, OnOk, Some, option_copied, option_map};
+ghost use Rattle.std.specs.Prelude.{◌≡◌, ◌+◌, ◌-◌, ◌^◌, ◌<◌, ◌≤◌, ◌↔◌, IsTrue, [], ◌++◌, map, length, take, drop, slice_get, OnOk, Some, option_copied, option_map};
 ghost use Rattle.std.specs.Arc.{arc_value};
 ghost use Rattle.sc_snapshot.specs.Pieces.{rows_in, rows_of, start_of, HaveEnds, HasRow};
 
@@ -6,6 +6,9 @@ use sc_record::{Cell, List};
 use std::alloc::{AllocError, Global};
 use std::marker::Model;
 use std::sync::Arc;
+
+/// So many cells a piece has that a change made, and no more.
+pub(crate) const MOST: usize = 32;
 
 /// Cells that follow one another in the rows, and are shared as one.
 #[derive(Debug, Drop)]
@@ -22,6 +25,14 @@ impl Piece {
         ensures { result ≡ start_of self.now }
     {
         self.end - self.cells.len()
+    }
+
+    /// Whether it has the row with this number.
+    fn has(&self, at: usize) -> bool
+        requires { length (rows_in self.now) ≤ self.now.end }
+        ensures { IsTrue result ↔ ((start_of self.now ≤ at) × (at < self.now.end)) }
+    {
+        self.start() <= at && at < self.end
     }
 
     /// Some of its cells, counted from its first.
@@ -112,8 +123,23 @@ impl Pieces {
     }
 }
 
-// Which piece has the row with this number.
+// Which piece has the row with this number: mostly the one that would have it if all were full.
 fn place_of(pieces: &[Piece], at: usize) -> usize
+    requires ends { HaveEnds pieces.now }
+    requires at { at < length (rows_of pieces.now) }
+    ensures place { result < length pieces.now }
+    ensures start { length (rows_of (take result pieces.now)) ≤ at }
+    ensures within { at < length (rows_of (take (result + 1) pieces.now)) }
+{
+    let guess = at / MOST;
+    if guess < pieces.len() && pieces[guess].has(at) {
+        return guess;
+    }
+    place_near(pieces, at, guess)
+}
+
+// The same. It is sought first beside a place, and then farther and farther away.
+fn place_near(pieces: &[Piece], at: usize, place: usize) -> usize
     requires ends { HaveEnds pieces.now }
     requires at { at < length (rows_of pieces.now) }
     ensures place { result < length pieces.now }
@@ -122,13 +148,31 @@ fn place_of(pieces: &[Piece], at: usize) -> usize
 {
     let mut low = 0;
     let mut high = pieces.len();
-    'halving: while low < high {
-        let middle = low + (high - low) / 2;
-        if pieces[middle].end <= at {
-            low = middle + 1;
+    let mut next = place;
+    let mut reach = 1;
+    'seeking: while low < high {
+        let tried = if reach < high - low {
+            nearest(low, high, next)
         } else {
-            high = middle;
+            low + (high - low) / 2
+        };
+        if pieces[tried].end <= at {
+            low = tried + 1;
+            next = tried.saturating_add(reach);
+        } else {
+            high = tried;
+            next = tried.saturating_sub(reach);
         }
+        reach = reach.saturating_mul(2);
     }
     low
+}
+
+// The number that is nearest to this one, from the low one on and below the high one.
+fn nearest(low: usize, high: usize, number: usize) -> usize
+    requires { low < high }
+    ensures low { low ≤ result }
+    ensures high { result < high }
+{
+    number.min(high - 1).max(low)
 }

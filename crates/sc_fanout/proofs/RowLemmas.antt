@@ -1,5 +1,5 @@
 -- Rows that are read one after another, at the numbers of hits, and what is put at the end of a list.
-use Rattle.std.proofs.Common.{◌≡◌, ℕ, ◌+◌, ◌-◌, ◌<◌, ◌≤◌, cond, is_ok, List, [], ◌∷◌, ◌++◌, length, map, take, drop, get_or, slice_get, option_to_list, Option, Some, None, option_map, Result, Ok, Err, OnOk, sym, ap, ap₂, subst, ◌∙◌, arith, append_assoc, inl, inr, true, false, All}
+use Rattle.std.proofs.Common.{◌≡◌, ℕ, ◌+◌, ◌-◌, ◌<◌, ◌≤◌, cond, is_ok, List, [], ◌∷◌, ◌++◌, length, map, take, drop, get_or, slice_get, option_and_then, option_to_list, Option, Some, None, option_map, Result, Ok, Err, OnOk, sym, ap, ap₂, subst, ◌∙◌, arith, append_assoc, inl, inr, true, false, All}
 use Rattle.std.specs.Cmp.Lexicographic.{slice_cmp}
 use Rattle.std.specs.List.{flat_map}
 use Rattle.std.specs.List.Sorted.{IsSortedByKey}
@@ -9,7 +9,7 @@ use Rattle.std.proofs.lemmas.Bool.{cases_lt}
 use Rattle.std.proofs.lemmas.List.{drop-drop, drop-map, drop_all, drop_more, get_or-map, get_or-take, length-map, map-append, take-append-le, take-map, take-take, take_all, take_more}
 use Rattle.std.proofs.lemmas.List.Elements.{All-push, recursion_from_All}
 use Rattle.std.proofs.lemmas.List.Sorted.{IsPermutation-refl}
-use Rattle.std.proofs.lemmas.Option.{slice_get-map, slice_get_within, get_or_from_slice_get}
+use Rattle.std.proofs.lemmas.Option.{none-some, slice_get-map, slice_get_within, get_or_from_slice_get}
 use Rattle.sc_record.specs.declared.write.Write.{Write}
 use Rattle.sc_fanout.specs.Merging.{goes_before, merged}
 use Rattle.sc_fanout.proofs.MergeLemmas.{ascends-before, merged-nil, merged-run, merged-stays, take-after, take-cut}
@@ -26,11 +26,11 @@ rows-next rows numbers k d read within reads =
     ap (rows_of rows) (drop_more numbers k d within)
     ∙ ap (λ (o : Option Write). option_to_list o ++ rows_of rows (drop (k + 1) numbers)) (sym reads)
 
-pub rows-first : (rows : List Write) (numbers : List ℕ) (number : ℕ) (row : Write) → Some number ≡ slice_get numbers 0
-    → Some row ≡ slice_get rows number → rows_of rows numbers ≡ row ∷ rows_of rows (drop 1 numbers)
-rows-first rows numbers number row first reads =
-    rows-next rows numbers 0 number (Some row) (slice_get_within numbers 0 number (sym first))
-    (reads ∙ ap (slice_get rows) (sym (get_or_from_slice_get numbers 0 number number (sym first))))
+-- the row at the first number comes first
+pub lead-first : (rows : List Write) (numbers : List ℕ) (row : Write) → Some row ≡ option_and_then (slice_get rows) (slice_get numbers 0)
+    → rows_of rows numbers ≡ row ∷ rows_of rows (drop 1 numbers)
+lead-first rows [] row is = absurd (none-some row (sym is))
+lead-first rows (number ∷ numbers) row is = ap (λ (o : Option Write). option_to_list o ++ rows_of rows numbers) (sym is)
 
 -- where enough writes are kept and the last of them goes before the first row, none of the rows comes in
 pub none-comes : (most : ℕ) (kept : List Write) (last row : Write) (rows : List Write)

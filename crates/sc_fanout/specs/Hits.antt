@@ -1,5 +1,6 @@
 -- What is kept of what the searchers find.
-use Rattle.std.specs.Prelude.{◌≡◌, ◌≤◌, ◌*◌, ◌^◌, ℕ, List, map, take, length, All, Some, slice_get, option_to_list, Vec}
+use Rattle.std.specs.Prelude.{◌≡◌, ◌≤◌, ◌*◌, ◌^◌, ℕ, List, map, take, length, All, Some, slice_get, option_and_then, option_copied, option_map, option_to_list, Option, Vec}
+use Rattle.std.specs.Arc.{arc_value}
 use Rattle.std.specs.List.{flat_map}
 use Rattle.std.proofs.Common.{Bor}
 use Rattle.std.specs.declared.alloc.Global.{Global}
@@ -54,3 +55,11 @@ hit_rows hits = flat_map (λ number. option_to_list (slice_get (searcher_rows hi
 -- these lists begin as those do, as far as the first `most` of each
 abbrev pub BeginAlike : (most : ℕ) → List (List Write) → List (List Write) → Type 0
 BeginAlike most wholes lists = map (take most) lists ≡ map (take most) wholes
+
+-- the row at the first number of the hits, if there is one
+abbrev pub lead_of : Hits → Option Write
+lead_of hits = option_and_then (slice_get (searcher_rows hits.searcher.now)) (slice_get (numbers_of hits.numbers) 0)
+
+-- the write of a cell that may be there
+abbrev pub lead_value : Option (Bor (Arc Write Global)) → Option Write
+lead_value lead = option_map arc_value (option_copied lead)

@@ -8,7 +8,7 @@ ghost use Rattle.sc_segment.specs.Fresh.{IsFresh};
 ghost use Rattle.sc_fanout.specs.Pages.{AreFound, IsStartOf, all_of};
 ghost use Rattle.sc_fanout.specs.Merging.{goes_before, merged};
 ghost use Rattle.sc_bucket.specs.Taking.{lent};
-ghost use Rattle.sc_fanout.specs.Hits.{BeginAlike, hit_rows, lent_in};
+ghost use Rattle.sc_fanout.specs.Hits.{BeginAlike, hit_rows, lead_of, lead_value, lent_in};
 
 use crate::hits::Hits;
 use sc_record::Cell;
@@ -32,10 +32,12 @@ pub(crate) fn first_of_all<'a, L: Ledger>(
         → IsStartOf (all_of wholes) most (lent_in kept)) }
 {
     let mut steps = Steps::<L>::new(blank);
+    let leads = leads_of(alloc, all, &mut steps)?;
     let mut kept = Vec::with_capacity(alloc, room)?;
     let mut both = Vec::with_capacity(alloc, room)?;
-    for hits in all {
-        if may_come_in(kept.as_slice(), hits, most, &mut steps) {
+    for at in 0..all.len() {
+        let hits = &all[at];
+        if may_come_in(kept.as_slice(), hits, leads[at], most) {
             merge(kept.as_slice(), hits, most, &mut both, &mut steps)?;
             mem::swap(&mut kept, &mut both);
         }
@@ -43,21 +45,49 @@ pub(crate) fn first_of_all<'a, L: Ledger>(
     Ok(kept)
 }
 
-// Whether a row of the hits may be among the first `most`: not where so many are kept and the last of them goes before the first row.
-fn may_come_in<L: Ledger>(kept: &[&Cell], hits: &Hits, most: usize, steps: &mut Steps<L>) -> bool
+// The first row of each of the hits. They are found before any of them is compared: so the processor waits for several at once.
+fn leads_of<'a, L: Ledger>(
+    alloc: Global,
+    all: &[Hits<'a>],
+    steps: &mut Steps<L>,
+) -> Result<Vec<Option<&'a Cell>>, AllocError>
+    ensures { IfOk result (λ leads. map lead_value leads.items ≡ map lead_of all.now) }
+{
+    let mut leads = Vec::with_capacity(alloc, all.len())?;
+    for hits in all {
+        let lead = lead_of(hits, steps);
+        leads.push(lead)?;
+    }
+    Ok(leads)
+}
+
+// The first row of the hits.
+fn lead_of<'a, L: Ledger>(hits: &Hits<'a>, steps: &mut Steps<L>) -> Option<&'a Cell>
+    ensures { lead_value result ≡ lead_of hits.now }
+{
+    match hits.numbers.as_slice().first() {
+        Some(number) => hits.searcher.snapshot.row(*number, steps),
+        None => None,
+    }
+}
+
+// Whether a row of the hits, of which this is the first, may be among the first `most`: not where so many are kept and the last of them
+// goes before the first row.
+fn may_come_in(kept: &[&Cell], hits: &Hits, lead: Option<&Cell>, most: usize) -> bool
+    requires lead { lead_value lead ≡ lead_of hits.now }
     ensures { result ≡ false → IsSortedByKey (λ (write : Write). write.id) (slice_cmp nat_cmp) (map lent kept.now)
         → take most (merged goes_before (map lent kept.now) (hit_rows hits.now)) ≡ take most (map lent kept.now) }
 {
-    let Some(number) = hits.numbers.as_slice().first() else {
+    if hits.numbers.as_slice().is_empty() {
         return false;
-    };
+    }
     if kept.len() < most {
         return true;
     }
     let Some(last) = kept.last() else {
         return false;
     };
-    match hits.searcher.snapshot.row(*number, steps) {
+    match lead {
         Some(row) => last.id > row.id,
         None => true,
     }

@@ -1,13 +1,18 @@
-//! Worked examples of the lower crates, which answers lines of standard input: a line names a question and
-//! gives its arguments, and the line of the same number of standard output is its answer. An empty line and
-//! one that begins with `#` are written as they are.
+//! Worked examples of the lower crates and scenarios of the upper ones, which answers lines of standard input: the line of the same number
+//! of standard output is a line's answer. An empty line and one that begins with `#` are written as they are.
 //!
-//! What is expected comes from outside: from published tables, other programs, or the rule that a crate's
-//! documentation states. Each module asks one crate. In a question `\{308}` is the character of that
-//! number, and `\{3*ab}` is `ababab`. In an answer a character that is no printable ASCII character is
-//! written by its number.
+//! A line of an example names a question, by the crate's subject and a dot, and gives its arguments. What is expected comes from outside:
+//! from published tables, other programs, or the rule that a crate's documentation states. In a question `\{308}` is the character of that
+//! number, and `\{3*ab}` is `ababab`. In an answer a character that is no printable ASCII character is written by its number.
+//!
+//! A line of a scenario is an event of a bucket, a request to a collection, what its hosts, its pace or the wire of its connections are to
+//! refuse, or a question about any of these. What is expected comes from outside: from worked examples, for the lists of events that were
+//! drawn at random from `plain_bucket.py`, which follows each event with a bucket of plain lists, for the splits that are stopped at each
+//! step from `stopped_splits.py`, and for reads and writes that fail from `failing_wires.py`. Scenarios depend on `sc_session`, whose
+//! `serve` has all that a request comes to, and on `sc_world`, whose events are all that may happen to a bucket.
 #![tactic(auto)]
 
+// Examples: each module asks one crate.
 mod causes;
 mod clusters;
 mod documents;
@@ -23,38 +28,88 @@ mod searches;
 mod splits;
 mod terms;
 mod updates;
+
+// Scenarios: one bucket, its events, and what it shows; a collection with its hosts and its pace, behind one connection for each line of
+// requests, whose bytes go through a wire; and what is done line by line.
+mod bucket;
+mod connection;
+mod event;
+mod stage;
+mod state;
+mod wire;
+
+// The words of lines, and a line that is written piece by piece.
+mod line;
 mod words;
 
+ghost use Rattle.std.specs.Prelude.{◌≡◌, None};
+ghost use Rattle.sc_bucket.specs.Sound.{IsSound};
+
+use sc_bucket::Bucket;
+use sc_fanout::Page;
+use stage::Stage;
 use std::alloc::{AllocError, Global};
 use std::io::{self, BufRead, BufReader};
+use std::marker::{Send, Sync};
+use std::thread::Threads;
 use words::word_and;
 
 fn main(rt: HostRuntime) -> io::Result<()> {
     let alloc = rt.alloc();
+    go_between_threads::<Bucket>();
+    go_between_threads::<Page>();
+    let mut stage = Stage::new(alloc)?;
     for line in BufReader::new(alloc, rt.reader())?.lines(alloc) {
-        let answer = answer_line(alloc, line?.as_str())?;
+        let answer = answer_line(&rt, alloc, &mut stage, line?.as_str())?;
         println!(rt; "{}", answer.as_str())?;
     }
     Ok(())
 }
 
-/// What is written for a line. A question has no answer where its arguments have not the form that its module states, or ask for what can't
-/// be made; it is then answered as one for which memory ran out.
-fn answer_line(alloc: Global, line: &str) -> Result<String, AllocError> {
+/// Values of this type may go from thread to thread.
+fn go_between_threads<T: Send + Sync>() {}
+
+/// What is written for a line: it asks for an example where its first word has a dot, and is one of a scenario otherwise.
+fn answer_line<R: Threads + Sync>(
+    rt: &R,
+    alloc: Global,
+    stage: &mut Stage,
+    line: &str,
+) -> Result<String, AllocError>
+    requires sound { IsSound stage.old.bucket }
+    requires out { stage.old.collection.desk.out ≡ None }
+    requires board_out { stage.old.collection.desk.board_out ≡ None }
+    ensures sound { IsSound stage.new.bucket }
+    ensures out { stage.new.collection.desk.out ≡ None }
+    ensures board_out { stage.new.collection.desk.board_out ≡ None }
+{
     if line.is_empty() || line.starts_with('#') {
         return String::from_str(alloc, line);
     }
-    let (question, arguments) = word_and(line);
+    let (first, arguments) = word_and(line);
+    match first.split_once('.') {
+        Some((subject, question)) => example(alloc, subject, question, arguments),
+        None => stage::answer(rt, alloc, stage, line),
+    }
+}
+
+/// The answer of an example, as it is written. A question has none where its arguments have not the form that its module states, or ask for
+/// what can't be made; it is then answered as one for which memory ran out.
+fn example(
+    alloc: Global,
+    subject: &str,
+    question: &str,
+    arguments: &str,
+) -> Result<String, AllocError> {
     let text = escapes::read(alloc, arguments)?;
-    match answer(alloc, question, text.as_str()) {
+    match answer(alloc, subject, question, text.as_str()) {
         Ok(answer) => escapes::shown(alloc, answer.as_str()),
         Err(AllocError) => String::from_str(alloc, "no answer"),
     }
 }
 
-/// The answer to a question, by the module that its first word names.
-fn answer(alloc: Global, question: &str, text: &str) -> Result<String, AllocError> {
-    let (subject, question) = question.split_once('.').unwrap_or((question, ""));
+/// The answer to a question about a subject, by the module that has it.
+fn answer(alloc: Global, subject: &str, question: &str, text: &str) -> Result<String, AllocError> {
     match subject {
         "hash" => hashes::answer(alloc, question, text),
         "route" => routes::answer(alloc, question, text),

@@ -11,7 +11,7 @@
 //! names of its cores, and that these are started and stopped; and that all of them are made, or why not (`Builds`, `IsWholeSplit`, `IsFault`). Above that
 //! the whole of `split`: what it leaves of the desk, the hosts and the trail, what it answers and why (`IsSplit`).
 //!
-//! Tested alone: nothing here; `sc_scenarios` splits beside a stop of the pace and a fault of the hosts at each place.
+//! Tested alone: nothing here; `sc_examples` splits beside a stop of the pace and a fault of the hosts at each place.
 //!
 //! Neither: speed, and that the pace is asked after each piece.
 #![tactic(auto)]

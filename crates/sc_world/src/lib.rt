@@ -17,7 +17,7 @@
 //! that it owes).
 //!
 //! Tested alone: worked splits of one shard, and cores that rejoin and take the lead; 33 lists of 4,411 events, drawn from fixed
-//! seeds (`sc_scenarios`): after each event the bucket shows what a plain program of lists has, which was run when the lists were
+//! seeds (`sc_examples`): after each event the bucket shows what a plain program of lists has, which was run when the lists were
 //! made (`plain_bucket.py`).
 #![tactic(auto)]
 

@@ -47,7 +47,7 @@ impl Stage {
     }
 }
 
-/// What is written for a line.
+/// What is written for a line of a scenario.
 pub fn answer<R: Threads + Sync>(
     rt: &R,
     alloc: Global,
@@ -61,9 +61,6 @@ pub fn answer<R: Threads + Sync>(
     ensures out { stage.new.collection.desk.out ≡ None }
     ensures board_out { stage.new.collection.desk.board_out ≡ None }
 {
-    if line.is_empty() || line.starts_with('#') {
-        return String::from_str(alloc, line);
-    }
     let words = line.split(' ').collect::<Vec<&str>>(alloc)?;
     match word(&words, 0) {
         "GET" | "POST" | "DELETE" => exchange(rt, alloc, &mut stage.collection, stage.now, line),

@@ -1,7 +1,7 @@
 -- The numbers of the line are each put into their range.
 use Rattle.std.proofs.Common.{arith}
-use Rattle.sc_scenarios.proofs.ShapeLemmas.{in_ranges}
-use Rattle.sc_scenarios.proofs.connection.new_collection.Goals as goal
+use Rattle.sc_examples.proofs.ShapeLemmas.{in_ranges}
+use Rattle.sc_examples.proofs.connection.new_collection.Goals as goal
 
 pub new-requires : goal.new-requires
 new-requires c =

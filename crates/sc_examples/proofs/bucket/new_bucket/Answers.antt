@@ -6,7 +6,7 @@ use Rattle.sc_bucket.specs.New.{IsNewBucket}
 use Rattle.sc_bucket.specs.Sound.{IsSound}
 use Rattle.sc_bucket.specs.declared.bucket.Bucket.{Bucket}
 use Rattle.sc_collection.proofs.FollowerLemmas.{first_followers}
-use Rattle.sc_scenarios.proofs.bucket.new_bucket.Goals as goal
+use Rattle.sc_examples.proofs.bucket.new_bucket.Goals as goal
 
 pub new-requires-2-clause-least : goal.new-requires-2-clause-least
 new-requires-2-clause-least c =

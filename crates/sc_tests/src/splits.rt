@@ -339,6 +339,9 @@ fn an_update_and_a_deletion_come_amid_a_split(rt: HostRuntime) -> Result<(), Fai
     Ok(())
 }
 
+const DELETE: &str =
+    "GET /solr/admin/collections?action=DELETESHARD&collection=docs&shard=shard1 HTTP/1.1|Host: a||";
+
 const SEARCH: &str = "GET /solr/docs/select?q=*:*&rows=0 HTTP/1.1|Host: a||";
 
 const THREE: &str =
@@ -358,12 +361,13 @@ const IS_DONE: &str = r#"{"responseHeader":{"QTime":0,"status":0}}"#;
 const IS_RUNNING: &str =
     r#"{"error":{"code":409,"msg":"split of shard1 is running"},"responseHeader":{"QTime":0,"status":409}}"#;
 
-/// A request for each step of a split of one bucket in two: another split, searches, and an update after the first piece was fed.
+/// A request for each step of a split of one bucket in two: another split, a deletion of the shard, searches, and an update after the first
+/// piece was fed.
 fn visits_of_each_step(alloc: Global) -> Result<Vec<Visit<'static>>, AllocError> {
     let mut visits = Vec::new(alloc);
     for (step, request) in [
         (SplitStep::Begun, SPLIT),
-        (SplitStep::Started { core: 0 }, SEARCH),
+        (SplitStep::Started { core: 0 }, DELETE),
         (SplitStep::Started { core: 1 }, SEARCH),
         (SplitStep::Opened { bucket: 0 }, SEARCH),
         (SplitStep::Fed { bucket: 0 }, ADD_ONE),
@@ -378,15 +382,15 @@ fn visits_of_each_step(alloc: Global) -> Result<Vec<Visit<'static>>, AllocError>
     Ok(visits)
 }
 
-// A shard is not split amid a split. A search at each further step of it, and one after it, finds each document once: what was committed
-// before it, and what was added and committed amid it.
+// A shard is neither split nor deleted amid a split. A search at each further step of it, and one after it, finds each document once: what
+// was committed before it, and what was added and committed amid it.
 #[test]
 fn a_document_that_comes_amid_a_split_is_found_once(rt: HostRuntime) -> Result<(), Fail> {
     let alloc = rt.alloc();
     let visits = visits_of_each_step(alloc)?;
     let told = told(&rt, alloc, visits, &[ADD_THREE, SPLIT, SEARCH])?;
     let asked = format!(in alloc; "{IS_DONE}\n{IS_SPLIT}\n{FOUR}\n")?;
-    let before = format!(in alloc; "{IS_RUNNING}\n{THREE}\n{THREE}\n{THREE}\n{IS_DONE}\n")?;
+    let before = format!(in alloc; "{IS_RUNNING}\n{IS_RUNNING}\n{THREE}\n{THREE}\n{IS_DONE}\n")?;
     let after = format!(in alloc; "{FOUR}\n{FOUR}\n{FOUR}\n{FOUR}\n{FOUR}\n")?;
     let expected = format!(in alloc; "{asked}{before}{after}")?;
     assert_eq!(rt; told.as_str(), expected.as_str());

@@ -16,8 +16,7 @@ use Rattle.sc_record.specs.Writes.{is_of, AscendById}
 use Rattle.sc_cluster.proofs.ItemLemmas.{find_from_count}
 use Rattle.sc_journal.proofs.JournalLemmas.{is_of_own, id_from_is_of}
 use Rattle.sc_fanout.specs.Pages.{SortsById}
-use Rattle.sc_fanout.specs.Merging.{goes_before}
-use Rattle.sc_fanout.proofs.MergeLemmas.{Ascends}
+use Rattle.sc_fanout.specs.Merging.{Ascends, goes_before}
 use Rattle.sc_fanout.proofs.OrderLemmas.{ascends-in_order}
 
 -- the writes are exactly those of which this is true, and of each id there is one at most

@@ -1,8 +1,8 @@
 -- The hits of a searcher lead to the first documents that it finds.
-use Rattle.std.proofs.Common.{◌≡◌, ℕ, ◌+◌, ◌-◌, ◌<◌, ◌≤◌, List, [], ◌∷◌, ◌++◌, length, map, take, drop, slice_get, option_to_list, Option, Some, refl, sym, ap, subst, ◌∙◌, arith, inl, inr, All}
+use Rattle.std.proofs.Common.{◌≡◌, ℕ, ◌+◌, ◌-◌, ◌<◌, ◌≤◌, List, [], ◌∷◌, ◌++◌, length, map, take, drop, get_or, slice_get, option_to_list, Option, Some, refl, sym, ap, subst, ◌∙◌, arith, inl, inr, All}
 use Rattle.std.specs.List.{flat_map, AllByRecursion}
 use Rattle.std.proofs.lemmas.Bool.{cases_lt}
-use Rattle.std.proofs.lemmas.List.{take-map, take-take, take_all, drop-map, drop-take, length-map, length-take-le}
+use Rattle.std.proofs.lemmas.List.{take-map, take-take, take_all, drop-map, drop-take, get_or-map, length-map, length-take-le}
 use Rattle.std.proofs.Math.ListN.{drop_of_length-le}
 use Rattle.std.proofs.lemmas.List.Elements.{recursion_from_All}
 use Rattle.sc_record.specs.declared.write.Write.{Write}
@@ -13,8 +13,12 @@ use Rattle.sc_eval.specs.Numbers.{numbers_of, AreMatches}
 use Rattle.sc_eval.specs.declared.numbers.Matches.{Matches}
 use Rattle.sc_eval.proofs.NumberLemmas.{led}
 use Rattle.sc_fanout.specs.Steps.{searcher_rows, found_in}
-use Rattle.sc_fanout.specs.Hits.{StandAt, HasMatches, AreHits, BeginAlike, hit_rows, lists_of}
+use Rattle.sc_fanout.specs.Merging.{Ascends, goes_before}
+use Rattle.sc_fanout.specs.Pages.{AreFound}
+use Rattle.sc_fanout.specs.Hits.{StandAt, HasMatches, AreHits, BeginAlike, HitsAscend, hit_rows, lists_of, searchers_of}
 use Rattle.sc_fanout.specs.declared.hits.Hits.{Hits}
+use Rattle.sc_fanout.proofs.MergeLemmas.{ascends-take}
+use Rattle.sc_fanout.proofs.OrderLemmas.{ascends-by_id}
 
 -- the first rows stand at the first numbers
 stand-first : (rows : List Write) (numbers : List ℕ) (these : List Write) (most : ℕ) → StandAt rows numbers these
@@ -58,6 +62,23 @@ hits-begin criterion most far all le are = by all (recursion_from_All (AreHits c
         let later = by hs each.1 in
         ap (λ (l : List Write). l ∷ map (take most) (map hit_rows hs)) here
         ∙ ap (λ (ls : List (List Write)). take most (found_in criterion hits.searcher.now) ∷ ls) later
+
+-- the rows of hits ascend, as what is found does
+pub hits-ascend : (criterion : Criterion) (far : ℕ) (all : List Hits) → All AreFound (lists_of criterion all) → All (AreHits criterion far) all
+    → All HitsAscend all
+hits-ascend criterion far all found are = λ k d within.
+    let hits : Hits = get_or all k d in
+    let rows : List Write = found_in criterion hits.searcher.now in
+    let searcher : Searcher = d.searcher.now in
+    let many : k < length (searchers_of all) = omega (arith, within, length-map all (λ (h : Hits). h.searcher.now)) in
+    let one : get_or (lists_of criterion all) k [] ≡ rows =
+    get_or-map (found_in criterion) (searchers_of all) k searcher [] many
+    ∙ ap (found_in criterion) (get_or-map (λ (h : Hits). h.searcher.now) all k d searcher within) in
+    let inside : k < length (lists_of criterion all) = omega (arith, many, length-map (searchers_of all) (found_in criterion)) in
+    let whole : AreFound rows = subst AreFound one (found k [] inside) in
+    subst (Ascends goes_before)
+    (sym (stand-read (searcher_rows hits.searcher.now) (numbers_of hits.numbers) (take far rows) (are k d within)))
+    (ascends-take goes_before far rows (ascends-by_id rows whole.ascend))
 
 -- the first that a search of its rows gives are the first that a searcher finds, and it counts them all
 pub has-matches : (criterion : Criterion) (most : ℕ) (searcher : Searcher) (rows : List Write) (found : Matches)

@@ -1,8 +1,8 @@
 -- The lemmas of this crate, lowest first.
 mod MergeLemmas
 mod OrderLemmas
+mod GatherLemmas
 mod StartLemmas
-mod RowLemmas
 mod CountLemmas
 mod PageLemmas
 mod HitLemmas

@@ -1,33 +1,18 @@
 -- Two lists, merged: their elements, their order, and that their first elements are made of the first elements of both.
-use Rattle.std.proofs.Common.{◌≡◌, ℕ, zero, suc, ◌+◌, ◌<◌, ◌≤◌, Bool, true, false, cond, List, [], ◌∷◌, ◌++◌, take, drop, length, get_or, refl, sym, ap, subst, ◌∙◌, ⊎_elim, arith, append-nil, add-one, IsPermutation, IsSortedBy}
-use Rattle.std.specs.Prelude.{⊤}
+use Rattle.std.proofs.Common.{◌≡◌, ℕ, zero, suc, ◌<◌, ◌≤◌, Bool, true, false, cond, List, [], ◌∷◌, ◌++◌, take, length, get_or, refl, sym, ap, subst, ◌∙◌, ⊎_elim, arith, append-nil, add-one, IsPermutation, IsSortedBy}
 use Rattle.std.specs.List.{AllByRecursion}
-use Rattle.std.proofs.Math.Seq.{take-append-add}
 use Rattle.std.proofs.lemmas.Bool.{cases_Bool}
 use Rattle.std.proofs.lemmas.List.{take-take}
 use Rattle.std.proofs.lemmas.List.Elements.{recursion_from_All}
 use Rattle.std.proofs.lemmas.List.Sorted.{IsPermutation-refl, IsPermutation-cons, IsPermutation-middle, IsPermutation-trans}
-use Rattle.sc_fanout.specs.Merging.{merged}
+use Rattle.sc_fanout.specs.Merging.{Ascends, merged}
 
 take-cond : {X : Type 0} (n : ℕ) (b : Bool) (u v s t : List X) → take n u ≡ take n s → take n v ≡ take n t
     → take n (cond b u v) ≡ take n (cond b s t)
 take-cond n true u v s t p q = p
 take-cond n false u v s t p q = q
 
--- what is cut from more is cut from less
-pub take-cut : {X : Type 0} (n : ℕ) (u v : List X) → take n (take n u ++ v) ≡ take n (u ++ v)
-take-cut zero u v = refl
-take-cut (suc n) [] v = refl
-take-cut {X = X} (suc n) (x ∷ u) v = ap (λ (l : List X). x ∷ l) (take-cut n u v)
-
--- lists that begin alike do so after what comes before both
-pub take-after : {X : Type 0} (n most : ℕ) (u s t : List X) → length u + n ≡ most → take n s ≡ take n t
-    → take most (u ++ s) ≡ take most (u ++ t)
-take-after {X = X} n most u s t long same =
-    ap (λ k. take k (u ++ s)) (sym long) ∙ take-append-add u s n ∙ ap (λ (l : List X). u ++ l) same
-    ∙ sym (take-append-add u t n) ∙ ap (λ k. take k (u ++ t)) long
-
-all-weaker : {X : Type 0} (P Q : X → Type 0) → ((z : X) → P z → Q z) → (xs : List X) → AllByRecursion P xs → AllByRecursion Q xs
+pub all-weaker : {X : Type 0} (P Q : X → Type 0) → ((z : X) → P z → Q z) → (xs : List X) → AllByRecursion P xs → AllByRecursion Q xs
 all-weaker P Q h [] all = tt
 all-weaker P Q h (x ∷ xs) all = (h x all.0, all-weaker P Q h xs all.1)
 
@@ -43,39 +28,15 @@ module _ {X : Type 0} (before : X → X → Bool) where
 
   -- one step
 
-  step-left : (x : X) (xs : List X) (y : X) (ys : List X) → before x y ≡ true
+  pub step-left : (x : X) (xs : List X) (y : X) (ys : List X) → before x y ≡ true
       → merged before (x ∷ xs) (y ∷ ys) ≡ x ∷ merged before xs (y ∷ ys)
   step-left x xs y ys h =
       ap (λ (b : Bool). cond b (x ∷ merged before xs (y ∷ ys)) (y ∷ merged before (x ∷ xs) ys)) h
 
-  step-right : (x : X) (xs : List X) (y : X) (ys : List X) → before x y ≡ false
+  pub step-right : (x : X) (xs : List X) (y : X) (ys : List X) → before x y ≡ false
       → merged before (x ∷ xs) (y ∷ ys) ≡ y ∷ merged before (x ∷ xs) ys
   step-right x xs y ys h =
       ap (λ (b : Bool). cond b (x ∷ merged before xs (y ∷ ys)) (y ∷ merged before (x ∷ xs) ys)) h
-
-  -- an element comes after those before it, which are the first p, or all that stand among the first n
-  pub merged-run : (n p : ℕ) (xs : List X) (y : X) (ys : List X) → p ≤ length xs
-      → AllByRecursion (λ x. before x y ≡ true) (take p xs)
-      → ((d : X) → p < length xs → p < n → before (get_or xs p d) y ≡ false)
-      → take n (take p xs ++ y ∷ merged before (drop p xs) ys) ≡ take n (merged before xs (y ∷ ys))
-  merged-run zero p xs y ys within all ends = refl
-  merged-run (suc n) zero [] y ys within all ends = refl
-  merged-run (suc n) zero (x ∷ xs) y ys within all ends =
-      ap (take (suc n)) (sym (step-right x xs y ys (ends x (omega arith) (omega arith))))
-  merged-run (suc n) (suc p) [] y ys within all ends = absurd (omega (arith, within))
-  merged-run (suc n) (suc p) (x ∷ xs) y ys within all ends =
-      ap (λ (l : List X). x ∷ l)
-      (merged-run n p xs y ys (omega (arith, within)) all.1 (λ d less more. ends d (omega (arith, less)) (omega (arith, more))))
-      ∙ ap (take (suc n)) (sym (step-left x xs y ys all.0))
-
-  -- where enough elements go before those of a list, none of these comes in
-  pub merged-stays : (n : ℕ) (xs : List X) (y : X) (ys : List X) → AllByRecursion (λ x. before x y ≡ true) xs → n ≤ length xs
-      → take n (merged before xs (y ∷ ys)) ≡ take n xs
-  merged-stays zero xs y ys all enough = refl
-  merged-stays (suc n) [] y ys all enough = absurd (omega (arith, enough))
-  merged-stays (suc n) (x ∷ xs) y ys all enough =
-      ap (take (suc n)) (step-left x xs y ys all.0)
-      ∙ ap (λ (l : List X). x ∷ l) (merged-stays n xs y ys all.1 (omega (arith, enough)))
 
   -- the first elements
 
@@ -128,27 +89,22 @@ module _ {X : Type 0} (before : X → X → Bool) where
         | false ↦ (others.0, onto-all P x xs rest head tail ys others.1)
       ]
 
-  merged-all : (P : X → Type 0) (xs ys : List X) → AllByRecursion P xs → AllByRecursion P ys → AllByRecursion P (merged before xs ys)
+  pub merged-all : (P : X → Type 0) (xs ys : List X) → AllByRecursion P xs → AllByRecursion P ys → AllByRecursion P (merged before xs ys)
   merged-all P [] ys ours others = others
   merged-all P (x ∷ xs) ys ours others = onto-all P x xs (λ zs. merged-all P xs zs ours.1) ours.0 ours.1 ys others
 
   -- the order
-
-  -- each element goes before those after it
-  abbrev pub Ascends : List X → Type 0
-  Ascends [] = ⊤
-  Ascends (x ∷ xs) = AllByRecursion (λ y. before x y ≡ true) xs × Ascends xs
 
   -- of two elements one goes before the other, and what goes before an element goes before those that it goes before
   pub record IsOrder : Type 0 where
     pub either : (x y : X) → before x y ≡ false → before y x ≡ true
     pub chain : (x y z : X) → before x y ≡ true → before y z ≡ true → before x z ≡ true
 
-  onto-ascends : IsOrder → (x : X) (xs : List X) → ((ys : List X) → Ascends ys → Ascends (merged before xs ys))
-      → Ascends (x ∷ xs) → (ys : List X) → Ascends ys → Ascends (merged before (x ∷ xs) ys)
+  onto-ascends : IsOrder → (x : X) (xs : List X) → ((ys : List X) → Ascends before ys → Ascends before (merged before xs ys))
+      → Ascends before (x ∷ xs) → (ys : List X) → Ascends before ys → Ascends before (merged before (x ∷ xs) ys)
   onto-ascends order x xs rest up [] others = up
   onto-ascends order x xs rest up (y ∷ ys) others =
-      let Goal : Bool → Type 0 = λ b. Ascends (cond b (x ∷ merged before xs (y ∷ ys)) (y ∷ merged before (x ∷ xs) ys)) in
+      let Goal : Bool → Type 0 = λ b. Ascends before (cond b (x ∷ merged before xs (y ∷ ys)) (y ∷ merged before (x ∷ xs) ys)) in
       ⊎_elim
       (λ (h : before x y ≡ true).
       let after : AllByRecursion (λ z. before x z ≡ true) ys =
@@ -165,40 +121,29 @@ module _ {X : Type 0} (before : X → X → Bool) where
       subst Goal (sym h) goal)
       (cases_Bool (before x y))
 
-  pub merged-ascends : IsOrder → (xs ys : List X) → Ascends xs → Ascends ys → Ascends (merged before xs ys)
+  pub merged-ascends : IsOrder → (xs ys : List X) → Ascends before xs → Ascends before ys → Ascends before (merged before xs ys)
   merged-ascends order [] ys ours others = others
   merged-ascends order (x ∷ xs) ys ours others = onto-ascends order x xs (λ zs. merged-ascends order xs zs ours.1) ours ys others
 
-  pub ascends-take : (n : ℕ) (xs : List X) → Ascends xs → Ascends (take n xs)
+  pub ascends-take : (n : ℕ) (xs : List X) → Ascends before xs → Ascends before (take n xs)
   ascends-take zero xs up = tt
   ascends-take (suc n) [] up = tt
   ascends-take (suc n) (x ∷ xs) up = (all-take (λ y. before x y ≡ true) n xs up.0, ascends-take n xs up.1)
 
-  -- what the last goes before, all go before
-  pub ascends-before : IsOrder → (k : ℕ) (xs : List X) (d y : X) → Ascends xs → length xs ≡ suc k → before (get_or xs k d) y ≡ true
-      → AllByRecursion (λ x. before x y ≡ true) xs
-  ascends-before order k [] d y up long last = tt
-  ascends-before order zero (x ∷ []) d y up long last = (last, tt)
-  ascends-before order zero (x ∷ z ∷ xs) d y up long last = absurd (omega (arith, long))
-  ascends-before order (suc k) (x ∷ []) d y up long last = absurd (omega (arith, long))
-  ascends-before order (suc k) (x ∷ z ∷ xs) d y up long last =
-      let rest = ascends-before order k (z ∷ xs) d y up.1 (omega (arith, long)) last in
-      (order.chain x z y up.0.0 rest.0, rest)
-
-  next-sorted : (lt : X → X → Bool) → ((x y : X) → before x y ≡ true → lt y x ≡ false) → (xs : List X) → Ascends xs
+  next-sorted : (lt : X → X → Bool) → ((x y : X) → before x y ≡ true → lt y x ≡ false) → (xs : List X) → Ascends before xs
       → (k : ℕ) (d : X) → suc k < length xs → lt (get_or xs (suc k) d) (get_or xs k d) ≡ false
   next-sorted lt keeps [] up k d within = absurd (omega arith)
   next-sorted lt keeps (x ∷ []) up k d within = absurd (omega arith)
   next-sorted lt keeps (x ∷ y ∷ xs) up zero d within = keeps x y up.0.0
   next-sorted lt keeps (x ∷ y ∷ xs) up (suc k) d within = next-sorted lt keeps (y ∷ xs) up.1 k d (omega arith)
 
-  pub sorted-from_ascends : (lt : X → X → Bool) → ((x y : X) → before x y ≡ true → lt y x ≡ false) → (xs : List X) → Ascends xs
+  pub sorted-from_ascends : (lt : X → X → Bool) → ((x y : X) → before x y ≡ true → lt y x ≡ false) → (xs : List X) → Ascends before xs
       → IsSortedBy lt xs
   sorted-from_ascends lt keeps xs up k d low within =
       ap (λ (n : ℕ). lt (get_or xs n d) (get_or xs k d)) (add-one k) ∙ next-sorted lt keeps xs up k d (omega arith)
 
   pub ascends-from_far : (lt : X → X → Bool) → ((x y : X) → lt y x ≡ false → before x y ≡ true) → (xs : List X)
-      → ((i j : ℕ) (d : X) → i ≤ j → j < length xs → lt (get_or xs j d) (get_or xs i d) ≡ false) → Ascends xs
+      → ((i j : ℕ) (d : X) → i ≤ j → j < length xs → lt (get_or xs j d) (get_or xs i d) ≡ false) → Ascends before xs
   ascends-from_far lt back [] far = tt
   ascends-from_far lt back (x ∷ xs) far = (
     recursion_from_All (λ y. before x y ≡ true) xs

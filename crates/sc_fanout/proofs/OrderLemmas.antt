@@ -9,8 +9,8 @@ use Rattle.std.proofs.lemmas.Map.Keys.{sorted_head, sorted_tail}
 use Rattle.sc_record.specs.declared.write.Write.{Write}
 use Rattle.sc_record.specs.Writes.{AscendById}
 use Rattle.sc_fanout.specs.Pages.{SortsById}
-use Rattle.sc_fanout.specs.Merging.{goes_before}
-use Rattle.sc_fanout.proofs.MergeLemmas.{Ascends, IsOrder, sorted-from_ascends, ascends-from_far}
+use Rattle.sc_fanout.specs.Merging.{Ascends, goes_before}
+use Rattle.sc_fanout.proofs.MergeLemmas.{IsOrder, sorted-from_ascends, ascends-from_far}
 
 le-other : (o : Ordering) → is_le (ordering_reverse o) ≡ false → is_le o ≡ true
 le-other Less h = refl

@@ -15,9 +15,8 @@ use Rattle.std.proofs.lemmas.Slice.Eq.{bytes_eq-Decides}
 use Rattle.sc_record.specs.declared.write.Write.{Write}
 use Rattle.sc_fanout.specs.declared.shown.Page.{Page}
 use Rattle.sc_fanout.specs.Pages.{SortsById}
-use Rattle.sc_fanout.specs.Merging.{goes_before}
+use Rattle.sc_fanout.specs.Merging.{Ascends, goes_before}
 use Rattle.sc_fanout.specs.Laws.{IsOneOfEachId, PageIsDetermined, PagesFollowOn, ArePages, PagesAreTheWhole}
-use Rattle.sc_fanout.proofs.MergeLemmas.{Ascends}
 use Rattle.sc_fanout.proofs.OrderLemmas.{ascends-in_order}
 
 -- 1 where the write is of the id, and else 0

@@ -1,116 +1,206 @@
--- The first documents of some lists, while one list more is merged into them.
-use Rattle.std.proofs.Common.{◌≡◌, ℕ, ◌+◌, ◌<◌, ◌≤◌, List, [], ◌∷◌, ◌++◌, length, take, get_or, sym, ap, subst, ◌∙◌, arith, append-nil, All, IsPermutation}
-use Rattle.std.specs.Cmp.Lexicographic.{slice_cmp}
-use Rattle.std.specs.List.Sorted.{IsSortedByKey}
-use Rattle.std.specs.Ordering.{nat_cmp}
-use Rattle.std.proofs.lemmas.List.{take-take, take_more, take_all, get_or-map, length-map}
-use Rattle.std.proofs.lemmas.List.Concat.{flat_map-append}
-use Rattle.std.proofs.lemmas.List.Sorted.{IsPermutation-refl, IsPermutation-trans, IsPermutation-append_left}
+-- The first documents of what the searchers find, and the fronts that they are taken from.
+use Rattle.std.proofs.Common.{◌≡◌, ℕ, zero, suc, ◌+◌, ◌<◌, ◌≤◌, true, false, true≢false, List, [], ◌∷◌, ◌++◌, length, map, take, drop, get_or, set, slice_get, option_to_list, Option, refl, sym, ap, subst, ◌∙◌, ⊎_elim, arith, append_assoc, All}
+use Rattle.std.specs.List.{AllByRecursion}
+use Rattle.std.proofs.lemmas.Bool.{cases_Bool, cases_lt, cases_eq}
+use Rattle.std.proofs.lemmas.List.{drop_more, get_or-drop, get_or-map, get_or-take, length-drop, length-map, length-take-le, map-append, map_more}
+use Rattle.std.proofs.lemmas.List.Elements.{recursion_from_All}
 use Rattle.sc_record.specs.declared.write.Write.{Write}
 use Rattle.sc_fanout.specs.Pages.{AreFound, IsStartOf, all_of}
-use Rattle.sc_fanout.specs.Merging.{goes_before, merged}
-use Rattle.sc_fanout.specs.Hits.{BeginAlike}
-use Rattle.sc_fanout.proofs.MergeLemmas.{Ascends, ascends-take, merged-ascends, merged-moves, take-merged_left, take-merged_right}
+use Rattle.sc_fanout.specs.Steps.{searcher_rows}
+use Rattle.sc_fanout.specs.Merging.{Ascends, gathered, goes_before}
+use Rattle.sc_fanout.specs.Hits.{BeginAlike, FrontAscends, IsFirst, front_rows, hit_rows, leads_of, rows_at}
+use Rattle.sc_fanout.specs.declared.hits.Front.{Front}
+use Rattle.sc_fanout.specs.declared.hits.Hits.{Hits}
+use Rattle.sc_bucket.specs.Taking.{lent}
+use Rattle.sc_fanout.proofs.GatherLemmas.{StartsAfter, gathered-alike, gathered-ascends, gathered-first, gathered-moves, gathered-none}
+use Rattle.sc_fanout.proofs.MergeLemmas.{all-weaker}
 use Rattle.sc_fanout.proofs.OrderLemmas.{by_id-order, ascends-by_id, in_order}
 
--- these are the first `most` of all documents in order
-pub record AreFirst (all : List Write) (most : ℕ) (kept : List Write) : Type 0 where
-  pub sorted : List Write
-  pub moved : IsPermutation all sorted
-  pub up : Ascends goes_before sorted
-  pub first : kept ≡ take most sorted
-
-pub first-none : (most : ℕ) (kept : List Write) → kept ≡ [] → AreFirst [] most kept
-first-none most kept is = record {
-  sorted = [];
-  moved = IsPermutation-refl [];
-  up = tt;
-  first = is ∙ sym (take_all most [] (omega arith));
+-- what was taken, and what is left of the lists after it, is all that they have in order
+pub starts : (most : ℕ) (wholes lists : List (List Write)) (kept rest : List Write) → All AreFound wholes → BeginAlike most wholes lists
+    → kept ++ rest ≡ gathered goes_before lists → take most kept ≡ take most (kept ++ rest) → IsStartOf (all_of wholes) most kept
+starts most wholes lists kept rest found alike same enough = record {
+  sorted = gathered goes_before wholes;
+  order = in_order (all_of wholes) (gathered goes_before wholes) (gathered-moves goes_before wholes)
+      (gathered-ascends goes_before by_id-order wholes
+      (recursion_from_All (Ascends goes_before) wholes (λ k d within. ascends-by_id (get_or wholes k d) (found k d within).ascend)));
+  start = enough ∙ ap (take most) same ∙ gathered-alike goes_before most lists wholes alike;
 }
 
--- they ascend, and are no more than that
-pub first-sorted : (all : List Write) (most : ℕ) (kept : List Write) → AreFirst all most kept
-    → IsSortedByKey (λ (write : Write). write.id) (slice_cmp nat_cmp) kept
-first-sorted all most kept are =
-    subst (IsSortedByKey (λ (write : Write). write.id) (slice_cmp nat_cmp)) (sym are.first)
-    (in_order (take most are.sorted) (take most are.sorted) (IsPermutation-refl (take most are.sorted))
-    (ascends-take goes_before most are.sorted are.up)).ascend
+-- the fronts that stand for the first hits, whatever lists come after them
+module _ (fronts now : List Front) (all : List Hits) (k : ℕ) (d : Hits) (within : k < length all)
+    (same : (rest : List (List Write)) → gathered goes_before (map front_rows fronts ++ rest) ≡ gathered goes_before (map hit_rows (take k all) ++ rest)) where
+  next-hits : (rest : List (List Write)) → gathered goes_before (map hit_rows (take k all) ++ (hit_rows (get_or all k d) ∷ rest))
+      ≡ gathered goes_before (map hit_rows (take (k + 1) all) ++ rest)
+  next-hits rest =
+      sym (ap (λ (ls : List (List Write)). gathered goes_before (ls ++ rest)) (map_more hit_rows all k d within)
+      ∙ ap (gathered goes_before) (append_assoc (map hit_rows (take k all)) (hit_rows (get_or all k d) ∷ []) rest))
 
-pub first-cut : (all : List Write) (most : ℕ) (kept : List Write) → AreFirst all most kept → take most kept ≡ kept
-first-cut all most kept are =
-    let le : most ≤ most = omega arith in
-    ap (take most) are.first ∙ take-take most most are.sorted le ∙ sym are.first
+  -- one front more
+  pub fronts-more : (front : Front) → now ≡ fronts ++ front ∷ [] → front_rows front ≡ hit_rows (get_or all k d) → (rest : List (List Write))
+      → gathered goes_before (map front_rows now ++ rest) ≡ gathered goes_before (map hit_rows (take (k + 1) all) ++ rest)
+  fronts-more front is rows rest =
+      ap (λ (fs : List Front). gathered goes_before (map front_rows fs ++ rest)) is
+      ∙ ap (λ (ls : List (List Write)). gathered goes_before (ls ++ rest)) (map-append front_rows fronts (front ∷ []))
+      ∙ ap (gathered goes_before) (append_assoc (map front_rows fronts) (front_rows front ∷ []) rest)
+      ∙ same (front_rows front ∷ rest)
+      ∙ ap (λ (l : List Write). gathered goes_before (map hit_rows (take k all) ++ (l ∷ rest))) rows
+      ∙ next-hits rest
 
-take-both : (most : ℕ) (a b wa wb : List Write) → take most a ≡ take most wa → take most b ≡ take most wb
-    → take most (merged goes_before a b) ≡ take most (merged goes_before wa wb)
-take-both most a b wa wb left right =
-    let le : most ≤ most = omega arith in
-    sym (take-merged_left goes_before most most a b le)
-    ∙ ap (λ (l : List Write). take most (merged goes_before l b)) left
-    ∙ take-merged_left goes_before most most wa b le
-    ∙ sym (take-merged_right goes_before most most wa b le)
-    ∙ ap (λ (l : List Write). take most (merged goes_before wa l)) right
-    ∙ take-merged_right goes_before most most wa wb le
+  -- the hits have no rows
+  pub fronts-same : now ≡ fronts → [] ≡ hit_rows (get_or all k d) → (rest : List (List Write))
+      → gathered goes_before (map front_rows now ++ rest) ≡ gathered goes_before (map hit_rows (take (k + 1) all) ++ rest)
+  fronts-same is none rest =
+      ap (λ (fs : List Front). gathered goes_before (map front_rows fs ++ rest)) is
+      ∙ same rest
+      ∙ sym (gathered-none goes_before (map hit_rows (take k all)) rest)
+      ∙ ap (λ (l : List Write). gathered goes_before (map hit_rows (take k all) ++ (l ∷ rest))) none
+      ∙ next-hits rest
 
--- a list more is merged into the first ones
-pub first-more : (most k : ℕ) (wholes lists : List (List Write)) (list kept both : List Write) → All AreFound wholes
-    → BeginAlike most wholes lists → k < length lists → get_or lists k list ≡ list → AreFirst (all_of (take k wholes)) most kept
-    → both ≡ take most (merged goes_before kept list) → AreFirst (all_of (take (k + 1) wholes)) most both
-first-more most k wholes lists list kept both found alike within is are made =
-    subst (λ (all : List Write). AreFirst all most both) (sym more) (record {
-      sorted = merged goes_before are.sorted whole;
-      moved = IsPermutation-trans (all_of (take k wholes) ++ whole) (are.sorted ++ whole) (merged goes_before are.sorted whole)
-          (IsPermutation-append_left whole (all_of (take k wholes)) are.sorted are.moved)
-          (merged-moves goes_before are.sorted whole);
-      up = merged-ascends goes_before by_id-order are.sorted whole are.up (ascends-by_id whole (found k [] long).ascend);
-      first = made ∙ take-both most kept list are.sorted whole (ap (take most) are.first ∙ take-take most most are.sorted le) begins;
-    })
-  where
-    le : most ≤ most
-    le = omega arith
+-- the row at a number, if there is one, and then those at the numbers after it
+pub rows-next : (rows : List Write) (numbers : List ℕ) (k d : ℕ) (read : Option Write) → k < length numbers
+    → read ≡ slice_get rows (get_or numbers k d) → rows_at rows (drop k numbers) ≡ option_to_list read ++ rows_at rows (drop (k + 1) numbers)
+rows-next rows numbers k d read within reads =
+    ap (rows_at rows) (drop_more numbers k d within)
+    ∙ ap (λ (o : Option Write). option_to_list o ++ rows_at rows (drop (k + 1) numbers)) (sym reads)
 
-    whole : List Write
-    whole = get_or wholes k []
+-- ---- the least of some writes
+-- what another write goes before is no sooner
+no-sooner : (x y z : Write) → goes_before y z ≡ true → goes_before x z ≡ false → goes_before x y ≡ false
+no-sooner x y z goes sooner =
+    ⊎_elim
+    (λ (h : goes_before x y ≡ true). absurd (true≢false (sym (by_id-order.chain x y z h goes) ∙ sooner)))
+    (λ (h : goes_before x y ≡ false). h)
+    (cases_Bool (goes_before x y))
 
-    long : k < length wholes
-    long =
-        omega (
-          arith,
-          within,
-          ap (λ (ls : List (List Write)). length ls) alike,
-          length-map lists (take most),
-          length-map wholes (take most),
-        )
+module _ (writes : List Write) (count least : ℕ) (is : IsFirst writes count least) (within : least < count) where
+  -- the next write is less
+  pub first-next : ((d : Write) → goes_before (get_or writes least d) (get_or writes count d) ≡ false) → IsFirst writes (count + 1) count
+  first-next less = record {
+    sooner = λ i d before.
+        let back : goes_before (get_or writes count d) (get_or writes least d) ≡ true =
+        by_id-order.either (get_or writes least d) (get_or writes count d) (less d) in
+        ⊎_elim
+        (λ (h : i < least). no-sooner (get_or writes i d) (get_or writes count d) (get_or writes least d) back (is.sooner i d h))
+        (λ (h : least ≤ i).
+        ⊎_elim
+        (λ (same : i ≡ least). ap (λ (n : ℕ). goes_before (get_or writes n d) (get_or writes count d)) same ∙ less d)
+        (λ (other : (i ≡ least) → ⊥).
+        ⊎_elim
+        (λ (goes : goes_before (get_or writes i d) (get_or writes count d) ≡ true).
+        absurd (true≢false (sym (by_id-order.chain (get_or writes least d) (get_or writes i d) (get_or writes count d)
+        (is.later i d (omega (arith, h, other)) before) goes) ∙ less d)))
+        (λ (none : goes_before (get_or writes i d) (get_or writes count d) ≡ false). none)
+        (cases_Bool (goes_before (get_or writes i d) (get_or writes count d))))
+        (cases_eq i least))
+        (cases_lt i least);
+    later = λ i d after before. absurd (omega (arith, after, before));
+  }
 
-    begins : take most list ≡ take most whole
-    begins =
-        ap (take most) (sym is)
-        ∙ sym (get_or-map (take most) lists k list [] within)
-        ∙ ap (λ (ls : List (List Write)). get_or ls k []) alike
-        ∙ get_or-map (take most) wholes k [] [] long
+  -- it is not
+  pub first-stays : ((d : Write) → goes_before (get_or writes least d) (get_or writes count d) ≡ true) → IsFirst writes (count + 1) least
+  first-stays goes = record {
+    sooner = is.sooner;
+    later = λ i d after before.
+        ⊎_elim
+        (λ (h : i < count). is.later i d after h)
+        (λ (h : count ≤ i).
+        let same : i ≡ count = omega (arith, h, before) in
+        ap (λ (n : ℕ). goes_before (get_or writes least d) (get_or writes n d)) same ∙ goes d)
+        (cases_lt i count);
+  }
 
-    more : all_of (take (k + 1) wholes) ≡ all_of (take k wholes) ++ whole
-    more =
-        ap all_of (take_more wholes k [] long)
-        ∙ flat_map-append (λ (w : List Write). w) (take k wholes) (whole ∷ [])
-        ∙ ap (λ (l : List Write). all_of (take k wholes) ++ l) (append-nil whole)
+-- ---- fronts
+pub set-parts : {X : Type 0} (xs : List X) (i : ℕ) (y : X) → i < length xs → set xs i y ≡ take i xs ++ y ∷ drop (i + 1) xs
+set-parts [] i y within = absurd (omega (arith, within))
+set-parts (x ∷ xs) zero y within = refl
+set-parts {X = X} (x ∷ xs) (suc i) y within =
+    let on : suc i + 1 ≡ suc (i + 1) = omega arith in
+    ap (λ (l : List X). x ∷ l) (set-parts xs i y (omega (arith, within))) ∙ sym (ap (λ (n : ℕ). x ∷ (take i xs ++ y ∷ drop n (x ∷ xs))) on)
 
--- all lists were merged
-pub first-start : (most k : ℕ) (wholes lists : List (List Write)) (kept : List Write) → BeginAlike most wholes lists → length lists ≤ k
-    → AreFirst (all_of (take k wholes)) most kept → IsStartOf (all_of wholes) most kept
-first-start most k wholes lists kept alike enough are =
-    let long : length wholes ≤ k =
-    omega (
-      arith,
-      enough,
-      ap (λ (ls : List (List Write)). length ls) alike,
-      length-map lists (take most),
-      length-map wholes (take most),
-    ) in
-    let le : most ≤ most = omega arith in
-    let all : all_of (take k wholes) ≡ all_of wholes = ap all_of (take_all k wholes long) in
-    record {
-      sorted = are.sorted;
-      order = in_order (all_of wholes) are.sorted (subst (λ (l : List Write). IsPermutation l are.sorted) all are.moved) are.up;
-      start = ap (take most) are.first ∙ take-take most most are.sorted le;
-    }
+parts : {X : Type 0} (xs : List X) (i : ℕ) (x : X) → i < length xs → x ≡ get_or xs i x → xs ≡ take i xs ++ x ∷ drop (i + 1) xs
+parts [] i x within is = absurd (omega (arith, within))
+parts {X = X} (y ∷ ys) zero x within is = ap (λ (z : X). z ∷ ys) (sym is)
+parts {X = X} (y ∷ ys) (suc i) x within is =
+    let on : suc i + 1 ≡ suc (i + 1) = omega arith in
+    ap (λ (l : List X). y ∷ l) (parts ys i x (omega (arith, within)) is) ∙ sym (ap (λ (n : ℕ). y ∷ (take i ys ++ x ∷ drop n (y ∷ ys))) on)
+
+abbrev pub lead : Front → Write
+lead front = lent front.lead
+
+-- the fronts without their least row
+module _ (fronts : List Front) (at : ℕ) (front : Front) (within : at < length fronts) (is : front ≡ get_or fronts at front)
+    (ascend : All FrontAscends fronts) (least : IsFirst (leads_of fronts) (length fronts) at) where
+  abbrev pub rest : List Write
+  rest = rows_at (searcher_rows front.searcher.now) front.rest.now
+
+  here : lead front ≡ get_or (leads_of fronts) at (lead front)
+  here = ap lead is ∙ sym (get_or-map lead fronts at front (lead front) within)
+
+  after : AllByRecursion (StartsAfter goes_before (lead front)) (map front_rows (take at fronts))
+  after =
+      recursion_from_All (StartsAfter goes_before (lead front)) (map front_rows (take at fronts))
+      (λ k d inside.
+      let long = length-take-le at fronts (omega (arith, within)) in
+      let few : k < at = omega (arith, inside, long, length-map (take at fronts) front_rows) in
+      let one : get_or (take at fronts) k front ≡ get_or fronts k front = get_or-take at fronts k front few in
+      let mapped : get_or (map front_rows (take at fronts)) k d ≡ front_rows (get_or fronts k front) =
+      get_or-map front_rows (take at fronts) k front d (omega (arith, few, long)) ∙ ap front_rows one in
+      let there : get_or (leads_of fronts) k (lead front) ≡ lead (get_or fronts k front) =
+      get_or-map lead fronts k front (lead front) (omega (arith, few, within)) in
+      subst (StartsAfter goes_before (lead front)) (sym mapped)
+      (ap (λ (w : Write). goes_before w (lead front)) (sym there)
+      ∙ ap (goes_before (get_or (leads_of fronts) k (lead front))) here
+      ∙ least.sooner k (lead front) few))
+
+  before : AllByRecursion (AllByRecursion (λ (w : Write). goes_before (lead front) w ≡ true)) (map front_rows (drop (at + 1) fronts))
+  before =
+      recursion_from_All (AllByRecursion (λ (w : Write). goes_before (lead front) w ≡ true)) (map front_rows (drop (at + 1) fronts))
+      (λ k d inside.
+      let long = length-drop (at + 1) fronts in
+      let many : at + 1 + k < length fronts = omega (arith, inside, long, length-map (drop (at + 1) fronts) front_rows) in
+      let other : Front = get_or fronts (at + 1 + k) front in
+      let mapped : get_or (map front_rows (drop (at + 1) fronts)) k d ≡ front_rows other =
+      get_or-map front_rows (drop (at + 1) fronts) k front d (omega (arith, many, long)) ∙ ap front_rows (get_or-drop (at + 1) fronts k front) in
+      let there : get_or (leads_of fronts) (at + 1 + k) (lead front) ≡ lead other =
+      get_or-map lead fronts (at + 1 + k) front (lead front) many in
+      let goes : goes_before (lead front) (lead other) ≡ true =
+      ap (λ (w : Write). goes_before w (lead other)) here
+      ∙ ap (goes_before (get_or (leads_of fronts) at (lead front))) (sym there)
+      ∙ least.later (at + 1 + k) (lead front) (omega arith) many in
+      let up : FrontAscends other = ascend (at + 1 + k) front many in
+      subst (AllByRecursion (λ (w : Write). goes_before (lead front) w ≡ true)) (sym mapped) (
+        goes,
+        all-weaker (λ (w : Write). goes_before (lead other) w ≡ true) (λ (w : Write). goes_before (lead front) w ≡ true)
+            (λ w. by_id-order.chain (lead front) (lead other) w goes) (rows_at (searcher_rows other.searcher.now) other.rest.now) up.0,
+      ))
+
+  first : gathered goes_before (map front_rows fronts) ≡ lead front ∷ gathered goes_before (map front_rows (take at fronts) ++ (rest ∷ map front_rows (drop (at + 1) fronts)))
+  first =
+      ap (λ (fs : List Front). gathered goes_before (map front_rows fs)) (parts fronts at front within is)
+      ∙ ap (gathered goes_before) (map-append front_rows (take at fronts) (front ∷ drop (at + 1) fronts))
+      ∙ gathered-first goes_before (lead front) rest (map front_rows (take at fronts)) (map front_rows (drop (at + 1) fronts)) after before
+
+  -- the front goes on with its other rows
+  pub taken-next : (next : Front) → front_rows next ≡ rest
+      → gathered goes_before (map front_rows fronts) ≡ lead front ∷ gathered goes_before (map front_rows (set fronts at next))
+  taken-next next goes_on =
+      first
+      ∙ ap (λ (l : List Write). lead front ∷ gathered goes_before (map front_rows (take at fronts) ++ (l ∷ map front_rows (drop (at + 1) fronts)))) (sym goes_on)
+      ∙ sym (ap (λ (fs : List Front). lead front ∷ gathered goes_before (map front_rows fs)) (set-parts fronts at next within)
+      ∙ ap (λ (ls : List (List Write)). lead front ∷ gathered goes_before ls) (map-append front_rows (take at fronts) (next ∷ drop (at + 1) fronts)))
+
+  -- it has no others
+  pub taken-last : [] ≡ rest
+      → gathered goes_before (map front_rows fronts) ≡ lead front ∷ gathered goes_before (map front_rows (take at fronts ++ drop (at + 1) fronts))
+  taken-last none =
+      first
+      ∙ ap (λ (l : List Write). lead front ∷ gathered goes_before (map front_rows (take at fronts) ++ (l ∷ map front_rows (drop (at + 1) fronts)))) (sym none)
+      ∙ ap (λ (l : List Write). lead front ∷ l) (gathered-none goes_before (map front_rows (take at fronts)) (map front_rows (drop (at + 1) fronts)))
+      ∙ sym (ap (λ (ls : List (List Write)). lead front ∷ gathered goes_before ls) (map-append front_rows (take at fronts) (drop (at + 1) fronts)))
+
+  -- its other rows ascend
+  pub rest-ascends : Ascends goes_before rest
+  rest-ascends =
+      let up : FrontAscends (get_or fronts at front) = ascend at front within in
+      (subst FrontAscends (sym is) up).1

@@ -1,6 +1,5 @@
 -- What is kept of what the searchers find.
-use Rattle.std.specs.Prelude.{◌≡◌, ◌≤◌, ◌*◌, ◌^◌, ℕ, List, map, take, length, All, Some, slice_get, option_and_then, option_copied, option_map, option_to_list, Option, Vec}
-use Rattle.std.specs.Arc.{arc_value}
+use Rattle.std.specs.Prelude.{◌≡◌, ◌<◌, ◌≤◌, ◌*◌, ◌^◌, ℕ, true, false, List, [], ◌∷◌, map, take, length, All, Option, None, Some, Vec, slice_get, slice_index_or, option_to_list}
 use Rattle.std.specs.List.{flat_map}
 use Rattle.std.proofs.Common.{Bor}
 use Rattle.std.specs.declared.alloc.Global.{Global}
@@ -11,10 +10,12 @@ use Rattle.sc_bucket.specs.Taking.{lent}
 use Rattle.sc_eval.specs.Criteria.{Criterion}
 use Rattle.sc_eval.specs.Numbers.{numbers_of}
 use Rattle.sc_eval.specs.declared.numbers.Matches.{Matches}
+use Rattle.sc_fanout.specs.Merging.{Ascends, goes_before}
 use Rattle.sc_fanout.specs.Pages.{all_of}
 use Rattle.sc_fanout.specs.Steps.{searcher_rows, found_in}
 use Rattle.sc_fanout.specs.declared.hits.Hits.{Hits}
 use Rattle.sc_fanout.specs.declared.hits.Found.{Found}
+use Rattle.sc_fanout.specs.declared.hits.Front.{Front}
 
 -- at these numbers, counted from 0, these rows stand, in this order
 abbrev pub StandAt : (rows : List Write) (numbers : List ℕ) (these : List Write) → Type 0
@@ -48,18 +49,40 @@ pub record HasFound (criterion : Criterion) (most : ℕ) (searchers : List Searc
 abbrev pub lent_in : Vec (Bor (Arc Write Global)) Global → List Write
 lent_in cells = map lent cells.items
 
+-- the rows at these numbers
+abbrev pub rows_at : List Write → List ℕ → List Write
+rows_at rows numbers = flat_map (λ number. option_to_list (slice_get rows number)) numbers
+
 -- the rows at the numbers of the hits
 abbrev pub hit_rows : Hits → List Write
-hit_rows hits = flat_map (λ number. option_to_list (slice_get (searcher_rows hits.searcher.now) number)) (numbers_of hits.numbers)
+hit_rows hits = rows_at (searcher_rows hits.searcher.now) (numbers_of hits.numbers)
 
 -- these lists begin as those do, as far as the first `most` of each
 abbrev pub BeginAlike : (most : ℕ) → List (List Write) → List (List Write) → Type 0
 BeginAlike most wholes lists = map (take most) lists ≡ map (take most) wholes
 
--- the row at the first number of the hits, if there is one
-abbrev pub lead_of : Hits → Option Write
-lead_of hits = option_and_then (slice_get (searcher_rows hits.searcher.now)) (slice_get (numbers_of hits.numbers) 0)
+-- the rows of a front: its first row, and those at the numbers after it
+abbrev pub front_rows : Front → List Write
+front_rows front = lent front.lead ∷ rows_at (searcher_rows front.searcher.now) front.rest.now
 
--- the write of a cell that may be there
-abbrev pub lead_value : Option (Bor (Arc Write Global)) → Option Write
-lead_value lead = option_map arc_value (option_copied lead)
+-- the rows of a front, none where there is no front
+abbrev pub rows_left : Option Front → List Write
+rows_left None = []
+rows_left (Some front) = front_rows front
+
+-- the first rows of fronts
+abbrev pub leads_of : List Front → List Write
+leads_of fronts = map (λ (front : Front). lent front.lead) fronts
+
+-- the rows of hits ascend by their ids
+abbrev pub HitsAscend : Hits → Type 0
+HitsAscend hits = Ascends goes_before (hit_rows hits)
+
+-- the rows of a front do
+abbrev pub FrontAscends : Front → Type 0
+FrontAscends front = Ascends goes_before (front_rows front)
+
+-- of the first so many writes none before this place goes before the one there, and that one goes before those after it
+pub record IsFirst (writes : List Write) (count at : ℕ) : Type 0 where
+  pub sooner : (i : ℕ) (d : Write) → i < at → goes_before (slice_index_or writes i d) (slice_index_or writes at d) ≡ false
+  pub later : (i : ℕ) (d : Write) → at < i → i < count → goes_before (slice_index_or writes at d) (slice_index_or writes i d) ≡ true

@@ -1,6 +1,7 @@
--- How two lists are merged.
-use Rattle.std.specs.Prelude.{Bool, cond, List, [], ◌∷◌}
+-- How lists are merged.
+use Rattle.std.specs.Prelude.{◌≡◌, Bool, true, cond, ⊤, List, [], ◌∷◌}
 use Rattle.std.specs.Cmp.Lexicographic.{slice_cmp}
+use Rattle.std.specs.List.{AllByRecursion}
 use Rattle.std.specs.Ordering.{nat_cmp, is_le}
 use Rattle.sc_record.specs.declared.write.Write.{Write}
 
@@ -18,3 +19,13 @@ module _ {X : Type 0} (before : X → X → Bool) where
   abbrev pub merged : List X → List X → List X
   merged [] ys = ys
   merged (x ∷ xs) ys = merged_onto x xs (merged xs) ys
+
+  -- all lists merged, the first with what the others make
+  abbrev pub gathered : List (List X) → List X
+  gathered [] = []
+  gathered (xs ∷ lists) = merged xs (gathered lists)
+
+  -- each element goes before those after it
+  abbrev pub Ascends : List X → Type 0
+  Ascends [] = ⊤
+  Ascends (x ∷ xs) = AllByRecursion (λ y. before x y ≡ true) xs × Ascends xs

@@ -1,5 +1,10 @@
+ghost use Rattle.std.specs.Prelude.{◌≡◌};
+ghost use Rattle.sc_bucket.specs.Taking.{lent};
+ghost use Rattle.sc_segment.specs.Heads.{front_number};
+
 use sc_bucket::Searcher;
 use sc_eval::Numbers;
+use sc_record::Cell;
 
 /// The first hits of a searcher: the numbers of the first rows that the query finds there, as many as the page can show.
 #[derive(Drop)]
@@ -13,4 +18,15 @@ pub(crate) struct Hits<'a> {
 pub(crate) struct Found<'a> {
     pub(crate) count: u64,
     pub(crate) hits: Vec<Hits<'a>>,
+}
+
+/// What is still to be merged of a searcher's hits: the first row, with the number that the first bytes of its id make, and the numbers of
+/// the rows after it.
+#[derive(Clone, Copy)]
+pub(crate) struct Front<'a, 'b> {
+    pub(crate) searcher: &'a Searcher,
+    pub(crate) lead: &'a Cell,
+    pub(crate) head: u64,
+    pub(crate) rest: &'b [u32],
+    pub(crate) ghost is_head: { head ≡ front_number 8 (lent lead).id },
 }

@@ -4,9 +4,9 @@
 //! It depends on the clauses of any `Desk`, on `sc_eval` for what a query finds in one searcher's rows, on `sc_snapshot` for reading them
 //! and on `sc_segment` for the count of steps that both take. The layers above use the clause `searched` of `search`: exactly the documents
 //! that match in the journals' committed parts are found, each once. What each searcher finds is counted, and only as many numbers of rows
-//! are kept as the page can show. The rows at these numbers, ascending by id, are lent, and those of one searcher after another are merged
-//! into the first documents so far; only the documents of the page are shared. `search` waits for the threads of its parts and for nothing
-//! else; these wait for nothing.
+//! are kept as the page can show. The rows at these numbers, ascending by id, are lent, and the page is taken of them row by row, each time
+//! the least of the first rows that the searchers have left; only the documents of the page are shared. `search` waits for the threads of
+//! its parts and for nothing else; these wait for nothing.
 //!
 //! Proved: `search` over any desk: its page and its count are of exactly the documents that match in the committed parts of
 //! the journals at its stops, one for each bucket, each once and in order of id (`SearchesBuckets`, `ShowsFound`), in however many parts

@@ -1,62 +1,48 @@
--- The documents of one searcher more come in, or none of them does.
-use Rattle.std.proofs.Common.{◌≡◌, ◌<◌, List, Option, length, map, take, get_or, sym, ap, subst, ◌∙◌, arith, nat_cmp}
-use Rattle.std.specs.Cmp.Lexicographic.{slice_cmp}
-use Rattle.std.specs.List.Sorted.{IsSortedByKey}
-use Rattle.std.proofs.lemmas.List.{get_or-map, length-map}
+-- One row more is taken, or enough are, or none is left.
+use Rattle.std.proofs.Common.{◌≡◌, List, [], ◌∷◌, ◌++◌, append-nil, append_assoc, map, take, sym, ap, vec_len, ◌∙◌, arith}
+use Rattle.std.proofs.lemmas.Bool.{eqb-true}
+use Rattle.std.proofs.lemmas.List.{length-map, map-append, nil_from_length, take-append-le}
 use Rattle.sc_record.specs.declared.write.Write.{Write}
-use Rattle.sc_fanout.specs.Pages.{all_of}
-use Rattle.sc_fanout.specs.Merging.{goes_before, merged}
 use Rattle.sc_bucket.specs.Taking.{lent}
-use Rattle.sc_fanout.specs.Hits.{hit_rows, lead_of, lead_value, lent_in}
-use Rattle.sc_fanout.proofs.StartLemmas.{first-cut, first-more, first-sorted, first-start}
-use Rattle.sc_fanout.proofs.merging.first_of_all.Goals.{then-may_come_in+in_ok-merge, else-may_come_in}
+use Rattle.sc_fanout.specs.Hits.{front_rows, hit_rows, lent_in}
+use Rattle.sc_fanout.specs.Merging.{gathered, goes_before}
+use Rattle.sc_fanout.specs.declared.hits.Front.{Front}
+use Rattle.sc_fanout.proofs.StartLemmas.{starts}
+use Rattle.sc_fanout.proofs.merging.first_of_all.Goals.{then-taking-test+else-not-is_empty, else-taking-test}
 use Rattle.sc_fanout.proofs.merging.first_of_all.Goals as goal
 
-pub may_come_in-requires : goal.may_come_in-requires
-may_come_in-requires g c =
-    let at = c.loop-at.at in
-    let all = c.args.all.now in
-    let leads = c.in_ok-leads.leads.items in
-    let lead = c.index.result.now in
-    let same = c.in_ok-leads.ensures in
-    let within : at < length all = omega (arith, c.loop-at-test.true) in
-    let there : at < length leads =
-    omega (arith, within, ap (λ (ls : List (Option Write)). length ls) same, length-map leads lead_value, length-map all lead_of) in
-    record {
-      lead = ap lead_value c.index.ensures
-          ∙ sym (get_or-map lead_value leads at lead (lead_value lead) there)
-          ∙ ap (λ (ls : List (Option Write)). get_or ls at (lead_value lead)) same
-          ∙ get_or-map lead_of all at c.index-all-at.result (lead_value lead) within
-          ∙ ap lead_of (sym c.index-all-at.is);
-    }
+pub returns-then-most-eq0 : goal.returns-then-most-eq0
+returns-then-most-eq0 g c = λ wholes found alike.
+    let kept = lent_in c.in_ok-kept.kept in
+    let all = gathered goes_before (map hit_rows c.args.all.now) in
+    starts c.args.most wholes (map hit_rows c.args.all.now) kept all found alike
+    (ap (λ cells. map lent cells ++ all) c.in_ok-kept.ensures.items)
+    (ap (λ n. take n kept) c.if-most-eq0.true ∙ sym (ap (λ n. take n (kept ++ all)) c.if-most-eq0.true))
 
-pub loop-at-preserved : goal.loop-at-preserved
-loop-at-preserved g c = λ wholes found alike.
-    let most = c.args.most in
-    let k = c.loop-at.at in
-    let all = map hit_rows c.args.all.now in
-    let rows = hit_rows c.index-all-at.result in
-    let kept = lent_in c.loop-at.kept in
-    let before = c.loop-at.invariant wholes found alike in
-    let there : get_or all k rows ≡ rows =
-    get_or-map hit_rows c.args.all.now k c.index-all-at.result rows c.loop-at-test.true ∙ ap hit_rows (sym c.index-all-at.is) in
-    let slice : map lent c.as_slice.result.now ≡ kept = ap (map lent) c.as_slice.ensures.value in
-    let ascend : IsSortedByKey (λ (write : Write). write.id) (slice_cmp nat_cmp) (map lent c.as_slice.result.now) =
-    subst (IsSortedByKey (λ (write : Write). write.id) (slice_cmp nat_cmp)) (sym slice) (first-sorted (all_of (take k wholes)) most kept before) in
-    let made : lent_in c.if-may_come_in.kept ≡ take most (merged goes_before kept rows) =
-    elim c.if-may_come_in.branch [
-      | then-may_come_in+in_ok-merge w ↦
-          ap lent_in (w.kept-is ∙ w.swap.ensures.x_after) ∙ w.in_ok-merge.ensures
-          ∙ ap (λ cells. take most (merged goes_before (map lent cells) rows)) w.as_slice-then-may_come_in.ensures.value
-      | else-may_come_in w ↦
-          ap lent_in w.kept-is ∙ sym (first-cut (all_of (take k wholes)) most kept before) ∙ ap (take most) (sym slice)
-          ∙ sym (c.may_come_in.ensures w.if-may_come_in.false ascend)
-          ∙ ap (λ (writes : List Write). take most (merged goes_before writes rows)) slice
-    ] in
-    first-more most k wholes all rows kept (lent_in c.if-may_come_in.kept) found alike
-    (omega (arith, c.loop-at-test.true, length-map c.args.all.now hit_rows)) there before made
+pub taking-preserved : goal.taking-preserved
+taking-preserved g c =
+    let kept = lent_in c.taking.kept in
+    let row = c.take_first-row.result in
+    let rest = gathered goes_before (map front_rows c.take_first-row.new.fronts.items) in
+    record {
+      same =
+          ap (λ (l : List Write). l ++ rest) (ap (map lent) c.in_ok-push.ensures.items ∙ map-append lent c.taking.kept.items (row ∷ []))
+          ∙ append_assoc kept (lent row ∷ []) rest
+          ∙ ap (λ (l : List Write). kept ++ l) (sym c.take_first-row.ensures.first)
+          ∙ c.taking.invariant.same;
+      ascend = c.take_first-row.ensures.ascend;
+    }
 
 pub returns : goal.returns
 returns g c = λ wholes found alike.
-    first-start c.args.most c.loop-at.at wholes (map hit_rows c.args.all.now) (lent_in c.loop-at.kept) alike
-    (omega (arith, c.loop-at-test.false, length-map c.args.all.now hit_rows)) (c.loop-at.invariant wholes found alike)
+    let kept = lent_in c.taking.kept in
+    let rest = gathered goes_before (map front_rows c.taking.fronts.items) in
+    starts c.args.most wholes (map hit_rows c.args.all.now) kept rest found alike c.taking.invariant.same
+    (elim c.taking-test.branch [
+      | then-taking-test+else-not-is_empty w ↦
+          let none : c.taking.fronts.items ≡ [] =
+          nil_from_length c.taking.fronts.items
+          (omega (arith, c.taking.fronts.ok.0, eqb-true (vec_len c.taking.fronts) 0 (sym w.is_empty.ensures ∙ w.if-not-is_empty.false))) in
+          ap (take c.args.most) (sym (ap (λ (fs : List Front). kept ++ gathered goes_before (map front_rows fs)) none ∙ append-nil kept))
+      | else-taking-test w ↦ sym (take-append-le c.args.most kept rest (omega (arith, w.taking-test.false, length-map c.taking.kept.items lent)))
+    ])

@@ -1,11 +1,14 @@
--- So far the first documents of the first searchers.
-use Rattle.std.proofs.Common.{List, All, map, take}
-use Rattle.sc_record.specs.declared.write.Write.{Write}
-use Rattle.sc_fanout.specs.Pages.{AreFound, all_of}
-use Rattle.sc_fanout.specs.Hits.{BeginAlike, hit_rows, lent_in}
-use Rattle.sc_fanout.proofs.StartLemmas.{AreFirst}
+-- The rows that were taken, and then what is left, are all rows in order.
+use Rattle.std.proofs.Common.{◌≡◌, ◌-◌, ◌++◌, All, length, map}
+use Rattle.sc_fanout.specs.Hits.{FrontAscends, front_rows, hit_rows, lent_in}
+use Rattle.sc_fanout.specs.Merging.{gathered, goes_before}
 use Rattle.sc_fanout.proofs.merging.first_of_all.Given as goal
 
-abbrev pub invariant-loop-at : goal.invariant-loop-at
-invariant-loop-at g l = (wholes : List (List Write)) → All AreFound wholes → BeginAlike l.most wholes (map hit_rows l.all)
-    → AreFirst (all_of (take l.at wholes)) l.most (lent_in l.kept)
+abbrev pub invariant-taking : goal.invariant-taking
+invariant-taking g l = record {
+  same : lent_in l.kept ++ gathered goes_before (map front_rows l.fronts.items) ≡ gathered goes_before (map hit_rows l.all);
+  ascend : All FrontAscends l.fronts.items;
+}
+
+abbrev pub decreases-taking : goal.decreases-taking
+decreases-taking g l = l.most - length l.kept.items

@@ -5,8 +5,12 @@ use Rattle.sc_eval.specs.Criteria.{criterion_of}
 use Rattle.sc_fanout.specs.Pages.{IsStartOf, all_of}
 use Rattle.sc_bucket.specs.Taking.{lent}
 use Rattle.sc_fanout.specs.Hits.{lent_in, lists_of}
-use Rattle.sc_fanout.proofs.HitLemmas.{hits-begin}
+use Rattle.sc_fanout.proofs.HitLemmas.{hits-ascend, hits-begin}
 use Rattle.sc_fanout.proofs.pages.page.Goals as goal
+
+pub first_of_all-requires-clause-ascend : goal.first_of_all-requires-clause-ascend
+first_of_all-requires-clause-ascend c =
+    hits-ascend (criterion_of c.args.ask.now.query) (c.args.ask.now.start + c.args.ask.now.rows) c.args.all.now c.requires.may_be c.requires.kept
 
 pub returns : goal.returns
 returns c =

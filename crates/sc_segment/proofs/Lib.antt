@@ -12,6 +12,7 @@ pub mod HeadLemmas
 pub mod IndexLemmas
 pub mod JoinLemmas
 pub mod MembersLemmas
+pub mod MovedLemmas
 pub mod PlacingLemmas
 pub mod RowsLemmas
 pub mod SameRowsLemmas

@@ -1,11 +1,19 @@
 -- What becomes of an index when some rows change: its rows under new numbers, with the rows of another index beside them.
-use Rattle.std.specs.Prelude.{◌≡◌, ℕ, ◌≤◌, ◌||◌, ⊤, List, [], ◌∷◌, length, slice_get, slice_index_or, Option, None, Some}
+use Rattle.std.specs.Prelude.{◌≡◌, ◌==◌, ℕ, ◌-◌, ◌^◌, ◌≤◌, ◌||◌, if◌then◌else◌, ⊤, List, [], ◌∷◌, length, map, slice_get, slice_index_or, Option, None, Some}
 use Rattle.std.specs.declared.cmp.Ordering.{Ordering}
 use Rattle.std.specs.declared.cmp.Ordering.TheVariants.{Less}
 use Rattle.std.specs.List.{filter_map}
 use Rattle.std.specs.List.Sorted.{IsStrictlyIncreasing}
 use Rattle.sc_segment.specs.Index.{IsInOrder, rows_at}
 use Rattle.sc_segment.specs.Joining.{has_row}
+
+-- the new number that a number of 32 bits stands for, of which the greatest stands for none
+abbrev pub number_meant : ℕ → Option ℕ
+number_meant number = if number == 2 ^ 32 - 1 then None else Some number
+
+-- the new numbers that these stand for
+abbrev pub numbers_meant : List ℕ → List (Option ℕ)
+numbers_meant numbers = map number_meant numbers
 
 -- the new number of a row: none where the list has none for it, or doesn't reach it
 abbrev pub new_number : List (Option ℕ) → ℕ → Option ℕ

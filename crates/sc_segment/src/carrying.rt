@@ -12,7 +12,7 @@ ghost use Rattle.sc_segment.specs.Storing.{IsCarriedAt};
 use crate::flat_index::{FlatIndex, KeptIndex};
 use crate::key::Key;
 use crate::keys::Keys;
-use crate::moving::new_number;
+use crate::moved::Moved;
 use crate::segment::{Segment, search};
 use crate::steps::Steps;
 use std::alloc::{AllocError, Global};
@@ -29,7 +29,7 @@ impl<K: Key + Drop> Segment<K> {
     pub fn carried(
         &self,
         alloc: Global,
-        moved: &[Option<u32>],
+        moved: &Moved,
         added: &Segment<K>,
     ) -> Result<Segment<K>, AllocError>
         requires { KeepsOrder moved.now }
@@ -51,7 +51,7 @@ impl<K: Key + Drop> Segment<K> {
 fn carry_all<K: Key + Drop, L: Ledger>(
     index: &mut FlatIndex<u32>,
     old: &KeptIndex<K>,
-    moved: &[Option<u32>],
+    moved: &Moved,
     added: &KeptIndex<K>,
     blank: Blank,
 ) -> Result<(), AllocError>
@@ -98,7 +98,7 @@ fn carry_to_key<K: Key + Drop, L: Ledger>(
     index: &mut FlatIndex<u32>,
     old: &KeptIndex<K>,
     from: usize,
-    moved: &[Option<u32>],
+    moved: &Moved,
     key: &K,
     place: u32,
     added: &[u32],
@@ -140,7 +140,7 @@ fn carry_to_key<K: Key + Drop, L: Ledger>(
 fn merge_rows<K: Drop>(
     index: &mut FlatIndex<K>,
     rows: &[u32],
-    moved: &[Option<u32>],
+    moved: &Moved,
     added: &[u32],
 ) -> Result<(), AllocError>
     requires moved { KeepsOrder moved.now }
@@ -154,7 +154,7 @@ fn merge_rows<K: Drop>(
     let mut high = 0;
     'merging: while low < rows.len() && high < added.len() {
         let other = added[high];
-        match new_number(moved, rows[low]) {
+        match moved.get(rows[low]) {
             None => low += 1,
             Some(number) => match number.cmp(&other) {
                 Ordering::Less => low += index.add_below(&rows[low..], moved, other)?,

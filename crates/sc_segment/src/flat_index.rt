@@ -7,6 +7,7 @@ ghost use Rattle.sc_segment.specs.Storing.{AreEntriesAlike, ArePlaces, IsCarried
 
 use crate::key::Key;
 use crate::keys::Keys;
+use crate::moved::Moved;
 use crate::moving::{push_ahead, push_below, push_moved};
 use std::alloc::{AllocError, Global};
 use std::marker::Model;
@@ -53,11 +54,7 @@ impl<K: Drop> FlatIndex<K> {
     }
 
     /// The new numbers of rows, as rows more of the next key. Room is made once for all of them.
-    pub(crate) fn add_moved(
-        &mut self,
-        rows: &[u32],
-        moved: &[Option<u32>],
-    ) -> Result<(), AllocError>
+    pub(crate) fn add_moved(&mut self, rows: &[u32], moved: &Moved) -> Result<(), AllocError>
         ensures { OnOk result (self.new ≡ record { entries = self.old.entries; pending = self.old.pending ++ new_numbers moved.now rows.now }) }
     {
         self.rows.reserve(rows.len())?;
@@ -70,7 +67,7 @@ impl<K: Drop> FlatIndex<K> {
     pub(crate) fn add_below(
         &mut self,
         rows: &[u32],
-        moved: &[Option<u32>],
+        moved: &Moved,
         limit: u32,
     ) -> Result<usize, AllocError>
         ensures within { IfOk result (λ count. count ≤ length rows.now) }
@@ -121,7 +118,7 @@ impl FlatIndex<u32> {
         old: &KeptIndex<K>,
         from: usize,
         to: usize,
-        moved: &[Option<u32>],
+        moved: &Moved,
     ) -> Result<(), AllocError>
         requires moved { KeepsOrder moved.now }
         requires old { IsInOrder K.order old.now.entries }
@@ -285,7 +282,7 @@ fn carry_range<K: Key + Drop>(
     old: &KeptIndex<K>,
     from: usize,
     to: usize,
-    moved: &[Option<u32>],
+    moved: &Moved,
 ) -> (Vec<u32>, Vec<u32>)
     requires moved { KeepsOrder moved.now }
     requires old { IsInOrder K.order old.now.entries }

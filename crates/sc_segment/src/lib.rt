@@ -3,8 +3,8 @@
 //! which a key is sought first.
 //!
 //! A `Builder` takes pairs of a row and a key, which it finds by its hash, and becomes a `Segment`, which has the keys in order and gives
-//! the rows of a key. Where some rows change,
-//! `Segment::carried` gives the segment of the new rows out of the old one and a small one of what changed. `join` makes
+//! the rows of a key. Where some rows change, `Segment::carried` gives the segment of the new rows out of the old one and a small one
+//! of what changed, by a `Moved`, which has the new number of each old row in four bytes. `join` makes
 //! of two lists of rows the list of those in both, in one of them, or in the first alone; `join_start` gives only how many rows
 //! that list has, and the first of them, for a caller who shows no more: the others are counted, and no list is made of them.
 //! A `LiveBits` says which rows are live. The crate depends on std alone. Contracts see a builder's index and
@@ -28,6 +28,7 @@ mod joining;
 mod key;
 mod keys;
 mod live_bits;
+mod moved;
 mod moving;
 mod placing;
 mod segment;
@@ -41,6 +42,7 @@ pub use front::front_number;
 pub use joining::{Kept, join};
 pub use key::Key;
 pub use live_bits::LiveBits;
+pub use moved::Moved;
 pub use segment::Segment;
 pub use start::{Start, join_start};
 pub use steps::Steps;

@@ -1,17 +1,11 @@
 ghost use Rattle.std.specs.Prelude.{◌≡◌, ℕ, ◌+◌, ◌<◌, ◌≤◌, ◌++◌, length, take, slice_range, slice_index, All, Some, vec_len, vec_capacity};
 ghost use Rattle.sc_segment.specs.Carrying.{new_number, new_numbers, AreKept};
 
+use crate::moved::{Moved, number_at};
 use std::mem;
 
-/// The new number of a row, None where it has none.
-pub(crate) fn new_number(moved: &[Option<u32>], row: u32) -> Option<u32>
-    ensures { result ≡ new_number moved.now row }
-{
-    moved.get(row as usize).copied().flatten()
-}
-
 /// Puts the new numbers of rows at the end of a list, which has room for all rows.
-pub(crate) fn push_moved(list: &mut Vec<u32>, rows: &[u32], moved: &[Option<u32>])
+pub(crate) fn push_moved(list: &mut Vec<u32>, rows: &[u32], moved: &Moved)
     requires { vec_len list.old + length rows.now ≤ vec_capacity list.old }
     ensures items { list.new.items ≡ list.old.items ++ new_numbers moved.now rows.now }
     ensures capacity { vec_capacity list.new ≡ vec_capacity list.old }
@@ -24,15 +18,16 @@ pub(crate) fn push_moved(list: &mut Vec<u32>, rows: &[u32], moved: &[Option<u32>
 // The list after `push_moved`. The list is the function's own, so that the loop keeps its length in a register: behind a reference it would
 // be read and written for each row.
 #[inline(always)]
-fn with_moved(list: Vec<u32>, rows: &[u32], moved: &[Option<u32>]) -> Vec<u32>
+fn with_moved(list: Vec<u32>, rows: &[u32], moved: &Moved) -> Vec<u32>
     requires { vec_len list + length rows.now ≤ vec_capacity list }
     ensures items { result.items ≡ list.items ++ new_numbers moved.now rows.now }
     ensures capacity { vec_capacity result ≡ vec_capacity list }
     ensures len { vec_len result ≤ vec_len list + length rows.now }
 {
+    let numbers = moved.numbers();
     let mut list = list;
     for row in rows {
-        if let Some(number) = new_number(moved, *row) {
+        if let Some(number) = number_at(numbers, *row) {
             list.push_reserved(number);
         }
     }
@@ -42,7 +37,7 @@ fn with_moved(list: Vec<u32>, rows: &[u32], moved: &[Option<u32>]) -> Vec<u32>
 /// Puts the new numbers of rows at the end of a list, which has room for all rows, up to the first row that has none. Gives how many
 /// rows stand before it.
 #[inline(always)]
-pub(crate) fn push_kept(list: &mut Vec<u32>, rows: &[u32], moved: &[Option<u32>]) -> usize
+pub(crate) fn push_kept(list: &mut Vec<u32>, rows: &[u32], moved: &Moved) -> usize
     requires { vec_len list.old + length rows.now ≤ vec_capacity list.old }
     ensures within { result ≤ length rows.now }
     ensures items { list.new.items ≡ list.old.items ++ new_numbers moved.now (take result rows.now) }
@@ -58,7 +53,7 @@ pub(crate) fn push_kept(list: &mut Vec<u32>, rows: &[u32], moved: &[Option<u32>]
 
 // The list after `push_kept`, as its own too, and how many rows have a number.
 #[inline(always)]
-fn with_kept(list: Vec<u32>, rows: &[u32], moved: &[Option<u32>]) -> (Vec<u32>, usize)
+fn with_kept(list: Vec<u32>, rows: &[u32], moved: &Moved) -> (Vec<u32>, usize)
     requires { vec_len list + length rows.now ≤ vec_capacity list }
     ensures within { result.1 ≤ length rows.now }
     ensures items { result.0.items ≡ list.items ++ new_numbers moved.now (take result.1 rows.now) }
@@ -66,9 +61,10 @@ fn with_kept(list: Vec<u32>, rows: &[u32], moved: &[Option<u32>]) -> (Vec<u32>, 
     ensures capacity { vec_capacity result.0 ≡ vec_capacity list }
     ensures len { vec_len result.0 ≡ vec_len list + result.1 }
 {
+    let numbers = moved.numbers();
     let mut list = list;
     for at in 0..rows.len() {
-        match new_number(moved, rows[at]) {
+        match number_at(numbers, rows[at]) {
             Some(number) => list.push_reserved(number),
             None => return (list, at),
         }
@@ -78,12 +74,7 @@ fn with_kept(list: Vec<u32>, rows: &[u32], moved: &[Option<u32>]) -> (Vec<u32>, 
 
 /// Puts the new numbers of rows at the end of a list, which has room for all rows, up to the first that is not below a limit. Gives how
 /// many rows stand before it.
-pub(crate) fn push_below(
-    list: &mut Vec<u32>,
-    rows: &[u32],
-    moved: &[Option<u32>],
-    limit: u32,
-) -> usize
+pub(crate) fn push_below(list: &mut Vec<u32>, rows: &[u32], moved: &Moved, limit: u32) -> usize
     requires { vec_len list.old + length rows.now ≤ vec_capacity list.old }
     ensures within { result ≤ length rows.now }
     ensures items { list.new.items ≡ list.old.items ++ new_numbers moved.now (take result rows.now) }
@@ -98,16 +89,17 @@ pub(crate) fn push_below(
 
 // The list after `push_below`, as its own too, and how many rows were passed.
 #[inline(always)]
-fn with_below(list: Vec<u32>, rows: &[u32], moved: &[Option<u32>], limit: u32) -> (Vec<u32>, usize)
+fn with_below(list: Vec<u32>, rows: &[u32], moved: &Moved, limit: u32) -> (Vec<u32>, usize)
     requires { vec_len list + length rows.now ≤ vec_capacity list }
     ensures within { result.1 ≤ length rows.now }
     ensures items { result.0.items ≡ list.items ++ new_numbers moved.now (take result.1 rows.now) }
     ensures below { All (λ number. number < limit) (new_numbers moved.now (take result.1 rows.now)) }
     ensures rises { (number : ℕ) → 0 < length rows.now → new_number moved.now (slice_index rows.now 0) ≡ Some number → number < limit → 0 < result.1 }
 {
+    let numbers = moved.numbers();
     let mut list = list;
     for at in 0..rows.len() {
-        if let Some(number) = new_number(moved, rows[at]) {
+        if let Some(number) = number_at(numbers, rows[at]) {
             if limit <= number {
                 return (list, at);
             }
@@ -123,7 +115,7 @@ fn with_below(list: Vec<u32>, rows: &[u32], moved: &[Option<u32>], limit: u32) -
 pub(crate) fn push_ahead(
     list: &mut Vec<u32>,
     rows: &[u32],
-    moved: &[Option<u32>],
+    moved: &Moved,
     from: usize,
     to: usize,
 ) -> usize
@@ -148,13 +140,7 @@ pub(crate) fn push_ahead(
 
 // The same where the first place is lower. It stands apart, so that the loop over keys that have all their rows stays small.
 #[inline(never)]
-fn push_past(
-    list: &mut Vec<u32>,
-    rows: &[u32],
-    moved: &[Option<u32>],
-    from: usize,
-    to: usize,
-) -> usize
+fn push_past(list: &mut Vec<u32>, rows: &[u32], moved: &Moved, from: usize, to: usize) -> usize
     requires rises { from ≤ to }
     requires to { to ≤ length rows.now }
     requires room { vec_len list.old + length rows.now ≤ vec_capacity list.old + from }

@@ -4,6 +4,7 @@ use Rattle.std.proofs.lemmas.Bool.Decides.{nat_tests}
 use Rattle.std.proofs.lemmas.List.{take_more, map-append, length-map, length-take-le}
 use Rattle.std.proofs.lemmas.List.Folds.{list_any-append}
 use Rattle.std.proofs.lemmas.Option.{slice_get_within, get_or_from_slice_get}
+use Rattle.std.specs.List.{range_with_len}
 use Rattle.sc_record.specs.declared.write.Write.{Write}
 use Rattle.sc_segment.specs.Index.{IsIndexOf}
 use Rattle.sc_snapshot.specs.Change.{moves_to, is_kept, keyed_new, IsChange}
@@ -114,22 +115,22 @@ same_kept moved o number h = is_kept-push moved o number ∙ ap (λ b. is_kept m
 
 module _ (old new : List Write) (low high : ℕ) (change : Change) (is : IsChange old new low high change) where
   abbrev moved : List (Option ℕ)
-  moved = change.moved.items
+  moved = change.moved
 
   -- no number that is still to come is kept
   later_not_kept : (number : ℕ) → high ≤ number → is_kept moved number ≡ false
   later_not_kept number later =
       not_kept moved number (λ at h. let below = (is.kept at number h).0 in omega (arith, below, later))
 
-  told-push : (o : Option ℕ) (next : Change) → next.moved.items ≡ moved ++ o ∷ [] → length next.moved.items ≡ low + 1
+  told-push : (o : Option ℕ) (next : Change) → next.moved ≡ moved ++ o ∷ [] → length next.moved ≡ low + 1
   told-push o next pushed =
-      let long : length next.moved.items ≡ length moved + 1 = ap (λ (os : List (Option ℕ)). length os) pushed ∙ length-append moved (o ∷ []) in
+      let long : length next.moved ≡ length moved + 1 = ap (λ (os : List (Option ℕ)). length os) pushed ∙ length-append moved (o ∷ []) in
       omega (arith, long, is.told)
 
   -- what is kept after one more is told
-  kept-push : (o : Option ℕ) (next : Change) → next.moved.items ≡ moved ++ o ∷ [] → (bound : ℕ) → high ≤ bound
+  kept-push : (o : Option ℕ) (next : Change) → next.moved ≡ moved ++ o ∷ [] → (bound : ℕ) → high ≤ bound
       → ((number : ℕ) → o ≡ Some number → (number < bound) × (slice_get old low ≡ slice_get new number))
-      → (at number : ℕ) → slice_get next.moved.items at ≡ Some (Some number) → (number < bound) × (slice_get old at ≡ slice_get new number)
+      → (at number : ℕ) → slice_get next.moved at ≡ Some (Some number) → (number < bound) × (slice_get old at ≡ slice_get new number)
   kept-push o next pushed bound more last at number h = ⊎_elim
       (λ before. let told = is.kept at number before in (let below = told.0 in omega (arith, below, more), told.1))
       (λ here.
@@ -138,9 +139,9 @@ module _ (old new : List Write) (low high : ℕ) (change : Change) (is : IsChang
       (told.0, subst (λ n. slice_get old n ≡ slice_get new number) place told.1))
       (at-push moved o (Some number) at (ap (λ (os : List (Option ℕ)). slice_get os at) (sym pushed) ∙ h))
 
-  ascending-push : (o : Option ℕ) (next : Change) → next.moved.items ≡ moved ++ o ∷ [] → ((number : ℕ) → o ≡ Some number → high ≤ number)
-      → (at later number other : ℕ) → at < later → slice_get next.moved.items at ≡ Some (Some number)
-      → slice_get next.moved.items later ≡ Some (Some other) → number < other
+  ascending-push : (o : Option ℕ) (next : Change) → next.moved ≡ moved ++ o ∷ [] → ((number : ℕ) → o ≡ Some number → high ≤ number)
+      → (at later number other : ℕ) → at < later → slice_get next.moved at ≡ Some (Some number)
+      → slice_get next.moved later ≡ Some (Some other) → number < other
   ascending-push o next pushed last at later number other before h k = ⊎_elim
       (λ first. ⊎_elim
       (λ second. is.ascending at later number other before first second)
@@ -152,11 +153,11 @@ module _ (old new : List Write) (low high : ℕ) (change : Change) (is : IsChang
       (at-push moved o (Some other) later (read later (Some other) k)))
       (at-push moved o (Some number) at (read at (Some number) h))
     where
-      read : (place : ℕ) (x : Option ℕ) → slice_get next.moved.items place ≡ Some x → slice_get (moved ++ o ∷ []) place ≡ Some x
+      read : (place : ℕ) (x : Option ℕ) → slice_get next.moved place ≡ Some x → slice_get (moved ++ o ∷ []) place ≡ Some x
       read place x is = ap (λ (os : List (Option ℕ)). slice_get os place) (sym pushed) ∙ is
 
   -- nothing more is told, where the list got room alone
-  pub same-step : (next : Change) → next.moved.items ≡ moved → next.added ≡ change.added → IsChange old new low high next
+  pub same-step : (next : Change) → next.moved ≡ moved → next.added ≡ change.added → IsChange old new low high next
   same-step next items same = record {
     told = rw items is.told;
     kept = rw items is.kept;
@@ -166,7 +167,7 @@ module _ (old new : List Write) (low high : ℕ) (change : Change) (is : IsChang
   }
 
   -- the next old row is not kept
-  pub leave-step : (next : Change) → next.moved.items ≡ moved ++ None ∷ [] → next.added ≡ change.added → IsChange old new (low + 1) high next
+  pub leave-step : (next : Change) → next.moved ≡ moved ++ None ∷ [] → next.added ≡ change.added → IsChange old new (low + 1) high next
   leave-step next pushed same = record {
     told = told-push None next pushed;
     kept = kept-push None next pushed high (omega arith) (λ number h. cc);
@@ -176,7 +177,7 @@ module _ (old new : List Write) (low high : ℕ) (change : Change) (is : IsChang
   }
 
   -- the next old row is the next new one
-  pub keep-step : (row : Write) (next : Change) → next.moved.items ≡ moved ++ Some high ∷ [] → next.added ≡ change.added
+  pub keep-step : (row : Write) (next : Change) → next.moved ≡ moved ++ Some high ∷ [] → next.added ≡ change.added
       → slice_get old low ≡ Some row → slice_get new high ≡ Some row → IsChange old new (low + 1) (high + 1) next
   keep-step row next pushed same at_old at_new = record {
     told = told-push (Some high) next pushed;
@@ -209,3 +210,30 @@ module _ (old new : List Write) (low high : ℕ) (change : Change) (is : IsChang
     filed = rw (same, keyed_new-next moved high new row at_new, later_not_kept high (omega arith)) (filed (keyed_new moved 0 (map without_ids (take high new))) is.filed);
     last_row = omega (arith, last);
   }
+
+-- the next old rows, so many, are the next new ones
+pub run-step : (old new : List Write) (count low high : ℕ) (change next : Change) → IsChange old new low high change
+    → next.moved ≡ change.moved ++ map (λ number. Some number) (range_with_len high count) → next.added ≡ change.added
+    → low + count ≤ length old → ((k : ℕ) → k < count → slice_get old (low + k) ≡ slice_get new (high + k)) → IsChange old new (low + count) (high + count) next
+run-step old new zero low high change next is pushed same within alike =
+    let at_low : low ≡ low + zero = omega arith in
+    let at_high : high ≡ high + zero = omega arith in
+    subst (λ n. IsChange old new n (high + zero) next) at_low
+    (subst (λ n. IsChange old new low n next) at_high (same-step old new low high change is next (pushed ∙ append-nil change.moved) same))
+run-step old new (suc count) low high change next is pushed same within alike =
+    let mid : Change = record { moved = change.moved ++ Some high ∷ []; added = change.added; alone = change.alone } in
+    let here = some_at old low (omega (arith, within)) in
+    let old_place : low ≡ low + 0 = omega arith in
+    let new_place : high + 0 ≡ high = omega arith in
+    let there = ap (slice_get new) (sym new_place) ∙ sym (alike 0 (omega arith)) ∙ ap (slice_get old) (sym old_place) ∙ here.1 in
+    let one = keep-step old new low high change is here.0 mid refl refl here.1 there in
+    let rest = map (λ (number : ℕ). Some number) (range_with_len (high + 1) count) in
+    let low_more : low + 1 + count ≡ low + suc count = omega arith in
+    let high_more : high + 1 + count ≡ high + suc count = omega arith in
+    subst (λ n. IsChange old new n (high + suc count) next) low_more
+    (subst (λ n. IsChange old new (low + 1 + count) n next) high_more
+    (run-step old new count (low + 1) (high + 1) mid next one (pushed ∙ sym (append_assoc change.moved (Some high ∷ []) rest)) same (omega (arith, within))
+    (λ k below.
+    let old_next : low + 1 + k ≡ low + suc k = omega arith in
+    let new_next : high + suc k ≡ high + 1 + k = omega arith in
+    ap (slice_get old) old_next ∙ alike (suc k) (omega (arith, below)) ∙ ap (slice_get new) new_next)))

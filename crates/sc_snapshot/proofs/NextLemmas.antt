@@ -51,10 +51,10 @@ kept-ascend low (Some m ∷ ms) from up = (
       (λ at later number other before is that. up (suc at) (suc later) number other (omega (arith, before)) is that),
 )
 
-pub keeps_order : (old new : List Write) (low high : ℕ) (change : Change) → IsChange old new low high change → KeepsOrder change.moved.items
+pub keeps_order : (old new : List Write) (low high : ℕ) (change : Change) → IsChange old new low high change → KeepsOrder change.moved
 keeps_order old new low high change is =
-    increasing_from_ascend 0 (filter_map (λ (number : Option ℕ). number) change.moved.items)
-    (kept-ascend 0 change.moved.items (λ at number h. omega arith) is.ascending)
+    increasing_from_ascend 0 (filter_map (λ (number : Option ℕ). number) change.moved)
+    (kept-ascend 0 change.moved (λ at number h. omega arith) is.ascending)
 
 -- ---- which new numbers rows have
 -- the row that is looked for, with its new number
@@ -120,7 +120,7 @@ keys_total = on_total (λ (key : TermKey). key.term) key_cmp-total
 
 module _ (old new : List Write) (low high : ℕ) (change : Change) (is : IsChange old new low high change) where
   abbrev moved : List (Option ℕ)
-  moved = change.moved.items
+  moved = change.moved
 
   -- the rows as they are filed
   abbrev filed_old : List Write

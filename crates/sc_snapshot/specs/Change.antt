@@ -24,9 +24,9 @@ keyed_new moved from (row ∷ rows) = (if is_kept moved from then [] else keyed 
 -- so many of the old rows and of the new ones are told: each old row that is kept is the new one of its number, the kept stay in
 -- order, and the terms of all other new rows are filed but for those of the field of ids
 pub record IsChange (old new : List Write) (low high : ℕ) (change : Change) : Type 0 where
-  pub told : length change.moved.items ≡ low
-  pub kept : (at number : ℕ) → slice_get change.moved.items at ≡ Some (Some number) → (number < high) × (slice_get old at ≡ slice_get new number)
-  pub ascending : (at later number other : ℕ) → at < later → slice_get change.moved.items at ≡ Some (Some number)
-      → slice_get change.moved.items later ≡ Some (Some other) → number < other
-  pub filed : IsIndexOf key_order (keyed_new change.moved.items 0 (map without_ids (take high new))) change.added.index
+  pub told : length change.moved ≡ low
+  pub kept : (at number : ℕ) → slice_get change.moved at ≡ Some (Some number) → (number < high) × (slice_get old at ≡ slice_get new number)
+  pub ascending : (at later number other : ℕ) → at < later → slice_get change.moved at ≡ Some (Some number)
+      → slice_get change.moved later ≡ Some (Some other) → number < other
+  pub filed : IsIndexOf key_order (keyed_new change.moved 0 (map without_ids (take high new))) change.added.index
   pub last_row : change.added.last_row ≤ high

@@ -9,14 +9,14 @@ use crate::edits::Edit;
 use crate::filing::file_row;
 use crate::term_key::TermKey;
 use sc_record::Write;
-use sc_segment::Builder;
+use sc_segment::{Builder, Moved};
 use std::alloc::{AllocError, Global};
 
 /// How the rows of a snapshot become those of the next one.
 #[derive(Drop)]
 pub(crate) struct Change {
     /// The new number of each old row; None where it is replaced.
-    pub(crate) moved: Vec<Option<u32>>,
+    pub(crate) moved: Moved,
     /// The terms of the new rows that are none of the old, but for those of the field of ids.
     pub(crate) added: Builder<TermKey>,
     /// Whether of the terms of the field of ids each of these rows has that of its own id alone, where it is live.
@@ -30,7 +30,7 @@ impl Change {
         ensures alone { IfOk result (λ change. change.alone ≡ true) }
     {
         Ok(Change {
-            moved: Vec::with_capacity(alloc, rows)?,
+            moved: Moved::with_room(alloc, rows)?,
             added: Builder::new(alloc),
             alone: true,
         })
@@ -70,6 +70,7 @@ impl Change {
 
     /// The next old row is the next new one.
     pub(crate) fn keep(&mut self, number: u32) -> Result<(), AllocError>
+        requires { number < 2 ^ 24 }
         ensures change { OnOk result ((old new : List Write) (low : ℕ) (row : Write) → IsChange old new low number self.old
             → slice_get old low ≡ Some row → slice_get new number ≡ Some row → IsChange old new (low + 1) (number + 1) self.new) }
         ensures added { OnOk result (self.new.added ≡ self.old.added) }
@@ -94,11 +95,7 @@ impl Change {
         ensures added { OnOk result (self.new.added ≡ self.old.added) }
         ensures alone { OnOk result (self.new.alone ≡ self.old.alone) }
     {
-        self.moved.reserve(to - from)?;
-        for row in from..to {
-            self.moved
-                .push_reserved(Some((number + (row - from)) as u32));
-        }
+        self.moved.push_run(number as u32, to - from)?;
         Ok(())
     }
 

@@ -60,7 +60,7 @@ impl Index {
         change: Change,
         survey: Survey,
     ) -> Result<Index, AllocError>
-        requires order { KeepsOrder change.moved.items }
+        requires order { KeepsOrder change.moved }
         requires new { AreRows new.now }
         requires survey { IsSurvey new.now survey }
         ensures { IfOk result (λ index. (old : List Write) → IsIndexed old self.now
@@ -84,7 +84,7 @@ impl Index {
         change: Change,
         rows: &[Cell],
     ) -> Result<Index, AllocError>
-        requires order { KeepsOrder change.moved.items }
+        requires order { KeepsOrder change.moved }
         requires rows { AreRows (map arc_value rows.now) }
         ensures { IfOk result (λ index. (old : List Write) → IsIndexed old self.now
             → IsChange old (map arc_value rows.now) (length old) (length (map arc_value rows.now)) change
@@ -148,7 +148,7 @@ fn carried_segment(
     segment: &Segment<TermKey>,
     change: Change,
 ) -> Result<Segment<TermKey>, AllocError>
-    requires { KeepsOrder change.moved.items }
+    requires { KeepsOrder change.moved }
     ensures { IfOk result (λ carried. (old new : List Write) → IsChange old new (length old) (length new) change
         → IsIndexOf key_order (keyed_rows 0 (map without_ids old)) segment.now
         → IsIndexOf key_order (keyed_rows 0 (map without_ids new)) carried) }
@@ -163,6 +163,6 @@ fn carried_segment(
     if is_first {
         return Ok(added);
     }
-    let carried = segment.carried(alloc, moved.as_slice(), &added)?;
+    let carried = segment.carried(alloc, &moved, &added)?;
     Ok(carried)
 }

@@ -9,4 +9,4 @@ pub returns-in_ok-push-clause-change : goal.returns-in_ok-push-clause-change
 returns-in_ok-push-clause-change c = λ old new low high is.
     let next : Change = record { moved = c.push.new.self; added = c.args.self.now.added; alone = c.args.self.now.alone } in
     subst (λ b. IsChange old new (low + cond b 1 0) high next) (sym c.if-is_replaced.true)
-    (leave-step old new low high c.args.self.now is next c.in_ok-push.ensures.items refl)
+    (leave-step old new low high c.args.self.now is next c.in_ok-push.ensures refl)

@@ -1,5 +1,5 @@
 -- Lists of rows, and what is kept of two of them.
-use Rattle.std.specs.Prelude.{◌≡◌, ◌==◌, ℕ, Bool, not, ◌&&◌, ◌||◌, List, length, take}
+use Rattle.std.specs.Prelude.{◌≡◌, ◌==◌, ◌<◌, ℕ, Bool, not, ◌&&◌, ◌||◌, List, All, length, take}
 use Rattle.std.specs.List.{list_any}
 use Rattle.std.specs.List.Sorted.{IsStrictlyIncreasing}
 use Rattle.sc_segment.specs.declared.joining.Kept.{Kept}
@@ -9,6 +9,10 @@ use Rattle.sc_segment.specs.declared.start.Start.{Start}
 -- whether a row is in the list
 abbrev pub has_row : List ℕ → ℕ → Bool
 has_row rows row = list_any (λ r. r == row) rows
+
+-- the number is above each of the rows
+abbrev pub IsAbove : List ℕ → ℕ → Type 0
+IsAbove rows end = All (λ row. row < end) rows
 
 -- whether a row is kept, by whether it is in the left list and in the right one
 abbrev pub keeps : Kept → (left right : Bool) → Bool

@@ -6,7 +6,8 @@
 //! the rows of a key. Where some rows change, `Segment::carried` gives the segment of the new rows out of the old one and a small one
 //! of what changed, by a `Moved`, which has the new number of each old row in four bytes. `join` makes
 //! of two lists of rows the list of those in both, in one of them, or in the first alone; `join_start` gives only how many rows
-//! that list has, and the first of them, for a caller who shows no more: the others are counted, and no list is made of them.
+//! that list has, and the first of them, for a caller who shows no more: the others are counted, and no list is made of them. It takes the
+//! end of the right list from the caller, who may have read it before (`end_of`).
 //! A `LiveBits` says which rows are live. The crate depends on std alone. Contracts see a builder's index and
 //! a segment as the list of the distinct keys with their rows, and a layer above says by `IsIndexOf` which
 //! pairs it has added: `Segment::postings` then gives a filter of these pairs, and `Steps` bounds the number
@@ -44,5 +45,6 @@ pub use key::Key;
 pub use live_bits::LiveBits;
 pub use moved::Moved;
 pub use segment::Segment;
+pub use sifting::end_of;
 pub use start::{Start, join_start};
 pub use steps::Steps;

@@ -1,6 +1,6 @@
-ghost use Rattle.std.specs.Prelude.{◌≡◌, ℕ, ◌<◌, ◌≤◌, ◌++◌, not, cond, List, All, length, IfOk, IfSome, OnOk};
+ghost use Rattle.std.specs.Prelude.{◌≡◌, ℕ, ◌≤◌, ◌++◌, not, cond, List, length, IfOk, IfSome, OnOk};
 ghost use Rattle.std.specs.List.Sorted.{IsStrictlyIncreasing};
-ghost use Rattle.sc_segment.specs.Joining.{has_row};
+ghost use Rattle.sc_segment.specs.Joining.{has_row, IsAbove};
 ghost use Rattle.sc_segment.specs.Sifting.{IsSieve, sifted};
 
 use crate::live_bits::LiveBits;
@@ -14,17 +14,18 @@ pub(crate) struct Sieve {
 }
 
 impl Sieve {
-    /// The sieve of a list of rows that ascend; None where it would be larger than both lists that are joined by it, of which the other one
-    /// has so many rows. The only error is that memory was refused.
+    /// The sieve of a list of rows that are all below the end; None where none is given, or where it would be larger than both lists that
+    /// are joined by it, of which the other one has so many rows. The only error is that memory was refused.
     pub(crate) fn of(
         alloc: Global,
         rows: &[u32],
+        end: Option<u32>,
         others: usize,
     ) -> Result<Option<Sieve>, AllocError>
-        requires { IsStrictlyIncreasing rows.now }
+        requires { IfSome end (IsAbove rows.now) }
         ensures { IfOk result (λ sieve. IfSome sieve (IsSieve rows.now)) }
     {
-        let Some(end) = end_of(rows) else {
+        let Some(end) = end else {
             return Ok(None);
         };
         if rows.len().saturating_add(others) < end as usize / 64 {
@@ -91,10 +92,11 @@ impl Sieve {
     }
 }
 
-// The row after the last, if that is a number of 32 bits.
-fn end_of(rows: &[u32]) -> Option<u32>
+/// The row after the last of these rows that ascend; None where there are none, or where it is no number of 32 bits. Of the rows only the
+/// last is read: where several lists are to be joined, to have the ends of all of them first lets the processor wait for them at once.
+pub fn end_of(rows: &[u32]) -> Option<u32>
     requires { IsStrictlyIncreasing rows.now }
-    ensures { IfSome result (λ end. All (λ row. row < end) rows.now) }
+    ensures { IfSome result (IsAbove rows.now) }
 {
     if rows.is_empty() {
         return None;

@@ -1,9 +1,9 @@
 //! How many rows are kept of two lists, and the first of them, without the list of them all.
 
-ghost use Rattle.std.specs.Prelude.{◌≡◌, List, ℕ, take, IfOk};
+ghost use Rattle.std.specs.Prelude.{◌≡◌, List, ℕ, take, IfOk, IfSome};
 ghost use Rattle.std.specs.List.Sorted.{IsStrictlyIncreasing};
 ghost use Rattle.sc_segment.specs.declared.joining.Kept.TheVariants.{Either};
-ghost use Rattle.sc_segment.specs.Joining.{IsJoin, IsStart};
+ghost use Rattle.sc_segment.specs.Joining.{IsAbove, IsJoin, IsStart};
 ghost use Rattle.sc_segment.specs.Sifting.{IsSieve, sifted};
 
 use crate::joining::{Kept, merged, push_kept, wanted_of_left};
@@ -18,19 +18,22 @@ pub struct Start {
 }
 
 /// The start of the list that `join` makes of two lists of rows that ascend: how many rows it has, and the first of them, `most` or all.
-/// The list itself is made only where both lists are short beside their greatest row. The only error is that memory was refused.
+/// The list itself is made only where the right one has no end (`end_of`), or where both are short beside it. The only error is that memory
+/// was refused.
 pub fn join_start(
     alloc: Global,
     how: Kept,
     left: &[u32],
     right: &[u32],
+    end: Option<u32>,
     most: usize,
 ) -> Result<Start, AllocError>
     requires left { IsStrictlyIncreasing left.now }
     requires right { IsStrictlyIncreasing right.now }
+    requires end { IfSome end (IsAbove right.now) }
     ensures { IfOk result (λ start. (rows : List ℕ) × IsJoin how left.now right.now rows × IsStart most rows start) }
 {
-    let Some(sieve) = Sieve::of(alloc, right, left.len())? else {
+    let Some(sieve) = Sieve::of(alloc, right, end, left.len())? else {
         return start_of_merged(alloc, how, left, right, most);
     };
     match wanted_of_left(how) {

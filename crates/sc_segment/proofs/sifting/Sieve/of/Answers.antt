@@ -11,7 +11,7 @@ loop-row-preserved c =
     let i = c.loop-row.invariant in
     let at = c.loop-row.row-index in
     let within : at < length rows = omega (arith, c.loop-row-test.true) in
-    let below = All-get_or (λ (r : ℕ). r < c.in-Some.end) rows at 0 within c.in-Some.ensures in
+    let below = All-get_or (λ (r : ℕ). r < c.in-Some.end) rows at 0 within (rw c.in-Some.is at c.requires) in
     let cleared = c.clear.ensures in
     record {
       as_long = ap (λ (bits : List Bool). length bits) cleared ∙ length-set c.loop-row.absent (slice_index rows at) false ∙ i.as_long;

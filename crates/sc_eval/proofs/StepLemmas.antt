@@ -1,5 +1,5 @@
 -- How many steps a search takes: those of its leaves, and one for each row that is read.
-use Rattle.std.proofs.Common.{◌≡◌, ℕ, Bool, ◌+◌, ◌-◌, ◌*◌, ◌^◌, ◌<◌, ◌≤◌, List, [], ◌∷◌, ◌++◌, length, subst, sym, ap, arith, inl, inr}
+use Rattle.std.proofs.Common.{◌≡◌, ℕ, Bool, ◌+◌, ◌-◌, ◌*◌, ◌^◌, ◌<◌, ◌≤◌, List, [], ◌∷◌, ◌++◌, length, None, subst, sym, ap, arith, inl, inr}
 use Rattle.std.proofs.Math.Nat.{pow-le-pow_right, mul-le-mul_right}
 use Rattle.std.proofs.lemmas.Bool.{cases_lt}
 use Rattle.sc_record.specs.declared.write.Write.{Write}
@@ -62,7 +62,7 @@ module _ (rows : List Write) where
 
   -- one list is what it is
   pub one-list : (test : Write → Bool) (numbers : Numbers) → AreNumbersOf test rows (numbers_of numbers) → WillBeNumbersOf test rows (One numbers)
-  one-list test numbers are = record { ascend = tt; joined = λ list is. subst (AreNumbersOf test rows) (sym is) are }
+  one-list test numbers are = record { ready = tt; joined = λ list is. subst (AreNumbersOf test rows) (sym is) are }
 
   -- the leftmost operand was looked up
   pub first-found : (whole left : Criterion) (waiting : List Right) (unjoined found : Unjoined) (start middle after : ℕ)
@@ -99,14 +99,14 @@ module _ (rows : List Write) where
     -- what was found is joined, and then what was found of the right operand stands beside it
     pub right-found : (left right : Numbers) → IsJoined unjoined (numbers_of left)
         → AreNumbersOf (is_match (criterion_of one.operand.now)) rows (numbers_of right)
-        → IsFoundSoFar whole popped (Two one.how left right) (after - start)
+        → IsFoundSoFar whole popped (Two one.how left right None) (after - start)
     right-found left right is are =
         let lefts = far.found.joined (numbers_of left) is in
         record {
           left = joined_by one.how far.left (criterion_of one.operand.now);
           is_whole = back;
           found = record {
-            ascend = (lefts.ascending, are.ascending);
+            ready = (lefts.ascending, are.ascending, tt);
             joined = λ both joined. joined-numbers one.how far.left (criterion_of one.operand.now) rows
                 (numbers_of left) (numbers_of right) both lefts are joined;
           };

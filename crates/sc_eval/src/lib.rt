@@ -6,11 +6,14 @@
 //! `sc_journal` for what is true of their terms, on `sc_hash` for the range, and on `thiserror`. It does no input and no output.
 //! The layers above use the contract of `bind`, which says of each query which criterion it is or where its fault is, and those of
 //! `find`, which gives how many rows are found and the numbers of the first of them, and of `evaluate`, which gives all as a filter of the rows.
+//! `find` is `look_up` and then `start`: one who searches in many snapshots looks up in all of them first, notes the ends of the lists that
+//! are to be joined (`Unjoined::note_end`), and then joins them, so that the processor waits for several lists at once.
 //!
 //! Proved: `bind` gives the criteria that a query's leaves ask for by their fields' kinds, or the place of the first leaf
 //! at fault (`specs/Criteria`); `evaluate` gives exactly the live rows of a snapshot that match and whose hashes are in a range, in
-//! order of their ids (`specs/Matching`), and `find` counts them and gives the numbers of the first (`AreMatches`); both look up each leaf
-//! once at most and read no row that does not match (`AreStepsOfSearch`). Laws in `specs/Laws`: NOT of NOT, De Morgan, AND, parts of a range.
+//! order of their ids (`specs/Matching`), `find` counts them and gives the numbers of the first (`AreMatches`), and `look_up` gives what
+//! will be their numbers (`specs/Unjoined`); all look up each leaf once at most and read no row that does not match
+//! (`AreStepsOfSearch`). Laws in `specs/Laws`: NOT of NOT, De Morgan, AND, parts of a range.
 //!
 //! Tested alone: the worked queries.
 //!
@@ -40,4 +43,5 @@ pub use bound::Bound;
 pub use fault::BindFault;
 pub use laws::{queries_are_bound_or_at_fault, queries_find_as_logic_says};
 pub use numbers::{Matches, Numbers};
-pub use searcher::{evaluate, find};
+pub use searcher::{evaluate, find, look_up};
+pub use unjoined::Unjoined;

@@ -1,16 +1,16 @@
 //! Which rows match a query, whatever their hashes, by joining the posting lists of its terms.
 
-ghost use Rattle.std.specs.Prelude.{◌≡◌, ℕ, ◌-◌, ◌≤◌, List, All, IfOk, IsTrue};
+ghost use Rattle.std.specs.Prelude.{ℕ, ◌-◌, ◌≤◌, List, All, IfOk, IsTrue};
 ghost use Rattle.sc_record.specs.declared.write.Write.{Write};
 ghost use Rattle.sc_journal.specs.Legal.{HasTerms};
 ghost use Rattle.std.specs.List.Sorted.{IsStrictlyIncreasing};
 ghost use Rattle.sc_segment.specs.Joining.{IsJoin};
 ghost use Rattle.sc_eval.specs.Criteria.{Criterion, criterion_of};
-ghost use Rattle.sc_eval.specs.Numbers.{numbers_of, is_match, IsBeginning, AreNumbersOf, AreStepsOfLeaves};
+ghost use Rattle.sc_eval.specs.Numbers.{numbers_of, is_match, AreNumbersOf, AreStepsOfLeaves};
 ghost use Rattle.sc_eval.specs.Unjoined.{WillBeNumbersOf};
 
 use crate::bound::Bound;
-use crate::numbers::{Matches, Numbers};
+use crate::numbers::Numbers;
 use crate::operand::{Operand, Right, first_operand};
 use crate::unjoined::Unjoined;
 use sc_segment::{Kept, Steps};
@@ -35,26 +35,8 @@ pub(crate) fn matching<'a, L: Ledger>(
     unjoined(alloc, query, snapshot, steps)?.joined(alloc)
 }
 
-/// How many live rows match the query, and the numbers of the first of them, `most` or all. They are looked up as by `matching`, but for
-/// the outermost join, of which not all numbers are kept.
-pub(crate) fn matching_start<'a, L: Ledger>(
-    alloc: Global,
-    query: &Bound,
-    snapshot: &'a Snapshot,
-    most: usize,
-    steps: &mut Steps<L>,
-) -> Result<Matches<'a>, AllocError>
-    requires { All (λ (row : Write). HasTerms row.id row.doc row.terms) snapshot.now.rows }
-    ensures found { IfOk result (λ found. (numbers : List ℕ)
-        × AreNumbersOf (is_match (criterion_of query.now)) snapshot.now.rows numbers × IsBeginning most numbers found) }
-    ensures counted { steps.old ≤ steps.new }
-    ensures bound { AreStepsOfLeaves (criterion_of query.now) snapshot.now.rows (steps.new - steps.old) }
-{
-    unjoined(alloc, query, snapshot, steps)?.start(alloc, most)
-}
-
-// The numbers of the live rows that match the query, where the outermost join is not made yet.
-fn unjoined<'a, L: Ledger>(
+/// The numbers of the live rows that match the query, looked up as by `matching`, where the outermost join is not made yet.
+pub(crate) fn unjoined<'a, L: Ledger>(
     alloc: Global,
     query: &Bound,
     snapshot: &'a Snapshot,
@@ -80,7 +62,12 @@ fn unjoined<'a, L: Ledger>(
             Unjoined::One(left)
         } else {
             let right = unjoined(alloc, operand, snapshot, steps)?.joined(alloc)?;
-            Unjoined::Two { how, left, right }
+            Unjoined::Two {
+                how,
+                left,
+                right,
+                end: None,
+            }
         };
     }
     Ok(found)
@@ -118,5 +105,6 @@ fn all_but<'a>(snapshot: &'a Snapshot, left_out: Numbers<'a>) -> Unjoined<'a>
         how: Kept::LeftAlone,
         left: live,
         right: left_out,
+        end: None,
     }
 }

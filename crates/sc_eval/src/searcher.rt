@@ -8,10 +8,12 @@ ghost use Rattle.sc_journal.specs.Legal.{HasTerms};
 ghost use Rattle.sc_eval.specs.Criteria.{criterion_of};
 ghost use Rattle.sc_eval.specs.Matching.{finds};
 ghost use Rattle.sc_eval.specs.Numbers.{numbers_of, row_in, AreMatches, AreStepsOfSearch};
+ghost use Rattle.sc_eval.specs.Unjoined.{WillBeNumbersOf};
 
 use crate::bound::Bound;
-use crate::matching::{matching, matching_start};
+use crate::matching::{matching, unjoined};
 use crate::numbers::{Matches, Numbers};
+use crate::unjoined::Unjoined;
 use sc_hash::Range;
 use sc_record::{Cell, List};
 use sc_segment::Steps;
@@ -37,12 +39,31 @@ pub fn find<'a, L: Ledger>(
     ensures counted { steps.old ≤ steps.new }
     ensures bound { AreStepsOfSearch (criterion_of query.now) snapshot.now.rows (steps.new - steps.old) }
 {
+    look_up(alloc, query, snapshot, range, steps)?.start(alloc, most)
+}
+
+/// The numbers of the rows that the query finds in the range, where the outermost join is not made yet: so the terms of a query can be
+/// looked up in several snapshots before any lists are joined. A step is one comparison of terms, or one row that is read: none is where the
+/// hashes of all rows are in the range. The only error is that memory was refused.
+#[inline(always)]
+pub fn look_up<'a, L: Ledger>(
+    alloc: Global,
+    query: &Bound,
+    snapshot: &'a Snapshot,
+    range: &Range,
+    steps: &mut Steps<L>,
+) -> Result<Unjoined<'a>, AllocError>
+    requires { All (λ (row : Write). HasTerms row.id row.doc row.terms) snapshot.now.rows }
+    ensures found { IfOk result (WillBeNumbersOf (finds range.now (criterion_of query.now)) snapshot.now.rows) }
+    ensures counted { steps.old ≤ steps.new }
+    ensures bound { AreStepsOfSearch (criterion_of query.now) snapshot.now.rows (steps.new - steps.old) }
+{
     if has_all(range, snapshot) {
-        return matching_start(alloc, query, snapshot, most, steps);
+        return unjoined(alloc, query, snapshot, steps);
     }
     let numbers = matching(alloc, query, snapshot, steps)?;
     let found = numbers_in(alloc, snapshot, range, numbers.as_slice(), steps)?;
-    Ok(found.start(most))
+    Ok(Unjoined::One(found))
 }
 
 /// The rows of a snapshot that the query finds in the range, in their order, so ascending by the ids' bytes. Each row that

@@ -74,7 +74,7 @@ loop-how-init g t c =
     ]
 
 pub joined-requires-in-Some : goal.joined-requires-in-Some
-joined-requires-in-Some g t c = c.loop-how.invariant.far.found.ascend
+joined-requires-in-Some g t c = c.loop-how.invariant.far.found.ready
 
 pub returns-in_err-left-clause-bound : goal.returns-in_err-left-clause-bound
 returns-in_err-left-clause-bound g t c =

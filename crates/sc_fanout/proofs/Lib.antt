@@ -6,6 +6,7 @@ mod StartLemmas
 mod CountLemmas
 mod PageLemmas
 mod HitLemmas
+mod LookedLemmas
 mod FoundLemmas
 mod TakenLemmas
 mod ExactlyLemmas

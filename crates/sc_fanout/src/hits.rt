@@ -3,8 +3,15 @@ ghost use Rattle.sc_bucket.specs.Taking.{lent};
 ghost use Rattle.sc_segment.specs.Heads.{front_number};
 
 use sc_bucket::Searcher;
-use sc_eval::Numbers;
+use sc_eval::{Numbers, Unjoined};
 use sc_record::Cell;
+
+/// The numbers of the rows that the query finds with a searcher, where the outermost join is not made yet.
+#[derive(Drop)]
+pub(crate) struct Looked<'a> {
+    pub(crate) searcher: &'a Searcher,
+    pub(crate) unjoined: Unjoined<'a>,
+}
 
 /// The first hits of a searcher: the numbers of the first rows that the query finds there, as many as the page can show.
 #[derive(Drop)]

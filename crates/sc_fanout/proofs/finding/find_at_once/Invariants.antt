@@ -4,7 +4,7 @@ use Rattle.sc_eval.specs.Criteria.{criterion_of}
 use Rattle.sc_fanout.specs.Pages.{all_of}
 use Rattle.sc_fanout.specs.Steps.{found_in}
 use Rattle.sc_fanout.specs.Hits.{AreHits, searchers_of}
-use Rattle.sc_fanout.proofs.finding.find_all.Given as goal
+use Rattle.sc_fanout.proofs.finding.find_at_once.Given as goal
 
 abbrev pub invariant-loop-searcher : goal.invariant-loop-searcher
 invariant-loop-searcher l = record {

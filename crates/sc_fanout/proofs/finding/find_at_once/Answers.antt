@@ -10,7 +10,7 @@ use Rattle.sc_fanout.specs.Hits.{AreHits, searchers_of}
 use Rattle.sc_fanout.specs.declared.hits.Hits.{Hits}
 use Rattle.sc_fanout.proofs.BucketLemmas.{is-found}
 use Rattle.sc_fanout.proofs.CountLemmas.{count-next}
-use Rattle.sc_fanout.proofs.finding.find_all.Goals as goal
+use Rattle.sc_fanout.proofs.finding.find_at_once.Goals as goal
 
 pub overflow_add-count : goal.overflow_add-count
 overflow_add-count c =

@@ -1,10 +1,11 @@
 //! `sc_segment`: what becomes of the rows of each key when some rows change.
 
+ghost use Rattle.std.specs.Prelude.{IfOk};
 ghost use Rattle.sc_segment.specs.Carrying.{KeepsOrder};
 ghost use Rattle.sc_segment.specs.Fresh.{IsFresh};
 
 use crate::segments::{CountedKey, assert_rows, filled};
-use sc_segment::{Segment, Steps};
+use sc_segment::{Moved, Segment, Steps};
 use std::alloc::{AllocError, Global};
 use std::cell::Cell;
 use std::marker::Brand;
@@ -13,10 +14,15 @@ use std::sync::ledger::{Blank, Ledger};
 use std::test::Fail;
 
 // Of five rows the second is gone, and the last, which has no new number.
-fn moved() -> [Option<u32>; 4]
-    ensures { KeepsOrder result }
+fn moved(alloc: Global) -> Result<Moved, AllocError>
+    ensures { IfOk result KeepsOrder }
 {
-    [Some(0), None, Some(1), Some(3)]
+    let mut moved = Moved::with_room(alloc, 4)?;
+    moved.push_run(0, 1)?;
+    moved.push(None)?;
+    moved.push(Some(1))?;
+    moved.push(Some(3))?;
+    Ok(moved)
 }
 
 // Three keys, of one of which no row stays. The row 2 is added between those that stay.
@@ -32,7 +38,8 @@ fn carried<'a>(
         compared,
     )?;
     let added = filled(rt, alloc, &[(2, 25), (2, 30)], compared)?;
-    old.carried(alloc, &moved(), &added)
+    let moved = moved(alloc)?;
+    old.carried(alloc, &moved, &added)
 }
 
 fn assert_rows_of<'a, L: Ledger>(

@@ -2,7 +2,7 @@
 use Rattle.std.specs.Prelude.{◌≡◌, ℕ, Bool, List, Option, IfSome, ⊤}
 use Rattle.std.specs.List.Sorted.{IsStrictlyIncreasing}
 use Rattle.sc_record.specs.declared.write.Write.{Write}
-use Rattle.sc_segment.specs.Joining.{IsAbove, IsJoin}
+use Rattle.sc_segment.specs.Joining.{EndBefore, IsJoin}
 use Rattle.sc_eval.specs.Numbers.{numbers_of, AreNumbersOf}
 use Rattle.sc_eval.specs.declared.unjoined.Unjoined.{Unjoined}
 use Rattle.sc_eval.specs.declared.unjoined.Unjoined.TheVariants.{One, Two}
@@ -10,13 +10,13 @@ use Rattle.sc_eval.specs.declared.unjoined.Unjoined.TheVariants.{One, Two}
 -- an end, where there is one, is above the numbers of the right one of two lists
 abbrev pub IsEnd : Unjoined → Option ℕ → Type 0
 IsEnd (One numbers) end = ⊤
-IsEnd (Two how left right noted) end = IfSome end (IsAbove (numbers_of right))
+IsEnd (Two how left right noted) end = IfSome end (EndBefore (numbers_of right))
 
 -- two lists ascend, and the end of the right one, where it was noted, is above its numbers, so that they can be joined
 abbrev pub CanBeJoined : Unjoined → Type 0
 CanBeJoined (One numbers) = ⊤
 CanBeJoined (Two how left right noted) =
-    IsStrictlyIncreasing (numbers_of left) × IsStrictlyIncreasing (numbers_of right) × IfSome noted (IsAbove (numbers_of right))
+    IsStrictlyIncreasing (numbers_of left) × IsStrictlyIncreasing (numbers_of right) × IfSome noted (EndBefore (numbers_of right))
 
 -- the list is the one, or what is kept of the two
 abbrev pub IsJoined : Unjoined → List ℕ → Type 0

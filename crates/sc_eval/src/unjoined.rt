@@ -3,7 +3,7 @@
 
 ghost use Rattle.std.specs.Prelude.{◌↔◌, List, ℕ, IfOk, IfSome};
 ghost use Rattle.std.specs.List.Sorted.{IsStrictlyIncreasing};
-ghost use Rattle.sc_segment.specs.Joining.{IsAbove};
+ghost use Rattle.sc_segment.specs.Joining.{EndBefore};
 ghost use Rattle.sc_eval.specs.Numbers.{numbers_of, IsBeginning};
 ghost use Rattle.sc_eval.specs.Unjoined.{CanBeJoined, IsEnd, IsJoined};
 
@@ -94,9 +94,9 @@ impl<'a> Unjoined<'a> {
 
 // The end of the numbers: the one that was noted, or it is read.
 fn noted_or_read(noted: Option<u32>, numbers: &[u32]) -> Option<u32>
-    requires noted { IfSome noted (IsAbove numbers.now) }
+    requires noted { IfSome noted (EndBefore numbers.now) }
     requires ascend { IsStrictlyIncreasing numbers.now }
-    ensures { IfSome result (IsAbove numbers.now) }
+    ensures { IfSome result (EndBefore numbers.now) }
 {
     match noted {
         Some(_) => noted,

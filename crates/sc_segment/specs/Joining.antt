@@ -10,9 +10,9 @@ use Rattle.sc_segment.specs.declared.start.Start.{Start}
 abbrev pub has_row : List ℕ → ℕ → Bool
 has_row rows row = list_any (λ r. r == row) rows
 
--- the number is above each of the rows
-abbrev pub IsAbove : List ℕ → ℕ → Type 0
-IsAbove rows end = All (λ row. row < end) rows
+-- the rows end before the number
+abbrev pub EndBefore : List ℕ → ℕ → Type 0
+EndBefore rows end = All (λ row. row < end) rows
 
 -- whether a row is kept, by whether it is in the left list and in the right one
 abbrev pub keeps : Kept → (left right : Bool) → Bool

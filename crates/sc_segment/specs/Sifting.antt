@@ -2,11 +2,11 @@
 use Rattle.std.specs.Prelude.{◌≡◌, ℕ, ◌<◌, Bool, true, false, not, cond, List, Some, length, filter, slice_get}
 use Rattle.sc_segment.specs.declared.sifting.Sieve.{Sieve}
 use Rattle.sc_segment.specs.declared.joining.Kept.{Kept}
-use Rattle.sc_segment.specs.Joining.{has_row, keeps, IsAbove}
+use Rattle.sc_segment.specs.Joining.{has_row, keeps, EndBefore}
 
 -- the rows that the list has not are marked, up to an end that is above them all
 pub record IsSieve (rows : List ℕ) (sieve : Sieve) : Type 0 where
-  pub below : IsAbove rows sieve.end
+  pub below : EndBefore rows sieve.end
   pub as_long : length sieve.absent ≡ sieve.end
   pub marks : (row : ℕ) → row < sieve.end → slice_get sieve.absent row ≡ Some (not (has_row rows row))
 

@@ -1,6 +1,6 @@
 ghost use Rattle.std.specs.Prelude.{◌≡◌, ℕ, ◌≤◌, ◌++◌, not, cond, List, length, IfOk, IfSome, OnOk};
 ghost use Rattle.std.specs.List.Sorted.{IsStrictlyIncreasing};
-ghost use Rattle.sc_segment.specs.Joining.{has_row, IsAbove};
+ghost use Rattle.sc_segment.specs.Joining.{has_row, EndBefore};
 ghost use Rattle.sc_segment.specs.Sifting.{IsSieve, sifted};
 
 use crate::live_bits::LiveBits;
@@ -22,7 +22,7 @@ impl Sieve {
         end: Option<u32>,
         others: usize,
     ) -> Result<Option<Sieve>, AllocError>
-        requires { IfSome end (IsAbove rows.now) }
+        requires { IfSome end (EndBefore rows.now) }
         ensures { IfOk result (λ sieve. IfSome sieve (IsSieve rows.now)) }
     {
         let Some(end) = end else {
@@ -96,7 +96,7 @@ impl Sieve {
 /// last is read: where several lists are to be joined, to have the ends of all of them first lets the processor wait for them at once.
 pub fn end_of(rows: &[u32]) -> Option<u32>
     requires { IsStrictlyIncreasing rows.now }
-    ensures { IfSome result (IsAbove rows.now) }
+    ensures { IfSome result (EndBefore rows.now) }
 {
     if rows.is_empty() {
         return None;

@@ -3,7 +3,7 @@
 ghost use Rattle.std.specs.Prelude.{◌≡◌, List, ℕ, take, IfOk, IfSome};
 ghost use Rattle.std.specs.List.Sorted.{IsStrictlyIncreasing};
 ghost use Rattle.sc_segment.specs.declared.joining.Kept.TheVariants.{Either};
-ghost use Rattle.sc_segment.specs.Joining.{IsAbove, IsJoin, IsStart};
+ghost use Rattle.sc_segment.specs.Joining.{EndBefore, IsJoin, IsStart};
 ghost use Rattle.sc_segment.specs.Sifting.{IsSieve, sifted};
 
 use crate::joining::{Kept, merged, push_kept, wanted_of_left};
@@ -30,7 +30,7 @@ pub fn join_start(
 ) -> Result<Start, AllocError>
     requires left { IsStrictlyIncreasing left.now }
     requires right { IsStrictlyIncreasing right.now }
-    requires end { IfSome end (IsAbove right.now) }
+    requires end { IfSome end (EndBefore right.now) }
     ensures { IfOk result (λ start. (rows : List ℕ) × IsJoin how left.now right.now rows × IsStart most rows start) }
 {
     let Some(sieve) = Sieve::of(alloc, right, end, left.len())? else {

@@ -73,8 +73,8 @@ pub(crate) fn unjoined<'a, L: Ledger>(
     Ok(found)
 }
 
-// The numbers of the live rows that have the term of the key.
-fn numbers_with<'a, L: Ledger>(
+/// The numbers of the live rows that have the term of the key.
+pub(crate) fn numbers_with<'a, L: Ledger>(
     key: &TermKey,
     snapshot: &'a Snapshot,
     steps: &mut Steps<L>,

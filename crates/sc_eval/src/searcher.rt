@@ -11,7 +11,7 @@ ghost use Rattle.sc_eval.specs.Numbers.{numbers_of, row_in, AreMatches, AreSteps
 ghost use Rattle.sc_eval.specs.Unjoined.{WillBeNumbersOf};
 
 use crate::bound::Bound;
-use crate::matching::{matching, unjoined};
+use crate::matching::{matching, numbers_with, unjoined};
 use crate::numbers::{Matches, Numbers};
 use crate::unjoined::Unjoined;
 use sc_hash::Range;
@@ -39,6 +39,11 @@ pub fn find<'a, L: Ledger>(
     ensures counted { steps.old ≤ steps.new }
     ensures bound { AreStepsOfSearch (criterion_of query.now) snapshot.now.rows (steps.new - steps.old) }
 {
+    if has_all(range, snapshot) {
+        if let Bound::Leaf(key) = query {
+            return Ok(numbers_with(key, snapshot, steps).start(most));
+        }
+    }
     look_up(alloc, query, snapshot, range, steps)?.start(alloc, most)
 }
 

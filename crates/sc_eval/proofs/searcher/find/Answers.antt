@@ -6,7 +6,7 @@ use Rattle.sc_eval.proofs.searcher.find.Goals as goal
 
 pub returns-clause-found : goal.returns-clause-found
 returns-clause-found g c =
-    IfOk-weaker c.start.result _ _
+    IfOk-weaker c.start-2.result _ _
     (λ found is. are-matches c.args.range.now (criterion_of c.args.query.now) c.args.snapshot.now.rows is.0 c.args.most found
     (c.in_ok-look_up.ensures.found.joined is.0 is.1) is.2)
-    c.start.ensures
+    c.start-2.ensures

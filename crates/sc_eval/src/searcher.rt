@@ -48,8 +48,8 @@ pub fn find<'a, L: Ledger>(
 }
 
 /// The numbers of the rows that the query finds in the range, where the outermost join is not made yet: so the terms of a query can be
-/// looked up in several snapshots before any lists are joined. A step is one comparison of terms, or one row that is read: none is where the
-/// hashes of all rows are in the range. The only error is that memory was refused.
+/// looked up in several snapshots before the outermost lists are joined. A step is one comparison of terms, or one row that is read: none is
+/// where the hashes of all rows are in the range. The only error is that memory was refused.
 #[inline(always)]
 pub fn look_up<'a, L: Ledger>(
     alloc: Global,

@@ -1,5 +1,5 @@
 //! The outermost join of a query is put off until it is known what is asked of it: all that it keeps, or how much that is and the first of it.
-//! So one who searches in many snapshots can look up the terms in all of them before he joins any lists.
+//! So one who searches in many snapshots can look up the terms in all of them before these lists are joined.
 
 ghost use Rattle.std.specs.Prelude.{◌↔◌, List, ℕ, IfOk, IfSome};
 ghost use Rattle.std.specs.List.Sorted.{IsStrictlyIncreasing};

@@ -1,5 +1,6 @@
 //! `sc_segment`: the rows of each key, in how many steps they are found, which rows two lists give, and which rows are live.
 
+ghost use Rattle.std.specs.Prelude.{◌<◌};
 ghost use Rattle.std.specs.Ordering.{nat_cmp};
 ghost use Rattle.sc_segment.specs.Fresh.{IsFresh};
 ghost use Rattle.std.proofs.lemmas.Cmp.{on_total, nat_cmp_total};
@@ -85,33 +86,53 @@ pub fn assert_rows<'a, L: Ledger>(
     assert!(rt; key.compared.get() <= limit);
 }
 
-// The even numbers below 2,000 as keys, each of two rows that are filed twice, in no order: 7 * 143 is 1 more than 1,000.
-fn finds_among_many<L: Ledger>(rt: &impl Abort, alloc: Global, blank: Blank) -> Result<(), Fail>
-    requires { IsFresh blank L.name L.parts }
-{
-    let mut steps = Steps::<L>::new(blank);
-    let compared = Cell::new(0);
+// 2,000 rows that are filed twice each, by the even numbers below 2,000 in no order: 7 * 143 is 1 more than 1,000.
+fn pairs_of_many(alloc: Global) -> Result<Vec<(u32, u32)>, AllocError> {
     let mut pairs = Vec::new(alloc);
     for row in 0..2000 {
         let pair = (row, row * 7 % 1000 * 2);
         pairs.push(pair)?;
         pairs.push(pair)?;
     }
+    Ok(pairs)
+}
+
+// The even number, which two rows have, and the odd one after it, which no row has.
+fn assert_even_and_odd<'a, L: Ledger>(
+    rt: &impl Abort,
+    segment: &Segment<CountedKey<'a>>,
+    compared: &'a Cell<u32>,
+    half: u32,
+    steps: &mut Steps<L>,
+) -> Result<(), AllocError>
+    requires { half < 1000 }
+{
+    let even = CountedKey {
+        number: 2 * half,
+        compared,
+    };
+    let shared = even.share()?;
+    assert!(rt; shared == even);
+    let row = half * 143 % 1000;
+    assert_rows(rt, segment, &shared, &[row, row + 1000], 10, steps);
+    let odd = CountedKey {
+        number: 2 * half + 1,
+        compared,
+    };
+    assert_rows(rt, segment, &odd, &[], 10, steps);
+    Ok(())
+}
+
+// Each of many keys is found, and none that there is not.
+fn finds_among_many<L: Ledger>(rt: &impl Abort, alloc: Global, blank: Blank) -> Result<(), Fail>
+    requires { IsFresh blank L.name L.parts }
+{
+    let mut steps = Steps::<L>::new(blank);
+    let compared = Cell::new(0);
+    let pairs = pairs_of_many(alloc)?;
     let segment = filled(rt, alloc, &pairs, &compared)?;
     for half in 0..1000 {
-        let even = CountedKey {
-            number: 2 * half,
-            compared: &compared,
-        };
-        let shared = even.share()?;
-        assert!(rt; shared == even);
-        let row = half * 143 % 1000;
-        assert_rows(rt, &segment, &shared, &[row, row + 1000], 10, &mut steps);
-        let odd = CountedKey {
-            number: 2 * half + 1,
-            compared: &compared,
-        };
-        assert_rows(rt, &segment, &odd, &[], 10, &mut steps);
+        assert_even_and_odd(rt, &segment, &compared, half, &mut steps)?;
     }
 
     let empty = filled(rt, alloc, &[], &compared)?;

@@ -3,20 +3,25 @@
 
 It makes documents of some 110 bytes of JSON and ten terms (an id, a language, a price, a title of five to ten words out of twenty thousand),
 loads them, commits, searches for one word, for two joined by AND and by OR, and commits after one changed document, after a thousand and after
-none. Costs are processor time of the server's threads alone, from /proc/PID/task; each count that a search gives is compared with the script's own. It
+none. Costs are processor time of the server's threads alone, from /proc/PID/task; each count that a search gives is compared with the script's own.
+Searches come in passes of a hundred queries. The first five have words that were drawn for each, and their median is given; then the words of the first
+pass are asked again, and the least of five passes is given, as it is of Lucene. A commit's cost is the median of its rounds. It
 does all this twice: with memory in pages of 4 KiB, and with memory in huge pages, which a variable of the server's environment asks the C library for. Where
 Lucene 8 stands in /usr/share/java (Debian: liblucene8-java) and `javac` is on the path, `LuceneSearch.java` then indexes the same documents and
-answers the same queries on one thread, with its heap in huge pages. Prints tables in Markdown; a million documents take some two minutes and 3 GB.
+answers the queries of the first pass on one thread, with its heap in huge pages: the least of five passes, after twenty that are not timed. Prints tables
+in Markdown; a million documents take some three minutes and 3 GB.
 
     PROGRAM=crates/solr_split/out/solr_split bench/search.py --documents 1000000
 """
 import argparse
+import array
 import bisect
 import itertools
 import os
 import platform
 import random
 import shutil
+import statistics
 import subprocess
 import sys
 import tempfile
@@ -27,6 +32,7 @@ sys.dont_write_bytecode = True
 from loopback import PROGRAM, Client, serve, stop_at_signals, written_into
 
 VOCABULARY = 20000
+PASSES = 5
 # What asks the GNU C library, from its version 2.35 on, for memory in huge pages where the system gives them to who asks.
 HUGE_PAGES = {'GLIBC_TUNABLES': 'glibc.malloc.hugetlb=1'}
 LANGUAGES = ('en', 'de', 'fr', 'es', 'it')
@@ -64,16 +70,16 @@ def documents(count):
         yield f'doc-{number:07d}', LANGUAGES[draw.randrange(5)], draw.randrange(10000), words
 
 
-def queries_of(count):
-    """So many pairs of words, from frequent to rare."""
-    draw = random.Random(11)
+def queries_of(count, turn):
+    """So many pairs of words for this pass, from frequent to rare."""
+    draw = random.Random(11 + turn)
     ranks = [int(10 * 100 ** draw.random()) for _ in range(2 * count)]
     return [(words_of(one), words_of(other if other != one else one + 1)) for one, other in zip(ranks[::2], ranks[1::2])]
 
 
 def load(client, options, wanted):
-    """Sends all documents, and returns the documents of each word that is wanted, by their numbers, and how many bytes of JSON came."""
-    rows = {word: set() for word in wanted}
+    """Sends all documents, and returns the numbers of the documents of each word that is wanted, and how many bytes of JSON came."""
+    rows = {word: array.array('I') for word in wanted}
     batch, size = [], 0
 
     def send():
@@ -82,9 +88,9 @@ def load(client, options, wanted):
 
     for number, (name, language, price, words) in enumerate(documents(options.documents)):
         batch.append('{"id":"%s","lang_s":"%s","price_i":%d,"title_t":"%s"}' % (name, language, price, ' '.join(words)))
-        for word in words:
+        for word in set(words):
             if word in rows:
-                rows[word].add(number)
+                rows[word].append(number)
         if len(batch) == 4096 or number + 1 == options.documents:
             text = ('[' + ','.join(batch) + ']').encode()
             size += len(text)
@@ -129,9 +135,16 @@ def search(client, query, expected):
 
 
 def kinds(queries, rows):
+    """Of each kind of search its queries, each with how many documents it finds."""
     yield 'term', [(f'title_t:{one}', len(rows[one])) for one, _ in queries]
-    yield 'AND', [(f'title_t:{one} AND title_t:{other}', len(rows[one] & rows[other])) for one, other in queries]
-    yield 'OR', [(f'title_t:{one} OR title_t:{other}', len(rows[one] | rows[other])) for one, other in queries]
+    both = [len(set(rows[one]).intersection(rows[other])) for one, other in queries]
+    yield 'AND', [(f'title_t:{one} AND title_t:{other}', found) for (one, other), found in zip(queries, both)]
+    yield 'OR', [(f'title_t:{one} OR title_t:{other}', len(rows[one]) + len(rows[other]) - found) for (one, other), found in zip(queries, both)]
+
+
+def search_all(server, client, asked):
+    """Processor milliseconds a search."""
+    return spent(server, [lambda one=one: search(client, *one) for one in asked]) / len(asked)
 
 
 def lucene(options, queries):
@@ -155,29 +168,33 @@ def lucene(options, queries):
 
 
 def costs(options, queries, variables):
-    """What the server costs that has these variables: rows of a table, and of each kind of search the milliseconds and the documents found."""
+    """What the server costs that has these variables: rows of a table, and of each kind of search the milliseconds, those of words that were asked
+    before, and the documents found. The queries are those of each pass."""
     server, port = serve(options.program, workers=1, more=['--buckets', str(options.buckets)], variables=variables)
     lines, searches = {}, {}
     try:
         client = Client(port, 600)
         start = nanoseconds(server)
-        rows, size = load(client, options, {word for pair in queries for word in pair})
+        rows, size = load(client, options, {word for pairs in queries for pair in pairs for word in pair})
         lines['to load a document'] = f'{(nanoseconds(server) - start) / 1e3 / options.documents:.1f} µs'
         before = server.memory()[0]
         first = spent(server, [lambda: commit(client)])
         after = server.memory()[0]
         lines['first commit, a document'] = f'{first * 1000 / options.documents:.2f} µs'
         lines['memory before and after it, a document'] = f'{before * 2**20 / options.documents:.0f} and {after * 2**20 / options.documents:.0f} bytes'
-        for kind, asked in kinds(queries, rows):
+        passes = [dict(kinds(pairs, rows)) for pairs in queries]
+        for kind, asked in passes[0].items():
             search(client, *asked[0])
-            searches[kind] = spent(server, [lambda one=one: search(client, *one) for one in asked]) / len(asked), sum(count for _, count in asked) / len(asked)
+            first_time = [search_all(server, client, one[kind]) for one in passes]
+            again = [search_all(server, client, asked) for _ in range(PASSES)]
+            searches[kind] = statistics.median(first_time), min(again), sum(found for _, found in asked) / len(asked)
         for count, rounds in ((0, 50), (1, 50), (1000, 10)):
-            total = 0
+            spans = []
             for turn in range(rounds):
                 if count:
                     change(client, options, turn * 31, count)
-                total += spent(server, [lambda: commit(client)])
-            lines[f'a commit after {count} changed documents'] = f'{total / rounds:.2f} ms'
+                spans.append(spent(server, [lambda: commit(client)]))
+            lines[f'a commit after {count} changed documents'] = f'{statistics.median(spans):.2f} ms'
         lines['memory at most, a document'] = f'{server.memory()[1] * 2**20 / options.documents:.0f} bytes'
     finally:
         server.stop()
@@ -186,17 +203,20 @@ def costs(options, queries, variables):
 
 def tables(options):
     load_before = os.getloadavg()[0]
-    queries = queries_of(options.queries)
+    queries = [queries_of(options.queries, turn) for turn in range(PASSES)]
     small, searches, size = costs(options, queries, {})
     huge, huge_searches, _ = costs(options, queries, HUGE_PAGES)
-    other = lucene(options, queries)
+    other = lucene(options, queries[0])
     print(f'{os.cpu_count()} processors ({platform.machine()}), load before {load_before:.1f}; {options.documents} documents of {size:.0f} bytes of JSON; {options.buckets} buckets.\n')
     print('| What | costs | with huge pages |\n|---|---|---|')
     for what, cost in small.items():
         print(f'| {what} | {cost} | {huge[what]} |')
-    print('\n| Search | found | processor time | with huge pages | Lucene 8, one thread |\n|---|---|---|---|---|')
-    for kind, (cost, found) in searches.items():
-        print(f'| {kind} | {found:.0f} | {cost:.3f} ms | {huge_searches[kind][0]:.3f} ms | ' + (f'{other[kind]:.3f} ms |' if kind in other else 'not measured |'))
+    print('\n| Search | found | processor time | asked again | with huge pages | asked again | Lucene 8, asked again |')
+    print('|---|---|---|---|---|---|---|')
+    for kind, (cost, again, found) in searches.items():
+        huge_cost, huge_again, _ = huge_searches[kind]
+        theirs = f'{other[kind]:.3f} ms' if kind in other else 'not measured'
+        print(f'| {kind} | {found:.0f} | {cost:.3f} ms | {again:.3f} ms | {huge_cost:.3f} ms | {huge_again:.3f} ms | {theirs} |')
     if 'index' in other:
         print(f'\nLucene takes {other["index"]:.1f} µs to index a document.')
 

@@ -9,7 +9,7 @@ use Rattle.sc_segment.specs.Carrying.{new_number, new_numbers, AreKept}
 
 -- ---- rows from one place up to another
 -- those up to a place between, and those from it on
-range-join : (xs : List ℕ) (a b c : ℕ) → a ≤ b → b ≤ c → slice_range xs a c ≡ slice_range xs a b ++ slice_range xs b c
+pub range-join : (xs : List ℕ) (a b c : ℕ) → a ≤ b → b ≤ c → slice_range xs a c ≡ slice_range xs a b ++ slice_range xs b c
 range-join xs a b c first later =
     let sum : c - a ≡ (b - a) + (c - b) = omega arith in
     let place : a + (b - a) ≡ b = omega arith in

@@ -13,6 +13,7 @@ pub mod IndexLemmas
 pub mod JoinLemmas
 pub mod MembersLemmas
 pub mod MovedLemmas
+pub mod OwnLemmas
 pub mod PlacingLemmas
 pub mod RowsLemmas
 pub mod SameRowsLemmas
@@ -20,5 +21,6 @@ pub mod SearchLemmas
 pub mod SiftingLemmas
 pub mod SortingLemmas
 pub mod StartLemmas
+pub mod StayingLemmas
 pub mod StoringLemmas
 pub mod TallyLemmas

@@ -2,7 +2,7 @@ ghost use Rattle.std.specs.Prelude.{◌≡◌, ◌<◌, ◌≤◌, ℕ, List, []
 ghost use Rattle.std.specs.declared.cmp.Ordering.TheVariants.{Less};
 ghost use Rattle.std.specs.List.Sorted.{IsStrictlyIncreasing};
 ghost use Rattle.sc_segment.specs.declared.joining.Kept.TheVariants.{Either};
-ghost use Rattle.sc_segment.specs.Carrying.{new_numbers, KeepsOrder, IsCarried, IsAbove, AreBefore};
+ghost use Rattle.sc_segment.specs.Carrying.{new_numbers, KeepsOrder, IsCarried, IsAbove, AreBefore, OthersStay, StayAt};
 ghost use Rattle.sc_segment.specs.Flat.{entry_for};
 ghost use Rattle.sc_segment.specs.Fresh.{IsFresh};
 ghost use Rattle.sc_segment.specs.Index.{IsInOrder, HasRows};
@@ -14,6 +14,7 @@ use crate::key::Key;
 use crate::keys::Keys;
 use crate::moved::Moved;
 use crate::segment::{Segment, search};
+use crate::staying::which_stay;
 use crate::steps::Steps;
 use std::alloc::{AllocError, Global};
 use std::cmp::Ordering;
@@ -35,12 +36,44 @@ impl<K: Key + Drop> Segment<K> {
         requires { KeepsOrder moved.now }
         ensures { IfOk result (λ new. IsCarried K.order moved.now self.now added.now new) }
     {
+        self.carried_by(alloc, moved, &[], added)
+    }
+
+    /// The same as `carried`, where each row that stays keeps its number: `lost` has the keys of the rows that are gone. The rows of all
+    /// other keys are copied as they are, with no look-up for each. The keys of `lost` are sought too.
+    pub fn carried_in_place(
+        &self,
+        alloc: Global,
+        moved: &Moved,
+        lost: &Segment<K>,
+        added: &Segment<K>,
+    ) -> Result<Segment<K>, AllocError>
+        requires order { KeepsOrder moved.now }
+        requires others { OthersStay K.order moved.now self.now lost.now }
+        ensures { IfOk result (λ new. IsCarried K.order moved.now self.now added.now new) }
+    {
+        let stays = which_stay::<K, Brand>(alloc, &self.index, &lost.index, Blank::new(1))?;
+        self.carried_by(alloc, moved, stays.as_slice(), added)
+    }
+
+    // The same, where the rows of each key that is told to stay keep their numbers. Nothing is known of a key past the end of `stays`.
+    fn carried_by(
+        &self,
+        alloc: Global,
+        moved: &Moved,
+        stays: &[bool],
+        added: &Segment<K>,
+    ) -> Result<Segment<K>, AllocError>
+        requires moved { KeepsOrder moved.now }
+        requires stays { StayAt moved.now self.now stays.now }
+        ensures { IfOk result (λ new. IsCarried K.order moved.now self.now added.now new) }
+    {
         let old = &self.index;
         let more = &added.index;
         let keys = old.keys().len().saturating_add(more.keys().len());
         let rows = old.row_count().saturating_add(more.row_count());
         let mut index = FlatIndex::with_room(alloc, keys, rows)?;
-        carry_all::<K, Brand>(&mut index, old, moved, more, Blank::new(1))?;
+        carry_all::<K, Brand>(&mut index, old, moved, stays, more, Blank::new(1))?;
         let kept = KeptIndex::of_places(alloc, index, old, more)?;
         Ok(Segment::new(kept))
     }
@@ -52,11 +85,13 @@ fn carry_all<K: Key + Drop, L: Ledger>(
     index: &mut FlatIndex<u32>,
     old: &KeptIndex<K>,
     moved: &Moved,
+    stays: &[bool],
     added: &KeptIndex<K>,
     blank: Blank,
 ) -> Result<(), AllocError>
     requires fresh { IsFresh blank L.name L.parts }
     requires moved { KeepsOrder moved.now }
+    requires stays { StayAt moved.now old.now.entries stays.now }
     requires old { IsInOrder K.order old.now.entries }
     requires added { IsInOrder K.order added.now.entries }
     requires empty { index.old ≡ record { entries = []; pending = [] } }
@@ -73,13 +108,14 @@ fn carry_all<K: Key + Drop, L: Ledger>(
             old,
             from,
             moved,
+            stays,
             keys.get(at),
             place,
             rows,
             &mut steps,
         )?;
     }
-    index.carry(old, from, old.keys().len(), moved)?;
+    index.carry(old, from, old.keys().len(), moved, stays)?;
     Ok(())
 }
 
@@ -99,12 +135,14 @@ fn carry_to_key<K: Key + Drop, L: Ledger>(
     old: &KeptIndex<K>,
     from: usize,
     moved: &Moved,
+    stays: &[bool],
     key: &K,
     place: u32,
     added: &[u32],
     steps: &mut Steps<L>,
 ) -> Result<usize, AllocError>
     requires moved { KeepsOrder moved.now }
+    requires stays { StayAt moved.now old.now.entries stays.now }
     requires old { IsInOrder K.order old.now.entries }
     requires within { from ≤ length old.now.entries }
     requires above { IsAbove K.order key.now (take from old.now.entries) }
@@ -122,13 +160,13 @@ fn carry_to_key<K: Key + Drop, L: Ledger>(
 {
     match search(old.keys(), from, key, steps) {
         Ok(at) => {
-            index.carry(old, from, at, moved)?;
+            index.carry(old, from, at, moved, stays)?;
             merge_rows(index, old.rows_of(at), moved, added)?;
             close_at(index, place)?;
             Ok(at + 1)
         }
         Err(at) => {
-            index.carry(old, from, at, moved)?;
+            index.carry(old, from, at, moved, stays)?;
             index.add_rows(added)?;
             close_at(index, place)?;
             Ok(at)

@@ -1,6 +1,6 @@
 ghost use Rattle.std.specs.Prelude.{◌≡◌, ℕ, ◌+◌, ◌^◌, ◌<◌, ◌≤◌, ◌↔◌, IsTrue, List, [], ◌∷◌, ◌++◌, length, take, slice_get, slice_index, All, Some, IfOk, OnOk, ◌-◌, vec_len, vec_capacity};
 ghost use Rattle.std.specs.Map.{keys_of};
-ghost use Rattle.sc_segment.specs.Carrying.{new_number, new_numbers, KeepsOrder, AreBefore};
+ghost use Rattle.sc_segment.specs.Carrying.{new_number, new_numbers, KeepsOrder, AreBefore, StayAt};
 ghost use Rattle.sc_segment.specs.Flat.{FlatState, IsLaidOut, AreAllClosed, PutsKey, entries_from, key_ends, rows_among};
 ghost use Rattle.sc_segment.specs.Index.{IsInOrder};
 ghost use Rattle.sc_segment.specs.Storing.{AreEntriesAlike, ArePlaces, IsCarriedAt, entries_at};
@@ -119,8 +119,10 @@ impl FlatIndex<u32> {
         from: usize,
         to: usize,
         moved: &Moved,
+        stays: &[bool],
     ) -> Result<(), AllocError>
         requires moved { KeepsOrder moved.now }
+        requires stays { StayAt moved.now old.now.entries stays.now }
         requires old { IsInOrder K.order old.now.entries }
         requires rises { from ≤ to }
         requires within { to ≤ length old.now.entries }
@@ -139,7 +141,7 @@ impl FlatIndex<u32> {
         let alloc = *self.rows.allocator();
         let places = mem::replace(&mut self.keys, Vec::new(alloc));
         let ends = mem::replace(&mut self.ends, Vec::new(alloc));
-        let (places, ends) = carry_range(places, ends, &mut self.rows, old, from, to, moved);
+        let (places, ends) = carry_range(places, ends, &mut self.rows, old, from, to, moved, stays);
         self.keys = places;
         self.ends = ends;
         Ok(())
@@ -283,8 +285,10 @@ fn carry_range<K: Key + Drop>(
     from: usize,
     to: usize,
     moved: &Moved,
+    stays: &[bool],
 ) -> (Vec<u32>, Vec<u32>)
     requires moved { KeepsOrder moved.now }
+    requires stays { StayAt moved.now old.now.entries stays.now }
     requires old { IsInOrder K.order old.now.entries }
     requires rises { from ≤ to }
     requires within { to ≤ length old.now.entries }
@@ -309,7 +313,9 @@ fn carry_range<K: Key + Drop>(
     let mut start = rows.len();
     'carrying: for at in from..to {
         let old_end = old_ends[at] as usize;
-        passed = push_ahead(rows, old_rows, moved, passed, old_end);
+        passed = push_ahead(
+            rows, old_rows, moved, stays, old_ends, at, to, passed, old_end,
+        );
         let end = rows.len() - (passed - old_end);
         put_place(&mut places, &mut ends, old_places[at], start, end);
         start = end;

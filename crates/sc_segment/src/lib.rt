@@ -35,6 +35,7 @@ mod placing;
 mod segment;
 mod sifting;
 mod start;
+mod staying;
 mod steps;
 mod tally;
 

@@ -1,7 +1,8 @@
 ghost use Rattle.std.specs.Prelude.{◌≡◌, ℕ, ◌+◌, ◌<◌, ◌≤◌, ◌++◌, length, take, slice_range, slice_index, All, Some, vec_len, vec_capacity};
-ghost use Rattle.sc_segment.specs.Carrying.{new_number, new_numbers, AreKept};
+ghost use Rattle.sc_segment.specs.Carrying.{new_number, new_numbers, AllStay, AreKept, IsOwnRun};
 
 use crate::moved::{Moved, number_at};
+use crate::staying::last_staying;
 use std::mem;
 
 /// Puts the new numbers of rows at the end of a list, which has room for all rows.
@@ -109,37 +110,101 @@ fn with_below(list: Vec<u32>, rows: &[u32], moved: &Moved, limit: u32) -> (Vec<u
     (list, rows.len())
 }
 
-/// Puts the new numbers of rows from one place on at the end of a list, at least up to another place, and from there on up to the first
-/// row that has none. Gives the place of that row, and does nothing where the first place is no lower than the other one.
+/// Puts the new numbers of rows from one place on at the end of a list, at least up to another place, where those of the key `at` end.
+/// Gives the place up to which rows were passed, and does nothing where the first place is no lower than the other one. Where the key is
+/// told to stay, the rows of the keys from it on that stay are copied at once; where nothing is known of it, rows are passed up to the
+/// first one that has no number.
 #[inline(always)]
 pub(crate) fn push_ahead(
     list: &mut Vec<u32>,
     rows: &[u32],
     moved: &Moved,
+    stays: &[bool],
+    ends: &[u32],
+    at: usize,
+    before: usize,
     from: usize,
     to: usize,
 ) -> usize
     requires from { from ≤ length rows.now }
     requires to { to ≤ length rows.now }
+    requires at { at < before }
+    requires before { before ≤ length ends.now }
     requires room { vec_len list.old + length rows.now ≤ vec_capacity list.old + from }
+    requires runs { (key : ℕ) → at ≤ key → key < before → AllStay stays.now at (key + 1) → IsOwnRun moved.now rows.now from to (slice_index ends.now key) }
     ensures rises { from ≤ result }
     ensures reaches { to ≤ result }
     ensures within { result ≤ length rows.now }
     ensures items { list.new.items ≡ list.old.items ++ new_numbers moved.now (slice_range rows.now from result) }
     ensures kept { (start : ℕ) → start ≤ to → AreKept moved.now (slice_range rows.now start from)
         → AreKept moved.now (slice_range rows.now to result) }
-    ensures capacity { vec_capacity list.new ≡ vec_capacity list.old }
+    ensures capacity { vec_capacity list.old ≤ vec_capacity list.new }
     ensures len { vec_len list.new + from ≤ vec_len list.old + result }
 {
     if to <= from {
         from
     } else {
-        push_past(list, rows, moved, from, to)
+        push_more(list, rows, moved, stays, ends, at, before, from, to)
     }
 }
 
 // The same where the first place is lower. It stands apart, so that the loop over keys that have all their rows stays small.
 #[inline(never)]
+fn push_more(
+    list: &mut Vec<u32>,
+    rows: &[u32],
+    moved: &Moved,
+    stays: &[bool],
+    ends: &[u32],
+    at: usize,
+    before: usize,
+    from: usize,
+    to: usize,
+) -> usize
+    requires rises { from ≤ to }
+    requires to { to ≤ length rows.now }
+    requires at { at < before }
+    requires before { before ≤ length ends.now }
+    requires room { vec_len list.old + length rows.now ≤ vec_capacity list.old + from }
+    requires runs { (key : ℕ) → at ≤ key → key < before → AllStay stays.now at (key + 1) → IsOwnRun moved.now rows.now from to (slice_index ends.now key) }
+    ensures reaches { to ≤ result }
+    ensures within { result ≤ length rows.now }
+    ensures items { list.new.items ≡ list.old.items ++ new_numbers moved.now (slice_range rows.now from result) }
+    ensures kept { AreKept moved.now (slice_range rows.now to result) }
+    ensures capacity { vec_capacity list.old ≤ vec_capacity list.new }
+    ensures len { vec_len list.new + from ≤ vec_len list.old + result }
+{
+    match stays.get(at).copied() {
+        Some(true) => {
+            let key = last_staying(stays, at, before);
+            let end = ends[key] as usize;
+            copy_rows(list, &rows[from..end]);
+            end
+        }
+        Some(false) => {
+            push_moved(list, &rows[from..to], moved);
+            to
+        }
+        None => push_past(list, rows, moved, from, to),
+    }
+}
+
+// Puts rows at the end of a list, which has room for them.
+#[inline(always)]
+fn copy_rows(list: &mut Vec<u32>, rows: &[u32])
+    requires { vec_len list.old + length rows.now ≤ vec_capacity list.old }
+    ensures items { list.new.items ≡ list.old.items ++ rows.now }
+    ensures capacity { vec_capacity list.old ≤ vec_capacity list.new }
+    ensures len { vec_len list.new ≡ vec_len list.old + length rows.now }
+{
+    let Ok(()) = list.extend_from_slice(rows) else {
+        unreachable!()
+    };
+}
+
+// Puts the new numbers of rows from one place up to a later one at the end of a list, and from there on up to the first row that has none.
+// Gives the place of that row.
+#[inline(always)]
 fn push_past(list: &mut Vec<u32>, rows: &[u32], moved: &Moved, from: usize, to: usize) -> usize
     requires rises { from ≤ to }
     requires to { to ≤ length rows.now }

@@ -1,10 +1,11 @@
 -- One key of the old index more.
-use Rattle.std.proofs.Common.{◌≡◌, ◌+◌, ◌-◌, ℕ, List, ◌++◌, Some, length, take, drop, get_or, refl, sym, ap, subst, ◌∙◌, arith}
+use Rattle.std.proofs.Common.{◌≡◌, ◌+◌, ◌-◌, ◌<◌, ◌≤◌, ℕ, List, ◌++◌, Some, length, take, drop, get_or, refl, sym, ap, subst, ◌∙◌, arith}
 use Rattle.std.proofs.lemmas.List.{get_or_default, length-take-le, take_all}
 use Rattle.std.specs.List.{slice_range}
 use Rattle.sc_segment.proofs.AheadLemmas.{IsAhead, range-take, ahead-start, ahead-all, pushed-count, end-counted, end-closed, end-long, end-ahead}
 use Rattle.sc_segment.proofs.EntryLemmas.{so_far-old}
 use Rattle.sc_segment.proofs.FlatLemmas.{as_flat, length-entries, start_counted, counted_within, rows_among-rises, placed, laid_out-put, closed-put, entries-put}
+use Rattle.sc_segment.proofs.OwnLemmas.{own-ahead}
 use Rattle.sc_segment.proofs.StoringLemmas.{in_places, key_in_more, carried_at-put}
 use Rattle.sc_segment.specs.Carrying.{new_numbers}
 use Rattle.sc_segment.specs.Flat.{IsLaidOut, AreAllClosed, PutsKey, entries_from, key_ends, last_end, rows_among}
@@ -88,6 +89,34 @@ push_ahead-passed-requires-clause-to g c =
     let later = rows_among-rises c.args.old.now.entries (c.carrying.at + 1) c.args.to (omega (arith, c.carrying-test.true)) in
     let i = c.carrying.invariant in
     omega (arith, all, last, later, p.next)
+
+pub push_ahead-passed-requires-clause-before : goal.push_ahead-passed-requires-clause-before
+push_ahead-passed-requires-clause-before g c =
+    let all = length-entries 0 c.old.inside.keys.keys c.old.inside.ends.items c.old.inside.rows.items c.old.invariant.0 in
+    let seen = ap (λ (s : KeptState _). length s.entries) c.old.view_is in
+    rw c.as_slice-old_ends.ensures.value (omega (arith, all, seen, c.requires.within))
+
+pub push_ahead-passed-requires-clause-runs : goal.push_ahead-passed-requires-clause-runs
+push_ahead-passed-requires-clause-runs g c = λ key low high stay.
+    let pending = drop (last_end 0 c.old.inside.ends.items) c.old.inside.rows.items in
+    let old = c.args.old.now.entries in
+    let at_place = λ (i : ℕ) (inside : i < length old). placed c.old.inside.keys.keys c.old.inside.ends.items c.old.inside.rows.items (as_flat pending c.args.old.now) i (rows_among (take i old)) c.as_slice-old_ends.result.now c.as_slice.result.now
+    c.old.invariant.0 c.old.invariant.1 (ap (as_flat pending) c.old.view_is) inside refl c.as_slice-old_ends.ensures.value c.as_slice.ensures.value in
+    let p = at_place c.carrying.at (omega (arith, c.carrying-test.true, c.requires.within)) in
+    let q = at_place key (omega (arith, high, c.requires.within)) in
+    let last = start_counted c.old.inside.keys.keys c.old.inside.ends.items c.old.inside.rows.items (as_flat pending c.args.old.now) c.args.to c.start_of.result c.as_slice-old_ends.result.now c.old.invariant.0 c.old.invariant.1 (ap (as_flat pending) c.old.view_is) c.requires.within
+    c.as_slice-old_ends.ensures.value c.start_of.ensures.first c.start_of.ensures.later in
+    let within = counted_within c.old.inside.keys.keys c.old.inside.ends.items c.old.inside.rows.items (as_flat pending c.args.old.now) c.args.to c.old.invariant.0 c.old.invariant.1 (ap (as_flat pending) c.old.view_is) c.requires.within in
+    let all : length (take c.start_of.result c.as_slice.result.now) ≡ c.start_of.result = rw c.as_slice.ensures.value (length-take-le c.start_of.result c.old.inside.rows.items (omega (arith, last, within))) in
+    let more = rows_among-rises old (c.carrying.at + 1) (key + 1) (omega (arith, low)) in
+    let later = rows_among-rises old (key + 1) c.args.to (omega (arith, high)) in
+    let fits : get_or c.as_slice-old_ends.result.now key 0 ≤ c.start_of.result = omega (arith, last, later, q.next) in
+    record {
+      reaches = omega (arith, p.next, q.next, more);
+      within = omega (arith, all, fits);
+      own = own-ahead c.args.moved.now c.old.inside.keys.keys c.as_slice-old_ends.result.now c.as_slice.result.now old c.args.stays.now at_place c.requires.stays c.carrying.at key c.carrying.passed c.start_of.result
+          low (omega (arith, high, c.requires.within)) stay c.carrying.invariant.ahead.rises fits;
+    }
 
 pub overflow_sub-end-in-carrying : goal.overflow_sub-end-in-carrying
 overflow_sub-end-in-carrying g c =

@@ -112,7 +112,8 @@ impl<K: Drop> FlatIndex<K> {
 
 impl FlatIndex<u32> {
     /// Carries the keys of another index from one place up to another, each where rows of it are left, and is written with the places of
-    /// its stored keys. Room is made once for all of them. An error means out of memory, or that there might be more than 2^32 - 1 rows.
+    /// its stored keys. The rows of a key that is told to stay keep their numbers, and nothing is known of one past the end of `stays`.
+    /// Room is made once for all of them. An error means out of memory, or that there might be more than 2^32 - 1 rows.
     pub(crate) fn carry<K: Key + Drop>(
         &mut self,
         old: &KeptIndex<K>,
@@ -274,8 +275,9 @@ fn as_end(rows: usize) -> Result<u32, AllocError>
 }
 
 // Carries the keys of an index from one place up to another to the three lists of an index of places, which have room for all of them.
-// Rows are put there ahead of their keys, up to the first that is gone, so that many short lists cost as much as a long one. The places and
-// the ends are the function's own and given back, so that the loop over keys keeps their lengths in registers.
+// Rows are put there ahead of their keys, up to the first that is gone or to the end of the keys that stay, so that many short lists cost as
+// much as a long one. The places and the ends are the function's own and given back, so that the loop over keys keeps their lengths in
+// registers.
 #[inline(always)]
 fn carry_range<K: Key + Drop>(
     places: Vec<u32>,

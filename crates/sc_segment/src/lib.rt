@@ -4,7 +4,8 @@
 //!
 //! A `Builder` takes pairs of a row and a key, which it finds by its hash, and becomes a `Segment`, which has the keys in order and gives
 //! the rows of a key. Where some rows change, `Segment::carried` gives the segment of the new rows out of the old one and a small one
-//! of what changed, by a `Moved`, which has the new number of each old row in four bytes. `join` makes
+//! of what changed, by a `Moved`, which has the new number of each old row in four bytes. `Segment::carried_in_place` gives it where each
+//! row that stays keeps its number: the rows of keys that lose none are copied, with no look-up for each. `join` makes
 //! of two lists of rows the list of those in both, in one of them, or in the first alone; `join_start` gives only how many rows
 //! that list has, and the first of them, for a caller who shows no more: the others are counted, and no list is made of them. It takes the
 //! end of the right list from the caller, who may have read it before (`end_of`).
@@ -14,7 +15,8 @@
 //! of comparisons. `proofs/IndexLemmas.antt` says of which pairs an index in order is one, by the rows that it has for each key.
 //!
 //! Proved: `Segment::postings` gives exactly the rows of a key, ascending and each once, within a bound on comparisons;
-//! `Segment::carried` has for each key exactly the rows that stay, under their new numbers, and those that are added;
+//! `Segment::carried`, as `Segment::carried_in_place`, has for each key exactly the rows that stay, under their new numbers, and those
+//! that are added;
 //! `join` keeps exactly the rows that it says, ascending and each once, and `join_start` gives their exact number and the first
 //! of them; `LiveBits` is the list of its bits.
 //!

@@ -3,7 +3,7 @@ use Rattle.std.proofs.Common.{List, ℕ, ◌++◌, subst}
 use Rattle.sc_segment.proofs.StoringLemmas.{carried-alike}
 use Rattle.sc_segment.specs.Carrying.{IsCarried}
 use Rattle.sc_segment.specs.Storing.{entries_at}
-use Rattle.sc_segment.proofs.segment.Segment.carried.Goals as goal
+use Rattle.sc_segment.proofs.segment.Segment.carried_by.Goals as goal
 
 pub new-requires-2 : goal.new-requires-2
 new-requires-2 g c =

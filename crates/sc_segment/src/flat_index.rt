@@ -9,6 +9,7 @@ use crate::key::Key;
 use crate::keys::Keys;
 use crate::moved::Moved;
 use crate::moving::{push_ahead, push_below, push_moved};
+use crate::staying::Runs;
 use std::alloc::{AllocError, Global};
 use std::marker::Model;
 use std::mem;
@@ -309,15 +310,18 @@ fn carry_range<K: Key + Drop>(
     let old_places = old.keys.places();
     let old_ends = old.ends.as_slice();
     let old_rows = &old.rows.as_slice()[..start_of(old_ends, to)];
+    let runs = Runs {
+        stays,
+        ends: old_ends,
+        before: to,
+    };
     let mut places = places;
     let mut ends = ends;
     let mut passed = start_of(old_ends, from);
     let mut start = rows.len();
     'carrying: for at in from..to {
         let old_end = old_ends[at] as usize;
-        passed = push_ahead(
-            rows, old_rows, moved, stays, old_ends, at, to, passed, old_end,
-        );
+        passed = push_ahead(rows, old_rows, moved, &runs, at, passed, old_end);
         let end = rows.len() - (passed - old_end);
         put_place(&mut places, &mut ends, old_places[at], start, end);
         start = end;

@@ -2,7 +2,7 @@ ghost use Rattle.std.specs.Prelude.{◌≡◌, ℕ, ◌+◌, ◌<◌, ◌≤◌,
 ghost use Rattle.sc_segment.specs.Carrying.{new_number, new_numbers, AllStay, AreKept, IsOwnRun};
 
 use crate::moved::{Moved, number_at};
-use crate::staying::last_staying;
+use crate::staying::{Runs, last_staying};
 use std::mem;
 
 /// Puts the new numbers of rows at the end of a list, which has room for all rows.
@@ -119,19 +119,18 @@ pub(crate) fn push_ahead(
     list: &mut Vec<u32>,
     rows: &[u32],
     moved: &Moved,
-    stays: &[bool],
-    ends: &[u32],
+    runs: &Runs<'_>,
     at: usize,
-    before: usize,
     from: usize,
     to: usize,
 ) -> usize
     requires from { from ≤ length rows.now }
     requires to { to ≤ length rows.now }
-    requires at { at < before }
-    requires before { before ≤ length ends.now }
+    requires at { at < runs.now.before }
+    requires before { runs.now.before ≤ length runs.now.ends.now }
     requires room { vec_len list.old + length rows.now ≤ vec_capacity list.old + from }
-    requires runs { (key : ℕ) → at ≤ key → key < before → AllStay stays.now at (key + 1) → IsOwnRun moved.now rows.now from to (slice_index ends.now key) }
+    requires runs { (key : ℕ) → at ≤ key → key < runs.now.before → AllStay runs.now.stays.now at (key + 1)
+        → IsOwnRun moved.now rows.now from to (slice_index runs.now.ends.now key) }
     ensures rises { from ≤ result }
     ensures reaches { to ≤ result }
     ensures within { result ≤ length rows.now }
@@ -144,7 +143,7 @@ pub(crate) fn push_ahead(
     if to <= from {
         from
     } else {
-        push_more(list, rows, moved, stays, ends, at, before, from, to)
+        push_more(list, rows, moved, runs, at, from, to)
     }
 }
 
@@ -154,19 +153,18 @@ fn push_more(
     list: &mut Vec<u32>,
     rows: &[u32],
     moved: &Moved,
-    stays: &[bool],
-    ends: &[u32],
+    runs: &Runs<'_>,
     at: usize,
-    before: usize,
     from: usize,
     to: usize,
 ) -> usize
     requires rises { from ≤ to }
     requires to { to ≤ length rows.now }
-    requires at { at < before }
-    requires before { before ≤ length ends.now }
+    requires at { at < runs.now.before }
+    requires before { runs.now.before ≤ length runs.now.ends.now }
     requires room { vec_len list.old + length rows.now ≤ vec_capacity list.old + from }
-    requires runs { (key : ℕ) → at ≤ key → key < before → AllStay stays.now at (key + 1) → IsOwnRun moved.now rows.now from to (slice_index ends.now key) }
+    requires runs { (key : ℕ) → at ≤ key → key < runs.now.before → AllStay runs.now.stays.now at (key + 1)
+        → IsOwnRun moved.now rows.now from to (slice_index runs.now.ends.now key) }
     ensures reaches { to ≤ result }
     ensures within { result ≤ length rows.now }
     ensures items { list.new.items ≡ list.old.items ++ new_numbers moved.now (slice_range rows.now from result) }
@@ -174,10 +172,10 @@ fn push_more(
     ensures capacity { vec_capacity list.old ≤ vec_capacity list.new }
     ensures len { vec_len list.new + from ≤ vec_len list.old + result }
 {
-    match stays.get(at).copied() {
+    match runs.stays.get(at).copied() {
         Some(true) => {
-            let key = last_staying(stays, at, before);
-            let end = ends[key] as usize;
+            let key = last_staying(runs.stays, at, runs.before);
+            let end = runs.ends[key] as usize;
             copy_rows(list, &rows[from..end]);
             end
         }

@@ -14,6 +14,15 @@ use crate::steps::Steps;
 use std::alloc::{AllocError, Global};
 use std::sync::ledger::{Blank, Ledger};
 
+/// Which keys of an index stay, and where the rows of each key end. Only the keys before a place count, and nothing is known of one past
+/// the end of the first list.
+#[derive(Clone, Copy)]
+pub(crate) struct Runs<'a> {
+    pub(crate) stays: &'a [bool],
+    pub(crate) ends: &'a [u32],
+    pub(crate) before: usize,
+}
+
 /// Which keys of an index stay as they are: true for each, but for those that an index of lost rows has. Only the keys of the latter are
 /// sought. The only error is that memory was refused. How often keys are compared is counted for proofs alone.
 pub(crate) fn which_stay<K: Key + Drop, L: Ledger>(

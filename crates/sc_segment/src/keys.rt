@@ -1,4 +1,4 @@
-ghost use Rattle.std.specs.Prelude.{◌≡◌, ◌+◌, ◌*◌, ◌/◌, ◌<◌, ◌++◌, length, map, slice_get, Some, IfOk, IfSome, OnOk};
+ghost use Rattle.std.specs.Prelude.{◌≡◌, ◌+◌, ◌*◌, ◌/◌, ◌<◌, ◌≤◌, ◌++◌, length, map, take, slice_get, Some, IfOk, IfSome, OnOk};
 ghost use Rattle.sc_segment.specs.Heads.{AreTops};
 ghost use Rattle.sc_segment.specs.Storing.{AreAlike, ArePlaces, HasPlaces, keys_at, keys_in, stored_in};
 
@@ -122,6 +122,18 @@ impl<K: Key> Keys<K> {
         } else {
             None
         }
+    }
+
+    // The heads of the keys from this number on, as many as stand at these places one after another. The number decides only how many they are.
+    #[inline(always)]
+    fn heads_of_run(&self, from: usize, places: &[u32]) -> &[u64]
+        ensures within { length result.now ≤ length places.now }
+        ensures are_places { ArePlaces self.now.stored (take (length result.now) places.now) }
+        ensures heads { result.now ≡ map K.heading (keys_at self.now.stored (take (length result.now) places.now)) }
+    {
+        let first = from.min(self.places.len());
+        let run = same_count(&self.places[first..], places);
+        &self.heads[first..first + run]
     }
 
     /// The places of the keys.
@@ -250,8 +262,25 @@ fn tops_of(alloc: Global, heads: &[u64]) -> Result<Vec<u64>, AllocError>
     Ok(tops)
 }
 
+// How many first numbers of these two lists are the same.
+#[inline(always)]
+fn same_count(one: &[u32], other: &[u32]) -> usize
+    ensures one { result ≤ length one.now }
+    ensures other { result ≤ length other.now }
+    ensures same { take result one.now ≡ take result other.now }
+{
+    let count = one.len().min(other.len());
+    for at in 0..count {
+        if one[at] != other[at] {
+            return at;
+        }
+    }
+    count
+}
+
 // The heads of the keys at these places among those that are stored with both lists. The places of each list's keys come mostly in the
-// order of its keys, so that both lists are passed once and no key is touched.
+// order of its keys, so that both lists are passed once and no key is touched; and those of the old list come in long runs, so that the
+// heads of a run are copied at once.
 fn heads_at<K: Key>(
     alloc: Global,
     old: &Keys<K>,
@@ -264,11 +293,20 @@ fn heads_at<K: Key>(
     ensures { IfOk result (λ heads. heads.items ≡ map K.heading (keys_at (stored_in pieces.now) places.now)) }
 {
     let mut heads = Vec::with_capacity(alloc, places.len())?;
-    let mut low = 0;
+    let mut at = 0;
+    let mut low: usize = 0;
     let mut high = 0;
-    for at in 0..places.len() {
-        let head = head_of(old, added, &mut low, &mut high, pieces, places[at]);
-        heads.push_reserved(head);
+    'copying: while at < places.len() {
+        let run = old.heads_of_run(low, &places[at..]);
+        if run.is_empty() {
+            let head = head_of(old, added, &mut low, &mut high, pieces, places[at]);
+            heads.push_reserved(head);
+            at += 1;
+        } else {
+            heads.extend_from_slice(run)?;
+            low = low.saturating_add(run.len());
+            at += run.len();
+        }
     }
     Ok(heads)
 }

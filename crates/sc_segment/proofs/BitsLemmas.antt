@@ -1,9 +1,10 @@
 -- Rows as bits in words of 64 rows each.
-use Rattle.std.proofs.Common.{◌≡◌, ◌≢◌, ℕ, ◌-◌, ◌*◌, ◌/◌, ◌%◌, ◌^◌, ◌<◌, ◌≤◌, ◌==◌, Bool, true, false, List, length, get_or, set, replicate, slice_get, slice_index, Some, ap, sym, ◌∙◌, arith, w64, ⊎_elim, bit_and}
+use Rattle.std.proofs.Common.{◌≡◌, ◌≢◌, ℕ, ◌+◌, ◌-◌, ◌*◌, ◌/◌, ◌%◌, ◌^◌, ◌<◌, ◌≤◌, ◌==◌, Bool, true, false, List, length, get_or, set, replicate, slice_get, slice_index, Some, ap, sym, ◌∙◌, arith, w64, ⊎_elim, bit_and}
 use Rattle.std.proofs.lemmas.Bool.{cases_eq}
+use Rattle.std.proofs.lemmas.Bool.Decides.{nat_tests}
 use Rattle.std.proofs.lemmas.List.{get_or-replicate, length-replicate, get_or-set_other, get_or-set_same, length-set}
 use Rattle.std.proofs.lemmas.List.FromFn.{length-map-range_with_len, get_or-map-range_with_len, fill_by_all}
-use Rattle.std.proofs.lemmas.Nat.Bits.{bit_at_clear_same, bit_at_clear_other, bit_at_ones, shr_and_one}
+use Rattle.std.proofs.lemmas.Nat.Bits.{bit_at_clear_same, bit_at_clear_other, bit_at_ones, same_from_bits_below, shr_and_one}
 use Rattle.std.proofs.lemmas.Option.{slice_get-get_or}
 use Rattle.std.specs.Int.{bit_at, bit_not}
 use Rattle.sc_segment.specs.Live.{live_rows}
@@ -81,3 +82,36 @@ module _ (rows : ℕ) (words : List ℕ) (row : ℕ) (below : row < rows) (enoug
       (λ (same : other ≡ row). rw same (get_or-set_same old row false false here ∙ sym is_set-cleared))
       (λ apart. get_or-set_other old row other false false apart ∙ get_or-live_rows rows words other false low ∙ sym (is_set-other other apart))
       (cases_eq other row)))
+
+-- ---- the 64 rows of a word
+module _ (rows : ℕ) (words : List ℕ) (row : ℕ) (first : row % 64 ≡ 0) (enough : row + 64 ≤ rows) where
+  set-found : (other : ℕ) → other < rows → slice_get (live_rows rows words) other ≡ Some (is_set words other)
+  set-found other below =
+      slice_get-get_or (live_rows rows words) other false (rw (length-live_rows rows words) below) ∙ ap Some (get_or-live_rows rows words other false below)
+
+  -- where it has ones alone, they are live
+  pub live-from_ones : slice_index words (row / 64) ≡ 2 ^ 64 - 1 → (other : ℕ) → row ≤ other → other < row + 64 → slice_get (live_rows rows words) other ≡ Some true
+  live-from_ones ones other after before =
+      let same : other / 64 ≡ row / 64 = omega (arith, first, after, before) in
+      let low : other % 64 < 64 = omega arith in
+      set-found other (omega (arith, before, enough))
+      ∙ ap (λ at. Some (bit_at (slice_index words at) (other % 64) == 1)) same
+      ∙ ap (λ w. Some (bit_at w (other % 64) == 1)) ones
+      ∙ ap (λ b. Some (b == 1)) (bit_at_ones 64 (other % 64) low)
+
+  is_one : (n : ℕ) → (n == 1) ≡ true → n ≡ 1
+  is_one n is = grind (arith, nat_tests)
+
+  -- where they are live, it has ones alone
+  pub ones-from_live : slice_index words (row / 64) < 2 ^ 64 → ((other : ℕ) → row ≤ other → other < row + 64 → slice_get (live_rows rows words) other ≡ Some true)
+      → slice_index words (row / 64) ≡ 2 ^ 64 - 1
+  ones-from_live low_word live =
+      same_from_bits_below 64 (slice_index words (row / 64)) (2 ^ 64 - 1) low_word (omega arith)
+      (λ i low.
+      let place : (row + i) / 64 ≡ row / 64 = omega (arith, first, low) in
+      let bit : (row + i) % 64 ≡ i = omega (arith, first, low) in
+      let found = sym (set-found (row + i) (omega (arith, low, enough))) ∙ live (row + i) (omega arith) (omega (arith, low)) in
+      let is : is_set words (row + i) ≡ true = cc in
+      is_one (bit_at (slice_index words (row / 64)) i)
+      (sym (ap (λ at. bit_at (slice_index words at) ((row + i) % 64) == 1) place ∙ ap (λ b. bit_at (slice_index words (row / 64)) b == 1) bit) ∙ is)
+      ∙ sym (bit_at_ones 64 i low))

@@ -1,4 +1,4 @@
-ghost use Rattle.std.specs.Prelude.{◌≡◌, ◌<◌, length, true, false, replicate, slice_get, slice_set, IfOk};
+ghost use Rattle.std.specs.Prelude.{◌≡◌, ℕ, ◌<◌, ◌≤◌, ◌↔◌, IsTrue, length, true, false, replicate, slice_get, slice_set, Some, IfOk};
 
 use std::alloc::{AllocError, Global};
 use std::marker::Model;
@@ -47,5 +47,29 @@ impl LiveBits {
     {
         let word = self.words[row as usize / 64];
         (word >> (row % 64)) & 1 == 1
+    }
+
+    /// Whether all rows from this one up to another are live. Where it can it looks at 64 rows at once.
+    pub fn are_live(&self, from: u32, to: u32) -> bool
+        requires order { from ≤ to }
+        requires within { to ≤ length self.now }
+        ensures { IsTrue result ↔ ((row : ℕ) → from ≤ row → row < to → slice_get self.now row ≡ Some true) }
+    {
+        let words = self.words.as_slice();
+        let mut row = from;
+        'looking: while row < to {
+            if row % 64 == 0 && 64 <= to - row {
+                if words[row as usize / 64] != u64::MAX {
+                    return false;
+                }
+                row += 64;
+            } else {
+                if !self.is_live(row) {
+                    return false;
+                }
+                row += 1;
+            }
+        }
+        true
     }
 }

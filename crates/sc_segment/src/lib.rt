@@ -46,7 +46,7 @@ pub use front::front_number;
 pub use joining::{Kept, join};
 pub use key::Key;
 pub use live_bits::LiveBits;
-pub use moved::Moved;
+pub use moved::{Moved, put_run};
 pub use segment::Segment;
 pub use sifting::end_of;
 pub use start::{Start, join_start};

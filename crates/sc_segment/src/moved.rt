@@ -56,10 +56,7 @@ impl Moved {
         requires { first + count < 2 ^ 32 }
         ensures { OnOk result (self.new ≡ self.old ++ map (λ number. Some number) (range_with_len first count)) }
     {
-        self.numbers.reserve(count)?;
-        let empty = Vec::new(*self.numbers.allocator());
-        let numbers = mem::replace(&mut self.numbers, empty);
-        self.numbers = with_run(numbers, first, count);
+        put_run(&mut self.numbers, first, count)?;
         Ok(())
     }
 
@@ -87,6 +84,19 @@ pub(crate) fn number_at(numbers: &[u32], row: u32) -> Option<u32>
 {
     let number = numbers.get(row as usize).copied().unwrap_or(GONE);
     if number == GONE { None } else { Some(number) }
+}
+
+/// Puts numbers that follow one another, from this one on, so many, at the end of a list. Room is made once for all of them. An error means
+/// out of memory.
+pub fn put_run(list: &mut Vec<u32>, first: u32, count: usize) -> Result<(), AllocError>
+    requires { first + count < 2 ^ 32 }
+    ensures { OnOk result (list.new.items ≡ list.old.items ++ range_with_len first count) }
+{
+    list.reserve(count)?;
+    let empty = Vec::new(*list.allocator());
+    let numbers = mem::replace(list, empty);
+    *list = with_run(numbers, first, count);
+    Ok(())
 }
 
 // The list with a run of numbers at its end, for which it has room. The list is the function's own, so that the loop keeps its length in

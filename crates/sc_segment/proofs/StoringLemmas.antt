@@ -18,7 +18,7 @@ use Rattle.sc_segment.specs.Flat.{entries_from, entry_for}
 use Rattle.sc_segment.specs.Index.{HasRows}
 use Rattle.sc_segment.specs.Joining.{has_row}
 use Rattle.sc_segment.specs.Searching.{StandsAt}
-use Rattle.sc_segment.specs.Storing.{KeysState, HasPlaces, keys_in, stored_in, keys_at, ArePlaces, entries_at, AreAlike, AreEntriesAlike, IsCarriedAt}
+use Rattle.sc_segment.specs.Storing.{KeysState, HasPlaces, keys_in, stored_in, keys_at, ArePlaces, entries_of_places, AreAlike, AreEntriesAlike, IsCarriedAt}
 
 -- ---- an element at a place
 module _ {X : Type 0} where
@@ -111,25 +111,25 @@ module _ {K : Type 0} (stored : List K) where
 
   -- ---- entries
   -- the keys are those at the places, and the rows are the same
-  pub entries_at-flat : (from : ℕ) (ps ends rows : List ℕ) → ArePlaces stored ps → entries_at stored (entries_from from ps ends rows) ≡ entries_from from (keys_at stored ps) ends rows
-  entries_at-flat from [] ends rows are = refl
-  entries_at-flat from (p ∷ ps) [] rows are =
+  pub entries_of_places-flat : (from : ℕ) (ps ends rows : List ℕ) → ArePlaces stored ps → entries_of_places stored (entries_from from ps ends rows) ≡ entries_from from (keys_at stored ps) ends rows
+  entries_of_places-flat from [] ends rows are = refl
+  entries_of_places-flat from (p ∷ ps) [] rows are =
       let here = found-within stored p (All-head IsWithin p ps are) in
       sym (ap (λ (ks : List K). entries_from from ks [] rows) (keys_at-cons p ps here.0 here.1))
-  entries_at-flat from (p ∷ ps) (e ∷ es) rows are =
+  entries_of_places-flat from (p ∷ ps) (e ∷ es) rows are =
       let here = found-within stored p (All-head IsWithin p ps are) in
-      ap (λ (o : Option K). cons_option (option_map (λ (k : K). (k, slice_range rows from e)) o) (entries_at stored (entries_from e ps es rows))) here.1
-      ∙ ap (λ (xs : List (K × List ℕ)). (here.0, slice_range rows from e) ∷ xs) (entries_at-flat e ps es rows (All-tail IsWithin p ps are))
+      ap (λ (o : Option K). cons_option (option_map (λ (k : K). (k, slice_range rows from e)) o) (entries_of_places stored (entries_from e ps es rows))) here.1
+      ∙ ap (λ (xs : List (K × List ℕ)). (here.0, slice_range rows from e) ∷ xs) (entries_of_places-flat e ps es rows (All-tail IsWithin p ps are))
       ∙ sym (ap (λ (ks : List K). entries_from from ks (e ∷ es) rows) (keys_at-cons p ps here.0 here.1))
 
   -- an entry put at the end
-  entries_at-put : (entries : List (ℕ × List ℕ)) (place : ℕ) (rows : List ℕ) (key : K) → slice_get stored place ≡ Some key
-      → entries_at stored (entries ++ entry_for place rows) ≡ entries_at stored entries ++ entry_for key rows
-  entries_at-put entries place rows key found =
+  entries_of_places-put : (entries : List (ℕ × List ℕ)) (place : ℕ) (rows : List ℕ) (key : K) → slice_get stored place ≡ Some key
+      → entries_of_places stored (entries ++ entry_for place rows) ≡ entries_of_places stored entries ++ entry_for key rows
+  entries_of_places-put entries place rows key found =
       filter_map-append (λ (e : ℕ × List ℕ). option_map (λ (k : K). (k, e.1)) (slice_get stored e.0)) entries (entry_for place rows)
-      ∙ ap (λ (es : List (K × List ℕ)). entries_at stored entries ++ es) (one rows)
+      ∙ ap (λ (es : List (K × List ℕ)). entries_of_places stored entries ++ es) (one rows)
     where
-      one : (rs : List ℕ) → entries_at stored (entry_for place rs) ≡ entry_for key rs
+      one : (rs : List ℕ) → entries_of_places stored (entry_for place rs) ≡ entry_for key rs
       one [] = refl
       one (r ∷ rs) = ap (λ (o : Option K). cons_option (option_map (λ (k : K). (k, r ∷ rs)) o) []) found
 
@@ -150,13 +150,13 @@ module _ {K : Type 0} (stored : List K) where
     -- one entry more is carried, as what is said of its key shows
     pub carried_at-put : (moved : List (Option ℕ)) (old added old' added' : List (K × List ℕ)) (now next : List (ℕ × List ℕ)) (place : ℕ) (rows : List ℕ) (key : K)
         → slice_get stored place ≡ Some key → next ≡ now ++ entry_for place rows → IsCarriedAt order stored moved old added now
-        → ((later : List (K × List ℕ)) → HasEntryMore o key rows (entries_at stored now) later → IsCarriedSoFar order moved old' added' later)
+        → ((later : List (K × List ℕ)) → HasEntryMore o key rows (entries_of_places stored now) later → IsCarriedSoFar order moved old' added' later)
         → IsCarriedAt order stored moved old' added' next
     carried_at-put moved old added old' added' now next place rows key found is so_far step =
         subst (IsCarriedAt order stored moved old' added') (sym is) (record {
           are_places = places-put now place rows (slice_get_within stored place key found) so_far.are_places;
-          so_far = step (entries_at stored (now ++ entry_for place rows))
-              (more-put key rows (entries_at stored now) (entries_at stored (now ++ entry_for place rows)) (entries_at-put now place rows key found));
+          so_far = step (entries_of_places stored (now ++ entry_for place rows))
+              (more-put key rows (entries_of_places stored now) (entries_of_places stored (now ++ entry_for place rows)) (entries_of_places-put now place rows key found));
         })
 
 -- ---- the places of the keys of an index
@@ -201,13 +201,13 @@ module _ {K : Type 0} (order : K → K → Ordering) where
   length-alike (k ∷ ks) (l ∷ ls) alike = ap suc (length-alike ks ls alike.1)
 
   -- entries whose keys compare equal to those at the places
-  pub entries_at-alike : (stored : List K) (ps ps' ends ends' rows rows' : List ℕ) (entries : List (ℕ × List ℕ)) (keys : List K) → entries_from 0 ps ends rows ≡ entries
-      → ps' ≡ ps → ends' ≡ ends → rows' ≡ rows → ArePlaces stored ps' → AreAlike order (keys_at stored ps') keys → AreEntriesAlike order (entries_at stored entries) (entries_from 0 keys ends' rows')
-  entries_at-alike stored ps ps' ends ends' rows rows' entries keys laid as_ps as_ends as_rows are alike =
-      let flat : entries_at stored entries ≡ entries_from 0 (keys_at stored ps') ends' rows' =
-      ap (entries_at stored) (sym laid)
-      ∙ ap (λ (qs : List ℕ). entries_at stored (entries_from 0 qs ends rows)) (sym as_ps)
-      ∙ entries_at-flat stored 0 ps' ends rows are
+  pub entries_of_places-alike : (stored : List K) (ps ps' ends ends' rows rows' : List ℕ) (entries : List (ℕ × List ℕ)) (keys : List K) → entries_from 0 ps ends rows ≡ entries
+      → ps' ≡ ps → ends' ≡ ends → rows' ≡ rows → ArePlaces stored ps' → AreAlike order (keys_at stored ps') keys → AreEntriesAlike order (entries_of_places stored entries) (entries_from 0 keys ends' rows')
+  entries_of_places-alike stored ps ps' ends ends' rows rows' entries keys laid as_ps as_ends as_rows are alike =
+      let flat : entries_of_places stored entries ≡ entries_from 0 (keys_at stored ps') ends' rows' =
+      ap (entries_of_places stored) (sym laid)
+      ∙ ap (λ (qs : List ℕ). entries_of_places stored (entries_from 0 qs ends rows)) (sym as_ps)
+      ∙ entries_of_places-flat stored 0 ps' ends rows are
       ∙ ap (λ (es : List ℕ). entries_from 0 (keys_at stored ps') es rows) (sym as_ends)
       ∙ ap (λ (rs : List ℕ). entries_from 0 (keys_at stored ps') ends' rs) (sym as_rows) in
       subst (λ (es : List (K × List ℕ)). AreEntriesAlike order es (entries_from 0 keys ends' rows')) (sym flat) (entries-alike 0 (keys_at stored ps') keys ends' rows' alike)

@@ -36,8 +36,8 @@ module _ {K : Type 0} (stored : List K) where
   ArePlaces places = All (λ place. place < length stored) places
 
   -- these entries with the keys at their places
-  abbrev pub entries_at : List (ℕ × List ℕ) → List (K × List ℕ)
-  entries_at entries = filter_map (λ e. option_map (λ key. (key, e.1)) (slice_get stored e.0)) entries
+  abbrev pub entries_of_places : List (ℕ × List ℕ) → List (K × List ℕ)
+  entries_of_places entries = filter_map (λ e. option_map (λ key. (key, e.1)) (slice_get stored e.0)) entries
 
 -- these are the places of the keys of an index
 pub record HasPlaces {K : Type 0} (state : KeysState K) (places : List ℕ) : Type 0 where
@@ -62,4 +62,4 @@ module _ {K : Type 0} (order : K → K → Ordering) where
   -- while an index is carried, whose keys are written by their places: what became of the first entries of both
   pub record IsCarriedAt (stored : List K) (moved : List (Option ℕ)) (old added : List (K × List ℕ)) (new : List (ℕ × List ℕ)) : Type 0 where
     pub are_places : ArePlaces stored (keys_of new)
-    pub so_far : IsCarriedSoFar order moved old added (entries_at stored new)
+    pub so_far : IsCarriedSoFar order moved old added (entries_of_places stored new)

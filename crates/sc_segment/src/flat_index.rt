@@ -3,7 +3,7 @@ ghost use Rattle.std.specs.Map.{keys_of};
 ghost use Rattle.sc_segment.specs.Carrying.{new_number, new_numbers, KeepsOrder, AreBefore, StayAt};
 ghost use Rattle.sc_segment.specs.Flat.{FlatState, IsLaidOut, AreAllClosed, PutsKey, entries_from, key_ends, rows_among};
 ghost use Rattle.sc_segment.specs.Index.{IsInOrder};
-ghost use Rattle.sc_segment.specs.Storing.{AreEntriesAlike, ArePlaces, IsCarriedAt, entries_at};
+ghost use Rattle.sc_segment.specs.Storing.{AreEntriesAlike, ArePlaces, IsCarriedAt, entries_of_places};
 
 use crate::key::Key;
 use crate::keys::Keys;
@@ -240,7 +240,7 @@ impl<K: Key + Drop> KeptIndex<K> {
         added: &KeptIndex<K>,
     ) -> Result<KeptIndex<K>, AllocError>
         requires { ArePlaces (old.now.stored ++ added.now.stored) (keys_of index.entries) }
-        ensures { IfOk result (λ kept. AreEntriesAlike K.order (entries_at (old.now.stored ++ added.now.stored) index.entries) kept.entries) }
+        ensures { IfOk result (λ kept. AreEntriesAlike K.order (entries_of_places (old.now.stored ++ added.now.stored) index.entries) kept.entries) }
     {
         let FlatIndex {
             keys: mut places,

@@ -8,7 +8,7 @@ use Rattle.sc_segment.proofs.IndexLemmas.{All-place}
 use Rattle.sc_segment.proofs.StoringLemmas.{carried_at-put}
 use Rattle.sc_segment.specs.Flat.{FlatState, entry_for}
 use Rattle.sc_segment.specs.Index.{HasRows}
-use Rattle.sc_segment.specs.Storing.{entries_at}
+use Rattle.sc_segment.specs.Storing.{entries_of_places}
 use Rattle.sc_segment.proofs.carrying.carry_to_key.Goals as goal
 
 within_entries : {K : Type 0} (es : List (K × List ℕ)) (at : ℕ) (k : K) → slice_get (keys_of es) at ≡ Some k → at < length es
@@ -75,7 +75,7 @@ returns-in_ok-close_at-in-Ok-clause-carried g c = λ more before found are above
     carried_at-put (c.args.old.now.stored ++ more) g.met.K.Key.total c.args.moved.now (take c.in-Ok.at old) before (take (c.in-Ok.at + 1) old) (before ++ (c.args.key.now, c.args.added.now) ∷ [])
     c.carry.new.self.entries c.close_at.new.index.entries c.args.place c.merge_rows.new.index.pending c.args.key.now found put at_last
     (λ later has. so_far-both g.met.K.Key.total c.args.moved.now c.requires.moved old c.requires.old c.in-Ok.at (place.0, c.rows_of.result.now) (c.rows_of.ensures place.0 place.1)
-    c.args.key.now c.args.added.now c.merge_rows.new.index.pending before (entries_at (c.args.old.now.stored ++ more) c.carry.new.self.entries) later place.2 above
+    c.args.key.now c.args.added.now c.merge_rows.new.index.pending before (entries_of_places (c.args.old.now.stored ++ more) c.carry.new.self.entries) later place.2 above
     at_last.so_far c.in_ok-merge_rows-in-Ok.ensures.rows has)
 
 pub returns-in_ok-close_at-in-Err-clause-passed : goal.returns-in_ok-close_at-in-Err-clause-passed
@@ -95,5 +95,5 @@ returns-in_ok-close_at-in-Err-clause-carried g c = λ more before found are abov
     c.in_ok-carry-in-Err.ensures.none c.in_ok-add_rows-in-Err.ensures c.in_ok-close_at-in-Err.ensures.entries in
     carried_at-put (c.args.old.now.stored ++ more) g.met.K.Key.total c.args.moved.now (take c.in-Err.at old) before (take c.in-Err.at old) (before ++ (c.args.key.now, c.args.added.now) ∷ [])
     c.carry-in-Err.new.self.entries c.close_at-in-Err.new.index.entries c.args.place c.args.added.now c.args.key.now found put at_last
-    (λ later has. so_far-added g.met.K.Key.total c.args.moved.now (take c.in-Err.at old) c.args.key.now c.args.added.now before (entries_at (c.args.old.now.stored ++ more) c.carry-in-Err.new.self.entries)
+    (λ later has. so_far-added g.met.K.Key.total c.args.moved.now (take c.in-Err.at old) c.args.key.now c.args.added.now before (entries_of_places (c.args.old.now.stored ++ more) c.carry-in-Err.new.self.entries)
     later (above-first g.met.K.Key.total c.args.key.now old c.in-Err.at gap.before) above c.requires.rows.1 at_last.so_far has)

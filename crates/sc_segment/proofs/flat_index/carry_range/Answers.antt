@@ -9,7 +9,7 @@ use Rattle.sc_segment.proofs.OwnLemmas.{own-ahead}
 use Rattle.sc_segment.proofs.StoringLemmas.{in_places, key_in_more, carried_at-put}
 use Rattle.sc_segment.specs.Carrying.{new_numbers}
 use Rattle.sc_segment.specs.Flat.{IsLaidOut, AreAllClosed, PutsKey, entries_from, key_ends, last_end, rows_among}
-use Rattle.sc_segment.specs.Storing.{KeptState, IsCarriedAt, entries_at}
+use Rattle.sc_segment.specs.Storing.{KeptState, IsCarriedAt, entries_of_places}
 use Rattle.sc_segment.proofs.flat_index.carry_range.Goals as goal
 
 pub start_of-requires : goal.start_of-requires
@@ -190,7 +190,7 @@ carrying-preserved g c =
           (ap (λ (s : KeptState _). s.stored) c.old.view_is) in
           carried_at-put stored g.met.K.Key.total c.args.moved.now (take c.carrying.at old) before (take (c.carrying.at + 1) old) before now (entries_from 0 places' ends' (take end rows')) place new p.key found
           (entries-put place places places' ends ends' (take start rows) (take end rows') new i.laid_out closed i.none puts) (i.carried more before are so_far)
-          (λ next one. so_far-old g.met.K.Key.total c.args.moved.now c.requires.moved old c.requires.old c.carrying.at (p.key, of_key) entry before (entries_at stored now) next
+          (λ next one. so_far-old g.met.K.Key.total c.args.moved.now c.requires.moved old c.requires.old c.carrying.at (p.key, of_key) entry before (entries_of_places stored now) next
           (are c.carrying.at (p.key, of_key) c.carrying.auto.at entry) (i.carried more before are so_far).so_far one);
     }
 

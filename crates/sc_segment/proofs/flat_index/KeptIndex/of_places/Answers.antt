@@ -2,7 +2,7 @@
 use Rattle.std.proofs.Common.{◌≡◌, List, ℕ, ◌++◌, length, sym, ap, subst, ◌∙◌}
 use Rattle.std.specs.Map.{keys_of}
 use Rattle.sc_segment.proofs.FlatLemmas.{keys_of-entries}
-use Rattle.sc_segment.proofs.StoringLemmas.{entries_at-alike, as_long-alike}
+use Rattle.sc_segment.proofs.StoringLemmas.{entries_of_places-alike, as_long-alike}
 use Rattle.sc_segment.specs.Flat.{FlatState, AreEnds}
 use Rattle.sc_segment.specs.Storing.{KeptState, ArePlaces}
 use Rattle.sc_segment.proofs.flat_index.KeptIndex.of_places.Goals as goal
@@ -46,6 +46,6 @@ returns g c =
     ∙ keys_of-entries 0 c.index.inside.keys.items c.index.inside.ends.items c.index.inside.rows.items c.index.invariant.0
     ∙ sym c.shrink_to_fit.ensures.items) in
     rw (stored_both c.old.inside.keys.stored c.added.inside.keys.stored c.args.old.now.stored c.args.added.now.stored (ap (λ (s : KeptState _). s.stored) c.old.view_is) (ap (λ (s : KeptState _). s.stored) c.added.view_is))
-    (entries_at-alike g.K.Key.order (c.old.inside.keys.stored ++ c.added.inside.keys.stored) c.index.inside.keys.items c.shrink_to_fit.new.self.items c.index.inside.ends.items c.shrink_to_fit-2.new.self.items
+    (entries_of_places-alike g.K.Key.order (c.old.inside.keys.stored ++ c.added.inside.keys.stored) c.index.inside.keys.items c.shrink_to_fit.new.self.items c.index.inside.ends.items c.shrink_to_fit-2.new.self.items
     c.index.inside.rows.items c.shrink_to_fit-3.new.self.items c.args.index.entries c.in_ok-keys.keys.keys (ap (λ (s : FlatState ℕ). s.entries) c.index.view_is)
     c.shrink_to_fit.ensures.items c.shrink_to_fit-2.ensures.items c.shrink_to_fit-3.ensures.items are c.in_ok-keys.ensures)

@@ -5,9 +5,10 @@ use Rattle.std.proofs.lemmas.List.{take_more, map-append, length-map, length-tak
 use Rattle.std.proofs.lemmas.List.Folds.{list_any-append}
 use Rattle.std.proofs.lemmas.Option.{slice_get_within, get_or_from_slice_get}
 use Rattle.std.specs.List.{range_with_len}
+use Rattle.std.specs.Option.{IfSome}
 use Rattle.sc_record.specs.declared.write.Write.{Write}
 use Rattle.sc_segment.specs.Index.{IsIndexOf}
-use Rattle.sc_snapshot.specs.Change.{moves_to, is_kept, keyed_new, IsChange}
+use Rattle.sc_snapshot.specs.Change.{moves_to, is_kept, keyed_new, IsChange, LosesInPlace}
 use Rattle.sc_snapshot.specs.Postings.{key_order, keyed, live_terms, without_ids}
 use Rattle.sc_snapshot.specs.declared.change.Change.{Change}
 use Rattle.sc_snapshot.specs.declared.term_key.TermKey.{TermKey}
@@ -69,7 +70,7 @@ at-push (z ∷ zs) x y zero is = inl is
 at-push (z ∷ zs) x y (suc at) is = ⊎_elim (λ before. inl before) (λ last. inr (ap suc last.0, last.1)) (at-push zs x y at is)
 
 -- ---- the terms that are filed
-keyed_new-agree : (one other : List (Option ℕ)) (from : ℕ) (rows : List Write)
+pub keyed_new-agree : (one other : List (Option ℕ)) (from : ℕ) (rows : List Write)
     → ((number : ℕ) → number < from + length rows → is_kept one number ≡ is_kept other number) → keyed_new one from rows ≡ keyed_new other from rows
 keyed_new-agree one other from [] agree = refl
 keyed_new-agree one other from (row ∷ rows) agree =
@@ -94,7 +95,7 @@ take-next rows number row is =
     ∙ ap (λ (w : Write). take number rows ++ w ∷ []) (get_or_from_slice_get rows number row row is)
 
 -- the keys of the first rows, and those of the next
-keyed_new-next : (moved : List (Option ℕ)) (number : ℕ) (rows : List Write) (row : Write) → slice_get rows number ≡ Some row
+pub keyed_new-next : (moved : List (Option ℕ)) (number : ℕ) (rows : List Write) (row : Write) → slice_get rows number ≡ Some row
     → keyed_new moved 0 (map without_ids (take (number + 1) rows))
     ≡ keyed_new moved 0 (map without_ids (take number rows)) ++ cond (is_kept moved number) [] (keyed number (live_terms (without_ids row)))
 keyed_new-next moved number rows row is =
@@ -110,8 +111,22 @@ few (suc number) [] = omega arith
 few (suc number) (row ∷ rows) = let rest = few number rows in omega (arith, rest)
 
 -- one more that is told is of none of the first numbers
-same_kept : (moved : List (Option ℕ)) (o : Option ℕ) (number : ℕ) → moves_to number o ≡ false → is_kept (moved ++ o ∷ []) number ≡ is_kept moved number
+pub same_kept : (moved : List (Option ℕ)) (o : Option ℕ) (number : ℕ) → moves_to number o ≡ false → is_kept (moved ++ o ∷ []) number ≡ is_kept moved number
 same_kept moved o number h = is_kept-push moved o number ∙ ap (λ b. is_kept moved number || b) h ∙ or-false (is_kept moved number)
+
+-- no keys are more, where the next row is kept
+pub keyed_new-kept : (moved : List (Option ℕ)) (number : ℕ) (rows : List Write) (row : Write) → slice_get rows number ≡ Some row
+    → keyed_new (moved ++ Some number ∷ []) 0 (map without_ids (take (number + 1) rows)) ≡ keyed_new moved 0 (map without_ids (take number rows))
+keyed_new-kept moved number rows row is =
+    let next = moved ++ Some number ∷ [] in
+    let before = map without_ids (take number rows) in
+    let short = few number rows in
+    let kept : is_kept next number ≡ true =
+    is_kept-push moved (Some number) number ∙ ap (λ b. is_kept moved number || b) (itself number) ∙ or-true (is_kept moved number) in
+    keyed_new-next next number rows row is
+    ∙ ap (λ b. keyed_new next 0 before ++ cond b [] (keyed number (live_terms (without_ids row)))) kept
+    ∙ append-nil (keyed_new next 0 before)
+    ∙ keyed_new-agree next moved 0 before (λ one below. same_kept moved (Some number) one (apart one number (omega (arith, below, short))))
 
 module _ (old new : List Write) (low high : ℕ) (change : Change) (is : IsChange old new low high change) where
   abbrev moved : List (Option ℕ)
@@ -156,77 +171,73 @@ module _ (old new : List Write) (low high : ℕ) (change : Change) (is : IsChang
       read : (place : ℕ) (x : Option ℕ) → slice_get next.moved place ≡ Some x → slice_get (moved ++ o ∷ []) place ≡ Some x
       read place x is = ap (λ (os : List (Option ℕ)). slice_get os place) (sym pushed) ∙ is
 
-  -- nothing more is told, where the list got room alone
-  pub same-step : (next : Change) → next.moved ≡ moved → next.added ≡ change.added → IsChange old new low high next
-  same-step next items same = record {
+  -- no row more is told
+  pub same-step : (next : Change) → next.moved ≡ moved → next.added ≡ change.added → IfSome next.lost (LosesInPlace old low next.moved) → IsChange old new low high next
+  same-step next items same lost = record {
     told = rw items is.told;
     kept = rw items is.kept;
     ascending = rw items is.ascending;
     filed = rw (items, same) is.filed;
     last_row = rw same is.last_row;
+    lost = lost;
   }
 
   -- the next old row is not kept
-  pub leave-step : (next : Change) → next.moved ≡ moved ++ None ∷ [] → next.added ≡ change.added → IsChange old new (low + 1) high next
-  leave-step next pushed same = record {
+  pub leave-step : (next : Change) → next.moved ≡ moved ++ None ∷ [] → next.added ≡ change.added → IfSome next.lost (LosesInPlace old (low + 1) next.moved)
+      → IsChange old new (low + 1) high next
+  leave-step next pushed same lost = record {
     told = told-push None next pushed;
     kept = kept-push None next pushed high (omega arith) (λ number h. cc);
     ascending = ascending-push None next pushed (λ number h. cc);
     filed = rw (pushed, same, keyed_new-agree (moved ++ None ∷ []) moved 0 (map without_ids (take high new)) (λ number _. same_kept moved None number refl)) is.filed;
     last_row = rw same is.last_row;
+    lost = lost;
   }
 
   -- the next old row is the next new one
   pub keep-step : (row : Write) (next : Change) → next.moved ≡ moved ++ Some high ∷ [] → next.added ≡ change.added
-      → slice_get old low ≡ Some row → slice_get new high ≡ Some row → IsChange old new (low + 1) (high + 1) next
-  keep-step row next pushed same at_old at_new = record {
+      → slice_get old low ≡ Some row → slice_get new high ≡ Some row → IfSome next.lost (LosesInPlace old (low + 1) next.moved) → IsChange old new (low + 1) (high + 1) next
+  keep-step row next pushed same at_old at_new lost = record {
     told = told-push (Some high) next pushed;
     kept = kept-push (Some high) next pushed (high + 1) (omega arith)
         (λ number h. let place : high ≡ number = cc in (omega (arith, place), at_old ∙ sym at_new ∙ ap (slice_get new) place));
     ascending = ascending-push (Some high) next pushed (λ number h. let place : high ≡ number = cc in omega (arith, place));
-    filed = rw (pushed, same, kept_filed) is.filed;
+    filed = rw (pushed, same, keyed_new-kept moved high new row at_new) is.filed;
     last_row = let last = is.last_row in rw same (omega (arith, last));
+    lost = lost;
   }
-    where
-      kept_filed : keyed_new (moved ++ Some high ∷ []) 0 (map without_ids (take (high + 1) new)) ≡ keyed_new moved 0 (map without_ids (take high new))
-      kept_filed =
-          let short = few high new in
-          let kept : is_kept (moved ++ Some high ∷ []) high ≡ true =
-          is_kept-push moved (Some high) high ∙ ap (λ b. is_kept moved high || b) (itself high) ∙ or-true (is_kept moved high) in
-          keyed_new-next (moved ++ Some high ∷ []) high new row at_new
-          ∙ ap (λ b. keyed_new (moved ++ Some high ∷ []) 0 (map without_ids (take high new)) ++ cond b [] (keyed high (live_terms (without_ids row)))) kept
-          ∙ append-nil (keyed_new (moved ++ Some high ∷ []) 0 (map without_ids (take high new)))
-          ∙ keyed_new-agree (moved ++ Some high ∷ []) moved 0 (map without_ids (take high new))
-          (λ number below. same_kept moved (Some high) number (apart number high (omega (arith, below, short))))
 
   -- the next new row is none of the old ones
   pub file-step : (row : Write) (next : Change) → next.moved ≡ change.moved → slice_get new high ≡ Some row → next.added.last_row ≤ high
       → ((added : List (ℕ × TermKey)) → IsIndexOf key_order added change.added.index → IsIndexOf key_order (added ++ keyed high (live_terms (without_ids row))) next.added.index)
-      → IsChange old new low (high + 1) next
-  file-step row next same at_new last filed = record {
+      → IfSome next.lost (LosesInPlace old low next.moved) → IsChange old new low (high + 1) next
+  file-step row next same at_new last filed lost = record {
     told = rw same is.told;
     kept = rw same (λ at number h. let told = is.kept at number h in (let below = told.0 in omega (arith, below), told.1));
     ascending = rw same is.ascending;
     filed = rw (same, keyed_new-next moved high new row at_new, later_not_kept high (omega arith)) (filed (keyed_new moved 0 (map without_ids (take high new))) is.filed);
     last_row = omega (arith, last);
+    lost = lost;
   }
 
 -- the next old rows, so many, are the next new ones
 pub run-step : (old new : List Write) (count low high : ℕ) (change next : Change) → IsChange old new low high change
     → next.moved ≡ change.moved ++ map (λ number. Some number) (range_with_len high count) → next.added ≡ change.added
-    → low + count ≤ length old → ((k : ℕ) → k < count → slice_get old (low + k) ≡ slice_get new (high + k)) → IsChange old new (low + count) (high + count) next
-run-step old new zero low high change next is pushed same within alike =
+    → low + count ≤ length old → ((k : ℕ) → k < count → slice_get old (low + k) ≡ slice_get new (high + k))
+    → IfSome next.lost (LosesInPlace old (low + count) next.moved) → IsChange old new (low + count) (high + count) next
+run-step old new zero low high change next is pushed same within alike lost =
     let at_low : low ≡ low + zero = omega arith in
     let at_high : high ≡ high + zero = omega arith in
     subst (λ n. IsChange old new n (high + zero) next) at_low
-    (subst (λ n. IsChange old new low n next) at_high (same-step old new low high change is next (pushed ∙ append-nil change.moved) same))
-run-step old new (suc count) low high change next is pushed same within alike =
-    let mid : Change = record { moved = change.moved ++ Some high ∷ []; added = change.added; alone = change.alone } in
+    (subst (λ n. IsChange old new low n next) at_high (same-step old new low high change is next (pushed ∙ append-nil change.moved) same
+    (subst (λ n. IfSome next.lost (LosesInPlace old n next.moved)) (sym at_low) lost)))
+run-step old new (suc count) low high change next is pushed same within alike lost =
+    let mid : Change = record { moved = change.moved ++ Some high ∷ []; added = change.added; lost = None; alone = change.alone } in
     let here = some_at old low (omega (arith, within)) in
     let old_place : low ≡ low + 0 = omega arith in
     let new_place : high + 0 ≡ high = omega arith in
     let there = ap (slice_get new) (sym new_place) ∙ sym (alike 0 (omega arith)) ∙ ap (slice_get old) (sym old_place) ∙ here.1 in
-    let one = keep-step old new low high change is here.0 mid refl refl here.1 there in
+    let one = keep-step old new low high change is here.0 mid refl refl here.1 there tt in
     let rest = map (λ (number : ℕ). Some number) (range_with_len (high + 1) count) in
     let low_more : low + 1 + count ≡ low + suc count = omega arith in
     let high_more : high + 1 + count ≡ high + suc count = omega arith in
@@ -236,4 +247,5 @@ run-step old new (suc count) low high change next is pushed same within alike =
     (λ k below.
     let old_next : low + 1 + k ≡ low + suc k = omega arith in
     let new_next : high + suc k ≡ high + 1 + k = omega arith in
-    ap (slice_get old) old_next ∙ alike (suc k) (omega (arith, below)) ∙ ap (slice_get new) new_next)))
+    ap (slice_get old) old_next ∙ alike (suc k) (omega (arith, below)) ∙ ap (slice_get new) new_next)
+    (subst (λ n. IfSome next.lost (LosesInPlace old n next.moved)) (sym low_more) lost)))

@@ -6,6 +6,8 @@ mod LoopLemmas
 mod LiveLemmas
 mod ChangeLemmas
 mod NextLemmas
+mod EntryLemmas
+mod LostLemmas
 mod PieceLemmas
 mod EditLemmas
 mod PlaceLemmas

@@ -115,7 +115,7 @@ and_true true other h = (refl, h)
 and_true false other h = absurd (true≢false (sym h))
 
 -- keys compare by their terms
-keys_total : IsTotalOrder key_order
+pub keys_total : IsTotalOrder key_order
 keys_total = on_total (λ (key : TermKey). key.term) key_cmp-total
 
 module _ (old new : List Write) (low high : ℕ) (change : Change) (is : IsChange old new low high change) where

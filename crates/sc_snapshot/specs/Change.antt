@@ -1,7 +1,8 @@
 -- What becomes of the rows of a snapshot in the next one.
-use Rattle.std.specs.Prelude.{◌≡◌, ℕ, ◌+◌, ◌<◌, ◌≤◌, ◌==◌, Bool, false, if◌then◌else◌, List, [], ◌∷◌, ◌++◌, length, map, take, slice_get, Option, None, Some}
+use Rattle.std.specs.Prelude.{◌≡◌, ℕ, ◌+◌, ◌<◌, ◌≤◌, ◌==◌, Bool, false, if◌then◌else◌, List, [], ◌∷◌, ◌++◌, length, map, take, slice_get, IfSome, Option, None, Some}
 use Rattle.std.specs.List.{list_any}
 use Rattle.sc_record.specs.declared.write.Write.{Write}
+use Rattle.sc_segment.specs.Filing.{BuilderState}
 use Rattle.sc_segment.specs.Index.{IsIndexOf}
 use Rattle.sc_snapshot.specs.declared.change.Change.{Change}
 use Rattle.sc_snapshot.specs.declared.term_key.TermKey.{TermKey}
@@ -21,8 +22,15 @@ abbrev pub keyed_new : List (Option ℕ) → ℕ → List Write → List (ℕ ×
 keyed_new moved from [] = []
 keyed_new moved from (row ∷ rows) = (if is_kept moved from then [] else keyed from (live_terms row)) ++ keyed_new moved (from + 1) rows
 
+-- of so many old rows each that is kept has its own number, and the terms of all others are filed but for those of the field of ids
+pub record LosesInPlace (old : List Write) (low : ℕ) (moved : List (Option ℕ)) (lost : BuilderState TermKey) : Type 0 where
+  pub own : (at number : ℕ) → slice_get moved at ≡ Some (Some number) → number ≡ at
+  pub filed : IsIndexOf key_order (keyed_new moved 0 (map without_ids (take low old))) lost.index
+  pub last_row : lost.last_row ≤ low
+
 -- so many of the old rows and of the new ones are told: each old row that is kept is the new one of its number, the kept stay in
--- order, and the terms of all other new rows are filed but for those of the field of ids
+-- order, the terms of all other new rows are filed but for those of the field of ids, and what is lost is told at most where the kept
+-- have their own numbers
 pub record IsChange (old new : List Write) (low high : ℕ) (change : Change) : Type 0 where
   pub told : length change.moved ≡ low
   pub kept : (at number : ℕ) → slice_get change.moved at ≡ Some (Some number) → (number < high) × (slice_get old at ≡ slice_get new number)
@@ -30,3 +38,4 @@ pub record IsChange (old new : List Write) (low high : ℕ) (change : Change) : 
       → slice_get change.moved later ≡ Some (Some other) → number < other
   pub filed : IsIndexOf key_order (keyed_new change.moved 0 (map without_ids (take high new))) change.added.index
   pub last_row : change.added.last_row ≤ high
+  pub lost : IfSome change.lost (LosesInPlace old low change.moved)

@@ -1,9 +1,9 @@
-ghost use Rattle.std.specs.Prelude.{◌≡◌, ℕ, ◌+◌, ◌-◌, ◌*◌, ◌≤◌, ◌^◌, List, map, length, slice_get, true, IfOk};
+ghost use Rattle.std.specs.Prelude.{◌≡◌, ℕ, ◌+◌, ◌-◌, ◌*◌, ◌≤◌, ◌^◌, List, map, length, slice_get, true, IfOk, IfSome};
 ghost use Rattle.std.specs.Arc.{arc_value};
 ghost use Rattle.std.specs.List.{list_all};
 ghost use Rattle.std.specs.List.Sorted.{IsStrictlyIncreasing};
 ghost use Rattle.sc_record.specs.declared.write.Write.{Write};
-ghost use Rattle.sc_segment.specs.Carrying.{KeepsOrder};
+ghost use Rattle.sc_segment.specs.Carrying.{KeepsOrder, OthersStay};
 ghost use Rattle.sc_segment.specs.Index.{IsIndexOf};
 ghost use Rattle.sc_segment.specs.Joining.{has_row};
 ghost use Rattle.sc_snapshot.specs.Change.{IsChange};
@@ -51,8 +51,8 @@ impl Index {
     }
 
     /// The index of the new rows, which this change makes of the old ones, from that of the old ones and from the survey of the new ones: no
-    /// term is filed but those of the change. No row is looked at, where rows are found by their own ids alone. The only error is that
-    /// memory was refused.
+    /// term is filed but those of the change. Where what is lost is told, the rows of each term that lost none are copied. No row is looked
+    /// at, where rows are found by their own ids alone. The only error is that memory was refused.
     pub(crate) fn next(
         &self,
         alloc: Global,
@@ -61,6 +61,7 @@ impl Index {
         survey: Survey,
     ) -> Result<Index, AllocError>
         requires order { KeepsOrder change.moved }
+        requires others { IfSome change.lost (λ lost. OthersStay key_order change.moved self.now.segment lost.index) }
         requires new { AreRows new.now }
         requires survey { IsSurvey new.now survey }
         ensures { IfOk result (λ index. (old : List Write) → IsIndexed old self.now
@@ -85,6 +86,7 @@ impl Index {
         rows: &[Cell],
     ) -> Result<Index, AllocError>
         requires order { KeepsOrder change.moved }
+        requires others { IfSome change.lost (λ lost. OthersStay key_order change.moved self.now.segment lost.index) }
         requires rows { AreRows (map arc_value rows.now) }
         ensures { IfOk result (λ index. (old : List Write) → IsIndexed old self.now
             → IsChange old (map arc_value rows.now) (length old) (length (map arc_value rows.now)) change
@@ -142,13 +144,15 @@ fn segment_of(alloc: Global, rows: &[Cell]) -> Result<Segment<TermKey>, AllocErr
     builder.finish()
 }
 
-// The same after the change, from those of the old rows. Where there are no old rows, nothing is carried over.
+// The same after the change, from those of the old rows. Where there are no old rows, nothing is carried over. Where what is lost is told,
+// the rows of each term that lost none are copied.
 fn carried_segment(
     alloc: Global,
     segment: &Segment<TermKey>,
     change: Change,
 ) -> Result<Segment<TermKey>, AllocError>
-    requires { KeepsOrder change.moved }
+    requires order { KeepsOrder change.moved }
+    requires others { IfSome change.lost (λ lost. OthersStay key_order change.moved segment.now lost.index) }
     ensures { IfOk result (λ carried. (old new : List Write) → IsChange old new (length old) (length new) change
         → IsIndexOf key_order (keyed_rows 0 (map without_ids old)) segment.now
         → IsIndexOf key_order (keyed_rows 0 (map without_ids new)) carried) }
@@ -156,6 +160,7 @@ fn carried_segment(
     let Change {
         moved,
         added,
+        lost,
         alone: _,
     } = change;
     let added = added.finish()?;
@@ -163,6 +168,8 @@ fn carried_segment(
     if is_first {
         return Ok(added);
     }
-    let carried = segment.carried(alloc, &moved, &added)?;
-    Ok(carried)
+    match lost {
+        Some(lost) => segment.carried_in_place(alloc, &moved, &lost.finish()?, &added),
+        None => segment.carried(alloc, &moved, &added),
+    }
 }

@@ -3,8 +3,9 @@
 //! It depends on `sc_hash`, on `sc_record` and on `sc_segment` for posting lists, and does no input and no output. The layers above take
 //! a `Snapshot` of the cells of a core, which a searcher searches by `postings`, `live`, `is_live` and `row`, and whose `Rows` a feed
 //! reads by `row`. At the next commit `Snapshot::next` makes the new snapshot of the last one and of the cells that changed: it shares
-//! the pieces of rows that no change falls into, carries the index over under new numbers, and files only what changed. The terms of ids
-//! are not filed where each live row has that of its own id alone of their field, and a row is then found by its id among the live rows.
+//! the pieces of rows that no change falls into, carries the index over, and files only what changed: where few documents are replaced and
+//! no row gets another number, also what is lost, so that the rows of all other terms are copied. The terms of ids are not filed where
+//! each live row has that of its own id alone of their field, and a row is then found by its id among the live rows.
 //! `Snapshot::within` has the rows of a range of hashes: it looks at each row, and carries the index over likewise. Contracts see both
 //! types as a `SnapshotState`, whose rows ascend and are at most 2^24.
 //!

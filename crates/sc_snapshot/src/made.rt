@@ -13,6 +13,10 @@ use crate::pieces::Pieces;
 use crate::survey::Survey;
 use std::alloc::{AllocError, Global};
 
+// What is lost is told where there are at least so many old rows for each edit: then most keys lose no row, and theirs are copied. A change of
+// more rows would file the terms of each of them twice, and save few look-ups by it.
+const ROWS_OF_AN_EDIT: usize = 64;
+
 /// What edits make of the rows of a snapshot.
 #[derive(Drop)]
 pub(crate) struct Made {
@@ -26,7 +30,8 @@ pub(crate) struct Made {
 
 impl Made {
     /// What these edits make of the old rows, of which this is the survey. The edits' cells are passed once: each is shared, marked and filed
-    /// when it is first read. No other row is read. The only error is that memory was refused.
+    /// when it is first read. Of the old rows only those that are replaced are read, where the edits are few. The only error is that memory was
+    /// refused.
     pub(crate) fn of(
         alloc: Global,
         old: &Pieces,
@@ -44,13 +49,14 @@ impl Made {
         ensures survey { IfOk result (λ made. IsSurvey (edited old.now 0 edits.now) made.survey) }
     {
         let mut cutting = Cutting::new(alloc);
-        let mut change = Change::begin(alloc, old.len())?;
+        let tells_lost = edits.len() <= old.len() / ROWS_OF_AN_EDIT;
+        let mut change = Change::begin(alloc, old.len(), tells_lost)?;
         let mut survey = Survey::after(alloc, last, rows_after(old, edits))?;
         let mut from = 0;
         let mut number = 0;
         for edit in edits {
             cutting.put(old, from, edit)?;
-            change.put(from, number, edit)?;
+            change.put(old, from, number, edit)?;
             survey.put(last, from, number, edit)?;
             number = number + (edit.at - from) + 1;
             from = edit.next();

@@ -31,7 +31,7 @@ impl Part {
     {
         let mut part = Part {
             cells: Vec::new(alloc),
-            change: Change::begin(alloc, rows.len())?,
+            change: Change::begin(alloc, rows.len(), false)?,
         };
         for row in 0..rows.len() {
             part.look(rows.cell(row), range)?;
@@ -52,7 +52,7 @@ impl Part {
         if is_within(range, row) {
             self.keep(row)?;
         } else {
-            self.change.leave(true)?;
+            self.change.leave()?;
         }
         Ok(())
     }

@@ -87,8 +87,9 @@ impl Snapshot {
 
     /// The snapshot at this place after these changes, which ascend by the ids' bytes: each is put in the place of the row of its id, or else
     /// in order. The cells are lent, and each is shared once, by the new rows. What it takes grows with the changes, with a step for the
-    /// number and the mark of each row, a look-up for each posting and a share of each key. Of the old rows only those are read among which
-    /// a change's place is sought. The only error is that memory was refused.
+    /// number and the mark of each row and for the place of each key, and with the postings: where few documents are replaced and no row gets
+    /// another number, those of each term that lost no row are copied; else each posting is looked up. Of the old rows only those are read
+    /// among which a change's place is sought. The only error is that memory was refused.
     pub fn next(&self, alloc: Global, place: u64, changes: &[&Cell]) -> Result<Snapshot, AllocError>
         requires ascend { AscendById (map lent changes.now) }
         requires bounded { (rows : List Write) → AscendById rows → AreChanged self.now.rows (map lent changes.now) rows → length rows ≤ 2 ^ 24 }

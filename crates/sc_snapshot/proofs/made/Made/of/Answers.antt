@@ -3,6 +3,7 @@ use Rattle.std.proofs.Common.{◌≡◌, ◌+◌, ◌-◌, ◌<◌, ◌≤◌, �
 use Rattle.std.proofs.lemmas.List.{take_all}
 use Rattle.std.proofs.lemmas.List.Elements.{All-from_recursion}
 use Rattle.std.proofs.lemmas.List.Folds.{list_all_more}
+use Rattle.std.proofs.lemmas.Option.{IfSome_then}
 use Rattle.std.specs.List.{list_all, AllByRecursion}
 use Rattle.sc_record.specs.declared.write.Write.{Write}
 use Rattle.sc_snapshot.specs.Change.{IsChange}
@@ -14,7 +15,7 @@ use Rattle.sc_snapshot.proofs.EditLemmas.{rest-init, rest-at, rest-end, rest-nex
 use Rattle.sc_snapshot.proofs.EditedLemmas.{each-edited}
 use Rattle.sc_snapshot.proofs.LoopLemmas.{one-more}
 use Rattle.sc_snapshot.proofs.PlaceLemmas.{each-append}
-use Rattle.sc_snapshot.proofs.MadeLemmas.{edit-within, bits-size}
+use Rattle.sc_snapshot.proofs.MadeLemmas.{edit-within, edit-next, bits-size}
 use Rattle.sc_snapshot.proofs.SurveyLemmas.{surveyed-all, wider, same-bounds, bounds-on, each-from_all}
 use Rattle.sc_snapshot.proofs.made.Made.of.Goals as goal
 
@@ -62,6 +63,16 @@ put-requires-clause-bounded c =
     let few = some-rows old cutting new from edit (drop (index + 1) all) order whole in
     let bound = c.requires.new in
     omega (arith, few, bound)
+
+pub put-requires-in-loop-edit-clause-next : goal.put-requires-in-loop-edit-clause-next
+put-requires-in-loop-edit-clause-next c =
+    let old = c.args.old.now in
+    let all = c.args.edits.now in
+    edit-next old (edited old 0 all) c.loop-edit.from c.loop-edit.number all c.loop-edit.edit-index c.edit-item.result c.loop-edit-test.true c.edit-item.is
+    c.loop-edit.invariant.rest
+
+pub put-requires-in-loop-edit-clause-last_lost : goal.put-requires-in-loop-edit-clause-last_lost
+put-requires-in-loop-edit-clause-last_lost c = IfSome_then c.loop-edit.change.lost c.loop-edit.invariant.change.lost (λ lost loses. loses.last_row)
 
 pub put-requires-in-loop-edit-clause-number : goal.put-requires-in-loop-edit-clause-number
 put-requires-in-loop-edit-clause-number c =
@@ -131,7 +142,7 @@ keep_all-requires-clause-number c =
     let rest = rest-end old new c.loop-edit.from c.loop-edit.number all c.loop-edit.edit-index c.loop-edit-test.false i.rest in
     let whole = last-size old new c.loop-edit.from c.loop-edit.number rest in
     let bound = c.requires.new in
-    omega (arith, whole, bound, c.len-3.ensures)
+    omega (arith, whole, bound, c.len-4.ensures)
 
 pub keep_all-requires-2-clause-number : goal.keep_all-requires-2-clause-number
 keep_all-requires-2-clause-number c =
@@ -141,7 +152,7 @@ keep_all-requires-2-clause-number c =
     let i = c.loop-edit.invariant in
     let rest = rest-end old new c.loop-edit.from c.loop-edit.number all c.loop-edit.edit-index c.loop-edit-test.false i.rest in
     let whole = last-size old new c.loop-edit.from c.loop-edit.number rest in
-    omega (arith, whole, i.size, c.len-4.ensures)
+    omega (arith, whole, i.size, c.len-5.ensures)
 
 pub loop-edit-preserved : goal.loop-edit-preserved
 loop-edit-preserved c =
@@ -171,7 +182,7 @@ loop-edit-preserved c =
           ∙ append_assoc (cutting ++ front) (put_in edit ∷ []) more
           ∙ append_assoc cutting front (put_in edit ∷ more)
           ∙ whole;
-      change = subst (λ n. IsChange old new n (number + (edit.at - from) + 1) c.put-in-loop-edit.new.self) (sym c.next-from.ensures) (told.change old new edits rest i.change);
+      change = subst (λ n. IsChange old new n (number + (edit.at - from) + 1) c.put-in-loop-edit.new.self) (sym c.next-from.ensures) (told.change new edits rest i.change);
       alone = told.alone ∙ ap₂ (λ b (e : Edit). b && has_id_alone (put_in e)) i.alone c.edit-item.is
           ∙ sym (list_all_more (λ (e : Edit). has_id_alone (put_in e)) all index edit c.loop-edit-test.true);
       surveyed = marked.surveyed old new edits c.requires.survey.live_bits rest i.surveyed;
@@ -191,8 +202,8 @@ returns-clause-change c =
     let number = c.loop-edit.number in
     let i = c.loop-edit.invariant in
     let rest = rest-end old new from number all c.loop-edit.edit-index c.loop-edit-test.false i.rest in
-    let size = c.len-3.ensures in
-    let kept = c.in_ok-keep_all.ensures.change old new i.change (let most : c.len-3.result ≤ length old = omega (arith, size) in most)
+    let size = c.len-4.ensures in
+    let kept = c.in_ok-keep_all.ensures.change old new i.change (let most : c.len-4.result ≤ length old = omega (arith, size) in most)
     (λ k below. last-kept old new from number rest k (let few : k < length old - from = omega (arith, below, size) in few)) in
     subst (λ n. IsChange old new (length old) n c.keep_all.new.self) (last-size old new from number rest)
     (subst (λ n. IsChange old new n (number + (n - from)) c.keep_all.new.self) size kept)
@@ -213,16 +224,16 @@ returns-clause-survey c =
     let i = c.loop-edit.invariant in
     let rest = rest-end old new from number all c.loop-edit.edit-index c.loop-edit-test.false i.rest in
     let whole = last-size old new from number rest in
-    let size = c.len-4.ensures in
+    let size = c.len-5.ensures in
     let kept = c.in_ok-keep_all-2.ensures in
     let survey = c.keep_all-2.new.self in
     let before = c.loop-edit.survey in
     let told = kept.surveyed new old c.requires.survey.live_bits i.surveyed
-    (let few : number + (c.len-4.result - from) ≤ length new = omega (arith, whole, size) in few)
+    (let few : number + (c.len-5.result - from) ≤ length new = omega (arith, whole, size) in few)
     (λ k below. last-kept old new from number rest k (let few : k < length old - from = omega (arith, below, size) in few)) in
     let same = same-bounds before survey kept.least_hash kept.greatest_hash in
     let changes = wider before survey (map put_in all) same
     (subst (λ (es : List Edit). AllByRecursion (BoundsHashOf before) (map put_in es)) (take_all c.loop-edit.edit-index all c.loop-edit-test.false) i.hashes) in
     let rows = wider last survey old (bounds-on last before survey i.bounds same) (each-from_all (BoundsHashOf last) old c.requires.survey.hashes) in
-    surveyed-all new (number + (c.len-4.result - from)) survey told (omega (arith, whole, size))
+    surveyed-all new (number + (c.len-5.result - from)) survey told (omega (arith, whole, size))
     (All-from_recursion (BoundsHashOf survey) new (each-edited (BoundsHashOf survey) old 0 all c.requires.in_order rows changes))

@@ -10,6 +10,7 @@ use Rattle.sc_snapshot.specs.declared.edits.Edit.{Edit}
 use Rattle.sc_snapshot.specs.declared.index.Index.{Index}
 use Rattle.sc_snapshot.proofs.EditedLemmas.{rows-after}
 use Rattle.sc_snapshot.proofs.IdLemmas.{alone-edited}
+use Rattle.sc_snapshot.proofs.LostLemmas.{others_stay}
 use Rattle.sc_snapshot.proofs.NextLemmas.{keeps_order}
 use Rattle.sc_snapshot.proofs.snapshot.Snapshot.next.Goals as goal
 
@@ -28,6 +29,14 @@ next-requires-clause-order c =
     let old = c.pieces-old.result.now in
     let new = edited old 0 c.as_slice.result.now in
     keeps_order old new (length old) (length new) c.in_ok-rows.field-0.change c.in_ok-rows.ensures.change
+
+pub next-requires-clause-others : goal.next-requires-clause-others
+next-requires-clause-others c =
+    let old = c.pieces-old.result.now in
+    let new = edited old 0 c.as_slice.result.now in
+    let before : IsIndexed old c.deref-2.result.now = subst (λ (rows : List Write). IsIndexed rows c.deref-2.result.now) (sym c.pieces-old.ensures.rows)
+    (subst (λ (index : Index). IsIndexed c.self.inside.rows.rows index) (sym c.deref-2.ensures) c.self.invariant) in
+    others_stay old new (length new) c.in_ok-rows.field-0.change c.in_ok-rows.ensures.change c.deref-2.result.now.segment before.terms
 
 pub next-requires-clause-new : goal.next-requires-clause-new
 next-requires-clause-new c =

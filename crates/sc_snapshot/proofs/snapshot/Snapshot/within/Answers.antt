@@ -9,6 +9,7 @@ use Rattle.sc_snapshot.specs.Postings.{has_id_alone, IsIndexed}
 use Rattle.sc_snapshot.specs.Rows.{SnapshotState, AreRows, is_within}
 use Rattle.sc_snapshot.specs.declared.index.Index.{Index}
 use Rattle.sc_snapshot.proofs.IdLemmas.{alone-passing}
+use Rattle.sc_snapshot.proofs.LostLemmas.{others_stay}
 use Rattle.sc_snapshot.proofs.NextLemmas.{keeps_order}
 use Rattle.sc_snapshot.proofs.PartLemmas.{rows-passing}
 use Rattle.sc_snapshot.proofs.snapshot.Snapshot.within.Goals as goal
@@ -18,6 +19,14 @@ carried-requires-clause-order c =
     let all = c.pieces.result.now in
     let some = filter (is_within c.args.range.now) all in
     keeps_order all some (length all) (length some) c.in_ok-cells.field-0.change c.in_ok-cells.ensures.change
+
+pub carried-requires-clause-others : goal.carried-requires-clause-others
+carried-requires-clause-others c =
+    let all = c.pieces.result.now in
+    let some = filter (is_within c.args.range.now) all in
+    let before : IsIndexed all c.deref.result.now = subst (λ (rows : List Write). IsIndexed rows c.deref.result.now) (sym c.pieces.ensures.rows)
+    (subst (λ (index : Index). IsIndexed c.self.inside.rows.rows index) (sym c.deref.ensures) c.self.invariant) in
+    others_stay all some (length some) c.in_ok-cells.field-0.change c.in_ok-cells.ensures.change c.deref.result.now.segment before.terms
 
 pub carried-requires-clause-rows : goal.carried-requires-clause-rows
 carried-requires-clause-rows c =

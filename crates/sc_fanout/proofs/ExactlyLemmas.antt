@@ -16,7 +16,7 @@ use Rattle.sc_record.specs.Writes.{is_of, AscendById}
 use Rattle.sc_cluster.proofs.ItemLemmas.{find_from_count}
 use Rattle.sc_journal.proofs.JournalLemmas.{is_of_own, id_from_is_of}
 use Rattle.sc_fanout.specs.Pages.{SortsById}
-use Rattle.sc_fanout.specs.Merging.{Ascends, goes_before}
+use Rattle.sc_fanout.specs.Merging.{AscendsBy, goes_before}
 use Rattle.sc_fanout.proofs.OrderLemmas.{ascends-in_order}
 
 -- the writes are exactly those of which this is true, and of each id there is one at most
@@ -147,7 +147,7 @@ heads-strict id (w ∷ ws) all none =
     by false is = refl
 
 -- what is in order, with one write at most of each id, ascends
-pub strictly : (ws : List Write) → Ascends goes_before ws → ((id : List ℕ) → count_by (is_of id) ws ≤ 1) → AscendById ws
+pub strictly : (ws : List Write) → AscendsBy goes_before ws → ((id : List ℕ) → count_by (is_of id) ws ≤ 1) → AscendById ws
 unfolding IsStrictlySortedBy
 strictly [] up once = tt
 strictly (w ∷ ws) up once = (

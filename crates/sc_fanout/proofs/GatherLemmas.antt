@@ -3,7 +3,7 @@ use Rattle.std.proofs.Common.{◌≡◌, ℕ, ◌≤◌, true, false, List, [], 
 use Rattle.std.specs.Prelude.{⊤, Bool}
 use Rattle.std.specs.List.{AllByRecursion, flat_map}
 use Rattle.std.proofs.lemmas.List.Sorted.{IsPermutation-refl, IsPermutation-trans, IsPermutation-append}
-use Rattle.sc_fanout.specs.Merging.{Ascends, gathered, merged}
+use Rattle.sc_fanout.specs.Merging.{AscendsBy, gathered, merged}
 use Rattle.sc_fanout.proofs.MergeLemmas.{IsOrder, merged-all, merged-ascends, merged-moves, merged-nil, step-left, step-right, take-merged_left, take-merged_right}
 
 module _ {X : Type 0} (before : X → X → Bool) where
@@ -20,7 +20,7 @@ module _ {X : Type 0} (before : X → X → Bool) where
       (IsPermutation-append xs xs (flat_map (λ (ys : List X). ys) lists) (gathered before lists) (IsPermutation-refl xs) (gathered-moves lists))
       (merged-moves before xs (gathered before lists))
 
-  pub gathered-ascends : IsOrder before → (lists : List (List X)) → AllByRecursion (Ascends before) lists → Ascends before (gathered before lists)
+  pub gathered-ascends : IsOrder before → (lists : List (List X)) → AllByRecursion (AscendsBy before) lists → AscendsBy before (gathered before lists)
   gathered-ascends order [] all = tt
   gathered-ascends order (xs ∷ lists) all = merged-ascends before order xs (gathered before lists) all.0 (gathered-ascends order lists all.1)
 

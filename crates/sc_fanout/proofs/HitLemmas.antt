@@ -13,7 +13,7 @@ use Rattle.sc_eval.specs.Numbers.{numbers_of, AreMatches}
 use Rattle.sc_eval.specs.declared.numbers.Matches.{Matches}
 use Rattle.sc_eval.proofs.NumberLemmas.{led}
 use Rattle.sc_fanout.specs.Steps.{searcher_rows, found_in}
-use Rattle.sc_fanout.specs.Merging.{Ascends, goes_before}
+use Rattle.sc_fanout.specs.Merging.{AscendsBy, goes_before}
 use Rattle.sc_fanout.specs.Pages.{AreFound}
 use Rattle.sc_fanout.specs.Hits.{StandAt, HasMatches, AreHits, BeginAlike, HitsAscend, hit_rows, lists_of, searchers_of}
 use Rattle.sc_fanout.specs.declared.hits.Hits.{Hits}
@@ -76,7 +76,7 @@ hits-ascend criterion far all found are = λ k d within.
     ∙ ap (found_in criterion) (get_or-map (λ (h : Hits). h.searcher.now) all k d searcher within) in
     let inside : k < length (lists_of criterion all) = omega (arith, many, length-map (searchers_of all) (found_in criterion)) in
     let whole : AreFound rows = subst AreFound one (found k [] inside) in
-    subst (Ascends goes_before)
+    subst (AscendsBy goes_before)
     (sym (stand-read (searcher_rows hits.searcher.now) (numbers_of hits.numbers) (take far rows) (are k d within)))
     (ascends-take goes_before far rows (ascends-by_id rows whole.ascend))
 

@@ -5,7 +5,7 @@ use Rattle.std.proofs.lemmas.Bool.{cases_Bool}
 use Rattle.std.proofs.lemmas.List.{take-take}
 use Rattle.std.proofs.lemmas.List.Elements.{recursion_from_All}
 use Rattle.std.proofs.lemmas.List.Sorted.{IsPermutation-refl, IsPermutation-cons, IsPermutation-middle, IsPermutation-trans}
-use Rattle.sc_fanout.specs.Merging.{Ascends, merged}
+use Rattle.sc_fanout.specs.Merging.{AscendsBy, merged}
 
 take-cond : {X : Type 0} (n : ℕ) (b : Bool) (u v s t : List X) → take n u ≡ take n s → take n v ≡ take n t
     → take n (cond b u v) ≡ take n (cond b s t)
@@ -100,11 +100,11 @@ module _ {X : Type 0} (before : X → X → Bool) where
     pub either : (x y : X) → before x y ≡ false → before y x ≡ true
     pub chain : (x y z : X) → before x y ≡ true → before y z ≡ true → before x z ≡ true
 
-  onto-ascends : IsOrder → (x : X) (xs : List X) → ((ys : List X) → Ascends before ys → Ascends before (merged before xs ys))
-      → Ascends before (x ∷ xs) → (ys : List X) → Ascends before ys → Ascends before (merged before (x ∷ xs) ys)
+  onto-ascends : IsOrder → (x : X) (xs : List X) → ((ys : List X) → AscendsBy before ys → AscendsBy before (merged before xs ys))
+      → AscendsBy before (x ∷ xs) → (ys : List X) → AscendsBy before ys → AscendsBy before (merged before (x ∷ xs) ys)
   onto-ascends order x xs rest up [] others = up
   onto-ascends order x xs rest up (y ∷ ys) others =
-      let Goal : Bool → Type 0 = λ b. Ascends before (cond b (x ∷ merged before xs (y ∷ ys)) (y ∷ merged before (x ∷ xs) ys)) in
+      let Goal : Bool → Type 0 = λ b. AscendsBy before (cond b (x ∷ merged before xs (y ∷ ys)) (y ∷ merged before (x ∷ xs) ys)) in
       ⊎_elim
       (λ (h : before x y ≡ true).
       let after : AllByRecursion (λ z. before x z ≡ true) ys =
@@ -121,29 +121,29 @@ module _ {X : Type 0} (before : X → X → Bool) where
       subst Goal (sym h) goal)
       (cases_Bool (before x y))
 
-  pub merged-ascends : IsOrder → (xs ys : List X) → Ascends before xs → Ascends before ys → Ascends before (merged before xs ys)
+  pub merged-ascends : IsOrder → (xs ys : List X) → AscendsBy before xs → AscendsBy before ys → AscendsBy before (merged before xs ys)
   merged-ascends order [] ys ours others = others
   merged-ascends order (x ∷ xs) ys ours others = onto-ascends order x xs (λ zs. merged-ascends order xs zs ours.1) ours ys others
 
-  pub ascends-take : (n : ℕ) (xs : List X) → Ascends before xs → Ascends before (take n xs)
+  pub ascends-take : (n : ℕ) (xs : List X) → AscendsBy before xs → AscendsBy before (take n xs)
   ascends-take zero xs up = tt
   ascends-take (suc n) [] up = tt
   ascends-take (suc n) (x ∷ xs) up = (all-take (λ y. before x y ≡ true) n xs up.0, ascends-take n xs up.1)
 
-  next-sorted : (lt : X → X → Bool) → ((x y : X) → before x y ≡ true → lt y x ≡ false) → (xs : List X) → Ascends before xs
+  next-sorted : (lt : X → X → Bool) → ((x y : X) → before x y ≡ true → lt y x ≡ false) → (xs : List X) → AscendsBy before xs
       → (k : ℕ) (d : X) → suc k < length xs → lt (get_or xs (suc k) d) (get_or xs k d) ≡ false
   next-sorted lt keeps [] up k d within = absurd (omega arith)
   next-sorted lt keeps (x ∷ []) up k d within = absurd (omega arith)
   next-sorted lt keeps (x ∷ y ∷ xs) up zero d within = keeps x y up.0.0
   next-sorted lt keeps (x ∷ y ∷ xs) up (suc k) d within = next-sorted lt keeps (y ∷ xs) up.1 k d (omega arith)
 
-  pub sorted-from_ascends : (lt : X → X → Bool) → ((x y : X) → before x y ≡ true → lt y x ≡ false) → (xs : List X) → Ascends before xs
+  pub sorted-from_ascends : (lt : X → X → Bool) → ((x y : X) → before x y ≡ true → lt y x ≡ false) → (xs : List X) → AscendsBy before xs
       → IsSortedBy lt xs
   sorted-from_ascends lt keeps xs up k d low within =
       ap (λ (n : ℕ). lt (get_or xs n d) (get_or xs k d)) (add-one k) ∙ next-sorted lt keeps xs up k d (omega arith)
 
   pub ascends-from_far : (lt : X → X → Bool) → ((x y : X) → lt y x ≡ false → before x y ≡ true) → (xs : List X)
-      → ((i j : ℕ) (d : X) → i ≤ j → j < length xs → lt (get_or xs j d) (get_or xs i d) ≡ false) → Ascends before xs
+      → ((i j : ℕ) (d : X) → i ≤ j → j < length xs → lt (get_or xs j d) (get_or xs i d) ≡ false) → AscendsBy before xs
   ascends-from_far lt back [] far = tt
   ascends-from_far lt back (x ∷ xs) far = (
     recursion_from_All (λ y. before x y ≡ true) xs

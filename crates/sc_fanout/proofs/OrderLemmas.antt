@@ -9,7 +9,7 @@ use Rattle.std.proofs.lemmas.Map.Keys.{sorted_head, sorted_tail}
 use Rattle.sc_record.specs.declared.write.Write.{Write}
 use Rattle.sc_record.specs.Writes.{AscendById}
 use Rattle.sc_fanout.specs.Pages.{SortsById}
-use Rattle.sc_fanout.specs.Merging.{Ascends, goes_before}
+use Rattle.sc_fanout.specs.Merging.{AscendsBy, goes_before}
 use Rattle.sc_fanout.proofs.MergeLemmas.{IsOrder, sorted-from_ascends, ascends-from_far}
 
 le-other : (o : Ordering) → is_le (ordering_reverse o) ≡ false → is_le o ≡ true
@@ -50,21 +50,21 @@ heads : (w : Write) (ws : List Write) → AllByRecursion (λ other. slice_cmp na
 heads w [] all = tt
 heads w (x ∷ ws) all = (ap is_le all.0, heads w ws all.1)
 
-pub ascends-by_id : (ws : List Write) → AscendById ws → Ascends goes_before ws
+pub ascends-by_id : (ws : List Write) → AscendById ws → AscendsBy goes_before ws
 ascends-by_id [] ascend = tt
 ascends-by_id (w ∷ ws) ascend = (
   heads w ws (sorted_head (slice_cmp nat_cmp) w.id (map (λ (x : Write). x.id) ws) ascend),
   ascends-by_id ws (sorted_tail (slice_cmp nat_cmp) w.id (map (λ (x : Write). x.id) ws) ascend),
 )
 
-pub in_order : (all sorted : List Write) → IsPermutation all sorted → Ascends goes_before sorted → SortsById all sorted
+pub in_order : (all sorted : List Write) → IsPermutation all sorted → AscendsBy goes_before sorted → SortsById all sorted
 in_order all sorted moved up = record {
   same = moved;
   ascend = sorted-from_ascends goes_before (λ (x y : Write). is_lt (slice_cmp nat_cmp x.id y.id))
       (λ x y h. not_lt-le (slice_cmp nat_cmp y.id x.id) (sym (ap is_le (nat_list_cmp_total.antisymm x.id y.id)) ∙ h)) sorted up;
 }
 
-pub ascends-in_order : (all sorted : List Write) → SortsById all sorted → Ascends goes_before sorted
+pub ascends-in_order : (all sorted : List Write) → SortsById all sorted → AscendsBy goes_before sorted
 ascends-in_order all sorted order =
     ascends-from_far goes_before (λ (x y : Write). is_lt (slice_cmp nat_cmp x.id y.id))
     (λ x y h. ap is_le (nat_list_cmp_total.antisymm x.id y.id) ∙ le-not_lt (slice_cmp nat_cmp y.id x.id) h) sorted

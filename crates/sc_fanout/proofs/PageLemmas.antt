@@ -15,7 +15,7 @@ use Rattle.std.proofs.lemmas.Slice.Eq.{bytes_eq-Decides}
 use Rattle.sc_record.specs.declared.write.Write.{Write}
 use Rattle.sc_fanout.specs.declared.shown.Page.{Page}
 use Rattle.sc_fanout.specs.Pages.{SortsById}
-use Rattle.sc_fanout.specs.Merging.{Ascends, goes_before}
+use Rattle.sc_fanout.specs.Merging.{AscendsBy, goes_before}
 use Rattle.sc_fanout.specs.Laws.{IsOneOfEachId, PageIsDetermined, PagesFollowOn, ArePages, PagesAreTheWhole}
 use Rattle.sc_fanout.proofs.OrderLemmas.{ascends-in_order}
 
@@ -46,7 +46,7 @@ counted : (w : Write) (ws : List Write) → 0 < sum_by (times w.id) (w ∷ ws)
 counted w ws = omega (arith, sum_by-cons (times w.id) w ws, times-of w.id w ((bytes_eq-Decides w.id w.id).1 refl))
 
 -- the first write's id is not after any that is counted
-first-least : (w : Write) (ws : List Write) → Ascends goes_before (w ∷ ws) → (id : List ℕ) → 0 < sum_by (times id) (w ∷ ws)
+first-least : (w : Write) (ws : List Write) → AscendsBy goes_before (w ∷ ws) → (id : List ℕ) → 0 < sum_by (times id) (w ∷ ws)
     → is_le (slice_cmp nat_cmp w.id id) ≡ true
 first-least w ws up id some =
     reached (λ (other : List ℕ). is_le (slice_cmp nat_cmp w.id other) ≡ true) id (w ∷ ws)
@@ -63,7 +63,7 @@ same-id x y h k =
     ∙ both-le (slice_cmp nat_cmp x.id y.id) h (sym (ap is_le (nat_list_cmp_total.antisymm y.id x.id)) ∙ k))
 
 same-lists : (all : List Write) → IsOneOfEachId all → (xs ys : List Write) → AllByRecursion (Contains all) xs
-    → AllByRecursion (Contains all) ys → Ascends goes_before xs → Ascends goes_before ys
+    → AllByRecursion (Contains all) ys → AscendsBy goes_before xs → AscendsBy goes_before ys
     → ((id : List ℕ) → sum_by (times id) xs ≡ sum_by (times id) ys) → xs ≡ ys
 same-lists all one [] [] inx iny upx upy counts = refl
 same-lists all one [] (y ∷ ys) inx iny upx upy counts = absurd (omega (arith, counted y ys, counts y.id))

@@ -7,10 +7,11 @@ use Rattle.std.proofs.lemmas.List.Elements.{recursion_from_All}
 use Rattle.sc_record.specs.declared.write.Write.{Write}
 use Rattle.sc_fanout.specs.Pages.{AreFound, IsStartOf, all_of}
 use Rattle.sc_fanout.specs.Steps.{searcher_rows}
-use Rattle.sc_fanout.specs.Merging.{Ascends, gathered, goes_before}
-use Rattle.sc_fanout.specs.Hits.{BeginAlike, FrontAscends, IsFirst, front_rows, hit_rows, leads_of, rows_at}
+use Rattle.sc_fanout.specs.Merging.{AscendsBy, gathered, goes_before}
+use Rattle.sc_fanout.specs.Hits.{BeginAlike, FrontAscends, IsLeast, front_rows, hit_rows, lead_rows, leads_of, rows_numbered}
 use Rattle.sc_fanout.specs.declared.hits.Front.{Front}
 use Rattle.sc_fanout.specs.declared.hits.Hits.{Hits}
+use Rattle.sc_fanout.specs.declared.hits.Lead.{Lead}
 use Rattle.sc_bucket.specs.Taking.{lent}
 use Rattle.sc_fanout.proofs.GatherLemmas.{StartsAfter, gathered-alike, gathered-ascends, gathered-first, gathered-moves, gathered-none}
 use Rattle.sc_fanout.proofs.MergeLemmas.{all-weaker}
@@ -23,35 +24,35 @@ starts most wholes lists kept rest found alike same enough = record {
   sorted = gathered goes_before wholes;
   order = in_order (all_of wholes) (gathered goes_before wholes) (gathered-moves goes_before wholes)
       (gathered-ascends goes_before by_id-order wholes
-      (recursion_from_All (Ascends goes_before) wholes (λ k d within. ascends-by_id (get_or wholes k d) (found k d within).ascend)));
+      (recursion_from_All (AscendsBy goes_before) wholes (λ k d within. ascends-by_id (get_or wholes k d) (found k d within).ascend)));
   start = enough ∙ ap (take most) same ∙ gathered-alike goes_before most lists wholes alike;
 }
 
--- the fronts that stand for the first hits, whatever lists come after them
-module _ (fronts now : List Front) (all : List Hits) (k : ℕ) (d : Hits) (within : k < length all)
-    (same : (rest : List (List Write)) → gathered goes_before (map front_rows fronts ++ rest) ≡ gathered goes_before (map hit_rows (take k all) ++ rest)) where
+-- the leads that stand for the first hits, whatever lists come after them
+module _ (leads now : List Lead) (all : List Hits) (k : ℕ) (d : Hits) (within : k < length all)
+    (same : (rest : List (List Write)) → gathered goes_before (map lead_rows leads ++ rest) ≡ gathered goes_before (map hit_rows (take k all) ++ rest)) where
   next-hits : (rest : List (List Write)) → gathered goes_before (map hit_rows (take k all) ++ (hit_rows (get_or all k d) ∷ rest))
       ≡ gathered goes_before (map hit_rows (take (k + 1) all) ++ rest)
   next-hits rest =
       sym (ap (λ (ls : List (List Write)). gathered goes_before (ls ++ rest)) (map_more hit_rows all k d within)
       ∙ ap (gathered goes_before) (append_assoc (map hit_rows (take k all)) (hit_rows (get_or all k d) ∷ []) rest))
 
-  -- one front more
-  pub fronts-more : (front : Front) → now ≡ fronts ++ front ∷ [] → front_rows front ≡ hit_rows (get_or all k d) → (rest : List (List Write))
-      → gathered goes_before (map front_rows now ++ rest) ≡ gathered goes_before (map hit_rows (take (k + 1) all) ++ rest)
-  fronts-more front is rows rest =
-      ap (λ (fs : List Front). gathered goes_before (map front_rows fs ++ rest)) is
-      ∙ ap (λ (ls : List (List Write)). gathered goes_before (ls ++ rest)) (map-append front_rows fronts (front ∷ []))
-      ∙ ap (gathered goes_before) (append_assoc (map front_rows fronts) (front_rows front ∷ []) rest)
-      ∙ same (front_rows front ∷ rest)
+  -- one lead more
+  pub leads-more : (lead : Lead) → now ≡ leads ++ lead ∷ [] → lead_rows lead ≡ hit_rows (get_or all k d) → (rest : List (List Write))
+      → gathered goes_before (map lead_rows now ++ rest) ≡ gathered goes_before (map hit_rows (take (k + 1) all) ++ rest)
+  leads-more lead is rows rest =
+      ap (λ (fs : List Lead). gathered goes_before (map lead_rows fs ++ rest)) is
+      ∙ ap (λ (ls : List (List Write)). gathered goes_before (ls ++ rest)) (map-append lead_rows leads (lead ∷ []))
+      ∙ ap (gathered goes_before) (append_assoc (map lead_rows leads) (lead_rows lead ∷ []) rest)
+      ∙ same (lead_rows lead ∷ rest)
       ∙ ap (λ (l : List Write). gathered goes_before (map hit_rows (take k all) ++ (l ∷ rest))) rows
       ∙ next-hits rest
 
   -- the hits have no rows
-  pub fronts-same : now ≡ fronts → [] ≡ hit_rows (get_or all k d) → (rest : List (List Write))
-      → gathered goes_before (map front_rows now ++ rest) ≡ gathered goes_before (map hit_rows (take (k + 1) all) ++ rest)
-  fronts-same is none rest =
-      ap (λ (fs : List Front). gathered goes_before (map front_rows fs ++ rest)) is
+  pub leads-same : now ≡ leads → [] ≡ hit_rows (get_or all k d) → (rest : List (List Write))
+      → gathered goes_before (map lead_rows now ++ rest) ≡ gathered goes_before (map hit_rows (take (k + 1) all) ++ rest)
+  leads-same is none rest =
+      ap (λ (fs : List Lead). gathered goes_before (map lead_rows fs ++ rest)) is
       ∙ same rest
       ∙ sym (gathered-none goes_before (map hit_rows (take k all)) rest)
       ∙ ap (λ (l : List Write). gathered goes_before (map hit_rows (take k all) ++ (l ∷ rest))) none
@@ -59,10 +60,10 @@ module _ (fronts now : List Front) (all : List Hits) (k : ℕ) (d : Hits) (withi
 
 -- the row at a number, if there is one, and then those at the numbers after it
 pub rows-next : (rows : List Write) (numbers : List ℕ) (k d : ℕ) (read : Option Write) → k < length numbers
-    → read ≡ slice_get rows (get_or numbers k d) → rows_at rows (drop k numbers) ≡ option_to_list read ++ rows_at rows (drop (k + 1) numbers)
+    → read ≡ slice_get rows (get_or numbers k d) → rows_numbered rows (drop k numbers) ≡ option_to_list read ++ rows_numbered rows (drop (k + 1) numbers)
 rows-next rows numbers k d read within reads =
-    ap (rows_at rows) (drop_more numbers k d within)
-    ∙ ap (λ (o : Option Write). option_to_list o ++ rows_at rows (drop (k + 1) numbers)) (sym reads)
+    ap (rows_numbered rows) (drop_more numbers k d within)
+    ∙ ap (λ (o : Option Write). option_to_list o ++ rows_numbered rows (drop (k + 1) numbers)) (sym reads)
 
 -- ---- the least of some writes
 -- what another write goes before is no sooner
@@ -73,9 +74,9 @@ no-sooner x y z goes sooner =
     (λ (h : goes_before x y ≡ false). h)
     (cases_Bool (goes_before x y))
 
-module _ (writes : List Write) (count least : ℕ) (is : IsFirst writes count least) (within : least < count) where
+module _ (writes : List Write) (count least : ℕ) (is : IsLeast writes count least) (within : least < count) where
   -- the next write is less
-  pub first-next : ((d : Write) → goes_before (get_or writes least d) (get_or writes count d) ≡ false) → IsFirst writes (count + 1) count
+  pub first-next : ((d : Write) → goes_before (get_or writes least d) (get_or writes count d) ≡ false) → IsLeast writes (count + 1) count
   first-next less = record {
     sooner = λ i d before.
         let back : goes_before (get_or writes count d) (get_or writes least d) ≡ true =
@@ -98,7 +99,7 @@ module _ (writes : List Write) (count least : ℕ) (is : IsFirst writes count le
   }
 
   -- it is not
-  pub first-stays : ((d : Write) → goes_before (get_or writes least d) (get_or writes count d) ≡ true) → IsFirst writes (count + 1) least
+  pub first-stays : ((d : Write) → goes_before (get_or writes least d) (get_or writes count d) ≡ true) → IsLeast writes (count + 1) least
   first-stays goes = record {
     sooner = is.sooner;
     later = λ i d after before.
@@ -130,9 +131,9 @@ lead front = lent front.lead
 
 -- the fronts without their least row
 module _ (fronts : List Front) (at : ℕ) (front : Front) (within : at < length fronts) (is : front ≡ get_or fronts at front)
-    (ascend : All FrontAscends fronts) (least : IsFirst (leads_of fronts) (length fronts) at) where
+    (ascend : All FrontAscends fronts) (least : IsLeast (leads_of fronts) (length fronts) at) where
   abbrev pub rest : List Write
-  rest = rows_at (searcher_rows front.searcher.now) front.rest.now
+  rest = rows_numbered (searcher_rows front.searcher.now) front.rest.now
 
   here : lead front ≡ get_or (leads_of fronts) at (lead front)
   here = ap lead is ∙ sym (get_or-map lead fronts at front (lead front) within)
@@ -172,7 +173,7 @@ module _ (fronts : List Front) (at : ℕ) (front : Front) (within : at < length 
       subst (AllByRecursion (λ (w : Write). goes_before (lead front) w ≡ true)) (sym mapped) (
         goes,
         all-weaker (λ (w : Write). goes_before (lead other) w ≡ true) (λ (w : Write). goes_before (lead front) w ≡ true)
-            (λ w. by_id-order.chain (lead front) (lead other) w goes) (rows_at (searcher_rows other.searcher.now) other.rest.now) up.0,
+            (λ w. by_id-order.chain (lead front) (lead other) w goes) (rows_numbered (searcher_rows other.searcher.now) other.rest.now) up.0,
       ))
 
   first : gathered goes_before (map front_rows fronts) ≡ lead front ∷ gathered goes_before (map front_rows (take at fronts) ++ (rest ∷ map front_rows (drop (at + 1) fronts)))
@@ -200,7 +201,7 @@ module _ (fronts : List Front) (at : ℕ) (front : Front) (within : at < length 
       ∙ sym (ap (λ (ls : List (List Write)). lead front ∷ gathered goes_before ls) (map-append front_rows (take at fronts) (drop (at + 1) fronts)))
 
   -- its other rows ascend
-  pub rest-ascends : Ascends goes_before rest
+  pub rest-ascends : AscendsBy goes_before rest
   rest-ascends =
       let up : FrontAscends (get_or fronts at front) = ascend at front within in
       (subst FrontAscends (sym is) up).1

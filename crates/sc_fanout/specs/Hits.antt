@@ -10,12 +10,13 @@ use Rattle.sc_bucket.specs.Taking.{lent}
 use Rattle.sc_eval.specs.Criteria.{Criterion}
 use Rattle.sc_eval.specs.Numbers.{numbers_of}
 use Rattle.sc_eval.specs.declared.numbers.Matches.{Matches}
-use Rattle.sc_fanout.specs.Merging.{Ascends, goes_before}
+use Rattle.sc_fanout.specs.Merging.{AscendsBy, goes_before}
 use Rattle.sc_fanout.specs.Pages.{all_of}
 use Rattle.sc_fanout.specs.Steps.{searcher_rows, found_in}
 use Rattle.sc_fanout.specs.declared.hits.Hits.{Hits}
 use Rattle.sc_fanout.specs.declared.hits.Found.{Found}
 use Rattle.sc_fanout.specs.declared.hits.Front.{Front}
+use Rattle.sc_fanout.specs.declared.hits.Lead.{Lead}
 
 -- at these numbers, counted from 0, these rows stand, in this order
 abbrev pub StandAt : (rows : List Write) (numbers : List ℕ) (these : List Write) → Type 0
@@ -50,20 +51,29 @@ abbrev pub lent_in : Vec (Bor (Arc Write Global)) Global → List Write
 lent_in cells = map lent cells.items
 
 -- the rows at these numbers
-abbrev pub rows_at : List Write → List ℕ → List Write
-rows_at rows numbers = flat_map (λ number. option_to_list (slice_get rows number)) numbers
+abbrev pub rows_numbered : List Write → List ℕ → List Write
+rows_numbered rows numbers = flat_map (λ number. option_to_list (slice_get rows number)) numbers
 
 -- the rows at the numbers of the hits
 abbrev pub hit_rows : Hits → List Write
-hit_rows hits = rows_at (searcher_rows hits.searcher.now) (numbers_of hits.numbers)
+hit_rows hits = rows_numbered (searcher_rows hits.searcher.now) (numbers_of hits.numbers)
 
 -- these lists begin as those do, as far as the first `most` of each
 abbrev pub BeginAlike : (most : ℕ) → List (List Write) → List (List Write) → Type 0
 BeginAlike most wholes lists = map (take most) lists ≡ map (take most) wholes
 
+-- the rows of a lead: its row, and those at the numbers after it
+abbrev pub lead_rows : Lead → List Write
+lead_rows lead = lent lead.row ∷ rows_numbered (searcher_rows lead.searcher.now) lead.rest.now
+
+-- the rows of a lead, none where there is no lead
+abbrev pub lead_left : Option Lead → List Write
+lead_left None = []
+lead_left (Some lead) = lead_rows lead
+
 -- the rows of a front: its first row, and those at the numbers after it
 abbrev pub front_rows : Front → List Write
-front_rows front = lent front.lead ∷ rows_at (searcher_rows front.searcher.now) front.rest.now
+front_rows front = lent front.lead ∷ rows_numbered (searcher_rows front.searcher.now) front.rest.now
 
 -- the rows of a front, none where there is no front
 abbrev pub rows_left : Option Front → List Write
@@ -76,13 +86,17 @@ leads_of fronts = map (λ (front : Front). lent front.lead) fronts
 
 -- the rows of hits ascend by their ids
 abbrev pub HitsAscend : Hits → Type 0
-HitsAscend hits = Ascends goes_before (hit_rows hits)
+HitsAscend hits = AscendsBy goes_before (hit_rows hits)
+
+-- the rows of a lead do
+abbrev pub LeadAscends : Lead → Type 0
+LeadAscends lead = AscendsBy goes_before (lead_rows lead)
 
 -- the rows of a front do
 abbrev pub FrontAscends : Front → Type 0
-FrontAscends front = Ascends goes_before (front_rows front)
+FrontAscends front = AscendsBy goes_before (front_rows front)
 
 -- of the first so many writes none before this place goes before the one there, and that one goes before those after it
-pub record IsFirst (writes : List Write) (count at : ℕ) : Type 0 where
+pub record IsLeast (writes : List Write) (count at : ℕ) : Type 0 where
   pub sooner : (i : ℕ) (d : Write) → i < at → goes_before (slice_index_or writes i d) (slice_index_or writes at d) ≡ false
   pub later : (i : ℕ) (d : Write) → at < i → i < count → goes_before (slice_index_or writes at d) (slice_index_or writes i d) ≡ true

@@ -26,6 +26,6 @@ module _ {X : Type 0} (before : X → X → Bool) where
   gathered (xs ∷ lists) = merged xs (gathered lists)
 
   -- each element goes before those after it
-  abbrev pub Ascends : List X → Type 0
-  Ascends [] = ⊤
-  Ascends (x ∷ xs) = AllByRecursion (λ y. before x y ≡ true) xs × Ascends xs
+  abbrev pub AscendsBy : List X → Type 0
+  AscendsBy [] = ⊤
+  AscendsBy (x ∷ xs) = AllByRecursion (λ y. before x y ≡ true) xs × AscendsBy xs

@@ -4,7 +4,7 @@ ghost use Rattle.sc_segment.specs.Heads.{front_number};
 
 use sc_bucket::Searcher;
 use sc_eval::{Numbers, Unjoined};
-use sc_record::Cell;
+use sc_record::{Cell, Write};
 
 /// The numbers of the rows that the query finds with a searcher, where the outermost join is not made yet.
 #[derive(Drop)]
@@ -25,6 +25,16 @@ pub(crate) struct Hits<'a> {
 pub(crate) struct Found<'a> {
     pub(crate) count: u64,
     pub(crate) hits: Vec<Hits<'a>>,
+}
+
+/// The first row of a searcher's hits, its write, which the row shares, and the numbers of the rows after it.
+#[derive(Clone, Copy)]
+pub(crate) struct Lead<'a, 'b> {
+    pub(crate) searcher: &'a Searcher,
+    pub(crate) row: &'a Cell,
+    pub(crate) write: &'a Write,
+    pub(crate) rest: &'b [u32],
+    pub(crate) ghost is_write: { write.now ≡ lent row },
 }
 
 /// What is still to be merged of a searcher's hits: the first row, with the number that the first bytes of its id make, and the numbers of

@@ -5,9 +5,9 @@ ghost use Rattle.sc_fanout.specs.Pages.{AreFound, IsStartOf, all_of};
 ghost use Rattle.sc_fanout.specs.Merging.{gathered, goes_before};
 ghost use Rattle.sc_fanout.specs.Steps.{searcher_rows};
 ghost use Rattle.sc_bucket.specs.Taking.{lent};
-ghost use Rattle.sc_fanout.specs.Hits.{BeginAlike, FrontAscends, HitsAscend, IsFirst, front_rows, hit_rows, leads_of, lent_in, rows_at, rows_left};
+ghost use Rattle.sc_fanout.specs.Hits.{BeginAlike, FrontAscends, HitsAscend, IsLeast, LeadAscends, front_rows, hit_rows, lead_left, lead_rows, leads_of, lent_in, rows_numbered, rows_left};
 
-use crate::hits::{Front, Hits};
+use crate::hits::{Front, Hits, Lead};
 use sc_bucket::Searcher;
 use sc_record::Cell;
 use sc_segment::{Steps, front_number};
@@ -42,7 +42,8 @@ pub(crate) fn first_of_all<'a, L: Ledger>(
     Ok(kept)
 }
 
-// The fronts of the hits that have rows. All first rows are found before any are compared: so the processor waits for several at once.
+// The fronts of the hits that have rows. All first rows are found before the id of any is read, and all ids are read before any are
+// compared: so the processor waits for several of them at once.
 fn fronts_of<'a, 'b, L: Ledger>(
     alloc: Global,
     all: &'b [Hits<'a>],
@@ -52,14 +53,78 @@ fn fronts_of<'a, 'b, L: Ledger>(
     ensures rows { IfOk result (λ fronts. gathered goes_before (map front_rows fronts.items) ≡ gathered goes_before (map hit_rows all.now)) }
     ensures ascend { IfOk result (λ fronts. All FrontAscends fronts.items) }
 {
-    let mut fronts = Vec::with_capacity(alloc, all.len())?;
+    let leads = leads_in(alloc, all, steps)?;
+    let fronts = with_heads(alloc, leads.as_slice())?;
+    Ok(fronts)
+}
+
+// The leads of the hits that have rows.
+fn leads_in<'a, 'b, L: Ledger>(
+    alloc: Global,
+    all: &'b [Hits<'a>],
+    steps: &mut Steps<L>,
+) -> Result<Vec<Lead<'a, 'b>>, AllocError>
+    requires { All HitsAscend all.now }
+    ensures rows { IfOk result (λ leads. gathered goes_before (map lead_rows leads.items) ≡ gathered goes_before (map hit_rows all.now)) }
+    ensures ascend { IfOk result (λ leads. All LeadAscends leads.items) }
+{
+    let mut leads = Vec::with_capacity(alloc, all.len())?;
     for hits in all {
-        let front = front_at(hits.searcher, hits.numbers.as_slice(), steps);
-        if let Some(front) = front {
-            fronts.push(front)?;
+        let lead = lead_at(hits.searcher, hits.numbers.as_slice(), steps);
+        if let Some(lead) = lead {
+            leads.push(lead)?;
         }
     }
+    Ok(leads)
+}
+
+// The fronts of these leads.
+fn with_heads<'a, 'b>(
+    alloc: Global,
+    leads: &[Lead<'a, 'b>],
+) -> Result<Vec<Front<'a, 'b>>, AllocError>
+    requires { All LeadAscends leads.now }
+    ensures rows { IfOk result (λ fronts. map front_rows fronts.items ≡ map lead_rows leads.now) }
+    ensures ascend { IfOk result (λ fronts. All FrontAscends fronts.items) }
+{
+    let mut fronts = Vec::with_capacity(alloc, leads.len())?;
+    for lead in leads {
+        fronts.push(front_of(*lead))?;
+    }
     Ok(fronts)
+}
+
+// The lead at the first of these numbers that a row has, if one has.
+fn lead_at<'a, 'b, L: Ledger>(
+    searcher: &'a Searcher,
+    numbers: &'b [u32],
+    steps: &mut Steps<L>,
+) -> Option<Lead<'a, 'b>>
+    ensures { lead_left result ≡ rows_numbered (searcher_rows searcher.now) numbers.now }
+{
+    for at in 0..numbers.len() {
+        if let Some(row) = searcher.snapshot.row(numbers[at], steps) {
+            return Some(Lead {
+                searcher,
+                row,
+                write: row,
+                rest: &numbers[at + 1..],
+            });
+        }
+    }
+    None
+}
+
+// The front of a lead.
+fn front_of<'a, 'b>(lead: Lead<'a, 'b>) -> Front<'a, 'b>
+    ensures { front_rows result ≡ lead_rows lead.entry }
+{
+    Front {
+        searcher: lead.searcher,
+        lead: lead.row,
+        head: front_number(lead.write.id.as_str().as_bytes()),
+        rest: lead.rest,
+    }
 }
 
 // The front at the first of these numbers that a row has, if one has.
@@ -68,19 +133,12 @@ fn front_at<'a, 'b, L: Ledger>(
     numbers: &'b [u32],
     steps: &mut Steps<L>,
 ) -> Option<Front<'a, 'b>>
-    ensures { rows_left result ≡ rows_at (searcher_rows searcher.now) numbers.now }
+    ensures { rows_left result ≡ rows_numbered (searcher_rows searcher.now) numbers.now }
 {
-    for at in 0..numbers.len() {
-        if let Some(lead) = searcher.snapshot.row(numbers[at], steps) {
-            return Some(Front {
-                searcher,
-                lead,
-                head: front_number(lead.id.as_str().as_bytes()),
-                rest: &numbers[at + 1..],
-            });
-        }
+    match lead_at(searcher, numbers, steps) {
+        Some(lead) => Some(front_of(lead)),
+        None => None,
     }
-    None
 }
 
 // Takes the least of the first rows of these fronts, of which there is one. A front that has no more rows is left out from then on.
@@ -106,7 +164,7 @@ fn take_first<'a, 'b, L: Ledger>(fronts: &mut Vec<Front<'a, 'b>>, steps: &mut St
 fn least(fronts: &[Front<'_, '_>]) -> usize
     requires { 0 < length fronts.now }
     ensures within { result < length fronts.now }
-    ensures least { IsFirst (leads_of fronts.now) (length fronts.now) result }
+    ensures least { IsLeast (leads_of fronts.now) (length fronts.now) result }
 {
     let mut least = 0;
     for at in 1..fronts.len() {

@@ -3,7 +3,7 @@ use Rattle.std.proofs.Common.{◌≡◌, ◌+◌, ◌<◌, ℕ, List, length, ge
 use Rattle.std.proofs.lemmas.Bool.{not-false, not-true}
 use Rattle.std.proofs.lemmas.List.{get_or-map}
 use Rattle.sc_record.specs.declared.write.Write.{Write}
-use Rattle.sc_fanout.specs.Hits.{IsFirst, leads_of}
+use Rattle.sc_fanout.specs.Hits.{IsLeast, leads_of}
 use Rattle.sc_fanout.specs.Merging.{goes_before}
 use Rattle.sc_fanout.specs.declared.hits.Front.{Front}
 use Rattle.sc_fanout.proofs.StartLemmas.{first-next, first-stays, lead}
@@ -30,14 +30,14 @@ loop-at-preserved c =
       | then-is_before w ↦ record {
         within = omega (arith, w.least-is);
         inside = omega (arith, inside);
-        least = subst (IsFirst (leads_of fronts) (at + 1)) (sym w.least-is)
+        least = subst (IsLeast (leads_of fronts) (at + 1)) (sym w.least-is)
             (first-next (leads_of fronts) at least i.least i.within
             (λ d. there d ∙ not-true (goes_before (lead other) (lead one)) (sym c.is_before.ensures ∙ w.if-is_before.true)));
       }
       | else-is_before w ↦ record {
         within = omega (arith, w.least-is, i.within);
         inside = omega (arith, inside);
-        least = subst (IsFirst (leads_of fronts) (at + 1)) (sym w.least-is)
+        least = subst (IsLeast (leads_of fronts) (at + 1)) (sym w.least-is)
             (first-stays (leads_of fronts) at least i.least i.within
             (λ d. there d ∙ not-false (goes_before (lead other) (lead one)) (sym c.is_before.ensures ∙ w.if-is_before.false)));
       }

@@ -3,14 +3,21 @@
 use crate::support::assert_line;
 use sc_arguments::asked_of;
 use std::alloc::{AllocError, Global};
+use std::process::Abort;
 use std::test::Fail;
 
-// What the words between the spaces of a line ask for.
-fn asked(alloc: Global, line: &str) -> Result<String, AllocError> {
+// The words between the spaces of a line.
+fn words_of(alloc: Global, line: &str) -> Result<Vec<String>, AllocError> {
     let mut words = Vec::new(alloc);
     for word in line.split(' ') {
         words.push(String::from_str(alloc, word)?)?;
     }
+    Ok(words)
+}
+
+// What the words of a line ask for.
+fn asked(alloc: Global, line: &str) -> Result<String, AllocError> {
+    let words = words_of(alloc, line)?;
     let asked = asked_of(alloc, words.as_slice())?;
     format!(in alloc; "{asked:?}")
 }
@@ -28,12 +35,17 @@ script --help -> None
 help -> None"
 }
 
+// The words before the arrow ask for what stands after it.
+fn assert_asks(rt: &impl Abort, alloc: Global, line: &str) -> Result<(), AllocError> {
+    let (words, wanted) = line.split_once(" -> ").unwrap_or((line, ""));
+    assert_line(rt, line, asked(alloc, words)?.as_str(), wanted);
+    Ok(())
+}
+
 #[test]
 fn lines_ask_for_what_they_say(rt: HostRuntime) -> Result<(), Fail> {
-    let alloc = rt.alloc();
     for line in lines_asked().lines() {
-        let (words, wanted) = line.split_once(" -> ").unwrap_or((line, ""));
-        assert_line(&rt, line, asked(alloc, words)?.as_str(), wanted);
+        assert_asks(&rt, rt.alloc(), line)?;
     }
     Ok(())
 }

@@ -63,14 +63,26 @@ fn assert_rows_of<'a, L: Ledger>(
 fn carries_three_keys<L: Ledger>(rt: &impl Abort, alloc: Global, blank: Blank) -> Result<(), Fail>
     requires { IsFresh blank L.name L.parts }
 {
-    let mut steps = Steps::<L>::new(blank);
     let compared = Cell::new(0);
     let new = carried(rt, alloc, &compared)?;
-    assert_rows_of(rt, &new, 10, &[0, 1], &compared, &mut steps);
-    assert_rows_of(rt, &new, 20, &[], &compared, &mut steps);
-    assert_rows_of(rt, &new, 25, &[2], &compared, &mut steps);
-    assert_rows_of(rt, &new, 30, &[0, 2, 3], &compared, &mut steps);
+    assert_four_keys::<L>(rt, &new, &compared, blank);
     Ok(())
+}
+
+// The three keys, of which one is left out, and the one that was added.
+fn assert_four_keys<'a, L: Ledger>(
+    rt: &impl Abort,
+    segment: &Segment<CountedKey<'a>>,
+    compared: &'a Cell<u32>,
+    blank: Blank,
+)
+    requires { IsFresh blank L.name L.parts }
+{
+    let mut steps = Steps::<L>::new(blank);
+    assert_rows_of(rt, segment, 10, &[0, 1], compared, &mut steps);
+    assert_rows_of(rt, segment, 20, &[], compared, &mut steps);
+    assert_rows_of(rt, segment, 25, &[2], compared, &mut steps);
+    assert_rows_of(rt, segment, 30, &[0, 2, 3], compared, &mut steps);
 }
 
 #[test]

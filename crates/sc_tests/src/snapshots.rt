@@ -87,12 +87,25 @@ fn assert_rows<L: Ledger>(
 fn finds_live_rows<L: Ledger>(rt: &impl Abort, alloc: Global, blank: Blank) -> Result<(), Fail>
     requires { IsFresh blank L.name L.parts }
 {
-    let mut steps = Steps::<L>::new(blank);
     let snapshot = snapshot(rt, alloc, &core(alloc)?)?;
-    assert_rows(rt, alloc, &snapshot, "rust", &[0, 2], &mut steps)?;
-    assert_rows(rt, alloc, &snapshot, "action", &[0], &mut steps)?;
-    assert_rows(rt, alloc, &snapshot, "lucene", &[], &mut steps)?;
+    assert_words::<L>(rt, alloc, &snapshot, blank)?;
     assert_live(rt, &snapshot);
+    Ok(())
+}
+
+/// Two documents have one word, one of them another, and none the third.
+fn assert_words<L: Ledger>(
+    rt: &impl Abort,
+    alloc: Global,
+    snapshot: &Snapshot,
+    blank: Blank,
+) -> Result<(), Fail>
+    requires { IsFresh blank L.name L.parts }
+{
+    let mut steps = Steps::<L>::new(blank);
+    assert_rows(rt, alloc, snapshot, "rust", &[0, 2], &mut steps)?;
+    assert_rows(rt, alloc, snapshot, "action", &[0], &mut steps)?;
+    assert_rows(rt, alloc, snapshot, "lucene", &[], &mut steps)?;
     Ok(())
 }
 
@@ -113,12 +126,30 @@ fn terms_have_their_live_rows(rt: HostRuntime) -> Result<(), Fail> {
 fn finds_rows_of_range<L: Ledger>(rt: &impl Abort, alloc: Global, blank: Blank) -> Result<(), Fail>
     requires { IsFresh blank L.name L.parts }
 {
-    let mut steps = Steps::<L>::new(blank);
-    let whole = snapshot(rt, alloc, &core(alloc)?)?;
-    let part = whole.within(alloc, &Range { min: 2, max: 3 })?;
-    assert_rows(rt, alloc, &part, "rust", &[1], &mut steps)?;
-    assert_rows(rt, alloc, &part, "action", &[], &mut steps)?;
+    let part = part(rt, alloc)?;
+    assert_words_of_part::<L>(rt, alloc, &part, blank)?;
     assert_part(rt, &part);
+    Ok(())
+}
+
+/// The rows of the snapshot whose hashes are 2 and 3.
+fn part(rt: &impl Abort, alloc: Global) -> Result<Snapshot, Fail> {
+    let whole = snapshot(rt, alloc, &core(alloc)?)?;
+    Ok(whole.within(alloc, &Range { min: 2, max: 3 })?)
+}
+
+/// The document that is left has one word of the two.
+fn assert_words_of_part<L: Ledger>(
+    rt: &impl Abort,
+    alloc: Global,
+    part: &Snapshot,
+    blank: Blank,
+) -> Result<(), Fail>
+    requires { IsFresh blank L.name L.parts }
+{
+    let mut steps = Steps::<L>::new(blank);
+    assert_rows(rt, alloc, part, "rust", &[1], &mut steps)?;
+    assert_rows(rt, alloc, part, "action", &[], &mut steps)?;
     Ok(())
 }
 

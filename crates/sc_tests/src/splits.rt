@@ -116,19 +116,39 @@ fn send_each<R: Threads + Wait + Sync, D: Desk>(
     let mut visits = visits;
     let mut told = String::new(alloc);
     for step in steps.iter(rt) {
-        if visits.front().is_some_and(|visit| visit.step == step) {
-            let Some(visit) = visits.pop_front() else {
-                break;
-            };
-            let body = exchange(rt, alloc, desk, &mut NoPace, visit.request)?;
-            told.push_str(body.as_str())?;
-            told.push_str("\n")?;
+        if let Some(visit) = next_at(&mut visits, step) {
+            let line = line_of(rt, alloc, desk, visit)?;
+            told.push_str(line.as_str())?;
         }
         if done.send(rt, ()).is_err() {
             break;
         }
     }
     Ok(told)
+}
+
+/// Takes the next of these visits, if it comes at this step.
+fn next_at<'a>(visits: &mut VecDeque<Visit<'a>>, step: SplitStep) -> Option<Visit<'a>> {
+    if visits.front().is_some_and(|visit| visit.step == step) {
+        visits.pop_front()
+    } else {
+        None
+    }
+}
+
+/// The body of the answer to a visit, as a line.
+fn line_of<R: Threads + Sync, D: Desk>(
+    rt: &R,
+    alloc: Global,
+    desk: &mut D,
+    visit: Visit<'_>,
+) -> Result<String, AllocError>
+    requires { D.out desk.old ≡ nothing_out }
+    ensures { D.out desk.new ≡ nothing_out }
+{
+    let mut line = exchange(rt, alloc, desk, &mut NoPace, visit.request)?;
+    line.push_str("\n")?;
+    Ok(line)
 }
 
 /// What is answered to these visits, by a desk for these passes.

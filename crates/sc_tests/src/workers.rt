@@ -185,8 +185,14 @@ fn served<R: Threads + Wait + Sync>(
     let mut sink = MemSink::new(alloc, lines);
     let status = run_server(rt, alloc, &server, &mut sink, &mut station);
     let line = std::str::from_utf8(sink.bytes.as_slice()).unwrap_or("");
-    let mut text = format!(in alloc; "{status} {line}")?;
-    for back in &station.back {
+    let told = told_of_crews(alloc, station.back.as_slice())?;
+    format!(in alloc; "{status} {line}{}", told.as_str())
+}
+
+/// What was written to the connection of each crew that is back, each in a line.
+fn told_of_crews(alloc: Global, crews: &[Option<OneLink>]) -> Result<String, AllocError> {
+    let mut text = String::new(alloc);
+    for back in crews {
         if let Some(crew) = back {
             text.push_str(told(alloc, &crew.listener)?.as_str())?;
             text.push_str("\n")?;

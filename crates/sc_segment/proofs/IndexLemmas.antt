@@ -75,11 +75,11 @@ module _ {K : Type 0} {order : K → K → Ordering} (o : IsTotalOrder order) wh
       of_found (Some []) has = absurd (omega (arith, has.0))
       of_found (Some (x ∷ xs)) has = refl
 
-  any-keys : (q : K) (added : List (ℕ × K)) → list_any (λ p. is_eq (order q p.1)) added ≡ list_any (λ k. is_eq (order q k)) (map (λ p. p.1) added)
+  pub any-keys : (q : K) (added : List (ℕ × K)) → list_any (λ p. is_eq (order q p.1)) added ≡ list_any (λ k. is_eq (order q k)) (map (λ p. p.1) added)
   any-keys q [] = refl
   any-keys q (p ∷ ps) = ap (λ b. is_eq (order q p.1) || b) (any-keys q ps)
 
-  distinct_keys-count : (added : List (ℕ × K)) → distinct_keys order added ≡ distinct_count (eq_by_cmp order) (map (λ p. p.1) added)
+  pub distinct_keys-count : (added : List (ℕ × K)) → distinct_keys order added ≡ distinct_count (eq_by_cmp order) (map (λ p. p.1) added)
   distinct_keys-count [] = refl
   distinct_keys-count (p ∷ ps) =
       let keys : List K = map (λ r. r.1) ps in

@@ -1,5 +1,5 @@
 -- An index of pairs has one entry for each key: what an entry has are the rows of its key.
-use Rattle.std.proofs.Common.{◌≡◌, ℕ, ◌+◌, Bool, true, false, true≢false, cond, ◌||◌, List, [], ◌∷◌, length, map, slice_get, Some, is_some, unwrap_or, refl, sym, ap, ◌∙◌, arith}
+use Rattle.std.proofs.Common.{◌≡◌, ℕ, Bool, true, false, true≢false, cond, ◌||◌, List, [], ◌∷◌, map, slice_get, Some, is_some, unwrap_or, refl, sym, ap, ◌∙◌}
 use Rattle.std.proofs.lemmas.Cmp.{eq_by_cmp_equiv}
 use Rattle.std.proofs.lemmas.Map.Entries.{length-keys_of, lookup_from_place}
 use Rattle.std.proofs.lemmas.Map.Keys.{IsDistinct-cons}
@@ -10,9 +10,10 @@ use Rattle.std.specs.declared.cmp.Ordering.{Ordering}
 use Rattle.std.specs.List.{AllByRecursion, IsDistinct, list_any}
 use Rattle.std.specs.Map.{keys_of}
 use Rattle.std.specs.Ordering.{eq_by_cmp, is_eq}
-use Rattle.std.specs.Set.{distinct_count, is_member, unique_keys}
+use Rattle.std.specs.Set.{is_member, unique_keys}
 use Rattle.sc_segment.proofs.AddingLemmas.{some-rows_with}
-use Rattle.sc_segment.specs.Index.{IsIndexOf, distinct_keys, rows_at}
+use Rattle.sc_segment.proofs.IndexLemmas.{any-keys, distinct_keys-count}
+use Rattle.sc_segment.specs.Index.{IsIndexOf, rows_at}
 
 module _ {K : Type 0} {order : K → K → Ordering} (o : IsTotalOrder order) where
   abbrev same : K → K → Bool
@@ -52,27 +53,15 @@ module _ {K : Type 0} {order : K → K → Ordering} (o : IsTotalOrder order) wh
         | false ↦ λ none. IsDistinct-cons same x once (none-same x once (member-once xs x ∙ none)) (distinct-once xs)
       ] refl
 
-  -- ---- as many entries as keys
-  any-keys : (q : K) (added : List (ℕ × K)) → list_any (λ p. is_eq (order q p.1)) added ≡ list_any (λ k. is_eq (order q k)) (map (λ p. p.1) added)
-  any-keys q [] = refl
-  any-keys q (p ∷ ps) = ap (λ b. is_eq (order q p.1) || b) (any-keys q ps)
-
-  distinct_keys-count : (added : List (ℕ × K)) → distinct_keys order added ≡ distinct_count same (map (λ p. p.1) added)
-  distinct_keys-count [] = refl
-  distinct_keys-count (p ∷ ps) =
-      let keys : List K = map (λ r. r.1) ps in
-      rw (distinct_keys-count ps, any-keys p.1 ps)
-      (elim (list_any (λ k. is_eq (order p.1 k)) keys) as (λ b. cond b (distinct_count same keys) (distinct_count same keys + 1)
-      ≡ length (cond b (unique_keys same keys) (p.1 ∷ unique_keys same keys))) [ true ↦ refl | false ↦ omega arith ])
-
+  -- as many entries as keys
   one-entry : (added : List (ℕ × K)) (index : List (K × List ℕ)) → IsIndexOf order added index → IsDistinct same (keys_of index)
   one-entry added index is =
       let keys : List K = map (λ p. p.1) added in
       let members = λ (q : K). member-once (keys_of index) q ∙ sym (is_some-lookup (λ k. is_eq (order q k)) index) ∙ ap is_some (is.rows q)
-      ∙ some-rows_with o added q ∙ any-keys q added in
+      ∙ some-rows_with o added q ∙ any-keys o q added in
       IsDistinct-from_count (eq_by_cmp_equiv o) (keys_of index)
       (length-from_keys (eq_by_cmp_equiv o) (unique_keys same (keys_of index)) keys (distinct-once (keys_of index)) members
-      ∙ sym (distinct_keys-count added) ∙ sym is.size ∙ sym (length-keys_of index))
+      ∙ sym (distinct_keys-count o added) ∙ sym is.size ∙ sym (length-keys_of index))
 
   -- what an index has for the key of an entry are the rows of the entry
   pub rows_at-entry : (added : List (ℕ × K)) (index : List (K × List ℕ)) → IsIndexOf order added index → (i : ℕ) (e : K × List ℕ) → slice_get index i ≡ Some e

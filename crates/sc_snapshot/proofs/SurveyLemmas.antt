@@ -1,13 +1,14 @@
 -- A survey of the first rows: of one row more, and of all.
-use Rattle.std.proofs.Common.{◌≡◌, ◌≤ℤ◌, ℕ, ℤ, suc, ◌+◌, ◌-◌, ◌<◌, Bool, true, false, cond, is_some, List, [], ◌∷◌, ◌++◌, All, map, take, length, set, replicate, slice_get, Option, Some, None, sym, ap, subst, ◌∙◌, arith, append_assoc, append-nil}
+use Rattle.std.proofs.Common.{◌≡◌, ◌≤ℤ◌, ℕ, ℤ, zero, suc, ◌+◌, ◌-◌, ◌<◌, ◌≤◌, Bool, true, false, cond, is_some, List, [], ◌∷◌, ◌++◌, All, map, take, length, set, replicate, slice_get, Option, Some, None, refl, sym, ap, subst, ◌∙◌, arith, append_assoc, append-nil}
 use Rattle.std.proofs.Math.ListN.{length-set}
 use Rattle.std.proofs.Math.Seq.{set-append_seam, take-length}
 use Rattle.std.proofs.lemmas.Int.{ints}
 use Rattle.std.proofs.lemmas.List.{map-append, length-map, length-take-le}
 use Rattle.std.proofs.lemmas.Option.{slice_get-map}
-use Rattle.std.specs.List.{AllByRecursion}
+use Rattle.std.specs.List.{AllByRecursion, range_with_len}
 use Rattle.std.specs.Option.{option_map}
 use Rattle.sc_record.specs.declared.write.Write.{Write}
+use Rattle.sc_segment.proofs.MovedLemmas.{run-put}
 use Rattle.sc_snapshot.proofs.ChangeLemmas.{some_at, take-next}
 use Rattle.sc_snapshot.proofs.LiveLemmas.{passing-next, passing-live}
 use Rattle.sc_snapshot.specs.Postings.{is_live_at, AreLiveRows, IsSurvey}
@@ -26,6 +27,14 @@ told_live (Some row) b is = cc
 live-at : (rows : List Write) (number : ℕ) (row : Write) (b : Bool) → slice_get rows number ≡ Some row → is_live_at (slice_get rows number) ≡ b
     → live row ≡ b
 live-at rows number row b is told = sym (ap is_live_at is) ∙ told
+
+-- whether each of the first rows is live, with one row more
+take-live : (rows : List Write) (number : ℕ) (is_live : Bool) → number < length rows → is_live_at (slice_get rows number) ≡ is_live
+    → map live (take (number + 1) rows) ≡ map live (take number rows) ++ is_live ∷ []
+take-live rows number is_live within told =
+    let row = some_at rows number within in
+    ap (map live) (take-next rows number row.0 row.1) ∙ map-append live (take number rows) (row.0 ∷ [])
+    ∙ ap (λ b. map live (take number rows) ++ b ∷ []) (live-at rows number row.0 is_live row.1 told)
 
 -- nothing is surveyed yet
 pub surveyed-none : (rows : List Write) (survey : Survey) → survey.live_rows.items ≡ [] → survey.live_bits ≡ replicate (length rows) true
@@ -75,21 +84,58 @@ module _ (rows : List Write) (number : ℕ) (is_live : Bool) (one other : Survey
   by_truth true = whole
   by_truth false = marked
 
-  -- the rows with one more
-  next : map live (take (number + 1) rows) ≡ front ++ is_live ∷ []
-  next =
-      let row = some_at rows number within in
-      ap (map live) (take-next rows number row.0 row.1) ∙ map-append live (take number rows) (row.0 ∷ [])
-      ∙ ap (λ b. front ++ b ∷ []) (live-at rows number row.0 is_live row.1 told)
-
   pub surveyed-next : AreSurveyed rows (number + 1) other
   surveyed-next = record {
     live_rows = numbers ∙ ap (λ (ns : List ℕ). ns ++ cond is_live (number ∷ []) []) is.live_rows
         ∙ ap (λ b. live_numbers rows number ++ cond b (number ∷ []) []) (sym told)
         ∙ sym (passing-next (λ k. is_live_at (slice_get rows k)) number);
     live_bits = bits ∙ by_truth is_live ∙ sym (append_assoc front (is_live ∷ []) rest)
-        ∙ ap (λ (l : List Bool). l ++ rest) (sym next);
+        ∙ ap (λ (l : List Bool). l ++ rest) (sym (take-live rows number is_live within told));
   }
+
+-- ---- a run of live rows
+-- the bits once so many first rows are surveyed
+abbrev bits_of : List Write → ℕ → List Bool
+bits_of rows count = map live (take count rows) ++ replicate (length rows - count) true
+
+bits-next : (rows : List Write) (number : ℕ) → number < length rows → is_live_at (slice_get rows number) ≡ true → bits_of rows number ≡ bits_of rows (number + 1)
+bits-next rows number within told =
+    let front = map live (take number rows) in
+    let rest = replicate (length rows - (number + 1)) true in
+    let more : length rows - number ≡ suc (length rows - (number + 1)) = omega (arith, within) in
+    ap (λ n. front ++ replicate n true) more ∙ sym (append_assoc front (true ∷ []) rest)
+    ∙ ap (λ (l : List Bool). l ++ rest) (sym (take-live rows number true within told))
+
+bits-run : (rows : List Write) (number count : ℕ) → number + count ≤ length rows → ((k : ℕ) → k < count → is_live_at (slice_get rows (number + k)) ≡ true)
+    → bits_of rows number ≡ bits_of rows (number + count)
+bits-run rows number zero within told = ap (bits_of rows) (let none : number ≡ number + 0 = omega arith in none)
+bits-run rows number (suc count) within told =
+    bits-run rows number count (omega (arith, within)) (λ k low. told k (omega (arith, low)))
+    ∙ bits-next rows (number + count) (omega (arith, within)) (told count (omega arith))
+    ∙ ap (bits_of rows) (let next : number + count + 1 ≡ number + suc count = omega arith in next)
+
+numbers-run : (rows : List Write) (number count : ℕ) → ((k : ℕ) → k < count → is_live_at (slice_get rows (number + k)) ≡ true)
+    → live_numbers rows (number + count) ≡ live_numbers rows number ++ range_with_len number count
+numbers-run rows number zero told =
+    ap (live_numbers rows) (let none : number + 0 ≡ number = omega arith in none) ∙ sym (append-nil (live_numbers rows number))
+numbers-run rows number (suc count) told =
+    let next : number + suc count ≡ number + count + 1 = omega arith in
+    let more : count + 1 ≡ suc count = omega arith in
+    run-put (live_numbers rows number) (live_numbers rows (number + count)) (live_numbers rows (number + suc count)) number count (number + count)
+    (numbers-run rows number count (λ k low. told k (omega (arith, low))))
+    (ap (live_numbers rows) next ∙ passing-next (λ k. is_live_at (slice_get rows k)) (number + count)
+    ∙ ap (λ b. live_numbers rows (number + count) ++ cond b ((number + count) ∷ []) []) (told count (omega arith)))
+    refl
+    ∙ ap (λ n. live_numbers rows number ++ range_with_len number n) more
+
+-- their numbers are put, and no bit is changed
+pub surveyed-run : (rows : List Write) (number count : ℕ) (one other : Survey) → AreSurveyed rows number one → number + count ≤ length rows
+    → ((k : ℕ) → k < count → is_live_at (slice_get rows (number + k)) ≡ true) → other.live_rows.items ≡ one.live_rows.items ++ range_with_len number count
+    → other.live_bits ≡ one.live_bits → AreSurveyed rows (number + count) other
+surveyed-run rows number count one other is within told numbers bits = record {
+  live_rows = numbers ∙ ap (λ (ns : List ℕ). ns ++ range_with_len number count) is.live_rows ∙ sym (numbers-run rows number count told);
+  live_bits = bits ∙ is.live_bits ∙ bits-run rows number count within told;
+}
 
 -- all rows are surveyed
 pub surveyed-all : (rows : List Write) (count : ℕ) (survey : Survey) → AreSurveyed rows count survey → count ≡ length rows

@@ -9,7 +9,7 @@ ghost use Rattle.sc_snapshot.specs.declared.edits.Edit.{Edit};
 
 use crate::edits::Edit;
 use sc_record::{Cell, Write};
-use sc_segment::LiveBits;
+use sc_segment::{LiveBits, put_run};
 use std::alloc::{AllocError, Global};
 
 /// Which rows are live, by their numbers and by a bit for each row, and between which hashes the rows' are.
@@ -130,7 +130,8 @@ impl Survey {
         Ok(())
     }
 
-    /// Marks the next rows as these old ones were.
+    /// Marks the next rows as these old ones were. Where all of them were live their numbers are put at once, and no bit is touched, since
+    /// each row begins as live.
     pub(crate) fn keep_all(
         &mut self,
         old: &LiveBits,
@@ -151,6 +152,10 @@ impl Survey {
         ensures least_hash { OnOk result (self.new.least_hash ≡ self.old.least_hash) }
         ensures greatest_hash { OnOk result (self.new.greatest_hash ≡ self.old.greatest_hash) }
     {
+        if old.are_live(from as u32, to as u32) {
+            put_run(&mut self.live_rows, number as u32, to - from)?;
+            return Ok(());
+        }
         for row in from..to {
             self.mark((number + (row - from)) as u32, old.is_live(row as u32))?;
         }

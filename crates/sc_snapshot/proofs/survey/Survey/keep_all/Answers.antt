@@ -1,6 +1,6 @@
--- One row more is marked as it was.
-use Rattle.std.proofs.Common.{◌≡◌, ◌+◌, ◌-◌, slice_get, sym, ap, subst, ◌∙◌, arith}
-use Rattle.sc_snapshot.proofs.SurveyLemmas.{kept-live}
+-- One row more is marked as it was, or all of them at once where they are live.
+use Rattle.std.proofs.Common.{◌≡◌, ◌+◌, ◌-◌, true, slice_get, refl, sym, ap, subst, ◌∙◌, arith}
+use Rattle.sc_snapshot.proofs.SurveyLemmas.{kept-live, surveyed-run}
 use Rattle.sc_snapshot.specs.Surveying.{AreSurveyed}
 use Rattle.sc_snapshot.proofs.survey.Survey.keep_all.Goals as goal
 
@@ -23,6 +23,14 @@ loop-row-preserved c =
       least_hash = marked.least_hash ∙ i.least_hash;
       greatest_hash = marked.greatest_hash ∙ i.greatest_hash;
     }
+
+pub returns-then-are_live-clause-surveyed : goal.returns-then-are_live-clause-surveyed
+returns-then-are_live-clause-surveyed c = λ rows others are is few alike.
+    let from = c.args.from in
+    let live = c.are_live.ensures.0 c.if-are_live.true in
+    surveyed-run rows c.args.number (c.args.to - from) c.args.self.now (record c.args.self.now { live_rows = c.put_run.new.list }) is few
+    (λ k low. kept-live c.args.old.now others (from + k) (slice_get rows (c.args.number + k)) true are (alike k low) (live (from + k) (omega arith) (omega (arith, low))))
+    c.in_ok-put_run.ensures refl
 
 pub returns-clause-surveyed : goal.returns-clause-surveyed
 returns-clause-surveyed c = λ rows others are is few alike.

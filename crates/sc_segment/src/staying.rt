@@ -99,10 +99,11 @@ pub(crate) fn last_staying(stays: &[bool], at: usize, before: usize) -> usize
     ensures within { result < before }
     ensures stay { AllStay stays.now at (result + 1) }
 {
-    for next in at + 1..before {
-        if !stays.get(next).copied().unwrap_or(false) {
+    let end = before.min(stays.len());
+    for next in at + 1..end {
+        if !stays[next] {
             return next - 1;
         }
     }
-    before - 1
+    end - 1
 }

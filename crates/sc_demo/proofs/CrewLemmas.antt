@@ -203,7 +203,7 @@ module _ {R C H P L : Type 0} where
       long : length left ≡ length rest + 1
       long = ap length ends ∙ length_push rest maker
 
-      inside : length rest < length all
+      pub inside : length rest < length all
       inside =
           let both : length all ≡ length (left ++ is.done) = ap length is.split in
           omega (arith, both, long, length-append left is.done)

@@ -1,6 +1,8 @@
 -- What a list of makers is after its first has other hosts, and after each has worked.
-use Rattle.std.proofs.Common.{◌≡◌, ◌≢◌, ◌<◌, ◌≤◌, ℕ, zero, suc, List, [], ◌∷◌, length, get_or, set, slice_get, Some, refl, sym, ap, subst, arith}
-use Rattle.std.specs.List.{All}
+use Rattle.std.proofs.Common.{◌≡◌, ◌≢◌, ◌∙◌, ◌<◌, ◌≤◌, ◌+◌, ℕ, zero, suc, List, [], ◌∷◌, length, get_or, set, take, slice_get, Some, refl, sym, ap, subst, arith}
+use Rattle.std.specs.List.{All, sum_by}
+use Rattle.std.proofs.Math.Seq.{take-length}
+use Rattle.std.proofs.lemmas.List.Sums.{sum_by_more}
 use Rattle.std.proofs.lemmas.Option.{slice_get_within, slice_get-get_or}
 use Rattle.sc_io.specs.declared.hosts.Host.{Host}
 use Rattle.sc_shared.specs.Collections.{Locks}
@@ -47,13 +49,37 @@ module _ {R C H P L : Type 0} where
       (ready_with_hosts (get_or makers 0 d).collection.now hosts (get_or makers 0 d) (each 0 d some))
 
   -- the first has other hosts, and all else is as it was
-  first_hosts : (hosts : H) (d : Maker R C H P L) (makers : List (Maker R C H P L)) → 1 ≤ length makers
+  pub first_hosts : (hosts : H) (d : Maker R C H P L) (makers : List (Maker R C H P L)) → 1 ≤ length makers
       → HasFirstMakerHosts hosts (get_or makers 0 d) makers (set makers 0 (maker_with_hosts hosts (get_or makers 0 d)))
   first_hosts hosts d [] some = absurd (omega (arith, some))
   first_hosts hosts d (x ∷ more) some = record { count = refl; old_is = refl; new_is = refl; rest = rest } where
     rest : (number : ℕ) → number ≢ 0 → slice_get (maker_with_hosts hosts x ∷ more) number ≡ slice_get (x ∷ more) number
     rest zero not = absurd (not refl)
     rest (suc number) not = refl
+
+  -- ---- the orders that makers accepted are counted
+  -- one of them accepted no more than a workload has
+  pub one_few : (makers : List (Maker R C H P L)) (place : ℕ) (maker : Maker R C H P L) (one : ℕ) → place < length makers
+      → maker ≡ get_or makers place maker → one ≡ accepted_in maker.made → All (λ (maker : Maker R C H P L). accepted_in maker.made ≤ 100000) makers → one ≤ 100000
+  one_few makers place maker one within at is each =
+      subst (λ (n : ℕ). n ≤ 100000) (sym (is ∙ ap (λ (maker : Maker R C H P L). accepted_in maker.made) at)) (each place maker within)
+
+  -- one maker more is counted
+  pub one_more_counted : (makers : List (Maker R C H P L)) (place : ℕ) (maker : Maker R C H P L) (sum one : ℕ) → place < length makers
+      → maker ≡ get_or makers place maker → sum ≡ sum_by (λ (maker : Maker R C H P L). accepted_in maker.made) (take place makers)
+      → one ≡ accepted_in maker.made → sum + one ≡ sum_by (λ (maker : Maker R C H P L). accepted_in maker.made) (take (place + 1) makers)
+  one_more_counted makers place maker sum one within at so_far is =
+      let more = sum_by_more (λ (maker : Maker R C H P L). accepted_in maker.made) makers place maker within in
+      let here = ap (λ (maker : Maker R C H P L). accepted_in maker.made) at in
+      omega (arith, more, here, so_far, is)
+
+  -- all of them are counted
+  pub all_counted : (makers : List (Maker R C H P L)) (place sum : ℕ) → length makers ≡ place
+      → sum ≡ sum_by (λ (maker : Maker R C H P L). accepted_in maker.made) (take place makers)
+      → sum ≡ sum_by (λ (maker : Maker R C H P L). accepted_in maker.made) makers
+  all_counted makers place sum all so_far =
+      so_far ∙ ap (λ (n : ℕ). sum_by (λ (maker : Maker R C H P L). accepted_in maker.made) (take n makers)) (sym all)
+      ∙ ap (sum_by (λ (maker : Maker R C H P L). accepted_in maker.made)) (take-length makers)
 
   -- a maker that was ready over a collection is at home over it where it is over its own
   home_over : (collection : Locks) (old new : Maker R C H P L) → IsMakerReady collection old → IsMakerHome old.collection.now new → IsMakerHome collection new

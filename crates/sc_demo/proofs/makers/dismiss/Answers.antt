@@ -2,7 +2,7 @@
 use Rattle.std.proofs.Common.{◌≡◌, ◌∙◌, ℕ, true, false, Some, [], length, refl, sym, subst, arith}
 use Rattle.std.proofs.lemmas.List.{nil_from_length}
 use Rattle.sc_session.specs.Stations.{SetsAt, SetsReported}
-use Rattle.sc_demo.proofs.CrewLemmas.{none_done, still_out, still_home, one_more_done, story, own, back, out, home_passes}
+use Rattle.sc_demo.proofs.CrewLemmas.{none_done, still_out, still_home, one_more_done, inside, story, own, back, out, home_passes}
 use Rattle.sc_demo.proofs.makers.dismiss.Goals as goal
 
 pub loop-maker-init : goal.loop-maker-init
@@ -23,6 +23,19 @@ join_worked-requires-clause-from g c =
     (g.T.Station.crews_back c.args.station.now) (g.T.Station.crews_back c.loop-maker.station) (g.T.Station.out c.args.station.now)
     (g.T.Station.out c.loop-maker.station) c.loop-maker.invariant.halfway c.pop.new.self.items c.in-Some.maker c.in-Some.ensures.items
     c.requires.makers)
+
+pub overflow_cast-len : goal.overflow_cast-len
+overflow_cast-len g c =
+    let below = inside c.args.collection.now c.loop-maker.passes c.args.makers.items c.loop-maker.makers.items
+    (g.T.Station.crews_back c.args.station.now) (g.T.Station.crews_back c.loop-maker.station) (g.T.Station.out c.args.station.now)
+    (g.T.Station.out c.loop-maker.station) c.loop-maker.invariant.halfway c.pop.new.self.items c.in-Some.maker c.in-Some.ensures.items in
+    omega (arith, below, c.len.ensures, c.pop.new.self.ok.0, c.requires.few)
+
+pub loop-maker-smaller : goal.loop-maker-smaller
+loop-maker-smaller g c = omega (arith, c.in-Some.ensures.len)
+
+pub destroy_empty-requires : goal.destroy_empty-requires
+destroy_empty-requires g c = omega (arith, c.in_default.ensures.cases.0)
 
 pub back-requires : goal.back-requires
 back-requires g c =

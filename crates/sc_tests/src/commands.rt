@@ -115,12 +115,22 @@ fn split_bodies() -> &'static str {
 #[test]
 fn a_split_is_answered_with_its_subs(rt: HostRuntime) -> Result<(), Fail> {
     let alloc = rt.alloc();
+    let bodies = bodies_of(alloc, &two_subs(alloc)?)?;
+    assert_text(&rt, bodies.as_str(), split_bodies());
+    Ok(())
+}
+
+// The slices that came of a split.
+fn two_subs(alloc: Global) -> Result<List<Text>, AllocError> {
     let mut subs = List::new(alloc);
     subs.push(Text::new(alloc, "shard1_0")?)?;
     subs.push(Text::new(alloc, "shard1_1")?)?;
-    let all = split_body(alloc, &subs, Commits::All)?;
-    let full = split_body(alloc, &subs, Commits::LogFull)?;
-    let bodies = format!(in alloc; "{}\n{}", all.as_str(), full.as_str())?;
-    assert_text(&rt, bodies.as_str(), split_bodies());
-    Ok(())
+    Ok(subs)
+}
+
+// The two answers, each in a line.
+fn bodies_of(alloc: Global, subs: &List<Text>) -> Result<String, AllocError> {
+    let all = split_body(alloc, subs, Commits::All)?;
+    let full = split_body(alloc, subs, Commits::LogFull)?;
+    format!(in alloc; "{}\n{}", all.as_str(), full.as_str())
 }

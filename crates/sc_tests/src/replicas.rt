@@ -1,6 +1,6 @@
 //! `sc_replica` over `sc_ulog`: a core keeps the newest write of each id, and replays what it buffered.
 
-ghost use Rattle.std.specs.Prelude.{◌≡◌, pos, ◌<ℤ◌, IfOk};
+ghost use Rattle.std.specs.Prelude.{◌≡◌, pos, ◌<ℤ◌, ◌<◌, IfOk};
 ghost use Rattle.std.specs.Arc.{arc_value};
 
 use crate::support::assert_text;
@@ -8,6 +8,7 @@ use sc_record::{Cell, CoreId, Id, List, SliceId, Write};
 use sc_replica::Replica;
 use sc_ulog::Mode;
 use std::alloc::{AllocError, Global};
+use std::process::Abort;
 use std::sync::Arc;
 use std::test::Fail;
 
@@ -56,16 +57,46 @@ fn version_of(alloc: Global, core: &Replica, id: &str) -> Result<Option<i64>, Fa
 fn drops_the_older(rt: HostRuntime) -> Result<(), Fail> {
     let alloc = rt.alloc();
     let mut core = follower(alloc, Mode::Active);
-    for version in [VERSION + 1, VERSION, VERSION + 1] {
-        let write = deletion(alloc, "abc", version)?;
-        send(&mut core, write)?;
-        assert_eq!(rt; version_of(alloc, &core, "abc")?, Some(VERSION + 1));
-        assert_eq!(rt; core.clock(), VERSION + 1);
-        assert_eq!(rt; core.cells().len(), 1);
-    }
-    assert_eq!(rt; version_of(alloc, &core, "abd")?, None);
+    keeps_newest(&rt, alloc, &mut core, VERSION + 1)?;
+    keeps_newest(&rt, alloc, &mut core, VERSION)?;
+    keeps_newest(&rt, alloc, &mut core, VERSION + 1)?;
+    assert_version(&rt, alloc, &core, "abd", None)?;
     assert_eq!(rt; core.core().replica, 2);
     Ok(())
+}
+
+/// The core is sent a version of `abc` and has v1 then.
+fn keeps_newest(
+    rt: &impl Abort,
+    alloc: Global,
+    core: &mut Replica,
+    version: i64,
+) -> Result<(), Fail>
+    requires { pos 0 <ℤ version }
+{
+    let write = deletion(alloc, "abc", version)?;
+    send(core, write)?;
+    assert_version(rt, alloc, core, "abc", Some(VERSION + 1))?;
+    assert_reached(rt, core, VERSION + 1, 1);
+    Ok(())
+}
+
+/// The version of the id's cell is this one.
+fn assert_version(
+    rt: &impl Abort,
+    alloc: Global,
+    core: &Replica,
+    id: &str,
+    wanted: Option<i64>,
+) -> Result<(), Fail> {
+    assert_eq!(rt; version_of(alloc, core, id)?, wanted);
+    Ok(())
+}
+
+/// The core's clock shows this version, and it has so many cells.
+fn assert_reached(rt: &impl Abort, core: &Replica, clock: i64, cells: usize) {
+    assert_eq!(rt; core.clock(), clock);
+    assert_eq!(rt; core.cells().len(), cells);
 }
 
 // Ids that are led and fed in another order ascend by their bytes.
@@ -74,11 +105,17 @@ fn cells_ascend(rt: HostRuntime) -> Result<(), Fail> {
     let alloc = rt.alloc();
     let mut core = follower(alloc, Mode::Active);
     feed_each(alloc, &mut core, "m é b aa z a ma B b")?;
+    lead_newest(&rt, alloc, &mut core)?;
+    assert_text(&rt, ids_of(alloc, &core)?.as_str(), "B a aa b c m ma z é ");
+    Ok(())
+}
+
+/// The core leads a deletion that is newer than all it has.
+fn lead_newest(rt: &impl Abort, alloc: Global, core: &mut Replica) -> Result<(), Fail> {
     core.reserve(1)?;
     let led = deletion(alloc, "c", VERSION + 1)?;
     assert!(rt; core.clock() < VERSION + 1);
     core.lead(led);
-    assert_text(&rt, ids_of(alloc, &core)?.as_str(), "B a aa b c m ma z é ");
     Ok(())
 }
 
@@ -107,24 +144,48 @@ fn ids_of(alloc: Global, core: &Replica) -> Result<String, AllocError> {
 fn replays_in_two_pieces(rt: HostRuntime) -> Result<(), Fail> {
     let alloc = rt.alloc();
     let mut core = follower(alloc, Mode::Buffering);
-    for n in 0u32..70 {
-        let id = format!(in alloc; "{}", n * 37 % 70)?;
-        let write = deletion(alloc, id.as_str(), VERSION + i64::from(n))?;
-        send(&mut core, write)?;
-    }
+    send_seventy(alloc, &mut core)?;
     assert_eq!(rt; core.buffered(), 70);
     assert_eq!(rt; core.cells().len(), 0);
+    replay_first(&rt, &mut core)?;
+    assert_eq!(rt; core.buffered(), 6);
+    assert_eq!(rt; core.clock(), VERSION + 63);
+    replay_rest(&rt, &mut core)?;
+    assert_eq!(rt; core.cells().len(), 70);
+    assert_version(&rt, alloc, &core, "69", Some(VERSION + 17))
+}
+
+/// Sends the core 70 writes of as many ids, each newer than those before.
+fn send_seventy(alloc: Global, core: &mut Replica) -> Result<(), Fail> {
+    for n in 0u32..70 {
+        send_numbered(alloc, core, n)?;
+    }
+    Ok(())
+}
+
+/// Sends the core the write of this number.
+fn send_numbered(alloc: Global, core: &mut Replica, n: u32) -> Result<(), Fail>
+    requires { n < 70 }
+{
+    let id = format!(in alloc; "{}", n * 37 % 70)?;
+    let write = deletion(alloc, id.as_str(), VERSION + i64::from(n))?;
+    send(core, write)
+}
+
+/// Replays the first piece of what was buffered, after which there is more.
+fn replay_first(rt: &impl Abort, core: &mut Replica) -> Result<(), Fail> {
     core.reserve(core.buffered())?;
     assert_eq!(rt; core.mode(), Mode::Buffering);
     core.start_replay();
     assert!(rt; !core.replay());
-    assert_eq!(rt; core.buffered(), 6);
-    assert_eq!(rt; core.clock(), VERSION + 63);
+    Ok(())
+}
+
+/// Replays the rest, after which the core is active.
+fn replay_rest(rt: &impl Abort, core: &mut Replica) -> Result<(), Fail> {
     assert_eq!(rt; core.mode(), Mode::Replaying);
     core.reserve(core.buffered())?;
     assert!(rt; core.replay());
     assert_eq!(rt; core.mode(), Mode::Active);
-    assert_eq!(rt; core.cells().len(), 70);
-    assert_eq!(rt; version_of(alloc, &core, "69")?, Some(VERSION + 17));
     Ok(())
 }

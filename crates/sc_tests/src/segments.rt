@@ -129,18 +129,48 @@ fn finds_among_many<L: Ledger>(rt: &impl Abort, alloc: Global, blank: Blank) -> 
 {
     let mut steps = Steps::<L>::new(blank);
     let compared = Cell::new(0);
-    let pairs = pairs_of_many(alloc)?;
-    let segment = filled(rt, alloc, &pairs, &compared)?;
-    for half in 0..1000 {
-        assert_even_and_odd(rt, &segment, &compared, half, &mut steps)?;
-    }
+    let segment = of_many(rt, alloc, &compared)?;
+    assert_each(rt, &segment, &compared, &mut steps)?;
+    assert_empty(rt, alloc, &compared, &mut steps)?;
+    Ok(())
+}
 
-    let empty = filled(rt, alloc, &[], &compared)?;
+// The segment of the 2,000 rows.
+fn of_many<'a>(
+    rt: &impl Abort,
+    alloc: Global,
+    compared: &'a Cell<u32>,
+) -> Result<Segment<CountedKey<'a>>, AllocError> {
+    let pairs = pairs_of_many(alloc)?;
+    filled(rt, alloc, &pairs, compared)
+}
+
+// Each even number, and each odd one.
+fn assert_each<'a, L: Ledger>(
+    rt: &impl Abort,
+    segment: &Segment<CountedKey<'a>>,
+    compared: &'a Cell<u32>,
+    steps: &mut Steps<L>,
+) -> Result<(), AllocError> {
+    for half in 0..1000 {
+        assert_even_and_odd(rt, segment, compared, half, steps)?;
+    }
+    Ok(())
+}
+
+// A segment of no rows has none of a key, with which nothing is compared.
+fn assert_empty<'a, L: Ledger>(
+    rt: &impl Abort,
+    alloc: Global,
+    compared: &'a Cell<u32>,
+    steps: &mut Steps<L>,
+) -> Result<(), AllocError> {
+    let empty = filled(rt, alloc, &[], compared)?;
     let key = CountedKey {
         number: 10,
-        compared: &compared,
+        compared,
     };
-    assert_rows(rt, &empty, &key, &[], 0, &mut steps);
+    assert_rows(rt, &empty, &key, &[], 0, steps);
     Ok(())
 }
 
@@ -157,15 +187,20 @@ fn joined(alloc: Global, how: Kept) -> Result<Vec<u32>, AllocError> {
 #[test]
 fn joins_two_lists(rt: HostRuntime) -> Result<(), Fail> {
     let alloc = rt.alloc();
-    assert_eq!(rt; joined(alloc, Kept::Both)?.as_slice(), [2, 7].as_slice());
-    assert_eq!(rt;
-        joined(alloc, Kept::Either)?.as_slice(),
-        [1, 2, 3, 5, 7, 9, 10].as_slice()
-    );
-    assert_eq!(rt;
-        joined(alloc, Kept::LeftAlone)?.as_slice(),
-        [1, 5, 9].as_slice()
-    );
+    assert_joined(&rt, alloc, Kept::Both, &[2, 7])?;
+    assert_joined(&rt, alloc, Kept::Either, &[1, 2, 3, 5, 7, 9, 10])?;
+    assert_joined(&rt, alloc, Kept::LeftAlone, &[1, 5, 9])?;
+    Ok(())
+}
+
+// These rows are kept of the two lists.
+fn assert_joined(
+    rt: &impl Abort,
+    alloc: Global,
+    how: Kept,
+    rows: &[u32],
+) -> Result<(), AllocError> {
+    assert_eq!(rt; joined(alloc, how)?.as_slice(), rows);
     Ok(())
 }
 

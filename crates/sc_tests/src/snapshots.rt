@@ -23,16 +23,21 @@ fn term(alloc: Global, word: &str) -> Result<Term, AllocError> {
     })
 }
 
+/// These words in the field.
+fn terms_of(alloc: Global, words: &str) -> Result<List<Term>, AllocError> {
+    let mut terms = List::new(alloc);
+    for word in words.split(' ') {
+        terms.push(term(alloc, word)?)?;
+    }
+    Ok(terms)
+}
+
 /// A write of the id: a document that is found by these words, or a deletion.
 fn write(alloc: Global, id: &str, hash: i32, words: Option<&str>) -> Result<Cell, Fail> {
-    let mut terms = List::new(alloc);
-    let mut doc = None;
-    if let Some(words) = words {
-        for word in words.split(' ') {
-            terms.push(term(alloc, word)?)?;
-        }
-        doc = Some(Doc::new(List::new(alloc)));
-    }
+    let (doc, terms) = match words {
+        Some(words) => (Some(Doc::new(List::new(alloc))), terms_of(alloc, words)?),
+        None => (None, List::new(alloc)),
+    };
     Ok(Arc::new(
         alloc,
         Write {
@@ -160,6 +165,11 @@ fn assert_part(rt: &impl Abort, part: &Snapshot) {
     assert!(rt; !part.is_live(0) && part.is_live(1));
     let numbers: &[u32] = &[1];
     assert_eq!(rt; part.live(), numbers);
+    assert_hashes(rt, part);
+}
+
+/// The hashes of both rows.
+fn assert_hashes(rt: &impl Abort, part: &Snapshot) {
     assert_eq!(rt; part.least_hash(), 2);
     assert_eq!(rt; part.greatest_hash(), 3);
 }

@@ -6,6 +6,7 @@ ghost use Rattle.sc_collection.specs.Desks.{nothing_out};
 ghost use Rattle.sc_shared.specs.Sharing.{ArePasses};
 
 use crate::collections::{new_collection, passes_of};
+use crate::support::assert_text;
 use crossbeam_channel::{Receiver, Sender};
 use sc_collection::{Desk, Shape, Trail};
 use sc_io::{Faults, Fixed, MemSink, MemSource, Never, NoPace, Pace, SplitStep};
@@ -59,8 +60,7 @@ fn exchange<R: Threads + Sync, D: Desk, P: Pace>(
     requires { D.out desk.old ≡ nothing_out }
     ensures { D.out desk.new ≡ nothing_out }
 {
-    let bytes = request.replace(alloc, '|', "\r\n")?.into_bytes();
-    let mut source = MemSource::new(List::from_vec(bytes), 4096, List::new(alloc));
+    let mut source = source_of(alloc, request)?;
     let mut sink = MemSink::new(alloc, List::new(alloc));
     let mut trail = Trail::new(alloc)?;
     let _ = serve(
@@ -74,8 +74,19 @@ fn exchange<R: Threads + Sync, D: Desk, P: Pace>(
         &mut sink,
         &mut trail,
     );
-    let written = std::str::from_utf8(sink.bytes.as_slice()).unwrap_or("");
-    match written.split_once("\r\n\r\n") {
+    body_of(alloc, sink.bytes.as_slice())
+}
+
+/// A source that gives this request, where `|` stands for each end of a line.
+fn source_of(alloc: Global, request: &str) -> Result<MemSource, AllocError> {
+    let bytes = request.replace(alloc, '|', "\r\n")?.into_bytes();
+    Ok(MemSource::new(List::from_vec(bytes), 4096, List::new(alloc)))
+}
+
+/// The body of the answer that was written.
+fn body_of(alloc: Global, written: &[u8]) -> Result<String, AllocError> {
+    let text = std::str::from_utf8(written).unwrap_or("");
+    match text.split_once("\r\n\r\n") {
         Some((_, body)) => String::from_str(alloc, body),
         None => String::from_str(alloc, "no answer"),
     }
@@ -409,10 +420,27 @@ fn a_document_that_comes_amid_a_split_is_found_once(rt: HostRuntime) -> Result<(
     let alloc = rt.alloc();
     let visits = visits_of_each_step(alloc)?;
     let told = told(&rt, alloc, visits, &[ADD_THREE, SPLIT, SEARCH])?;
-    let asked = format!(in alloc; "{IS_DONE}\n{IS_SPLIT}\n{FOUR}\n")?;
-    let before = format!(in alloc; "{IS_RUNNING}\n{IS_RUNNING}\n{THREE}\n{THREE}\n{IS_DONE}\n")?;
-    let after = format!(in alloc; "{FOUR}\n{FOUR}\n{FOUR}\n{FOUR}\n{FOUR}\n")?;
-    let expected = format!(in alloc; "{asked}{before}{after}")?;
-    assert_eq!(rt; told.as_str(), expected.as_str());
+    assert_text(&rt, told.as_str(), answers_of_each_step(alloc)?.as_str());
+    Ok(())
+}
+
+/// What is answered to the three requests, and then to those of each step.
+fn answers_of_each_step(alloc: Global) -> Result<String, AllocError> {
+    let asked = [IS_DONE, IS_SPLIT, FOUR];
+    let before = [IS_RUNNING, IS_RUNNING, THREE, THREE, IS_DONE];
+    let after = [FOUR, FOUR, FOUR, FOUR, FOUR];
+    let mut answers = String::new(alloc);
+    push_lines(&mut answers, &asked)?;
+    push_lines(&mut answers, &before)?;
+    push_lines(&mut answers, &after)?;
+    Ok(answers)
+}
+
+/// Puts these lines at the end of the text.
+fn push_lines(text: &mut String, lines: &[&str]) -> Result<(), AllocError> {
+    for line in lines {
+        text.push_str(line)?;
+        text.push_str("\n")?;
+    }
     Ok(())
 }

@@ -230,15 +230,48 @@ fn answers_of_two() -> &'static str {
 #[test]
 fn two_workers_serve_beside_each_other(rt: HostRuntime) -> Result<(), Fail> {
     let alloc = rt.alloc();
-    let first = Arc::new(alloc, AtomicBool::new(false))?;
-    let second = Arc::new(alloc, AtomicBool::new(false))?;
-    let waits_for = Arc::try_clone(&second)?;
-    let slow = link_of(alloc, r#"[{"id":"abc","t_s":"x"}]"#, Some(waits_for), first)?;
-    let quick = link_of(alloc, r#"[{"id":"abc","t_s":"y"}]"#, None, second)?;
-    let crews = Vec::from_array(alloc, [crew_of(alloc, slow)?, crew_of(alloc, quick)?])?;
+    let crews = slow_and_quick(alloc)?;
     let served = served(&rt, alloc, 2, crews, List::new(alloc), List::new(alloc))?;
     assert_text(&rt, served.as_str(), answers_of_two());
     Ok(())
+}
+
+/// Two crews. The connection of the first waits for the answer to that of the second.
+fn slow_and_quick(alloc: Global) -> Result<Vec<OneLink>, AllocError> {
+    let second = new_mark(alloc)?;
+    let waits_for = Arc::try_clone(&second)?;
+    let slow = slow_crew(alloc, waits_for)?;
+    let quick = crew_that_posts(alloc, r#"[{"id":"abc","t_s":"y"}]"#, None, second)?;
+    Ok(Vec::from_array(alloc, [slow, quick])?)
+}
+
+/// The first of the two.
+fn slow_crew(alloc: Global, waits_for: Arc<AtomicBool, Global>) -> Result<OneLink, AllocError> {
+    let first = new_mark(alloc)?;
+    crew_that_posts(alloc, r#"[{"id":"abc","t_s":"x"}]"#, Some(waits_for), first)
+}
+
+/// A crew to which a connection comes that posts this body.
+fn crew_that_posts(
+    alloc: Global,
+    body: &str,
+    waits_for: Option<Arc<AtomicBool, Global>>,
+    sets: Arc<AtomicBool, Global>,
+) -> Result<OneLink, AllocError> {
+    let link = link_of(alloc, body, waits_for, sets)?;
+    crew_of(alloc, link)
+}
+
+/// A mark that is not set.
+fn new_mark(alloc: Global) -> Result<Arc<AtomicBool, Global>, AllocError> {
+    Ok(Arc::new(alloc, AtomicBool::new(false))?)
+}
+
+/// The crew of a server of one worker.
+fn only_crew(alloc: Global) -> Result<Vec<OneLink>, AllocError> {
+    let mark = new_mark(alloc)?;
+    let crew = crew_that_posts(alloc, r#"[{"id":"abc","t_s":"x"}]"#, None, mark)?;
+    Ok(Vec::from_array(alloc, [crew])?)
 }
 
 /// What a server of one worker comes to, where opening the port or writing of it fails at these calls.
@@ -248,9 +281,7 @@ fn served_by_one<R: Threads + Wait + Sync>(
     opens: List<u64>,
     lines: List<u64>,
 ) -> Result<String, AllocError> {
-    let mark = Arc::new(alloc, AtomicBool::new(false))?;
-    let link = link_of(alloc, r#"[{"id":"abc","t_s":"x"}]"#, None, mark)?;
-    let crews = Vec::from_array(alloc, [crew_of(alloc, link)?])?;
+    let crews = only_crew(alloc)?;
     served(rt, alloc, 1, crews, opens, lines)
 }
 

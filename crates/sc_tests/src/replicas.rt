@@ -46,6 +46,14 @@ fn send(core: &mut Replica, write: Cell) -> Result<(), Fail> {
     Ok(())
 }
 
+/// Sends the core a deletion of the id.
+fn send_deletion(alloc: Global, core: &mut Replica, id: &str, version: i64) -> Result<(), Fail>
+    requires { pos 0 <ℤ version }
+{
+    let write = deletion(alloc, id, version)?;
+    send(core, write)
+}
+
 /// The version of the id's cell.
 fn version_of(alloc: Global, core: &Replica, id: &str) -> Result<Option<i64>, Fail> {
     let id = Id::new(alloc, id)?;
@@ -65,7 +73,7 @@ fn drops_the_older(rt: HostRuntime) -> Result<(), Fail> {
     Ok(())
 }
 
-/// The core is sent a version of `abc` and has v1 then.
+/// The core is sent a version of `abc`, and has the newest of those that it was sent.
 fn keeps_newest(
     rt: &impl Abort,
     alloc: Global,
@@ -74,8 +82,7 @@ fn keeps_newest(
 ) -> Result<(), Fail>
     requires { pos 0 <ℤ version }
 {
-    let write = deletion(alloc, "abc", version)?;
-    send(core, write)?;
+    send_deletion(alloc, core, "abc", version)?;
     assert_version(rt, alloc, core, "abc", Some(VERSION + 1))?;
     assert_reached(rt, core, VERSION + 1, 1);
     Ok(())
@@ -167,9 +174,15 @@ fn send_seventy(alloc: Global, core: &mut Replica) -> Result<(), Fail> {
 fn send_numbered(alloc: Global, core: &mut Replica, n: u32) -> Result<(), Fail>
     requires { n < 70 }
 {
-    let id = format!(in alloc; "{}", n * 37 % 70)?;
-    let write = deletion(alloc, id.as_str(), VERSION + i64::from(n))?;
-    send(core, write)
+    let id = id_numbered(alloc, n)?;
+    send_deletion(alloc, core, id.as_str(), VERSION + i64::from(n))
+}
+
+/// The id of the write of this number.
+fn id_numbered(alloc: Global, n: u32) -> Result<String, AllocError>
+    requires { n < 70 }
+{
+    format!(in alloc; "{}", n * 37 % 70)
 }
 
 /// Replays the first piece of what was buffered, after which there is more.

@@ -27,14 +27,21 @@ pub fn come(alloc: Global, bucket: &mut Bucket, event: Event) -> Result<String, 
     if !can(bucket, &event) {
         return String::from_str(alloc, "passed over");
     }
-    match &event {
-        Event::Accept { order, now } => return accept(alloc, bucket, order, *now),
-        Event::DeliverNth { k } => return deliver_nth(alloc, bucket, *k),
-        Event::Deliver { place } => return deliver(alloc, bucket, *place),
-        Event::Commit => return commit(alloc, bucket),
-        _ => {}
+    happen(alloc, bucket, event)
+}
+
+/// Has the event come, and tells what it answers.
+fn happen(alloc: Global, bucket: &mut Bucket, event: Event) -> Result<String, AllocError>
+    requires { IsSound bucket.old }
+    ensures { IsSound bucket.new }
+{
+    match event {
+        Event::Accept { order, now } => accept(alloc, bucket, &order, now),
+        Event::DeliverNth { k } => deliver_nth(alloc, bucket, k),
+        Event::Deliver { place } => deliver(alloc, bucket, place),
+        Event::Commit => commit(alloc, bucket),
+        other => run(alloc, bucket, other),
     }
-    run(alloc, bucket, event)
 }
 
 /// Has an event come that answers nothing.

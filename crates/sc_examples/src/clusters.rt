@@ -1,6 +1,7 @@
 //! `sc_cluster`: `cluster.cut COUNT RANGE`, `cluster.core REPLICA SLICE`, `cluster.leads HASH`, `cluster.named NAME`,
 //! `cluster.slices` and `cluster.nodes REPLICA`, the last four in a collection of four slices with two replicas on three nodes.
 
+use crate::line::Line;
 use crate::splits;
 use crate::words::word_and;
 use sc_cluster::{ClusterMap, Slice, core_name, cut};
@@ -37,12 +38,12 @@ fn parts(alloc: Global, text: &str) -> Result<String, AllocError> {
 
 /// The ranges, each before a space.
 fn ranges(alloc: Global, parts: &[Range]) -> Result<String, AllocError> {
-    let mut line = String::new(alloc);
+    let mut line = Line::new(alloc);
     for part in parts {
-        line.push_str(range_text(alloc, part)?.as_str())?;
-        line.push_str(" ")?;
+        line.add(range_text(alloc, part));
+        line.push(" ");
     }
-    Ok(line)
+    line.end()
 }
 
 fn core(alloc: Global, text: &str) -> Result<String, AllocError> {
@@ -70,20 +71,25 @@ fn in_map(
 
 /// Each slice: its id, name, range, state, replicas and node.
 pub fn slices(alloc: Global, map: &ClusterMap) -> Result<String, AllocError> {
-    let mut text = String::new(alloc);
+    let mut line = Line::new(alloc);
     for at in 0..map.len() {
         if let Some(slice) = map.get(at) {
-            text.push_str(slice_line(alloc, slice)?.as_str())?;
+            put_slice(alloc, &mut line, slice);
         }
     }
-    Ok(text)
+    line.end()
 }
 
-fn slice_line(alloc: Global, slice: &Slice) -> Result<String, AllocError> {
-    let range = range_text(alloc, &slice.range)?;
-    let name = slice.name.as_str();
-    let (id, state, replicas, node) = (slice.id.0, slice.state, slice.replicas, slice.node);
-    format!(in alloc; "{id} {name} {range} {state:?} {replicas} {node};")
+fn put_slice(alloc: Global, line: &mut Line, slice: &Slice) {
+    line.put("", &slice.id.0);
+    line.push(" ");
+    line.push(slice.name.as_str());
+    line.push(" ");
+    line.add(range_text(alloc, &slice.range));
+    line.debug(" ", &slice.state);
+    line.put(" ", &slice.replicas);
+    line.put(" ", &slice.node);
+    line.push(";");
 }
 
 /// The id of the slice of this name.

@@ -1,12 +1,12 @@
 ghost use Rattle.std.specs.Prelude.{◌≡◌, None, true, IfOk};
-ghost use Rattle.sc_collection.specs.Shapes.{is_bucket_count};
+ghost use Rattle.sc_collection.specs.Shapes.{IsShape, is_bucket_count};
 
 use crate::line::Line;
 use crate::wire::Wire;
 use crate::words::{log_limit, number};
 use sc_collection::{Alone, Desk, Shape, Stop, Trail};
 use sc_cores::{cores_of_map, start_cores};
-use sc_io::{Fixed, MemHosts, MemPace};
+use sc_io::{Fixed, MemHosts, MemPace, MemSink, MemSource};
 use sc_record::List;
 use sc_session::{End, serve};
 use std::alloc::{AllocError, Global};
@@ -27,27 +27,39 @@ pub fn new_collection(alloc: Global, words: &[&str]) -> Result<Collection, Alloc
     ensures out { IfOk result (λ collection. collection.desk.out ≡ None) }
     ensures board_out { IfOk result (λ collection. collection.desk.board_out ≡ None) }
 {
-    let shards = number(words, 1).clamp(1, 64) as u32;
-    let replicas = number(words, 2).clamp(1, 4) as u8;
-    let shape = Shape {
-        nodes: 2,
-        shards,
-        replicas,
-        buckets: bucket_count(number(words, 3)),
-        log_limit: log_limit(words, 4, shards, replicas),
-    };
-    let desk = Alone::new(alloc, &shape)?;
-    let cores = cores_of_map(alloc, desk.nodes(), desk.first())?;
-    let mut hosts = MemHosts::new(alloc, List::new(alloc));
-    if start_cores(&mut hosts, cores.as_slice()).is_err() {
-        return Err(AllocError);
-    }
+    let desk = Alone::new(alloc, &shape_of(words))?;
+    let hosts = hosts_of(alloc, &desk)?;
     Ok(Collection {
         desk,
         hosts,
         pace: MemPace::new(None),
         wire: Wire::new(alloc),
     })
+}
+
+/// The shape of the collection that a line asks for.
+fn shape_of(words: &[&str]) -> Shape
+    ensures { IsShape result }
+{
+    let shards = number(words, 1).clamp(1, 64) as u32;
+    let replicas = number(words, 2).clamp(1, 4) as u8;
+    Shape {
+        nodes: 2,
+        shards,
+        replicas,
+        buckets: bucket_count(number(words, 3)),
+        log_limit: log_limit(words, 4, shards, replicas),
+    }
+}
+
+/// Hosts on which the cores of a new collection are started.
+fn hosts_of(alloc: Global, desk: &Alone) -> Result<MemHosts, AllocError> {
+    let cores = cores_of_map(alloc, desk.nodes(), desk.first())?;
+    let mut hosts = MemHosts::new(alloc, List::new(alloc));
+    match start_cores(&mut hosts, cores.as_slice()) {
+        Ok(()) => Ok(hosts),
+        Err(_) => Err(AllocError),
+    }
 }
 
 /// One bucket, or two.
@@ -78,10 +90,7 @@ pub fn set_stop(pace: &mut MemPace, words: &[&str]) {
 
 /// The cores that are started, in the order of their names, each as `NAME@NODE`.
 pub fn show_cores(alloc: Global, hosts: &MemHosts) -> Result<String, AllocError> {
-    let mut cores = Vec::new(alloc);
-    for host in hosts.started.as_slice() {
-        cores.push(format!(in alloc; "{}@{}", host.core.as_str(), host.node)?)?;
-    }
+    let mut cores = started_cores(alloc, hosts)?;
     cores.sort_unstable();
     let mut line = Line::new(alloc);
     let mut before = "";
@@ -91,6 +100,15 @@ pub fn show_cores(alloc: Global, hosts: &MemHosts) -> Result<String, AllocError>
         before = " ";
     }
     line.end()
+}
+
+/// The cores that are started, each as `NAME@NODE`.
+fn started_cores(alloc: Global, hosts: &MemHosts) -> Result<Vec<String>, AllocError> {
+    let mut cores = Vec::new(alloc);
+    for host in hosts.started.as_slice() {
+        cores.push(format!(in alloc; "{}@{}", host.core.as_str(), host.node)?)?;
+    }
+    Ok(cores)
 }
 
 /// What a connection comes to that sends a line and nothing else, where `|` stands for each end of a line: how it ended, what it wrote,
@@ -111,6 +129,23 @@ pub fn exchange<R: Threads + Sync>(
     let bytes = line.replace(alloc, '|', "\r\n")?.into_bytes();
     let mut source = collection.wire.source(alloc, bytes)?;
     let mut sink = collection.wire.sink(alloc)?;
+    serve_from(rt, alloc, collection, now, &mut source, &mut sink)
+}
+
+/// What a connection comes to over this source and this sink.
+fn serve_from<R: Threads + Sync>(
+    rt: &R,
+    alloc: Global,
+    collection: &mut Collection,
+    now: u64,
+    source: &mut MemSource,
+    sink: &mut MemSink,
+) -> Result<String, AllocError>
+    requires out { collection.old.desk.out ≡ None }
+    requires board_out { collection.old.desk.board_out ≡ None }
+    ensures out { collection.new.desk.out ≡ None }
+    ensures board_out { collection.new.desk.board_out ≡ None }
+{
     let mut trail = Trail::new(alloc)?;
     let end = serve(
         rt,
@@ -119,8 +154,8 @@ pub fn exchange<R: Threads + Sync>(
         &mut Fixed { moment: now },
         &mut collection.hosts,
         &mut collection.pace,
-        &mut source,
-        &mut sink,
+        source,
+        sink,
         &mut trail,
     );
     shown_exchange(alloc, end, sink.bytes.as_slice(), &trail)

@@ -3,13 +3,14 @@
 //! `document.read JSON`, `document.bytes HEX`, `document.raw JSON`, `document.order JSON`, `document.field NAME JSON`, `document.resolve JSON`
 //! and `document.resolve JSON + JSON`, where the first is the document that stands.
 
-use crate::fields::{order_line, push_fields, push_values};
+use crate::fields::{order_line, put_fields, put_values};
 use crate::hashes::bytes_of;
+use crate::line::Line;
 use crate::terms;
 use crate::words::word_and;
 use sc_json::{print, raw_doc, read};
 use sc_partial::resolve;
-use sc_record::{Change, Doc, Order};
+use sc_record::{Change, Doc, List, Order, Value as FieldValue};
 use sc_schema::{RawDoc, RawField, check_doc};
 use serde_json::Value;
 use std::alloc::{AllocError, Global};
@@ -83,15 +84,17 @@ fn raw(alloc: Global, body: &str) -> Result<String, AllocError> {
 }
 
 fn raw_line(alloc: Global, raw: &RawDoc) -> Result<String, AllocError> {
-    let mut line = String::new(alloc);
+    let mut line = Line::new(alloc);
     for field in raw.fields.as_slice() {
-        line.push_str(field_text(alloc, field)?.as_str())?;
+        put_raw(&mut line, field);
     }
-    Ok(line)
+    line.end()
 }
 
-fn field_text(alloc: Global, field: &RawField) -> Result<String, AllocError> {
-    format!(in alloc; "{} {:?};", field.name.as_str(), field.value)
+fn put_raw(line: &mut Line, field: &RawField) {
+    line.push(field.name.as_str());
+    line.debug(" ", &field.value);
+    line.push(";");
 }
 
 fn order(alloc: Global, body: &str) -> Result<String, AllocError> {
@@ -105,13 +108,15 @@ fn field(alloc: Global, text: &str) -> Result<String, AllocError> {
     let (name, body) = word_and(text);
     let doc = document_of(alloc, body)?;
     match doc.get(name) {
-        Some(values) => {
-            let mut line = String::new(alloc);
-            push_values(alloc, &mut line, "", values)?;
-            Ok(line)
-        }
+        Some(values) => values_line(alloc, values),
         None => String::from_str(alloc, "none"),
     }
+}
+
+fn values_line(alloc: Global, values: &List<FieldValue>) -> Result<String, AllocError> {
+    let mut line = Line::new(alloc);
+    put_values(&mut line, "", values);
+    line.end()
 }
 
 fn resolved(alloc: Global, text: &str) -> Result<String, AllocError> {
@@ -141,7 +146,7 @@ fn changed_by(alloc: Global, old: Option<&Doc>, order: &Order) -> Result<String,
 }
 
 fn doc_line(alloc: Global, doc: &Doc) -> Result<String, AllocError> {
-    let mut line = String::new(alloc);
-    push_fields(alloc, &mut line, doc.fields())?;
-    Ok(line)
+    let mut line = Line::new(alloc);
+    put_fields(&mut line, doc.fields());
+    line.end()
 }

@@ -4,15 +4,20 @@ use std::alloc::{AllocError, Global};
 pub fn read(alloc: Global, arguments: &str) -> Result<String, AllocError> {
     let mut text = String::new(alloc);
     for (i, part) in arguments.split("\\{").enumerate() {
-        match part.split_once('}') {
-            Some((inside, after)) if i > 0 => {
-                push_escaped(alloc, &mut text, inside)?;
-                text.push_str(after)?;
-            }
-            _ => text.push_str(part)?,
-        }
+        push_part(alloc, &mut text, part, i > 0)?;
     }
     Ok(text)
+}
+
+/// Puts a part at the end, which begins inside of `\{` and `}` where it is opened.
+fn push_part(alloc: Global, text: &mut String, part: &str, opened: bool) -> Result<(), AllocError> {
+    match part.split_once('}') {
+        Some((inside, after)) if opened => {
+            push_escaped(alloc, text, inside)?;
+            text.push_str(after)
+        }
+        _ => text.push_str(part),
+    }
 }
 
 /// Puts what stands for `\{inside}` at the end.
@@ -29,12 +34,16 @@ fn push_escaped(alloc: Global, text: &mut String, inside: &str) -> Result<(), Al
 pub fn shown(alloc: Global, answer: &str) -> Result<String, AllocError> {
     let mut text = String::new(alloc);
     for letter in answer.chars() {
-        if matches!(letter, ' '..='~') {
-            text.push(letter)?;
-        } else {
-            let number = format!(in alloc; "\\{{{:x}}}", u32::from(letter))?;
-            text.push_str(number.as_str())?;
-        }
+        push_letter(alloc, &mut text, letter)?;
     }
     Ok(text)
+}
+
+/// Puts a character at the end, or its number where it is no printable ASCII character.
+fn push_letter(alloc: Global, text: &mut String, letter: char) -> Result<(), AllocError> {
+    if matches!(letter, ' '..='~') {
+        return text.push(letter);
+    }
+    let number = format!(in alloc; "\\{{{:x}}}", u32::from(letter))?;
+    text.push_str(number.as_str())
 }

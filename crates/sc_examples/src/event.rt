@@ -36,24 +36,26 @@ pub fn event_of(
             order: order_of(alloc, words)?,
             now: number(words, 3),
         }),
-        "nth" => Some(Event::DeliverNth {
-            k: number(words, 1) as usize,
+        "begin" => Some(Event::Begin {
+            plan: plan_of(alloc, bucket, words)?,
         }),
-        "deliver" => Some(Event::Deliver {
-            place: number(words, 1),
-        }),
-        "settle" => Some(Event::Settle {
-            place: number(words, 1),
-        }),
+        _ => other_event(words),
+    })
+}
+
+/// What else a line says but an order and a split that begins.
+fn other_event(words: &[&str]) -> Option<Event> {
+    let place = number(words, 1);
+    match word(words, 0) {
+        "nth" => Some(Event::DeliverNth { k: place as usize }),
+        "deliver" => Some(Event::Deliver { place }),
+        "settle" => Some(Event::Settle { place }),
         "commit" => Some(Event::Commit),
         "detach" => Some(Event::Detach { core: core(words) }),
         "rejoin" => Some(Event::Rejoin { core: core(words) }),
         "lead" => Some(Event::Lead { core: core(words) }),
-        "begin" => Some(Event::Begin {
-            plan: plan_of(alloc, bucket, words)?,
-        }),
         _ => step_of(words),
-    })
+    }
 }
 
 /// The step of an open split that a line says, or the dropping of its parent.
@@ -94,9 +96,7 @@ fn plan_of(alloc: Global, bucket: &Bucket, words: &[&str]) -> Result<SplitPlan, 
     let mut subs = Vec::new(alloc);
     if let Some(slice) = bucket.map.by_id(parent) {
         let first = bucket.map.greatest_id().wrapping_add(1);
-        let lower = Range::new(slice.range.min, word(words, 2).parse().unwrap_or(0));
-        let upper = Range::new(word(words, 3).parse().unwrap_or(0), slice.range.max);
-        if let (Some(lower), Some(upper)) = (lower, upper) {
+        if let Some((lower, upper)) = ranges_of(&slice.range, words) {
             subs.push(sub_of(alloc, slice, first, 0, lower)?)?;
             subs.push(sub_of(alloc, slice, first.wrapping_add(1), 1, upper)?)?;
         }
@@ -105,6 +105,13 @@ fn plan_of(alloc: Global, bucket: &Bucket, words: &[&str]) -> Result<SplitPlan, 
         parent,
         subs: List::from_vec(subs),
     })
+}
+
+/// The ranges of the two subs; none where one of them would have no hash.
+fn ranges_of(parent: &Range, words: &[&str]) -> Option<(Range, Range)> {
+    let lower = Range::new(parent.min, word(words, 2).parse().unwrap_or(0))?;
+    let upper = Range::new(word(words, 3).parse().unwrap_or(0), parent.max)?;
+    Some((lower, upper))
 }
 
 /// A sub of the slice with this id, number and range.

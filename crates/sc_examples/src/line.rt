@@ -27,16 +27,18 @@ impl Line {
 
     /// Puts a text at the end, and then a value.
     pub fn put<T: fmt::Display>(&mut self, before: &str, value: &T) {
-        match format!(in self.alloc; "{before}{value}") {
-            Ok(shown) => self.push(shown.as_str()),
-            Err(_) => self.lost = true,
-        }
+        self.add(format!(in self.alloc; "{before}{value}"));
     }
 
     /// Puts a text at the end, and then a value as programmers see it.
     pub fn debug<T: fmt::Debug>(&mut self, before: &str, value: &T) {
-        match format!(in self.alloc; "{before}{value:?}") {
-            Ok(shown) => self.push(shown.as_str()),
+        self.add(format!(in self.alloc; "{before}{value:?}"));
+    }
+
+    /// Puts a text at the end that was made for it, if memory did not run out.
+    pub fn add(&mut self, made: Result<String, AllocError>) {
+        match made {
+            Ok(text) => self.push(text.as_str()),
             Err(_) => self.lost = true,
         }
     }

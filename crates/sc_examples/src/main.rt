@@ -102,7 +102,12 @@ fn example(
     arguments: &str,
 ) -> Result<String, AllocError> {
     let text = escapes::read(alloc, arguments)?;
-    match answer(alloc, subject, question, text.as_str()) {
+    shown(alloc, answer(alloc, subject, question, text.as_str()))
+}
+
+/// The answer as it is written.
+fn shown(alloc: Global, answer: Result<String, AllocError>) -> Result<String, AllocError> {
+    match answer {
         Ok(answer) => escapes::shown(alloc, answer.as_str()),
         Err(AllocError) => String::from_str(alloc, "no answer"),
     }

@@ -3,8 +3,9 @@
 
 ghost use Rattle.std.specs.Prelude.{◌<◌};
 
+use crate::line::Line;
 use crate::words::word_and;
-use sc_http::{Incoming, Reader, write_reply};
+use sc_http::{Incoming, MessageEnd, Reader, write_reply};
 use sc_io::{MemSink, MemSource};
 use sc_model::Param;
 use sc_record::List;
@@ -38,12 +39,19 @@ fn count(alloc: Global, most: usize, text: &str) -> Result<String, AllocError>
     let mut source = source_of(alloc, text, most)?;
     let mut reader = Reader::new(alloc)?;
     for count in 0..9u32 {
-        match reader.next_message(alloc, &mut source) {
-            Ok(_) => {}
-            Err(end) => return format!(in alloc; "{count} {end:?}"),
+        if let Some(end) = end_of(alloc, &mut reader, &mut source) {
+            return format!(in alloc; "{count} {end:?}");
         }
     }
     Err(AllocError)
+}
+
+/// Why no other request follows, where none does.
+fn end_of(alloc: Global, reader: &mut Reader, source: &mut MemSource) -> Option<MessageEnd> {
+    match reader.next_message(alloc, source) {
+        Ok(_) => None,
+        Err(end) => Some(end),
+    }
 }
 
 /// The first request of the bytes, and what comes after it.
@@ -52,37 +60,57 @@ fn first(alloc: Global, most: usize, text: &str) -> Result<String, AllocError>
 {
     let mut source = source_of(alloc, text, most)?;
     let mut reader = Reader::new(alloc)?;
-    let Ok(request) = reader.next_message(alloc, &mut source) else {
-        return Err(AllocError);
-    };
-    let line = request_line(alloc, &request)?;
-    match reader.next_message(alloc, &mut source) {
-        Ok(_) => Ok(line),
-        Err(end) => format!(in alloc; "{line} {end:?}"),
+    let line = next_request(alloc, &mut reader, &mut source)?;
+    with_end(alloc, &mut reader, &mut source, line)
+}
+
+/// The next request.
+fn next_request(
+    alloc: Global,
+    reader: &mut Reader,
+    source: &mut MemSource,
+) -> Result<String, AllocError> {
+    match reader.next_message(alloc, source) {
+        Ok(request) => request_line(alloc, &request),
+        Err(_) => Err(AllocError),
+    }
+}
+
+/// The line, and where no other request follows, why.
+fn with_end(
+    alloc: Global,
+    reader: &mut Reader,
+    source: &mut MemSource,
+    line: String,
+) -> Result<String, AllocError> {
+    match end_of(alloc, reader, source) {
+        None => Ok(line),
+        Some(end) => format!(in alloc; "{line} {end:?}"),
     }
 }
 
 fn request_line(alloc: Global, request: &Incoming) -> Result<String, AllocError> {
-    let method = request.method;
-    let path = request.path.as_str();
-    let body = std::str::from_utf8(request.body.as_slice()).unwrap_or("?");
-    let (encoded, lengthless, close) = (request.encoded, request.lengthless, request.close);
-    let params = params_line(alloc, &request.params)?;
-    format!(in alloc;
-        "{method:?} {path}{params} {body} encoded={encoded} lengthless={lengthless} close={close}"
-    )
+    let mut line = Line::new(alloc);
+    line.debug("", &request.method);
+    line.push(" ");
+    line.push(request.path.as_str());
+    put_params(&mut line, &request.params);
+    line.push(" ");
+    line.push(std::str::from_utf8(request.body.as_slice()).unwrap_or("?"));
+    line.put(" encoded=", &request.encoded);
+    line.put(" lengthless=", &request.lengthless);
+    line.put(" close=", &request.close);
+    line.end()
 }
 
 /// The parameters, each after a space.
-fn params_line(alloc: Global, params: &List<Param>) -> Result<String, AllocError> {
-    let mut line = String::new(alloc);
+fn put_params(line: &mut Line, params: &List<Param>) {
     for param in params {
-        line.push_str(" ")?;
-        line.push_str(param.name.as_str())?;
-        line.push_str("=")?;
-        line.push_str(param.value.as_str())?;
+        line.push(" ");
+        line.push(param.name.as_str());
+        line.push("=");
+        line.push(param.value.as_str());
     }
-    Ok(line)
 }
 
 /// The bytes of a reply, and in how many writes. One of the status 413 closes the connection.
@@ -93,9 +121,13 @@ fn reply(alloc: Global, status: u16, body: &str) -> Result<String, AllocError> {
         413 => write_reply(&mut sink, 413, body.as_bytes(), true),
         _ => return Err(AllocError),
     };
-    if written.is_err() {
-        return Err(AllocError);
+    match written {
+        Ok(()) => shown_reply(alloc, &sink),
+        Err(_) => Err(AllocError),
     }
+}
+
+fn shown_reply(alloc: Global, sink: &MemSink) -> Result<String, AllocError> {
     let text = std::str::from_utf8(sink.bytes.as_slice()).unwrap_or("?");
     let shown = text.get(..200).unwrap_or(text);
     format!(in alloc; "{} writes, {} bytes: {shown}", sink.calls, text.len())

@@ -36,24 +36,22 @@ pub fn read(alloc: Global, text: &str) -> Result<Query, AllocError> {
 fn shown(alloc: Global, query: &Query) -> Result<String, AllocError> {
     match query {
         Query::All => String::from_str(alloc, "*"),
-        Query::Leaf { field, value, at } => {
-            let field = field.as_str();
-            let value = value.as_str();
-            format!(in alloc; "{field}={value}@{at}")
-        }
-        Query::Not(operand) => {
-            let operand = shown(alloc, operand)?;
-            format!(in alloc; "!{operand}")
-        }
-        Query::And(left, right) => {
-            let left = shown(alloc, left)?;
-            let right = shown(alloc, right)?;
-            format!(in alloc; "({left} & {right})")
-        }
-        Query::Or(left, right) => {
-            let left = shown(alloc, left)?;
-            let right = shown(alloc, right)?;
-            format!(in alloc; "({left} | {right})")
-        }
+        Query::Leaf { field, value, at } => leaf(alloc, field.as_str(), value.as_str(), *at),
+        Query::Not(operand) => not(alloc, shown(alloc, operand)?),
+        Query::And(left, right) => joined(alloc, shown(alloc, left)?, "&", shown(alloc, right)?),
+        Query::Or(left, right) => joined(alloc, shown(alloc, left)?, "|", shown(alloc, right)?),
     }
+}
+
+fn leaf(alloc: Global, field: &str, value: &str, at: u32) -> Result<String, AllocError> {
+    format!(in alloc; "{field}={value}@{at}")
+}
+
+fn not(alloc: Global, operand: String) -> Result<String, AllocError> {
+    format!(in alloc; "!{operand}")
+}
+
+/// Two operands and the mark between them.
+fn joined(alloc: Global, left: String, mark: &str, right: String) -> Result<String, AllocError> {
+    format!(in alloc; "({left} {mark} {right})")
 }

@@ -75,10 +75,17 @@ fn shown(alloc: Global, text: &str) -> Result<String, AllocError> {
     if version <= 0 {
         return Err(AllocError);
     }
-    let added = write_of(alloc, version, Some(Doc::new(List::new(alloc))))?;
-    let deleted = write_of(alloc, version, None)?;
-    let (live, gone, none) = (found(Some(&added)), found(Some(&deleted)), found(None));
-    format!(in alloc; "{live} {gone} {none}")
+    let live = shown_of(alloc, version, Some(Doc::new(List::new(alloc))))?;
+    let gone = shown_of(alloc, version, None)?;
+    format!(in alloc; "{live} {gone} {}", found(None))
+}
+
+/// The version that a client is shown of a write.
+fn shown_of(alloc: Global, version: i64, doc: Option<Doc>) -> Result<i64, AllocError>
+    requires { pos 0 <ℤ version }
+{
+    let write = write_of(alloc, version, doc)?;
+    Ok(found(Some(&write)))
 }
 
 /// A copy of the kept text, which itself is gone.

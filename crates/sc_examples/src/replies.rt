@@ -81,16 +81,20 @@ fn select(alloc: Global, text: &str) -> Result<Text, AllocError> {
 fn acks(alloc: Global, text: &str) -> Result<List<Ack>, AllocError> {
     let mut acks = List::new(alloc);
     for part in text.split(' ') {
-        if part.is_empty() {
-            continue;
+        if !part.is_empty() {
+            acks.push(ack(alloc, part)?)?;
         }
-        let (id, version) = part.split_once('=').unwrap_or((part, ""));
-        acks.push(Ack {
-            id: id_of(alloc, id)?,
-            version: version.parse().unwrap_or(0),
-        })?;
     }
     Ok(acks)
+}
+
+/// The accepted order of a text such as `a=1`.
+fn ack(alloc: Global, text: &str) -> Result<Ack, AllocError> {
+    let (id, version) = text.split_once('=').unwrap_or((text, ""));
+    Ok(Ack {
+        id: id_of(alloc, id)?,
+        version: version.parse().unwrap_or(0),
+    })
 }
 
 fn update(alloc: Global, text: &str) -> Result<Text, AllocError> {

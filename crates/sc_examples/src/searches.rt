@@ -1,6 +1,6 @@
 //! `sc_eval` over a snapshot of `sc_snapshot`: `search.find RANGE QUERY`, in three writes of which the second is a deletion.
 
-ghost use Rattle.std.specs.Prelude.{◌≡◌, ◌-◌, ◌≤◌, length, map, filter, All, IfOk};
+ghost use Rattle.std.specs.Prelude.{◌≡◌, ◌-◌, ◌≤◌, length, map, filter, All, IfOk, codes};
 ghost use Rattle.std.specs.Arc.{arc_value};
 ghost use Rattle.sc_record.specs.declared.write.Write.{Write};
 ghost use Rattle.sc_segment.specs.Fresh.{IsFresh};
@@ -11,6 +11,7 @@ ghost use Rattle.sc_eval.specs.Numbers.{leaves, is_match};
 ghost use Rattle.sc_journal.specs.Legal.{HasTerms};
 
 use crate::documents::document_of;
+use crate::line::Line;
 use crate::queries::read;
 use crate::records::id_of;
 use crate::words::word_and;
@@ -30,8 +31,17 @@ pub fn answer(alloc: Global, text: &str) -> Result<String, AllocError> {
     let Some(range) = parse_range(range) else {
         return Err(AllocError);
     };
-    let snapshot = Snapshot::of(alloc, 3, &cells(alloc)?)?;
+    let snapshot = snapshot(alloc)?;
     found(alloc, &snapshot, &range, query)
+}
+
+/// What a search meets.
+fn snapshot(alloc: Global) -> Result<Snapshot, AllocError>
+    ensures { IfOk result (λ snapshot.
+        All (λ (row : Write). HasTerms row.id row.doc row.terms) snapshot.rows) }
+{
+    let cells = cells(alloc)?;
+    Snapshot::of(alloc, 3, &cells)
 }
 
 /// A write of the id: a document, or a deletion.
@@ -63,19 +73,37 @@ fn cells(alloc: Global) -> Result<List<Cell>, AllocError>
     ensures terms { IfOk result (λ cells.
         All (λ (row : Write). HasTerms row.id row.doc row.terms) (map arc_value cells)) }
 {
-    let first = document_of(
+    let mut cells = List::new(alloc);
+    cells.push(first(alloc)?)?;
+    cells.push(write(alloc, "b", 0, None)?)?;
+    cells.push(last(alloc)?)?;
+    Ok(cells)
+}
+
+/// The document `a`.
+fn first(alloc: Global) -> Result<Cell, AllocError>
+    ensures id { IfOk result (λ cell. (arc_value cell).id ≡ codes "a") }
+    ensures terms { IfOk result (λ cell.
+        HasTerms (arc_value cell).id (arc_value cell).doc (arc_value cell).terms) }
+{
+    let doc = document_of(
         alloc,
         r#"{"id":"a","lang_s":"en","n_i":7,"title_t":"Rust in Action"}"#,
     )?;
-    let last = document_of(
+    write(alloc, "a", -5, Some(doc))
+}
+
+/// The document `c`.
+fn last(alloc: Global) -> Result<Cell, AllocError>
+    ensures id { IfOk result (λ cell. (arc_value cell).id ≡ codes "c") }
+    ensures terms { IfOk result (λ cell.
+        HasTerms (arc_value cell).id (arc_value cell).doc (arc_value cell).terms) }
+{
+    let doc = document_of(
         alloc,
         r#"{"id":"c","lang_s":"de","n_i":8,"title_t":"Proofs, great and small"}"#,
     )?;
-    let mut cells = List::new(alloc);
-    cells.push(write(alloc, "a", -5, Some(first))?)?;
-    cells.push(write(alloc, "b", 0, None)?)?;
-    cells.push(write(alloc, "c", 5, Some(last))?)?;
-    Ok(cells)
+    write(alloc, "c", 5, Some(doc))
 }
 
 /// The ids that a query finds, or the place of its fault.
@@ -89,16 +117,27 @@ fn found(
 {
     let query = read(alloc, text)?;
     match bind(alloc, &query) {
-        Ok(bound) => {
-            let mut ids = String::new(alloc);
-            for cell in cells_found(alloc, &bound, snapshot, range)?.as_slice() {
-                ids.push_str(cell.id.as_str())?;
-            }
-            Ok(ids)
-        }
+        Ok(bound) => ids_found(alloc, &bound, snapshot, range),
         Err(BindFault::At { at }) => format!(in alloc; "fault {at}"),
         Err(BindFault::Memory) => Err(AllocError),
     }
+}
+
+/// The ids of the rows that a query finds.
+fn ids_found(
+    alloc: Global,
+    query: &Bound,
+    snapshot: &Snapshot,
+    range: &Range,
+) -> Result<String, AllocError>
+    requires { All (λ (row : Write). HasTerms row.id row.doc row.terms) snapshot.now.rows }
+{
+    let cells = cells_found(alloc, query, snapshot, range)?;
+    let mut ids = Line::new(alloc);
+    for cell in cells.as_slice() {
+        ids.push(cell.id.as_str());
+    }
+    ids.end()
 }
 
 /// The rows that a query finds.

@@ -21,9 +21,21 @@ pub fn answer(alloc: Global, question: &str, text: &str) -> Result<String, Alloc
     let (replicas, rest) = number_and(rest);
     let (nodes, rest) = number_and(rest);
     let mut map = ClusterMap::new(alloc, u32::from(shards), replicas, u32::from(nodes))?;
+    in_map(alloc, &mut map, question, rest)
+}
+
+/// The answer to a question about a new map.
+fn in_map(
+    alloc: Global,
+    map: &mut ClusterMap,
+    question: &str,
+    text: &str,
+) -> Result<String, AllocError>
+    requires { forming map.old ≡ [] }
+{
     match question {
-        "after" => after(alloc, &mut map, rest),
-        _ => during(alloc, &mut map, rest),
+        "after" => after(alloc, map, text),
+        _ => during(alloc, map, text),
     }
 }
 

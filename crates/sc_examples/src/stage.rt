@@ -83,13 +83,58 @@ fn set(alloc: Global, stage: &mut Stage, words: &[&str]) -> Result<(), AllocErro
     ensures board_out { stage.new.collection.desk.board_out ≡ None }
 {
     match word(words, 0) {
-        "bucket" => stage.bucket = new_bucket(alloc, words)?,
-        "collection" => stage.collection = new_collection(alloc, words)?,
-        "fails" => set_fails(alloc, &mut stage.collection.hosts, words)?,
-        "stops" => set_stop(&mut stage.collection.pace, words),
-        "clock" => stage.now = number(words, 1),
-        _ => stage.collection.wire.set(alloc, words)?,
+        "bucket" => set_bucket(alloc, &mut stage.bucket, words),
+        "clock" => {
+            stage.now = number(words, 1);
+            Ok(())
+        }
+        _ => set_in_collection(alloc, &mut stage.collection, words),
     }
+}
+
+/// Puts a new bucket in the old one's place.
+fn set_bucket(alloc: Global, bucket: &mut Bucket, words: &[&str]) -> Result<(), AllocError>
+    requires { IsSound bucket.old }
+    ensures { IsSound bucket.new }
+{
+    *bucket = new_bucket(alloc, words)?;
+    Ok(())
+}
+
+/// Puts a new collection in the old one's place, or sets what its hosts, its pace or its wire are to refuse.
+fn set_in_collection(
+    alloc: Global,
+    collection: &mut Collection,
+    words: &[&str],
+) -> Result<(), AllocError>
+    requires out { collection.old.desk.out ≡ None }
+    requires board_out { collection.old.desk.board_out ≡ None }
+    ensures out { collection.new.desk.out ≡ None }
+    ensures board_out { collection.new.desk.board_out ≡ None }
+{
+    match word(words, 0) {
+        "collection" => set_collection(alloc, collection, words),
+        "fails" => set_fails(alloc, &mut collection.hosts, words),
+        "stops" => {
+            set_stop(&mut collection.pace, words);
+            Ok(())
+        }
+        _ => collection.wire.set(alloc, words),
+    }
+}
+
+/// Puts a new collection in the old one's place.
+fn set_collection(
+    alloc: Global,
+    collection: &mut Collection,
+    words: &[&str],
+) -> Result<(), AllocError>
+    requires out { collection.old.desk.out ≡ None }
+    requires board_out { collection.old.desk.board_out ≡ None }
+    ensures out { collection.new.desk.out ≡ None }
+    ensures board_out { collection.new.desk.board_out ≡ None }
+{
+    *collection = new_collection(alloc, words)?;
     Ok(())
 }
 

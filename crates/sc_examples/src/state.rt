@@ -7,6 +7,7 @@ use sc_bucket::{Bucket, EntryRef, Standing};
 use sc_cluster::Slice;
 use sc_record::{Cell, CoreId, Entry, Id};
 use sc_replica::Replica;
+use sc_snapshot::Rows;
 use std::alloc::{AllocError, Global};
 
 /// The phase, how many entries are owed and how many the journal may have; then the entries, the slices, the cores, what is in flight, the
@@ -116,33 +117,47 @@ fn put_cores(alloc: Global, line: &mut Line, bucket: &Bucket) -> Result<(), Allo
     Ok(())
 }
 
-/// A core: its number where that is another than its seat's, whether it is down, its mode, its clock, how many writes it buffers and how
-/// many feeds there are, the rows that its feed has left and those of them that it will take, and its cells.
+/// A core: its name, how it stands, its feed, and its cells.
 fn put_replica(
     alloc: Global,
     line: &mut Line,
     bucket: &Bucket,
     replica: &Replica,
 ) -> Result<(), AllocError> {
+    put_number(line, replica);
+    put_mode(line, replica);
+    put_feed(line, bucket, replica.core());
+    for cell in replica.cells().share(alloc)?.as_slice() {
+        put_cell(line, cell);
+    }
+    Ok(())
+}
+
+/// A core's name, and its number where that is another than its seat's.
+fn put_number(line: &mut Line, replica: &Replica) {
     let core = replica.core();
     put_core(line, " | ", core);
     if replica.number() != core.replica {
         line.put(" core:", &replica.number());
     }
+}
+
+/// Whether a core is down, its mode, its clock, and how many writes it buffers.
+fn put_mode(line: &mut Line, replica: &Replica) {
     let mark = if replica.is_down() { " down " } else { " " };
     line.debug(mark, &replica.mode());
     line.put(" ", &replica.clock());
     line.put(" ", &replica.buffered());
+}
+
+/// How many feeds there are, and the rows that the core's feed has left and those of them that it will take.
+fn put_feed(line: &mut Line, bucket: &Bucket, core: CoreId) {
     line.put(" ", &bucket.feeds.len());
     if let Some(fed) = bucket.feeds.position(core) {
         let feed = bucket.feeds.get(fed);
         line.put(" ", &feed.rows_left());
         line.put(" ", &feed.pending());
     }
-    for cell in replica.cells().share(alloc)?.as_slice() {
-        put_cell(line, cell);
-    }
-    Ok(())
 }
 
 /// What was sent to cores and has not come yet.
@@ -157,17 +172,27 @@ fn put_flight(line: &mut Line, bucket: &Bucket) {
 /// The searchers; of each its slice, its range, how many entries its rows are after, and the rows.
 fn put_searchers(line: &mut Line, searchers: &[Standing]) -> Result<(), AllocError> {
     for searcher in searchers {
-        let rows = searcher.snapshot.share_rows()?;
-        line.put(" | ", &searcher.slice.0);
-        line.put(" ", &searcher.range.min);
-        line.put("..", &searcher.range.max);
-        line.put(" ", &rows.place());
-        for at in 0..rows.rows() {
-            if let Some(cell) = rows.row(at) {
-                put_cell(line, cell);
-            }
-        }
+        put_searcher(line, searcher)?;
     }
     line.push(" |");
     Ok(())
+}
+
+fn put_searcher(line: &mut Line, searcher: &Standing) -> Result<(), AllocError> {
+    let rows = searcher.snapshot.share_rows()?;
+    line.put(" | ", &searcher.slice.0);
+    line.put(" ", &searcher.range.min);
+    line.put("..", &searcher.range.max);
+    put_rows(line, &rows);
+    Ok(())
+}
+
+/// How many entries the rows are after, and the rows.
+fn put_rows(line: &mut Line, rows: &Rows) {
+    line.put(" ", &rows.place());
+    for at in 0..rows.rows() {
+        if let Some(cell) = rows.row(at) {
+            put_cell(line, cell);
+        }
+    }
 }

@@ -3,6 +3,7 @@
 //! The words of a text are shown with bars between them, and after a slash its one word, where it has one.
 
 use crate::documents::order_of;
+use crate::line::Line;
 use crate::words::word_and;
 use sc_json::print;
 use sc_record::{Change, Kind, List, Order, Term, Text};
@@ -20,7 +21,11 @@ pub fn answer(alloc: Global, question: &str, text: &str) -> Result<String, Alloc
 
 fn terms(alloc: Global, body: &str) -> Result<String, AllocError> {
     let order = order_of(alloc, body)?;
-    let terms = terms_of_order(alloc, &order)?;
+    terms_line(alloc, &order)
+}
+
+fn terms_line(alloc: Global, order: &Order) -> Result<String, AllocError> {
+    let terms = terms_of_order(alloc, order)?;
     term_line(alloc, &terms)
 }
 
@@ -32,14 +37,14 @@ fn terms_of_order(alloc: Global, order: &Order) -> Result<List<Term>, AllocError
 }
 
 fn term_line(alloc: Global, terms: &List<Term>) -> Result<String, AllocError> {
-    let mut line = String::new(alloc);
+    let mut line = Line::new(alloc);
     for term in terms.as_slice() {
-        line.push_str(term.field.as_str())?;
-        line.push_str(":")?;
-        line.push_str(term.key.as_str())?;
-        line.push_str("|")?;
+        line.push(term.field.as_str());
+        line.push(":");
+        line.push(term.key.as_str());
+        line.push("|");
     }
-    Ok(line)
+    line.end()
 }
 
 /// The text as JSON.
@@ -64,19 +69,23 @@ fn words(alloc: Global, text: &str) -> Result<String, AllocError> {
 /// The words by which a document with this text is found, a bar behind each.
 fn words_found(alloc: Global, text: &str) -> Result<String, AllocError> {
     let order = order_with(alloc, text)?;
-    let terms = terms_of_order(alloc, &order)?;
+    words_line(alloc, &order)
+}
+
+fn words_line(alloc: Global, order: &Order) -> Result<String, AllocError> {
+    let terms = terms_of_order(alloc, order)?;
     word_line(alloc, &terms)
 }
 
 fn word_line(alloc: Global, terms: &List<Term>) -> Result<String, AllocError> {
-    let mut line = String::new(alloc);
+    let mut line = Line::new(alloc);
     for term in terms.as_slice() {
         if term.field.as_str() == "t_t" {
-            line.push_str(term.key.as_str())?;
-            line.push_str("|")?;
+            line.push(term.key.as_str());
+            line.push("|");
         }
     }
-    Ok(line)
+    line.end()
 }
 
 /// The one word of the text; nothing where it has another number of words.

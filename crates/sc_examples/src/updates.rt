@@ -1,6 +1,7 @@
 //! `sc_commands`: `update.read BODY`, where no parameter is set. The orders are shown where they are fewer than 100. `sc_json`:
 //! `update.count BODY`, how many flat documents an array has.
 
+use crate::line::Line;
 use sc_commands::{Batch, Flags, read_update};
 use sc_json::count_docs;
 use sc_record::{Change, Order};
@@ -35,14 +36,15 @@ fn orders(alloc: Global, body: &str) -> Result<String, AllocError> {
 }
 
 /// An order: what it does, its id and its condition.
-fn order_text(alloc: Global, order: &Order) -> Result<String, AllocError> {
-    let id = order.id.as_str();
-    let condition = order.condition;
-    match &order.change {
-        Change::Whole(_) => format!(in alloc; "add {id} {condition};"),
-        Change::Parts(_) => format!(in alloc; "change {id} {condition};"),
-        Change::Delete => format!(in alloc; "delete {id} {condition};"),
-    }
+fn put_order(line: &mut Line, order: &Order) {
+    line.push(match &order.change {
+        Change::Whole(_) => "add ",
+        Change::Parts(_) => "change ",
+        Change::Delete => "delete ",
+    });
+    line.push(order.id.as_str());
+    line.put(" ", &order.condition);
+    line.push(";");
 }
 
 /// The orders of a batch, and whether it commits.
@@ -50,12 +52,12 @@ fn batch_text(alloc: Global, batch: &Batch) -> Result<String, AllocError> {
     if batch.orders.len() >= 100 {
         return format!(in alloc; "{} orders", batch.orders.len());
     }
-    let mut text = String::new(alloc);
+    let mut line = Line::new(alloc);
     for order in &batch.orders {
-        text.push_str(order_text(alloc, order)?.as_str())?;
+        put_order(&mut line, order);
     }
     if batch.flags.commit {
-        text.push_str("commit")?;
+        line.push("commit");
     }
-    Ok(text)
+    line.end()
 }

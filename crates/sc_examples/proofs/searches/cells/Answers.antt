@@ -21,10 +21,10 @@ three a b c ha hb hc =
 
 pub returns-clause-rows : goal.returns-clause-rows
 returns-clause-rows c =
-    let e : map arc_value c.push-3.new.self ≡ arc_value c.in_ok-write.field-0
-    ∷ arc_value c.in_ok-write-2.field-0 ∷ arc_value c.in_ok-write-3.field-0 ∷ [] =
+    let e : map arc_value c.push-3.new.self ≡ arc_value c.in_ok-first.field-0
+    ∷ arc_value c.in_ok-write.field-0 ∷ arc_value c.in_ok-last.field-0 ∷ [] =
     ap (map arc_value) (c.in_ok-push-3.ensures.ok
-    ∙ ap (λ xs. xs ++ c.in_ok-write-3.field-0 ∷ []) (c.in_ok-push-2.ensures.ok
-    ∙ ap (λ xs. xs ++ c.in_ok-write-2.field-0 ∷ []) (c.in_ok-push.ensures.ok
-    ∙ ap (λ xs. xs ++ c.in_ok-write.field-0 ∷ []) c.new-cells.ensures))) in
-    subst AreRows (sym e) (three _ _ _ c.in_ok-write.ensures.id c.in_ok-write-2.ensures.id c.in_ok-write-3.ensures.id)
+    ∙ ap (λ xs. xs ++ c.in_ok-last.field-0 ∷ []) (c.in_ok-push-2.ensures.ok
+    ∙ ap (λ xs. xs ++ c.in_ok-write.field-0 ∷ []) (c.in_ok-push.ensures.ok
+    ∙ ap (λ xs. xs ++ c.in_ok-first.field-0 ∷ []) c.new-cells.ensures))) in
+    subst AreRows (sym e) (three _ _ _ c.in_ok-first.ensures.id c.in_ok-write.ensures.id c.in_ok-last.ensures.id)

@@ -1,10 +1,10 @@
 -- The numbers of the line are each put into their range.
 use Rattle.std.proofs.Common.{arith}
 use Rattle.sc_examples.proofs.ShapeLemmas.{in_ranges}
-use Rattle.sc_examples.proofs.connection.new_collection.Goals as goal
+use Rattle.sc_examples.proofs.connection.shape_of.Goals as goal
 
-pub new-requires : goal.new-requires
-new-requires c =
+pub returns : goal.returns
+returns c =
     let shards = c.clamp-shards.ensures in
     let replicas = c.clamp-replicas.ensures in
     in_ranges (record {

@@ -55,19 +55,54 @@ use std::thread::Threads;
 use words::word_and;
 
 fn main(rt: HostRuntime) -> io::Result<()> {
+    buckets_and_pages_go_between_threads();
     let alloc = rt.alloc();
+    let mut stage = Stage::new(alloc)?;
+    answer_lines(&rt, alloc, &mut stage)
+}
+
+/// Buckets and pages may go from thread to thread.
+fn buckets_and_pages_go_between_threads() {
     go_between_threads::<Bucket>();
     go_between_threads::<Page>();
-    let mut stage = Stage::new(alloc)?;
-    for line in BufReader::new(alloc, rt.reader())?.lines(alloc) {
-        let answer = answer_line(&rt, alloc, &mut stage, line?.as_str())?;
-        println!(rt; "{}", answer.as_str())?;
-    }
-    Ok(())
 }
 
 /// Values of this type may go from thread to thread.
 fn go_between_threads<T: Send + Sync>() {}
+
+/// Answers each line of standard input.
+fn answer_lines<R: Threads + Sync + Input + Print>(
+    rt: &R,
+    alloc: Global,
+    stage: &mut Stage,
+) -> io::Result<()>
+    requires sound { IsSound stage.old.bucket }
+    requires out { stage.old.collection.desk.out ≡ None }
+    requires board_out { stage.old.collection.desk.board_out ≡ None }
+{
+    for line in BufReader::new(alloc, rt.reader())?.lines(alloc) {
+        write_answer(rt, alloc, stage, line?.as_str())?;
+    }
+    Ok(())
+}
+
+/// Writes what is written for a line.
+fn write_answer<R: Threads + Sync + Print>(
+    rt: &R,
+    alloc: Global,
+    stage: &mut Stage,
+    line: &str,
+) -> io::Result<()>
+    requires sound { IsSound stage.old.bucket }
+    requires out { stage.old.collection.desk.out ≡ None }
+    requires board_out { stage.old.collection.desk.board_out ≡ None }
+    ensures sound { IsSound stage.new.bucket }
+    ensures out { stage.new.collection.desk.out ≡ None }
+    ensures board_out { stage.new.collection.desk.board_out ≡ None }
+{
+    let answer = answer_line(rt, alloc, stage, line)?;
+    println!(rt; "{}", answer.as_str())
+}
 
 /// What is written for a line: it asks for an example where its first word has a dot, and is one of a scenario otherwise.
 fn answer_line<R: Threads + Sync>(

@@ -1,7 +1,7 @@
 -- The bucket is sound, and no bucket and no board is out of the desk, between two lines.
 use Rattle.std.proofs.Common.{◌≡◌, None}
 use Rattle.sc_bucket.specs.Sound.{IsSound}
-use Rattle.sc_examples.proofs.main.Given as goal
+use Rattle.sc_examples.proofs.answer_lines.Given as goal
 
 abbrev pub invariant-loop-line : goal.invariant-loop-line
 invariant-loop-line g l =

@@ -88,19 +88,19 @@ bound_more p w n within some =
     let one : 1 ≤ w = omega arith in
     let h = mul-le-mul_left p one in omega (arith, h)
 
--- among less than 64 keys there are at most six steps
-few_steps : (u w : ℕ) → 2 ^ u ≤ 2 * w + 1 → w < 64 → 2 ^ u ≤ 64
+-- among less than 32 keys there are at most five steps
+few_steps : (u w : ℕ) → 2 ^ u ≤ 2 * w + 1 → w < 32 → 2 ^ u ≤ 32
 few_steps u w bound few =
     let two : 0 < 2 = omega arith in
     ⊎_elim
-    (λ (below : u < 7). let most : u ≤ 6 = omega arith in
+    (λ (below : u < 6). let most : u ≤ 5 = omega arith in
     pow-le-pow_right two most)
-    (λ (many : 7 ≤ u). let power : 2 ^ 7 ≤ 2 ^ u = pow-le-pow_right two many in
+    (λ (many : 6 ≤ u). let power : 2 ^ 6 ≤ 2 ^ u = pow-le-pow_right two many in
     absurd (omega (arith, power)))
-    (cases_lt u 7)
+    (cases_lt u 6)
 
 -- the steps among the tops and those among the keys between two of them
-both_parts : (t u m w n : ℕ) → 2 ^ t ≤ 2 * m + 1 → 2 ^ u ≤ 2 * w + 1 → 64 * m ≤ n → w < 64 → w ≤ n → 2 ^ (t + u) ≤ 2 * n + 1
+both_parts : (t u m w n : ℕ) → 2 ^ t ≤ 2 * m + 1 → 2 ^ u ≤ 2 * w + 1 → 32 * m ≤ n → w < 32 → w ≤ n → 2 ^ (t + u) ≤ 2 * n + 1
 both_parts zero u m w n tops bound whole few within =
     let none : zero + u ≡ u = omega arith in
     let same = ap (λ (x : ℕ). 2 ^ x) none in
@@ -112,7 +112,7 @@ both_parts (suc t) u m w n tops bound whole few within =
     let most = mul-le-mul_left (2 ^ (suc t)) (few_steps u w bound few) in
     omega (arith, product, most, even)
 
-pub bound_both : (before middle after m w n : ℕ) → before ≤ middle → middle ≤ after → 2 ^ (middle - before) ≤ 2 * m + 1 → 2 ^ (after - middle) ≤ 2 * w + 1 → 64 * m ≤ n → w < 64 → w ≤ n
+pub bound_both : (before middle after m w n : ℕ) → before ≤ middle → middle ≤ after → 2 ^ (middle - before) ≤ 2 * m + 1 → 2 ^ (after - middle) ≤ 2 * w + 1 → 32 * m ≤ n → w < 32 → w ≤ n
     → 2 ^ (after - before) ≤ 2 * n + 1
 bound_both before middle after m w n first second tops bound whole few within =
     let sum : after - before ≡ (middle - before) + (after - middle) = omega arith in

@@ -1,10 +1,10 @@
 -- Rows that are looked for in a list by marks.
-use Rattle.std.proofs.Common.{◌≡◌, ◌≢◌, ℕ, ◌+◌, ◌-◌, ◌<◌, ◌≤◌, ◌==◌, zero, suc, nat_lt, Bool, true, false, not, ◌&&◌, ◌||◌, cond, List, [], ◌∷◌, All, length, get_or, set, take, replicate, slice_get, slice_index, Option, None, Some, IfSome, SomeIff, refl, ap, sym, ◌∙◌, arith, ⊎_elim}
+use Rattle.std.proofs.Common.{◌≡◌, ◌≢◌, ℕ, ◌+◌, ◌-◌, ◌<◌, ◌≤◌, ◌==◌, zero, suc, Bool, true, false, not, ◌&&◌, ◌||◌, cond, List, [], ◌∷◌, All, length, get_or, set, take, replicate, slice_get, slice_index, Option, None, Some, IfSome, SomeIff, refl, ap, sym, ◌∙◌, arith, ⊎_elim}
 use Rattle.std.proofs.lemmas.Bool.{cases_eq}
 use Rattle.std.proofs.lemmas.Bool.Decides.{nat_tests}
 use Rattle.std.proofs.lemmas.List.{get_or-replicate, length-replicate, get_or-set_other, get_or-set_same, length-set}
-use Rattle.std.proofs.lemmas.List.Elements.{All-from_get_or, All-get_or}
-use Rattle.std.proofs.lemmas.List.Folds.{list_any_more, list_any_none}
+use Rattle.std.proofs.lemmas.List.Elements.{All-from_get_or}
+use Rattle.std.proofs.lemmas.List.Folds.{list_any_more}
 use Rattle.std.proofs.lemmas.List.Kept.{IsStrictlyIncreasing-filter}
 use Rattle.std.proofs.lemmas.Option.{slice_get-get_or}
 use Rattle.std.specs.Prelude.{filter}
@@ -74,13 +74,6 @@ pub marks_none : (end : ℕ) (row : ℕ) → row < end → slice_get (replicate 
 marks_none end row low =
     slice_get-get_or (replicate end true) row true (rw (length-replicate end true) low) ∙ ap Some (get_or-replicate end row true true low)
 
--- a list has no row from an end on that is above all of its rows
-pub none_past : (rows : List ℕ) (end row : ℕ) → All (λ r. r < end) rows → end ≤ row → has_row rows row ≡ false
-none_past rows end row below past =
-    list_any_none (λ r. r == row) rows (All-from_get_or (λ r. (r == row) ≡ false) rows 0 (λ i within.
-    let low = All-get_or (λ r. r < end) rows i 0 within below in
-    is_other (get_or rows i 0) row (λ same. omega (arith, same, low, past))))
-
 same_row : (x n : ℕ) → (x == n) ≡ true → x ≡ n
 same_row x n h = grind (arith, nat_tests)
 
@@ -103,9 +96,6 @@ filter-first p x rows row rest false false is here = rw (is, here) rest
 has_row-filter : (p : ℕ → Bool) (rows : List ℕ) (row : ℕ) → has_row (filter p rows) row ≡ (has_row rows row && p row)
 has_row-filter p [] row = refl
 has_row-filter p (x ∷ rows) row = filter-first p x rows row (has_row-filter p rows row) (p x) (x == row) refl refl
-
-pub not_below : (m n : ℕ) → n ≤ m → nat_lt m n ≡ false
-not_below m n h = grind (arith, nat_tests)
 
 -- what is some number, if it is one
 pub some_exact : (answer : Option ℕ) (P : Type 0) (exact : ℕ) (Q : ℕ → Type 0) → SomeIff answer P exact → ((end : ℕ) → end ≡ exact → Q end) → IfSome answer Q

@@ -7,7 +7,7 @@ front_number zero bytes = 0
 front_number (suc n) [] = 0
 front_number (suc n) (byte ∷ bytes) = (if nat_lt byte 256 then 256 ^ n * byte else 2 ^ 64) + front_number n bytes
 
--- these are the heads with the numbers 63, 127, 191 and so on, of each 64 heads the last one
+-- these are the heads with the numbers 31, 63, 95 and so on, of each 32 heads the last one
 pub record AreTops (heads tops : List ℕ) : Type 0 where
-  pub count : length tops ≡ length heads / 64
-  pub each : (block : ℕ) → block < length tops → slice_get tops block ≡ slice_get heads (64 * block + 63)
+  pub count : length tops ≡ length heads / 32
+  pub each : (block : ℕ) → block < length tops → slice_get tops block ≡ slice_get heads (32 * block + 31)

@@ -14,6 +14,10 @@ has_row rows row = list_any (λ r. r == row) rows
 abbrev pub EndBefore : List ℕ → ℕ → Type 0
 EndBefore rows end = All (λ row. row < end) rows
 
+-- the rows of two lists end before the number
+abbrev pub BothEndBefore : (left right : List ℕ) → ℕ → Type 0
+BothEndBefore left right end = EndBefore left end × EndBefore right end
+
 -- whether a row is kept, by whether it is in the left list and in the right one
 abbrev pub keeps : Kept → (left right : Bool) → Bool
 keeps Both left right = left && right

@@ -4,11 +4,14 @@ use Rattle.sc_segment.specs.declared.sifting.Sieve.{Sieve}
 use Rattle.sc_segment.specs.declared.joining.Kept.{Kept}
 use Rattle.sc_segment.specs.Joining.{has_row, keeps, EndBefore}
 
--- the rows that the list has not are marked, up to an end that is above them all
+-- of the rows below an end, which is above all rows of the list, those are marked that the list has not
 pub record IsSieve (rows : List ℕ) (sieve : Sieve) : Type 0 where
-  pub below : EndBefore rows sieve.end
-  pub as_long : length sieve.absent ≡ sieve.end
-  pub marks : (row : ℕ) → row < sieve.end → slice_get sieve.absent row ≡ Some (not (has_row rows row))
+  pub below : EndBefore rows (length sieve.absent)
+  pub marks : (row : ℕ) → row < length sieve.absent → slice_get sieve.absent row ≡ Some (not (has_row rows row))
+
+-- the rows are below the end of the sieve, so that they can be looked for in it
+abbrev pub CanBeSifted : Sieve → List ℕ → Type 0
+CanBeSifted sieve rows = EndBefore rows (length sieve.absent)
 
 -- of these rows those that the others have, or those that they have not
 abbrev pub sifted : (others : List ℕ) → Bool → List ℕ → List ℕ

@@ -5,7 +5,7 @@ ghost use Rattle.sc_segment.specs.declared.joining.Kept.TheVariants.{Either};
 ghost use Rattle.sc_segment.specs.Joining.{IsJoin, keeps};
 ghost use Rattle.sc_segment.specs.Sifting.{KeepsOfLeft};
 
-use crate::sifting::{Sieve, end_of};
+use crate::sifting::{Sieve, ends_of};
 use std::alloc::{AllocError, Global};
 
 /// Which rows of two lists are kept.
@@ -55,7 +55,7 @@ fn of_left(
     requires wanted { KeepsOfLeft how wanted }
     ensures { IfOk result (λ rows. IsJoin how left.now right.now rows.items) }
 {
-    let Some(sieve) = Sieve::of(alloc, right, end_of(right), left.len())? else {
+    let Some(sieve) = Sieve::of(alloc, left, right, ends_of(left, right))? else {
         return merged(alloc, how, left, right);
     };
     let mut rows = Vec::with_capacity(alloc, room_for(how, left.len(), right.len()))?;

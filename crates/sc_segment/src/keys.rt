@@ -16,8 +16,8 @@ const KEPT_FOR_GONE: usize = 16;
 const ALWAYS_GONE: usize = 64;
 
 /// One head of so many is a top, and stands in a list of its own too, in which a key is sought first. So the list of the tops of some ten
-/// thousand keys stays in the processor's caches, and between two tops at most eight lines of memory are left.
-pub(crate) const HEADS_OF_A_TOP: usize = 64;
+/// thousand keys stays in the processor's caches, and between two tops four lines of memory are left, or five.
+pub(crate) const HEADS_OF_A_TOP: usize = 32;
 
 /// Keys that are shared as one.
 #[derive(Drop)]
@@ -87,7 +87,7 @@ impl<K: Key> Keys<K> {
 
     /// How many tops there are, one for each whole block of keys.
     pub(crate) fn top_count(&self) -> usize
-        ensures { result ≡ length self.now.keys / 64 }
+        ensures { result ≡ length self.now.keys / 32 }
     {
         self.tops.len()
     }
@@ -95,8 +95,8 @@ impl<K: Key> Keys<K> {
     /// The top with this number: the head of the last key of the block with this number.
     #[inline(always)]
     pub(crate) fn top(&self, block: usize) -> u64
-        requires { 64 * block + 63 < length self.now.keys }
-        ensures { (key : K) → slice_get self.now.keys (64 * block + 63) ≡ Some key → result ≡ K.heading key }
+        requires { 32 * block + 31 < length self.now.keys }
+        ensures { (key : K) → slice_get self.now.keys (32 * block + 31) ≡ Some key → result ≡ K.heading key }
     {
         self.tops[block]
     }

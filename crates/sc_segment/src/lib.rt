@@ -1,5 +1,5 @@
 //! Posting lists: which rows have a key, found by a search among the keys that counts its comparisons. Two keys are compared by their
-//! heads, which are numbers that go with the order, and by themselves only where their heads are the same. Each 64th head is a top, among
+//! heads, which are numbers that go with the order, and by themselves only where their heads are the same. Each 32nd head is a top, among
 //! which a key is sought first.
 //!
 //! A `Builder` takes pairs of a row and a key, which it finds by its hash, and becomes a `Segment`, which has the keys in order and gives
@@ -8,7 +8,7 @@
 //! row that stays keeps its number: the rows of keys that lose none are copied, with no look-up for each. `join` makes
 //! of two lists of rows the list of those in both, in one of them, or in the first alone; `join_start` gives only how many rows
 //! that list has, and the first of them, for a caller who shows no more: the others are counted, and no list is made of them. It takes the
-//! end of the right list from the caller, who may have read it before (`end_of`).
+//! end of both lists from the caller, who may have read it before (`ends_of`).
 //! A `LiveBits` says which rows are live. The crate depends on std alone. Contracts see a builder's index and
 //! a segment as the list of the distinct keys with their rows, and a layer above says by `IsIndexOf` which
 //! pairs it has added: `Segment::postings` then gives a filter of these pairs, and `Steps` bounds the number
@@ -48,6 +48,6 @@ pub use key::Key;
 pub use live_bits::LiveBits;
 pub use moved::{Moved, put_run};
 pub use segment::Segment;
-pub use sifting::end_of;
+pub use sifting::ends_of;
 pub use start::{Start, join_start};
 pub use steps::Steps;

@@ -54,7 +54,7 @@ impl<K: Key> Segment<K> {
 }
 
 /// Where the key stands among keys that ascend, or else where it would have to stand. It is sought from a place on, before which all
-/// keys are below it: first among the tops, and then among the less than 64 keys between two of them or after the last one.
+/// keys are below it: first among the tops, and then among the less than 32 keys between two of them or after the last one.
 pub(crate) fn search<K: Key, L: Ledger>(
     keys: &Keys<K>,
     from: usize,
@@ -92,15 +92,15 @@ fn block_of<K: Key, L: Ledger>(
     steps: &mut Steps<L>,
 ) -> Result<usize, usize>
     requires ascending { IsStrictlySortedBy K.order keys.now.keys }
-    requires within { 64 * first ≤ length keys.now.keys }
+    requires within { 32 * first ≤ length keys.now.keys }
     requires fits { length keys.now.keys < 2 ^ 64 }
     requires head { head ≡ K.heading key.now }
-    requires before { (i : ℕ) → (k : K) → i < 64 * first → slice_get keys.now.keys i ≡ Some k → K.order key.now k ≡ Greater }
-    ensures place { MatchResult result (StandsAt K.order keys.now.keys key.now) (λ block. IsRangeFor K.order keys.now.keys key.now (64 * block) (64 * block + 63)) }
-    ensures from { MatchResult result (λ at. 64 * first + 63 ≤ at) (λ block. first ≤ block) }
-    ensures within { MatchResult result (λ at. at < length keys.now.keys) (λ block. 64 * block ≤ length keys.now.keys) }
+    requires before { (i : ℕ) → (k : K) → i < 32 * first → slice_get keys.now.keys i ≡ Some k → K.order key.now k ≡ Greater }
+    ensures place { MatchResult result (StandsAt K.order keys.now.keys key.now) (λ block. IsRangeFor K.order keys.now.keys key.now (32 * block) (32 * block + 31)) }
+    ensures from { MatchResult result (λ at. 32 * first + 31 ≤ at) (λ block. first ≤ block) }
+    ensures within { MatchResult result (λ at. at < length keys.now.keys) (λ block. 32 * block ≤ length keys.now.keys) }
     ensures counted { steps.old ≤ steps.new }
-    ensures bound { 2 ^ (steps.new - steps.old) ≤ 2 * (length keys.now.keys / 64) + 1 }
+    ensures bound { 2 ^ (steps.new - steps.old) ≤ 2 * (length keys.now.keys / 32) + 1 }
 {
     let mut low = first;
     let mut high = keys.top_count();

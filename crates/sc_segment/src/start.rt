@@ -3,8 +3,8 @@
 ghost use Rattle.std.specs.Prelude.{◌≡◌, List, ℕ, take, IfOk, IfSome};
 ghost use Rattle.std.specs.List.Sorted.{IsStrictlyIncreasing};
 ghost use Rattle.sc_segment.specs.declared.joining.Kept.TheVariants.{Either};
-ghost use Rattle.sc_segment.specs.Joining.{EndBefore, IsJoin, IsStart};
-ghost use Rattle.sc_segment.specs.Sifting.{IsSieve, sifted};
+ghost use Rattle.sc_segment.specs.Joining.{BothEndBefore, IsJoin, IsStart};
+ghost use Rattle.sc_segment.specs.Sifting.{CanBeSifted, IsSieve, sifted};
 
 use crate::joining::{Kept, merged, push_kept, wanted_of_left};
 use crate::sifting::Sieve;
@@ -18,7 +18,7 @@ pub struct Start {
 }
 
 /// The start of the list that `join` makes of two lists of rows that ascend: how many rows it has, and the first of them, `most` or all.
-/// The list itself is made only where the right one has no end (`end_of`), or where both are short beside it. The only error is that memory
+/// The list itself is made only where no end of both is given (`ends_of`), or where both are short beside it. The only error is that memory
 /// was refused.
 pub fn join_start(
     alloc: Global,
@@ -30,10 +30,10 @@ pub fn join_start(
 ) -> Result<Start, AllocError>
     requires left { IsStrictlyIncreasing left.now }
     requires right { IsStrictlyIncreasing right.now }
-    requires end { IfSome end (EndBefore right.now) }
+    requires end { IfSome end (BothEndBefore left.now right.now) }
     ensures { IfOk result (λ start. (rows : List ℕ) × IsJoin how left.now right.now rows × IsStart most rows start) }
 {
-    let Some(sieve) = Sieve::of(alloc, right, end, left.len())? else {
+    let Some(sieve) = Sieve::of(alloc, left, right, end)? else {
         return start_of_merged(alloc, how, left, right, most);
     };
     match wanted_of_left(how) {
@@ -68,7 +68,8 @@ fn start_of_sifted(
     wanted: bool,
     most: usize,
 ) -> Result<Start, AllocError>
-    requires { (others : List ℕ) × IsSieve others sieve.now }
+    requires sieve { (others : List ℕ) × IsSieve others sieve.now }
+    requires below { CanBeSifted sieve.now rows.now }
     ensures { IfOk result (λ start. (others : List ℕ) → IsSieve others sieve.now → IsStart most (sifted others wanted rows.now) start) }
 {
     let mut kept = Vec::with_capacity(alloc, most.min(rows.len()))?;
@@ -94,6 +95,7 @@ fn start_of_either(
     requires left { IsStrictlyIncreasing left.now }
     requires right { IsStrictlyIncreasing right.now }
     requires sieve { IsSieve right.now sieve.now }
+    requires below { CanBeSifted sieve.now left.now }
     ensures { IfOk result (λ start. (rows : List ℕ) × IsJoin Either left.now right.now rows × IsStart most rows start) }
 {
     let count = right.len() + sieve.count(left, false);

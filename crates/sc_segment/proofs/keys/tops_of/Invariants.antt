@@ -5,5 +5,5 @@ use Rattle.sc_segment.proofs.keys.tops_of.Given as goal
 abbrev pub invariant-loop-block : goal.invariant-loop-block
 invariant-loop-block l = record {
   as_long : length l.tops.items ≡ l.block;
-  each : (j : ℕ) → j < l.block → slice_get l.tops.items j ≡ slice_get l.heads (64 * j + 63);
+  each : (j : ℕ) → j < l.block → slice_get l.tops.items j ≡ slice_get l.heads (32 * j + 31);
 }

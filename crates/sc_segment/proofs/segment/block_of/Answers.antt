@@ -8,7 +8,7 @@ pub halving-preserved-in-Less : goal.halving-preserved-in-Less
 halving-preserved-in-Less g c =
     let i = c.halving.invariant in
     let block = c.halving.low + (c.halving.high - c.halving.low) / 2 in
-    let here = found-within c.args.keys.now.keys (64 * block + 63) (omega (arith, i.within)) in
+    let here = found-within c.args.keys.now.keys (32 * block + 31) (omega (arith, i.within)) in
     let k = here.0 in
     let at_top = here.1 in
     let steps = ap (λ n. 2 ^ (n - c.args.steps.now)) c.in-Less.ensures.counted ∙ pow-step c.args.steps.now c.halving.steps i.counted in
@@ -16,9 +16,9 @@ halving-preserved-in-Less g c =
       first = omega (arith, i.first);
       in_order = omega arith;
       within = omega (arith, i.within);
-      range = range-before g.met.K.Key.total c.args.key.now c.args.keys.now.keys (64 * c.halving.low) (64 * c.halving.high + 63) (64 * block + 63) k c.requires.ascending at_top (c.in-Less.ensures.answer k at_top) i.range;
+      range = range-before g.met.K.Key.total c.args.key.now c.args.keys.now.keys (32 * c.halving.low) (32 * c.halving.high + 31) (32 * block + 31) k c.requires.ascending at_top (c.in-Less.ensures.answer k at_top) i.range;
       counted = omega (arith, c.in-Less.ensures.counted);
-      halved = rw steps (halved_more (2 ^ (c.halving.steps - c.args.steps.now)) (c.halving.high - c.halving.low) (block - c.halving.low) (length c.args.keys.now.keys / 64) i.halved (omega arith));
+      halved = rw steps (halved_more (2 ^ (c.halving.steps - c.args.steps.now)) (c.halving.high - c.halving.low) (block - c.halving.low) (length c.args.keys.now.keys / 32) i.halved (omega arith));
       bound = rw steps (bound_more _ _ _ i.halved (omega arith));
     }
 
@@ -26,7 +26,7 @@ pub halving-preserved : goal.halving-preserved
 halving-preserved g c =
     let i = c.halving.invariant in
     let block = c.halving.low + (c.halving.high - c.halving.low) / 2 in
-    let here = found-within c.args.keys.now.keys (64 * block + 63) (omega (arith, i.within)) in
+    let here = found-within c.args.keys.now.keys (32 * block + 31) (omega (arith, i.within)) in
     let k = here.0 in
     let at_top = here.1 in
     let steps = ap (λ n. 2 ^ (n - c.args.steps.now)) c.in-Greater.ensures.counted ∙ pow-step c.args.steps.now c.halving.steps i.counted in
@@ -34,9 +34,9 @@ halving-preserved g c =
       first = omega (arith, i.first);
       in_order = omega arith;
       within = i.within;
-      range = range-after g.met.K.Key.total c.args.key.now c.args.keys.now.keys (64 * c.halving.low) (64 * c.halving.high + 63) (64 * block + 63) (64 * (block + 1)) k c.requires.ascending at_top (c.in-Greater.ensures.answer k at_top) (omega arith) i.range;
+      range = range-after g.met.K.Key.total c.args.key.now c.args.keys.now.keys (32 * c.halving.low) (32 * c.halving.high + 31) (32 * block + 31) (32 * (block + 1)) k c.requires.ascending at_top (c.in-Greater.ensures.answer k at_top) (omega arith) i.range;
       counted = omega (arith, c.in-Greater.ensures.counted);
-      halved = rw steps (halved_more (2 ^ (c.halving.steps - c.args.steps.now)) (c.halving.high - c.halving.low) (c.halving.high - (block + 1)) (length c.args.keys.now.keys / 64) i.halved (omega arith));
+      halved = rw steps (halved_more (2 ^ (c.halving.steps - c.args.steps.now)) (c.halving.high - c.halving.low) (c.halving.high - (block + 1)) (length c.args.keys.now.keys / 32) i.halved (omega arith));
       bound = rw steps (bound_more _ _ _ i.halved (omega arith));
     }
 
@@ -44,7 +44,7 @@ pub returns-in-Equal-clause-place : goal.returns-in-Equal-clause-place
 returns-in-Equal-clause-place g c =
     let i = c.halving.invariant in
     let block = c.halving.low + (c.halving.high - c.halving.low) / 2 in
-    stands g.K.Key.order c.args.key.now c.args.keys.now.keys (64 * block + 63) (omega (arith, i.within)) c.in-Equal.ensures.answer
+    stands g.K.Key.order c.args.key.now c.args.keys.now.keys (32 * block + 31) (omega (arith, i.within)) c.in-Equal.ensures.answer
 
 pub returns-in-Equal-clause-bound : goal.returns-in-Equal-clause-bound
 returns-in-Equal-clause-bound g c =

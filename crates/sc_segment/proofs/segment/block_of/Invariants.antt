@@ -7,11 +7,11 @@ abbrev pub invariant-halving : goal.invariant-halving
 invariant-halving g l = record {
   first : l.first ≤ l.low;
   in_order : l.low ≤ l.high;
-  within : l.high ≤ length l.keys.keys / 64;
-  range : IsRangeFor g.K.Key.order l.keys.keys l.key (64 * l.low) (64 * l.high + 63);
+  within : l.high ≤ length l.keys.keys / 32;
+  range : IsRangeFor g.K.Key.order l.keys.keys l.key (32 * l.low) (32 * l.high + 31);
   counted : l.initial.steps ≤ l.steps;
-  halved : 2 ^ (l.steps - l.initial.steps) * (l.high - l.low) ≤ length l.keys.keys / 64;
-  bound : 2 ^ (l.steps - l.initial.steps) ≤ 2 * (length l.keys.keys / 64) + 1;
+  halved : 2 ^ (l.steps - l.initial.steps) * (l.high - l.low) ≤ length l.keys.keys / 32;
+  bound : 2 ^ (l.steps - l.initial.steps) ≤ 2 * (length l.keys.keys / 32) + 1;
 }
 
 abbrev pub decreases-halving : goal.decreases-halving

@@ -13,7 +13,8 @@ returns-in-Some-wanted_of_left c =
     let left = c.args.left.now in
     let right = c.args.right.now in
     let wanted = c.in-Some-wanted_of_left.wanted in
-    let sieve : IsSieve right c.in-Some.sieve = rw c.in-Some.is at c.in_ok-sieve.ensures in
+    let found = rw c.in-Some.is at c.in_ok-sieve.ensures in
+    let sieve : IsSieve right c.in-Some.sieve = found.0 in
     let join = IsJoin-sifted how wanted left right c.requires.left c.in-Some-wanted_of_left.ensures in
     IfOk-weaker c.start_of_sifted.result (λ (start : Start). (others : List ℕ) → IsSieve others c.in-Some.sieve → IsStart c.args.most (sifted others wanted left) start)
     (λ (start : Start). (rows : List ℕ) × IsJoin how left right rows × IsStart c.args.most rows start)

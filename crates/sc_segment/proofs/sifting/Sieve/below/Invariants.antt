@@ -1,7 +1,7 @@
 -- The rows that were passed are cleared.
 use Rattle.std.proofs.Common.{◌≡◌, ◌<◌, ℕ, not, length, take, slice_get, Some}
 use Rattle.sc_segment.specs.Joining.{has_row}
-use Rattle.sc_segment.proofs.sifting.Sieve.of.Given as goal
+use Rattle.sc_segment.proofs.sifting.Sieve.below.Given as goal
 
 abbrev pub invariant-loop-row : goal.invariant-loop-row
 invariant-loop-row l = record {

@@ -3,7 +3,7 @@ use Rattle.std.proofs.Common.{◌<◌, ℕ, length, slice_get, slice_index, List
 use Rattle.std.proofs.lemmas.List.{length-set}
 use Rattle.std.proofs.lemmas.List.Elements.{All-get_or}
 use Rattle.sc_segment.proofs.SiftingLemmas.{marks_more}
-use Rattle.sc_segment.proofs.sifting.Sieve.of.Goals as goal
+use Rattle.sc_segment.proofs.sifting.Sieve.below.Goals as goal
 
 pub loop-row-preserved : goal.loop-row-preserved
 loop-row-preserved c =
@@ -11,9 +11,9 @@ loop-row-preserved c =
     let i = c.loop-row.invariant in
     let at = c.loop-row.row-index in
     let within : at < length rows = omega (arith, c.loop-row-test.true) in
-    let below = All-get_or (λ (r : ℕ). r < c.in-Some.end) rows at 0 within (rw c.in-Some.is at c.requires) in
+    let below = All-get_or (λ (r : ℕ). r < c.args.end) rows at 0 within c.requires in
     let cleared = c.clear.ensures in
     record {
       as_long = ap (λ (bits : List Bool). length bits) cleared ∙ length-set c.loop-row.absent (slice_index rows at) false ∙ i.as_long;
-      marks = λ row low. ap (λ (bits : List Bool). slice_get bits row) cleared ∙ marks_more rows c.loop-row.absent c.in-Some.end at within below i.as_long i.marks row low;
+      marks = λ row low. ap (λ (bits : List Bool). slice_get bits row) cleared ∙ marks_more rows c.loop-row.absent c.args.end at within below i.as_long i.marks row low;
     }

@@ -2,21 +2,22 @@
 use Rattle.std.specs.Prelude.{◌≡◌, ℕ, Bool, List, Option, IfSome, ⊤}
 use Rattle.std.specs.List.Sorted.{IsStrictlyIncreasing}
 use Rattle.sc_record.specs.declared.write.Write.{Write}
-use Rattle.sc_segment.specs.Joining.{EndBefore, IsJoin}
+use Rattle.sc_segment.specs.Joining.{BothEndBefore, IsJoin}
 use Rattle.sc_eval.specs.Numbers.{numbers_of, AreNumbersOf}
 use Rattle.sc_eval.specs.declared.unjoined.Unjoined.{Unjoined}
 use Rattle.sc_eval.specs.declared.unjoined.Unjoined.TheVariants.{One, Two}
 
--- an end, where there is one, is above the numbers of the right one of two lists
+-- an end, where there is one, is above the numbers of both of two lists
 abbrev pub IsEnd : Unjoined → Option ℕ → Type 0
 IsEnd (One numbers) end = ⊤
-IsEnd (Two how left right noted) end = IfSome end (EndBefore (numbers_of right))
+IsEnd (Two how left right noted) end = IfSome end (BothEndBefore (numbers_of left) (numbers_of right))
 
--- two lists ascend, and the end of the right one, where it was noted, is above its numbers, so that they can be joined
+-- two lists ascend, and their end, where it was noted, is above the numbers of both, so that they can be joined
 abbrev pub CanBeJoined : Unjoined → Type 0
 CanBeJoined (One numbers) = ⊤
 CanBeJoined (Two how left right noted) =
-    IsStrictlyIncreasing (numbers_of left) × IsStrictlyIncreasing (numbers_of right) × IfSome noted (EndBefore (numbers_of right))
+    IsStrictlyIncreasing (numbers_of left) × IsStrictlyIncreasing (numbers_of right)
+    × IfSome noted (BothEndBefore (numbers_of left) (numbers_of right))
 
 -- the list is the one, or what is kept of the two
 abbrev pub IsJoined : Unjoined → List ℕ → Type 0

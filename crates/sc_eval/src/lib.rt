@@ -6,8 +6,8 @@
 //! `sc_journal` for what is true of their terms, on `sc_hash` for the range, and on `thiserror`. It does no input and no output.
 //! The layers above use the contract of `bind`, which says of each query which criterion it is or where its fault is, and those of
 //! `find`, which gives how many rows are found and the numbers of the first of them, and of `evaluate`, which gives all as a filter of the rows.
-//! `find` is `look_up` and then `start`: one who searches in many snapshots looks up in all of them first, notes the ends of the lists that
-//! are to be joined (`Unjoined::note_end`), and then joins them, so that the processor waits for several lists at once.
+//! `find` is `look_up` and then `start`: one who searches in many snapshots looks up in all of them first, notes the end of each two lists that
+//! are to be joined, for which both are read (`Unjoined::note_end`), and then joins them, so that the processor waits for all of them at once.
 //!
 //! Proved: `bind` gives the criteria that a query's leaves ask for by their fields' kinds, or the place of the first leaf
 //! at fault (`specs/Criteria`); `evaluate` gives exactly the live rows of a snapshot that match and whose hashes are in a range, in

@@ -3,15 +3,15 @@
 
 ghost use Rattle.std.specs.Prelude.{◌↔◌, List, ℕ, IfOk, IfSome};
 ghost use Rattle.std.specs.List.Sorted.{IsStrictlyIncreasing};
-ghost use Rattle.sc_segment.specs.Joining.{EndBefore};
+ghost use Rattle.sc_segment.specs.Joining.{BothEndBefore};
 ghost use Rattle.sc_eval.specs.Numbers.{numbers_of, IsBeginning};
 ghost use Rattle.sc_eval.specs.Unjoined.{CanBeJoined, IsEnd, IsJoined};
 
 use crate::numbers::{Matches, Numbers};
-use sc_segment::{Kept, end_of, join, join_start};
+use sc_segment::{Kept, ends_of, join, join_start};
 use std::alloc::{AllocError, Global};
 
-/// Numbers of rows, in one list, or in two that are not joined yet. Of these the end of the right one may be noted, which is above its numbers.
+/// Numbers of rows, in one list, or in two that are not joined yet. Of these an end may be noted, which is above the numbers of both.
 #[derive(Drop)]
 pub enum Unjoined<'a> {
     One(Numbers<'a>),
@@ -43,27 +43,27 @@ impl<'a> Unjoined<'a> {
         }
     }
 
-    /// Notes the end of the right one of two lists, of which it reads the last number alone. Of several that are noted one after another
-    /// the processor waits for all last numbers at once, and `start` then reads none of them for the first time.
+    /// Notes the end of two lists, for which it reads one number in each line of memory of both. Of several that are noted one after another
+    /// the processor waits for all lines at once, and `start` then reads none of them for the first time.
     pub fn note_end(&mut self)
         requires { CanBeJoined self.old }
         ensures ready { CanBeJoined self.new }
         ensures same { (numbers : List ℕ) → IsJoined self.new numbers ↔ IsJoined self.old numbers }
     {
-        let read = self.right_end();
+        let read = self.both_ends();
         if let Unjoined::Two { end, .. } = self {
             *end = read;
         }
     }
 
-    // The end of the right one of two lists, of which the last number is read.
-    fn right_end(&self) -> Option<u32>
+    // The end of two lists, of which one number in each line of memory is read.
+    fn both_ends(&self) -> Option<u32>
         requires { CanBeJoined self.now }
         ensures { IsEnd self.now result }
     {
         match self {
             Unjoined::One(_) => None,
-            Unjoined::Two { right, .. } => end_of(right.as_slice()),
+            Unjoined::Two { left, right, .. } => ends_of(left.as_slice(), right.as_slice()),
         }
     }
 
@@ -81,7 +81,7 @@ impl<'a> Unjoined<'a> {
                 right,
                 end,
             } => {
-                let end = noted_or_read(end, right.as_slice());
+                let end = noted_or_read(end, left.as_slice(), right.as_slice());
                 let start = join_start(alloc, how, left.as_slice(), right.as_slice(), end, most)?;
                 Ok(Matches {
                     count: start.count,
@@ -92,14 +92,15 @@ impl<'a> Unjoined<'a> {
     }
 }
 
-// The end of the numbers: the one that was noted, or it is read.
-fn noted_or_read(noted: Option<u32>, numbers: &[u32]) -> Option<u32>
-    requires noted { IfSome noted (EndBefore numbers.now) }
-    requires ascend { IsStrictlyIncreasing numbers.now }
-    ensures { IfSome result (EndBefore numbers.now) }
+// The end of two lists: the one that was noted, or it is read.
+fn noted_or_read(noted: Option<u32>, left: &[u32], right: &[u32]) -> Option<u32>
+    requires noted { IfSome noted (BothEndBefore left.now right.now) }
+    requires left { IsStrictlyIncreasing left.now }
+    requires right { IsStrictlyIncreasing right.now }
+    ensures { IfSome result (BothEndBefore left.now right.now) }
 {
     match noted {
         Some(_) => noted,
-        None => end_of(numbers),
+        None => ends_of(left, right),
     }
 }

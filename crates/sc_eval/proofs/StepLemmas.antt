@@ -35,7 +35,8 @@ module _ (rows : List Write) where
       let here = are most enough in
       omega (arith, more, here)
 
-  both-leaves : (how : Kept) (left right : Criterion) (one other both : ℕ) → both ≤ one + other
+  -- the steps of two criteria are steps of what they are together
+  pub both-leaves : (how : Kept) (left right : Criterion) (one other both : ℕ) → both ≤ one + other
       → AreStepsOfLeaves left rows one → AreStepsOfLeaves right rows other → AreStepsOfLeaves (joined_by how left right) rows both
   both-leaves how left right one other both le ones others = λ most enough.
       let here = ones most enough in
@@ -63,6 +64,24 @@ module _ (rows : List Write) where
   -- one list is what it is
   pub one-list : (test : Write → Bool) (numbers : Numbers) → AreNumbersOf test rows (numbers_of numbers) → WillBeNumbersOf test rows (One numbers)
   one-list test numbers are = record { ready = tt; joined = λ list is. subst (AreNumbersOf test rows) (sym is) are }
+
+  -- what was found of two criteria stands side by side until it is joined
+  pub both-found : (how : Kept) (left right : Criterion) (lefts rights : Numbers)
+      → AreNumbersOf (is_match left) rows (numbers_of lefts) → AreNumbersOf (is_match right) rows (numbers_of rights)
+      → WillBeNumbersOf (is_match (joined_by how left right)) rows (Two how lefts rights None)
+  both-found how left right lefts rights one other = record {
+    ready = (one.ascending, other.ascending, tt);
+    joined = λ both joined. joined-numbers how left right rows (numbers_of lefts) (numbers_of rights) both one other joined;
+  }
+
+  -- and what was found of the left one stays where nothing of the right one, whatever it is, changes it
+  pub left-found : (how : Kept) (left right : Criterion) (lefts : Numbers) → AreNumbersOf (is_match left) rows (numbers_of lefts)
+      → ((list : List ℕ) → IsJoin how (numbers_of lefts) list (numbers_of lefts))
+      → WillBeNumbersOf (is_match (joined_by how left right)) rows (One lefts)
+  left-found how left right lefts one stays =
+      let others = numbers-there (is_match right) rows in
+      one-list (is_match (joined_by how left right)) lefts (joined-numbers how left right rows
+      (numbers_of lefts) others.0 (numbers_of lefts) one others.1 (stays others.0))
 
   -- the leftmost operand was looked up
   pub first-found : (whole left : Criterion) (waiting : List Right) (unjoined found : Unjoined) (start middle after : ℕ)
@@ -101,15 +120,10 @@ module _ (rows : List Write) where
         → AreNumbersOf (is_match (criterion_of one.operand.now)) rows (numbers_of right)
         → IsFoundSoFar whole popped (Two one.how left right None) (after - start)
     right-found left right is are =
-        let lefts = far.found.joined (numbers_of left) is in
         record {
           left = joined_by one.how far.left (criterion_of one.operand.now);
           is_whole = back;
-          found = record {
-            ready = (lefts.ascending, are.ascending, tt);
-            joined = λ both joined. joined-numbers one.how far.left (criterion_of one.operand.now) rows
-                (numbers_of left) (numbers_of right) both lefts are joined;
-          };
+          found = both-found one.how far.left (criterion_of one.operand.now) left right (far.found.joined (numbers_of left) is) are;
           bound = joined-steps;
         }
 
@@ -120,14 +134,10 @@ module _ (rows : List Write) where
     pub left-stays : (left : Numbers) → IsJoined unjoined (numbers_of left)
         → ((right : List ℕ) → IsJoin one.how (numbers_of left) right (numbers_of left)) → IsFoundSoFar whole popped (One left) (after - start)
     left-stays left is stays =
-        let lefts = far.found.joined (numbers_of left) is in
-        let others = numbers-there (is_match (criterion_of one.operand.now)) rows in
-        let criterion = joined_by one.how far.left (criterion_of one.operand.now) in
         record {
-          left = criterion;
+          left = joined_by one.how far.left (criterion_of one.operand.now);
           is_whole = back;
-          found = one-list (is_match criterion) left (joined-numbers one.how far.left (criterion_of one.operand.now) rows
-              (numbers_of left) others.0 (numbers_of left) lefts others.1 (stays others.0));
+          found = left-found one.how far.left (criterion_of one.operand.now) left (far.found.joined (numbers_of left) is) stays;
           bound = joined-steps;
         }
 

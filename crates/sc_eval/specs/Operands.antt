@@ -3,6 +3,7 @@ use Rattle.std.specs.Prelude.{List, [], ◌∷◌}
 use Rattle.sc_segment.specs.declared.joining.Kept.{Kept}
 use Rattle.sc_segment.specs.declared.joining.Kept.TheVariants.{Both, Either, LeftAlone}
 use Rattle.sc_eval.specs.Criteria.{Criterion, criterion_of}
+use Rattle.sc_eval.specs.declared.operand.Pair.{Pair}
 use Rattle.sc_eval.specs.declared.operand.Right.{Right}
 use Rattle.sc_eval.specs.declared.operand.Operand.{Operand}
 use Rattle.sc_eval.specs.declared.operand.Operand.TheVariants as operands
@@ -12,6 +13,10 @@ abbrev pub joined_by : Kept → Criterion → Criterion → Criterion
 joined_by Both left right = Criterion.And left right
 joined_by Either left right = Criterion.Or left right
 joined_by LeftAlone left right = Criterion.And left (Criterion.Not right)
+
+-- the criterion that two terms are, joined
+abbrev pub pair_criterion : Pair → Criterion
+pair_criterion pair = joined_by pair.how (Criterion.Leaf pair.left.now.term) (Criterion.Leaf pair.right.now.term)
 
 -- the criterion that an operand is
 abbrev pub operand_criterion : Operand → Criterion

@@ -6,12 +6,13 @@ ghost use Rattle.sc_journal.specs.Legal.{HasTerms};
 ghost use Rattle.std.specs.List.Sorted.{IsStrictlyIncreasing};
 ghost use Rattle.sc_segment.specs.Joining.{IsJoin};
 ghost use Rattle.sc_eval.specs.Criteria.{Criterion, criterion_of};
+ghost use Rattle.sc_eval.specs.Operands.{pair_criterion};
 ghost use Rattle.sc_eval.specs.Numbers.{numbers_of, is_match, AreNumbersOf, AreStepsOfLeaves};
 ghost use Rattle.sc_eval.specs.Unjoined.{WillBeNumbersOf};
 
 use crate::bound::Bound;
 use crate::numbers::Numbers;
-use crate::operand::{Operand, Right, first_operand};
+use crate::operand::{Operand, Pair, Right, first_operand, pair_of_terms};
 use crate::unjoined::Unjoined;
 use sc_segment::{Kept, Steps};
 use sc_snapshot::{Snapshot, TermKey};
@@ -35,8 +36,53 @@ pub(crate) fn matching<'a, L: Ledger>(
     unjoined(alloc, query, snapshot, steps)?.joined(alloc)
 }
 
-/// The numbers of the live rows that match the query, looked up as by `matching`, where the outermost join is not made yet.
+/// The numbers of the live rows that match the query, looked up as by `matching`, where the outermost join is not made yet. A query that
+/// joins two terms waits for nothing else, and takes no memory.
 pub(crate) fn unjoined<'a, L: Ledger>(
+    alloc: Global,
+    query: &Bound,
+    snapshot: &'a Snapshot,
+    steps: &mut Steps<L>,
+) -> Result<Unjoined<'a>, AllocError>
+    requires { All (λ (row : Write). HasTerms row.id row.doc row.terms) snapshot.now.rows }
+    ensures numbers { IfOk result (WillBeNumbersOf (is_match (criterion_of query.now)) snapshot.now.rows) }
+    ensures counted { steps.old ≤ steps.new }
+    ensures bound { AreStepsOfLeaves (criterion_of query.now) snapshot.now.rows (steps.new - steps.old) }
+{
+    match pair_of_terms(query) {
+        Some(pair) => Ok(unjoined_pair(pair, snapshot, steps)),
+        None => unjoined_operands(alloc, query, snapshot, steps),
+    }
+}
+
+// The numbers of the live rows that match two terms, which are not joined yet. Where nothing is found to the left of an AND, the right one
+// is not looked up.
+fn unjoined_pair<'a, L: Ledger>(
+    pair: Pair<'_>,
+    snapshot: &'a Snapshot,
+    steps: &mut Steps<L>,
+) -> Unjoined<'a>
+    requires { All (λ (row : Write). HasTerms row.id row.doc row.terms) snapshot.now.rows }
+    ensures numbers { WillBeNumbersOf (is_match (pair_criterion pair.entry)) snapshot.now.rows result }
+    ensures counted { steps.old ≤ steps.new }
+    ensures bound { AreStepsOfLeaves (pair_criterion pair.entry) snapshot.now.rows (steps.new - steps.old) }
+{
+    let left = numbers_with(pair.left, snapshot, steps);
+    if stays_empty(pair.how, &left) {
+        return Unjoined::One(left);
+    }
+    let right = numbers_with(pair.right, snapshot, steps);
+    Unjoined::Two {
+        how: pair.how,
+        left,
+        right,
+        end: None,
+    }
+}
+
+// The numbers of the live rows that match any query: what stands leftmost is looked up, and then what waits to the right of it.
+#[inline(never)]
+fn unjoined_operands<'a, L: Ledger>(
     alloc: Global,
     query: &Bound,
     snapshot: &'a Snapshot,
@@ -52,7 +98,7 @@ pub(crate) fn unjoined<'a, L: Ledger>(
         Operand::All => Unjoined::One(Numbers::Lent(snapshot.live())),
         Operand::Leaf(key) => Unjoined::One(numbers_with(key, snapshot, steps)),
         Operand::Not(operand) => {
-            let left_out = unjoined(alloc, operand, snapshot, steps)?.joined(alloc)?;
+            let left_out = unjoined_operands(alloc, operand, snapshot, steps)?.joined(alloc)?;
             all_but(snapshot, left_out)
         }
     };
@@ -61,7 +107,7 @@ pub(crate) fn unjoined<'a, L: Ledger>(
         found = if stays_empty(how, &left) {
             Unjoined::One(left)
         } else {
-            let right = unjoined(alloc, operand, snapshot, steps)?.joined(alloc)?;
+            let right = unjoined_operands(alloc, operand, snapshot, steps)?.joined(alloc)?;
             Unjoined::Two {
                 how,
                 left,

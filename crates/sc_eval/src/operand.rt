@@ -1,9 +1,9 @@
 //! A bound query is gone through from left to right, as it was bound: what is to the right of the operand that is looked up
-//! stands in a vector, so that a long row of AND and OR takes no stack.
+//! stands in a vector, so that a long row of AND and OR takes no stack. A query that joins two terms is known without a vector.
 
-ghost use Rattle.std.specs.Prelude.{◌≡◌, [], IfOk};
+ghost use Rattle.std.specs.Prelude.{◌≡◌, [], IfOk, IfSome};
 ghost use Rattle.sc_eval.specs.Criteria.{Criterion, criterion_of};
-ghost use Rattle.sc_eval.specs.Operands.{criterion_with, operand_criterion, joined_by};
+ghost use Rattle.sc_eval.specs.Operands.{criterion_with, operand_criterion, pair_criterion, joined_by};
 
 use crate::bound::Bound;
 use sc_segment::Kept;
@@ -23,6 +23,45 @@ pub(crate) enum Operand<'a> {
     All,
     Leaf(&'a TermKey),
     Not(&'a Bound),
+}
+
+/// Two terms that a query joins, and which rows of both are kept.
+#[derive(Clone, Copy)]
+pub(crate) struct Pair<'a> {
+    pub(crate) how: Kept,
+    pub(crate) left: &'a TermKey,
+    pub(crate) right: &'a TermKey,
+}
+
+/// The two terms that a query joins, where it asks no more.
+pub(crate) fn pair_of_terms(query: &Bound) -> Option<Pair<'_>>
+    ensures { IfSome result (λ pair. criterion_of query.now ≡ pair_criterion pair) }
+{
+    match query {
+        Bound::And(left, right) => both_terms(left, joined_by_and(right)),
+        Bound::Or(left, right) => both_terms(
+            left,
+            Right {
+                how: Kept::Either,
+                operand: right,
+            },
+        ),
+        _ => None,
+    }
+}
+
+// The terms of two operands, where both are terms.
+fn both_terms<'a>(left: &'a Bound, right: Right<'a>) -> Option<Pair<'a>>
+    ensures { IfSome result (λ pair. joined_by right.entry.how (criterion_of left.now) (criterion_of right.entry.operand.now) ≡ pair_criterion pair) }
+{
+    match (left, right.operand) {
+        (Bound::Leaf(one), Bound::Leaf(other)) => Some(Pair {
+            how: right.how,
+            left: one,
+            right: other,
+        }),
+        _ => None,
+    }
 }
 
 /// The operand that stands leftmost in a query. What is to the right of it waits, the innermost last.

@@ -3,10 +3,10 @@ use Rattle.std.proofs.Common.{◌-◌, ◌≤◌, vec_len}
 use Rattle.sc_eval.specs.Criteria.{criterion_of}
 use Rattle.sc_eval.proofs.OperandLemmas.{size}
 use Rattle.sc_eval.proofs.StepLemmas.{IsFoundSoFar}
-use Rattle.sc_eval.proofs.matching.+unjoined.Given as goal
+use Rattle.sc_eval.proofs.matching.+unjoined_operands.Given as goal
 
-abbrev pub decreases-unjoined : goal.decreases-unjoined
-decreases-unjoined g l = size (criterion_of l.query.now)
+abbrev pub decreases-unjoined_operands : goal.decreases-unjoined_operands
+decreases-unjoined_operands g l = size (criterion_of l.query.now)
 
 abbrev pub invariant-loop-how : goal.invariant-loop-how
 invariant-loop-how g l = record {

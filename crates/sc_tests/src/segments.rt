@@ -6,7 +6,7 @@ ghost use Rattle.sc_segment.specs.Fresh.{IsFresh};
 ghost use Rattle.std.proofs.lemmas.Cmp.{on_total, nat_cmp_total};
 ghost use native.Mathlib.Omega.{arith};
 
-use sc_segment::{Builder, Kept, Key, LiveBits, Segment, Steps, end_of, join, join_start};
+use sc_segment::{Builder, Kept, Key, LiveBits, Segment, Steps, ends_of, join, join_start};
 use std::alloc::{AllocError, Global};
 use std::cell::Cell;
 use std::cmp::Ordering;
@@ -212,8 +212,9 @@ fn assert_start(
     count: usize,
     rows: &[u32],
 ) -> Result<(), AllocError> {
+    let left: &[u32] = &[1, 2, 5, 7, 9];
     let right: &[u32] = &[2, 3, 7, 10];
-    let start = join_start(alloc, how, &[1, 2, 5, 7, 9], right, end_of(right), 2)?;
+    let start = join_start(alloc, how, left, right, ends_of(left, right), 2)?;
     assert_eq!(rt; start.count, count);
     assert_eq!(rt; start.rows.as_slice(), rows);
     Ok(())
@@ -227,8 +228,9 @@ fn counts_and_begins_a_join(rt: HostRuntime) -> Result<(), Fail> {
     assert_start(&rt, alloc, Kept::LeftAlone, 3, &[1, 5])?;
 
     // Marks up to row 1,000 would take more words than both lists have rows.
+    let left: &[u32] = &[1, 1000];
     let right: &[u32] = &[1000];
-    let start = join_start(alloc, Kept::Both, &[1, 1000], right, end_of(right), 1)?;
+    let start = join_start(alloc, Kept::Both, left, right, ends_of(left, right), 1)?;
     assert_eq!(rt; start.count, 1);
     assert_eq!(rt; start.rows.as_slice(), [1000].as_slice());
     Ok(())

@@ -34,8 +34,8 @@ pub(crate) fn find_all<'a>(
     }
 }
 
-// What a query finds that joins lists. All terms are looked up before any outermost lists are joined, and the last rows of these lists are
-// read in a loop of their own: so the processor waits for several of them at once.
+// What a query finds that joins lists. All terms are looked up before any outermost lists are joined, and one row in each line of memory of
+// both lists is read in a loop of their own: so the processor waits for all of them at once.
 fn find_by_joins<'a>(
     alloc: Global,
     query: &Bound,

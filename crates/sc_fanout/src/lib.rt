@@ -3,11 +3,11 @@
 //!
 //! It depends on the clauses of any `Desk`, on `sc_eval` for what a query finds in one searcher's rows, on `sc_snapshot` for reading them
 //! and on `sc_segment` for the count of steps that both take. The layers above use the clause `searched` of `search`: exactly the documents
-//! that match in the journals' committed parts are found, each once. Where lists are joined, the terms are looked up with all searchers
-//! before the outermost ones are. What each searcher finds is counted, and only as many numbers of rows are kept as the page can show. The
-//! rows at these numbers, ascending by id, are lent, and the page is taken of them row by row, each time the least of the first rows that
-//! the searchers have left; only the documents of the page are shared. `search` waits for the threads of its parts and for nothing else;
-//! these wait for nothing.
+//! that match in the journals' committed parts are found, each once. Where lists are joined, the terms are looked up with all searchers,
+//! and the outermost lists are read, one row in each line of memory, before these are joined. What each searcher finds is counted, and only
+//! as many numbers of rows are kept as the page can show. The rows at these numbers, ascending by id, are lent, and the page is taken of
+//! them row by row, each time the least of the first rows that the searchers have left; only the documents of the page are shared. `search`
+//! waits for the threads of its parts and for nothing else; these wait for nothing.
 //!
 //! Proved: `search` over any desk: its page and its count are of exactly the documents that match in the committed parts of
 //! the journals at its stops, one for each bucket, each once and in order of id (`SearchesBuckets`, `ShowsFound`), in however many parts
@@ -20,8 +20,8 @@
 //! Tested alone: the worked searches, each in one part.
 //!
 //! Neither: speed; that parts run beside each other; that each bucket is held once, that rows are read after the holds, that terms are looked
-//! up before the outermost lists are joined, that no row is read to be shown where the page is empty, that of a searcher of which none comes
-//! in only the first is read, and that no more is kept than the page can show, holds by construction.
+//! up and the outermost lists read before these are joined, that no row is read to be shown where the page is empty, that of a searcher of
+//! which none comes in only the first is read, and that no more is kept than the page can show, holds by construction.
 #![tactic(auto)]
 
 // What a search asks for and answers.

@@ -7,4 +7,5 @@ pub mod Postings
 pub mod Ids
 pub mod Surveying
 pub mod Change
+pub mod Making
 pub mod Laws

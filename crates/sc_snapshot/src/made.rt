@@ -1,7 +1,8 @@
-ghost use Rattle.std.specs.Prelude.{◌≡◌, ◌^◌, ◌≤◌, length, IfOk};
+ghost use Rattle.std.specs.Prelude.{◌≡◌, ◌^◌, ◌≤◌, [], length, IfOk, OnOk};
 ghost use Rattle.std.specs.List.{list_all};
 ghost use Rattle.sc_snapshot.specs.Change.{IsChange};
 ghost use Rattle.sc_snapshot.specs.Edits.{edited, put_in, AreInOrder};
+ghost use Rattle.sc_snapshot.specs.Making.{IsBegun, IsTold};
 ghost use Rattle.sc_snapshot.specs.Postings.{has_id_alone, IsSurvey};
 ghost use Rattle.sc_snapshot.specs.Rows.{AreRows};
 ghost use Rattle.sc_snapshot.specs.declared.edits.Edit.{Edit};
@@ -48,27 +49,92 @@ impl Made {
         ensures alone { IfOk result (λ made. made.change.alone ≡ list_all (λ (edit : Edit). has_id_alone (put_in edit)) edits.now) }
         ensures survey { IfOk result (λ made. IsSurvey (edited old.now 0 edits.now) made.survey) }
     {
-        let mut cutting = Cutting::new(alloc);
+        let mut told = Told::begin(alloc, old, last, edits)?;
+        let rows = told.put_in(alloc, old, last, edits)?;
+        let Told { change, survey } = told;
+        Ok(Made {
+            rows,
+            change,
+            survey,
+        })
+    }
+}
+
+/// What is told of rows while edits are put in.
+#[derive(Drop)]
+pub(crate) struct Told {
+    /// What becomes of the old rows.
+    pub(crate) change: Change,
+    /// The survey of the new rows.
+    pub(crate) survey: Survey,
+}
+
+impl Told {
+    // No edit is told yet.
+    fn begin(alloc: Global, old: &Pieces, last: &Survey, edits: &[Edit]) -> Result<Told, AllocError>
+        requires in_order { AreInOrder (length old.now) 0 edits.now }
+        requires old { length old.now ≤ 2 ^ 24 }
+        requires new { length (edited old.now 0 edits.now) ≤ 2 ^ 24 }
+        ensures { IfOk result (IsBegun old.now last.now edits.now) }
+    {
         let tells_lost = edits.len() <= old.len() / ROWS_OF_AN_EDIT;
-        let mut change = Change::begin(alloc, old.len(), tells_lost)?;
-        let mut survey = Survey::after(alloc, last, rows_after(old, edits))?;
+        let survey = Survey::after(alloc, last, rows_after(old, edits))?;
+        let change = Change::begin(alloc, old.len(), tells_lost)?;
+        Ok(Told { change, survey })
+    }
+
+    // Tells all edits, and gives the new rows.
+    fn put_in(
+        &mut self,
+        alloc: Global,
+        old: &Pieces,
+        last: &Survey,
+        edits: &[Edit],
+    ) -> Result<Pieces, AllocError>
+        requires survey { IsSurvey old.now last.now }
+        requires old { AreRows old.now }
+        requires in_order { AreInOrder (length old.now) 0 edits.now }
+        requires new { length (edited old.now 0 edits.now) ≤ 2 ^ 24 }
+        requires begun { IsBegun old.now last.now edits.now self.old }
+        ensures rows { IfOk result (λ rows. rows ≡ edited old.now 0 edits.now) }
+        ensures told { OnOk result (IsTold old.now edits.now self.new) }
+    {
+        let mut cutting = Cutting::new(alloc);
+        self.put_all(&mut cutting, old, last, edits)?;
+        cutting.finish()
+    }
+
+    // Tells all edits, and puts the new rows at the end of none.
+    fn put_all(
+        &mut self,
+        cutting: &mut Cutting,
+        old: &Pieces,
+        last: &Survey,
+        edits: &[Edit],
+    ) -> Result<(), AllocError>
+        requires survey { IsSurvey old.now last.now }
+        requires old { AreRows old.now }
+        requires in_order { AreInOrder (length old.now) 0 edits.now }
+        requires new { length (edited old.now 0 edits.now) ≤ 2 ^ 24 }
+        requires begun { IsBegun old.now last.now edits.now self.old }
+        requires none { cutting.old ≡ [] }
+        ensures rows { OnOk result (cutting.new ≡ edited old.now 0 edits.now) }
+        ensures told { OnOk result (IsTold old.now edits.now self.new) }
+    {
         let mut from = 0;
         let mut number = 0;
         for edit in edits {
             cutting.put(old, from, edit)?;
-            change.put(old, from, number, edit)?;
-            survey.put(last, from, number, edit)?;
+            self.change.put(old, from, number, edit)?;
+            self.survey.put(last, from, number, edit)?;
             number = number + (edit.at - from) + 1;
             from = edit.next();
         }
         cutting.copy(old, from, old.len(), true)?;
-        change.keep_all(from, old.len(), number)?;
-        survey.keep_all(&last.live_bits, from, old.len(), number)?;
-        Ok(Made {
-            rows: cutting.finish()?,
-            change,
-            survey,
-        })
+        self.change.keep_all(from, old.len(), number)?;
+        self.survey
+            .keep_all(&last.live_bits, from, old.len(), number)?;
+        Ok(())
     }
 }
 

@@ -17,23 +17,21 @@ use Rattle.sc_snapshot.proofs.LoopLemmas.{one-more}
 use Rattle.sc_snapshot.proofs.PlaceLemmas.{each-append}
 use Rattle.sc_snapshot.proofs.MadeLemmas.{edit-within, edit-next, bits-size}
 use Rattle.sc_snapshot.proofs.SurveyLemmas.{surveyed-all, wider, same-bounds, bounds-on, each-from_all}
-use Rattle.sc_snapshot.proofs.made.Made.of.Goals as goal
+use Rattle.sc_snapshot.proofs.made.Told.put_all.Goals as goal
 
 pub loop-edit-init : goal.loop-edit-init
 loop-edit-init c =
     let old = c.args.old.now in
     let edits = c.args.edits.now in
-    let new = edited old 0 edits in
-    let begun = c.in_ok-survey.ensures in
-    let rows = c.rows_after.ensures in
+    let begun = c.requires.begun in
     record {
       rest = rest-init old edits c.requires.in_order;
-      rows = ap (λ (ws : List Write). ws ++ new) c.new-cutting.ensures;
-      change = c.in_ok-change.ensures.change old new;
-      alone = c.in_ok-change.ensures.alone;
-      surveyed = begun.surveyed new (sym rows);
-      size = begun.size ∙ rows;
-      bounds = begun.hashes;
+      rows = ap (λ (ws : List Write). ws ++ edited old 0 edits) c.requires.none;
+      change = begun.change;
+      alone = begun.alone;
+      surveyed = begun.surveyed;
+      size = begun.size;
+      bounds = begun.bounds;
       hashes = tt;
     }
 
@@ -72,7 +70,7 @@ put-requires-in-loop-edit-clause-next c =
     c.loop-edit.invariant.rest
 
 pub put-requires-in-loop-edit-clause-last_lost : goal.put-requires-in-loop-edit-clause-last_lost
-put-requires-in-loop-edit-clause-last_lost c = IfSome_then c.loop-edit.change.lost c.loop-edit.invariant.change.lost (λ lost loses. loses.last_row)
+put-requires-in-loop-edit-clause-last_lost c = IfSome_then c.loop-edit.self.change.lost c.loop-edit.invariant.change.lost (λ lost loses. loses.last_row)
 
 pub put-requires-in-loop-edit-clause-number : goal.put-requires-in-loop-edit-clause-number
 put-requires-in-loop-edit-clause-number c =
@@ -142,7 +140,7 @@ keep_all-requires-clause-number c =
     let rest = rest-end old new c.loop-edit.from c.loop-edit.number all c.loop-edit.edit-index c.loop-edit-test.false i.rest in
     let whole = last-size old new c.loop-edit.from c.loop-edit.number rest in
     let bound = c.requires.new in
-    omega (arith, whole, bound, c.len-4.ensures)
+    omega (arith, whole, bound, c.len-2.ensures)
 
 pub keep_all-requires-2-clause-number : goal.keep_all-requires-2-clause-number
 keep_all-requires-2-clause-number c =
@@ -152,7 +150,7 @@ keep_all-requires-2-clause-number c =
     let i = c.loop-edit.invariant in
     let rest = rest-end old new c.loop-edit.from c.loop-edit.number all c.loop-edit.edit-index c.loop-edit-test.false i.rest in
     let whole = last-size old new c.loop-edit.from c.loop-edit.number rest in
-    omega (arith, whole, i.size, c.len-5.ensures)
+    omega (arith, whole, i.size, c.len-3.ensures)
 
 pub loop-edit-preserved : goal.loop-edit-preserved
 loop-edit-preserved c =
@@ -173,7 +171,7 @@ loop-edit-preserved c =
     let cut = c.in_ok-put.ensures in
     let told = c.in_ok-put-2.ensures in
     let marked = c.in_ok-put-3.ensures in
-    let before = c.loop-edit.survey in
+    let before = c.loop-edit.self.survey in
     let now = c.put-in-loop-edit-2.new.self in
     record {
       rest = subst (λ n. IsRest old new n (number + (edit.at - from) + 1) edits) (sym c.next-from.ensures) (rest-next old new from number edit edits rest);
@@ -193,28 +191,8 @@ loop-edit-preserved c =
           (wider before now (map put_in (take index all)) marked.bounds i.hashes) (marked.hash, tt));
     }
 
-pub returns-clause-change : goal.returns-clause-change
-returns-clause-change c =
-    let old = c.args.old.now in
-    let all = c.args.edits.now in
-    let new = edited old 0 all in
-    let from = c.loop-edit.from in
-    let number = c.loop-edit.number in
-    let i = c.loop-edit.invariant in
-    let rest = rest-end old new from number all c.loop-edit.edit-index c.loop-edit-test.false i.rest in
-    let size = c.len-4.ensures in
-    let kept = c.in_ok-keep_all.ensures.change old new i.change (let most : c.len-4.result ≤ length old = omega (arith, size) in most)
-    (λ k below. last-kept old new from number rest k (let few : k < length old - from = omega (arith, below, size) in few)) in
-    subst (λ n. IsChange old new (length old) n c.keep_all.new.self) (last-size old new from number rest)
-    (subst (λ n. IsChange old new n (number + (n - from)) c.keep_all.new.self) size kept)
-
-pub returns-clause-alone : goal.returns-clause-alone
-returns-clause-alone c =
-    c.in_ok-keep_all.ensures.alone ∙ c.loop-edit.invariant.alone
-    ∙ ap (list_all (λ (e : Edit). has_id_alone (put_in e))) (take_all c.loop-edit.edit-index c.args.edits.now c.loop-edit-test.false)
-
-pub returns-clause-survey : goal.returns-clause-survey
-returns-clause-survey c =
+pub returns-clause-told : goal.returns-clause-told
+returns-clause-told c =
     let old = c.args.old.now in
     let all = c.args.edits.now in
     let new = edited old 0 all in
@@ -224,16 +202,25 @@ returns-clause-survey c =
     let i = c.loop-edit.invariant in
     let rest = rest-end old new from number all c.loop-edit.edit-index c.loop-edit-test.false i.rest in
     let whole = last-size old new from number rest in
-    let size = c.len-5.ensures in
-    let kept = c.in_ok-keep_all-2.ensures in
-    let survey = c.keep_all-2.new.self in
-    let before = c.loop-edit.survey in
-    let told = kept.surveyed new old c.requires.survey.live_bits i.surveyed
-    (let few : number + (c.len-5.result - from) ≤ length new = omega (arith, whole, size) in few)
+    let size = c.len-2.ensures in
+    let kept = c.in_ok-keep_all.ensures.change old new i.change (let most : c.len-2.result ≤ length old = omega (arith, size) in most)
     (λ k below. last-kept old new from number rest k (let few : k < length old - from = omega (arith, below, size) in few)) in
-    let same = same-bounds before survey kept.least_hash kept.greatest_hash in
+    let bits = c.len-3.ensures in
+    let marked = c.in_ok-keep_all-2.ensures in
+    let survey = c.keep_all-2.new.self in
+    let before = c.loop-edit.self.survey in
+    let surveyed = marked.surveyed new old c.requires.survey.live_bits i.surveyed
+    (let few : number + (c.len-3.result - from) ≤ length new = omega (arith, whole, bits) in few)
+    (λ k below. last-kept old new from number rest k (let few : k < length old - from = omega (arith, below, bits) in few)) in
+    let same = same-bounds before survey marked.least_hash marked.greatest_hash in
     let changes = wider before survey (map put_in all) same
     (subst (λ (es : List Edit). AllByRecursion (BoundsHashOf before) (map put_in es)) (take_all c.loop-edit.edit-index all c.loop-edit-test.false) i.hashes) in
     let rows = wider last survey old (bounds-on last before survey i.bounds same) (each-from_all (BoundsHashOf last) old c.requires.survey.hashes) in
-    surveyed-all new (number + (c.len-5.result - from)) survey told (omega (arith, whole, size))
-    (All-from_recursion (BoundsHashOf survey) new (each-edited (BoundsHashOf survey) old 0 all c.requires.in_order rows changes))
+    record {
+      change = subst (λ n. IsChange old new (length old) n c.keep_all.new.self) whole
+          (subst (λ n. IsChange old new n (number + (n - from)) c.keep_all.new.self) size kept);
+      alone = c.in_ok-keep_all.ensures.alone ∙ i.alone
+          ∙ ap (list_all (λ (e : Edit). has_id_alone (put_in e))) (take_all c.loop-edit.edit-index all c.loop-edit-test.false);
+      survey = surveyed-all new (number + (c.len-3.result - from)) survey surveyed (omega (arith, whole, bits))
+          (All-from_recursion (BoundsHashOf survey) new (each-edited (BoundsHashOf survey) old 0 all c.requires.in_order rows changes));
+    }

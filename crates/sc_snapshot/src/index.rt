@@ -3,7 +3,7 @@ ghost use Rattle.std.specs.Arc.{arc_value};
 ghost use Rattle.std.specs.List.{list_all};
 ghost use Rattle.std.specs.List.Sorted.{IsStrictlyIncreasing};
 ghost use Rattle.sc_record.specs.declared.write.Write.{Write};
-ghost use Rattle.sc_segment.specs.Carrying.{KeepsOrder, OthersStay};
+ghost use Rattle.sc_segment.specs.Carrying.{IsCarried, KeepsOrder, OthersStay};
 ghost use Rattle.sc_segment.specs.Index.{IsIndexOf};
 ghost use Rattle.sc_segment.specs.Joining.{has_row};
 ghost use Rattle.sc_snapshot.specs.Change.{IsChange};
@@ -18,8 +18,9 @@ use crate::survey::Survey;
 use crate::term_key::TermKey;
 use crate::whole::{next_whole, whole_of, whole_of_part};
 use sc_record::Cell;
-use sc_segment::{Builder, Segment, Steps};
+use sc_segment::{Builder, Moved, Segment, Steps};
 use std::alloc::{AllocError, Global};
+use std::sync::Arc;
 use std::sync::ledger::Ledger;
 
 /// What a search needs in place of looking at each row: for each term the live rows that have it, which rows are live, and between
@@ -36,18 +37,20 @@ pub(crate) struct Index {
 
 impl Index {
     /// The index of these rows. Each row is looked at, and each of its other terms is filed. The only error is that memory was refused.
-    pub(crate) fn of(alloc: Global, rows: &[Cell]) -> Result<Index, AllocError>
+    pub(crate) fn of(alloc: Global, rows: &[Cell]) -> Result<Arc<Index>, AllocError>
         requires { AreRows (map arc_value rows.now) }
-        ensures { IfOk result (IsIndexed (map arc_value rows.now)) }
+        ensures { IfOk result (λ index. IsIndexed (map arc_value rows.now) (arc_value index)) }
     {
+        let survey = Survey::of(alloc, rows)?;
         let segment = segment_of(alloc, rows)?;
         let whole = whole_of(alloc, rows)?;
-        let survey = Survey::of(alloc, rows)?;
-        Ok(Index {
+        let index = Index {
             segment,
             whole,
             survey,
-        })
+        };
+        let shared = shared(alloc, index)?;
+        Ok(shared)
     }
 
     /// The index of the new rows, which this change makes of the old ones, from that of the old ones and from the survey of the new ones: no
@@ -59,22 +62,26 @@ impl Index {
         new: &Pieces,
         change: Change,
         survey: Survey,
-    ) -> Result<Index, AllocError>
+    ) -> Result<Arc<Index>, AllocError>
         requires order { KeepsOrder change.moved }
         requires others { IfSome change.lost (λ lost. OthersStay key_order change.moved self.now.segment lost.index) }
         requires new { AreRows new.now }
         requires survey { IsSurvey new.now survey }
         ensures { IfOk result (λ index. (old : List Write) → IsIndexed old self.now
             → IsChange old new.now (length old) (length new.now) change
-            → (change.alone ≡ true → list_all has_id_alone old ≡ true → list_all has_id_alone new.now ≡ true) → IsIndexed new.now index) }
+            → (change.alone ≡ true → list_all has_id_alone old ≡ true → list_all has_id_alone new.now ≡ true)
+            → IsIndexed new.now (arc_value index)) }
     {
-        let whole = next_whole(alloc, &self.whole, new, change.alone)?;
+        let alone = change.alone;
         let segment = carried_segment(alloc, &self.segment, change)?;
-        Ok(Index {
+        let whole = next_whole(alloc, &self.whole, new, alone)?;
+        let index = Index {
             segment,
             whole,
             survey,
-        })
+        };
+        let shared = shared(alloc, index)?;
+        Ok(shared)
     }
 
     /// The index of these rows, which this change makes of the old ones, from that of the old ones: no term is filed but those of the
@@ -84,23 +91,25 @@ impl Index {
         alloc: Global,
         change: Change,
         rows: &[Cell],
-    ) -> Result<Index, AllocError>
+    ) -> Result<Arc<Index>, AllocError>
         requires order { KeepsOrder change.moved }
         requires others { IfSome change.lost (λ lost. OthersStay key_order change.moved self.now.segment lost.index) }
         requires rows { AreRows (map arc_value rows.now) }
         ensures { IfOk result (λ index. (old : List Write) → IsIndexed old self.now
             → IsChange old (map arc_value rows.now) (length old) (length (map arc_value rows.now)) change
             → (list_all has_id_alone old ≡ true → list_all has_id_alone (map arc_value rows.now) ≡ true)
-            → IsIndexed (map arc_value rows.now) index) }
+            → IsIndexed (map arc_value rows.now) (arc_value index)) }
     {
         let segment = carried_segment(alloc, &self.segment, change)?;
-        let whole = whole_of_part(alloc, &self.whole, rows)?;
         let survey = Survey::of(alloc, rows)?;
-        Ok(Index {
+        let whole = whole_of_part(alloc, &self.whole, rows)?;
+        let index = Index {
             segment,
             whole,
             survey,
-        })
+        };
+        let shared = shared(alloc, index)?;
+        Ok(shared)
     }
 
     /// The numbers of the live rows that have the term. A step is one comparison of terms or of ids.
@@ -130,6 +139,14 @@ impl Index {
     }
 }
 
+// The index as snapshots share it.
+fn shared(alloc: Global, index: Index) -> Result<Arc<Index>, AllocError>
+    ensures { IfOk result (λ shared. arc_value shared ≡ index) }
+{
+    let shared = Arc::new(alloc, index)?;
+    Ok(shared)
+}
+
 // The live rows of each term but those of the field of ids.
 fn segment_of(alloc: Global, rows: &[Cell]) -> Result<Segment<TermKey>, AllocError>
     requires { AreRows (map arc_value rows.now) }
@@ -144,8 +161,7 @@ fn segment_of(alloc: Global, rows: &[Cell]) -> Result<Segment<TermKey>, AllocErr
     builder.finish()
 }
 
-// The same after the change, from those of the old rows. Where there are no old rows, nothing is carried over. Where what is lost is told,
-// the rows of each term that lost none are copied.
+// The same after the change, from those of the old rows. Where there are no old rows, nothing is carried over.
 fn carried_segment(
     alloc: Global,
     segment: &Segment<TermKey>,
@@ -168,8 +184,24 @@ fn carried_segment(
     if is_first {
         return Ok(added);
     }
+    carried_beside(alloc, segment, &moved, lost, &added)
+}
+
+// The old rows of each term under their new numbers, beside those that are added. Where what is lost is told, the rows of each term that lost
+// none are copied.
+fn carried_beside(
+    alloc: Global,
+    segment: &Segment<TermKey>,
+    moved: &Moved,
+    lost: Option<Builder<TermKey>>,
+    added: &Segment<TermKey>,
+) -> Result<Segment<TermKey>, AllocError>
+    requires order { KeepsOrder moved.now }
+    requires others { IfSome lost (λ lost. OthersStay key_order moved.now segment.now lost.index) }
+    ensures { IfOk result (IsCarried key_order moved.now segment.now added.now) }
+{
     match lost {
-        Some(lost) => segment.carried_in_place(alloc, &moved, &lost.finish()?, &added),
-        None => segment.carried(alloc, &moved, &added),
+        Some(lost) => segment.carried_in_place(alloc, moved, &lost.finish()?, added),
+        None => segment.carried(alloc, moved, added),
     }
 }

@@ -2,6 +2,7 @@ ghost use Rattle.std.specs.Prelude.{◌≡◌, length, map, slice_get, IfOk, opt
 ghost use Rattle.std.specs.Arc.{arc_value};
 ghost use Rattle.sc_snapshot.specs.Rows.{AreRows};
 
+use crate::cutting::pieces_of;
 use crate::pieces::Pieces;
 use sc_record::{Cell, List};
 use std::alloc::{AllocError, Global};
@@ -35,6 +36,19 @@ impl Rows {
     {
         let mut pieces = Pieces::new(alloc);
         pieces.push(Arc::new(alloc, cells)?)?;
+        Rows::from_pieces(alloc, place, pieces)
+    }
+
+    /// The same of cells that are cut into pieces.
+    pub(crate) fn from_cells(
+        alloc: Global,
+        place: u64,
+        cells: Vec<Cell>,
+    ) -> Result<Rows, AllocError>
+        requires { AreRows (map arc_value cells.items) }
+        ensures { IfOk result (λ rows. rows ≡ record { place = place; rows = map arc_value cells.items }) }
+    {
+        let pieces = pieces_of(alloc, cells)?;
         Rows::from_pieces(alloc, place, pieces)
     }
 

@@ -7,7 +7,6 @@ ghost use Rattle.sc_segment.specs.Joining.{has_row};
 ghost use Rattle.sc_snapshot.specs.Rows.{AreRows, AreChanged, is_within, lent};
 ghost use Rattle.sc_snapshot.specs.Postings.{has_term, term_count, is_live_at};
 
-use crate::cutting::pieces_of;
 use crate::edits::edits_of;
 use crate::index::Index;
 use crate::made::Made;
@@ -64,7 +63,7 @@ impl Snapshot {
         let index = Index::of(alloc, cells.as_slice())?;
         Ok(Snapshot {
             rows: Rows::from_list(alloc, place, cells)?,
-            index: Arc::new(alloc, index)?,
+            index,
         })
     }
 
@@ -107,7 +106,7 @@ impl Snapshot {
         let index = self.index.next(alloc, &rows, change, survey)?;
         Ok(Snapshot {
             rows: Rows::from_pieces(alloc, place, rows)?,
-            index: Arc::new(alloc, index)?,
+            index,
         })
     }
 
@@ -119,10 +118,9 @@ impl Snapshot {
     {
         let Part { cells, change } = Part::of(alloc, self.rows.pieces(), range)?;
         let index = self.index.carried(alloc, change, cells.as_slice())?;
-        let pieces = pieces_of(alloc, cells)?;
         Ok(Snapshot {
-            rows: Rows::from_pieces(alloc, self.rows.place(), pieces)?,
-            index: Arc::new(alloc, index)?,
+            rows: Rows::from_cells(alloc, self.rows.place(), cells)?,
+            index,
         })
     }
 

@@ -1,6 +1,6 @@
 -- There are no more rows than the pieces' and the cells.
-use Rattle.std.proofs.Common.{◌≡◌, ◌+◌, ◌<◌, List, ◌∷◌, ◌++◌, map, length, ap, arith, length-append}
-use Rattle.std.proofs.lemmas.List.{length-map}
+use Rattle.std.proofs.Common.{◌≡◌, ◌+◌, ◌<◌, List, [], ◌∷◌, ◌++◌, map, length, sym, ap, ◌∙◌, arith, append_assoc, length-append}
+use Rattle.std.proofs.lemmas.List.{length-map, map-append}
 use Rattle.sc_record.specs.declared.write.Write.{Write}
 use Rattle.std.specs.Arc.{arc_value}
 use Rattle.sc_snapshot.proofs.cutting.cut_many.Goals as goal
@@ -38,3 +38,18 @@ push_piece-requires c =
     let all = counted arc_value c.loop-cell.pieces c.args.pieces.now c.loop-cell.piece.items c.loop-cell.yielded c.loop-cell.cell-iterator.rest.items c.args.cells.items
     i.rows i.left in
     omega (arith, all, c.requires)
+
+pub loop-cell-preserved : goal.loop-cell-preserved
+loop-cell-preserved c =
+    let i = c.loop-cell.invariant in
+    let before = c.args.pieces.now in
+    let yielded = c.loop-cell.yielded in
+    let cell = c.in-Some.cell in
+    let rest = c.next.new.self.rest.items in
+    record {
+      rows = c.in_ok-fill.ensures
+          ∙ ap (λ (ws : List Write). ws ++ arc_value cell ∷ []) i.rows
+          ∙ append_assoc before (map arc_value yielded) (arc_value cell ∷ [])
+          ∙ ap (λ (ws : List Write). before ++ ws) (sym (map-append arc_value yielded (cell ∷ [])));
+      left = append_assoc yielded (cell ∷ []) rest ∙ ap (λ cells. yielded ++ cells) (sym (c.in-Some.ensures.steps).0) ∙ i.left;
+    }

@@ -32,8 +32,5 @@ of_carried change segment added result same = IfOk-weaker result
     (λ carried moves old new is terms. carried_terms old new (length old) (length new) change is segment carried refl terms
     (subst (λ (index : List (TermKey × List ℕ)). IsCarried key_order change.moved segment index carried) same moves))
 
-pub returns-in-Some : goal.returns-in-Some
-returns-in-Some c = of_carried c.args.change c.args.segment.now c.in_ok-added.added c.carried_in_place-in-Some.result c.in_ok-added.ensures c.carried_in_place-in-Some.ensures
-
 pub returns : goal.returns
-returns c = of_carried c.args.change c.args.segment.now c.in_ok-added.added c.carried.result c.in_ok-added.ensures c.carried.ensures
+returns c = of_carried c.args.change c.args.segment.now c.in_ok-added.added c.carried_beside.result c.in_ok-added.ensures c.carried_beside.ensures

@@ -1,5 +1,6 @@
 -- The rows after the edits are those after the changes, and the index is theirs.
 use Rattle.std.proofs.Common.{◌≡◌, ◌≤◌, List, true, map, length, sym, ap, subst, ◌∙◌}
+use Rattle.std.specs.Arc.{arc_value}
 use Rattle.std.specs.List.{list_all}
 use Rattle.sc_record.specs.declared.write.Write.{Write}
 use Rattle.sc_snapshot.specs.Change.{IsChange}
@@ -84,5 +85,4 @@ invariant_of-result c =
     let after = c.in_ok-index.ensures old before told
     (λ alone rows. subst (λ (ws : List Write). list_all has_id_alone ws ≡ true) (sym made.rows)
     (alone-edited old edits in_order rows (sym made.alone ∙ alone))) in
-    subst (λ (index : Index). IsIndexed c.in_ok-from_pieces.field-0.rows index) (sym c.in_ok-new.ensures.ok)
-    (subst (λ (these : List Write). IsIndexed these c.in_ok-index.index) (sym (ap (λ (s : SnapshotState). s.rows) c.in_ok-from_pieces.ensures)) after)
+    subst (λ (these : List Write). IsIndexed these (arc_value c.in_ok-index.index)) (sym (ap (λ (s : SnapshotState). s.rows) c.in_ok-from_pieces.ensures)) after

@@ -1,6 +1,5 @@
 -- The rows of the range are rows, and the index that is carried over is theirs.
-use Rattle.std.proofs.Common.{◌≡◌, ℕ, List, true, filter, length, map, sym, ap, subst, ◌∙◌, arith}
-use Rattle.std.proofs.lemmas.List.{length-map}
+use Rattle.std.proofs.Common.{◌≡◌, ℕ, List, true, filter, length, map, sym, ap, subst, ◌∙◌}
 use Rattle.std.specs.Arc.{arc_value}
 use Rattle.std.specs.List.{list_all}
 use Rattle.sc_record.specs.declared.write.Write.{Write}
@@ -34,28 +33,20 @@ carried-requires-clause-rows c =
     subst AreRows (sym (ap (map arc_value) c.as_slice.ensures.value ∙ c.in_ok-cells.ensures.cells))
     (rows-passing (is_within c.args.range.now) c.pieces.result.now all)
 
-pub pieces_of-requires : goal.pieces_of-requires
-pieces_of-requires c =
+pub from_cells-requires : goal.from_cells-requires
+from_cells-requires c =
     let all : AreRows c.pieces.result.now = subst AreRows (sym c.pieces.ensures.rows) c.pieces.ensures.are_rows in
-    let few = (rows-passing (is_within c.args.range.now) c.pieces.result.now all).bounded in
-    let size = length-map c.in_ok-cells.field-0.cells.items arc_value in
-    let same = ap (λ (rows : List Write). length rows) c.in_ok-cells.ensures.cells in
-    omega (arith, few, size, same)
-
-pub from_pieces-requires : goal.from_pieces-requires
-from_pieces-requires c =
-    let all : AreRows c.pieces.result.now = subst AreRows (sym c.pieces.ensures.rows) c.pieces.ensures.are_rows in
-    subst AreRows (sym (c.in_ok-pieces.ensures ∙ c.in_ok-cells.ensures.cells)) (rows-passing (is_within c.args.range.now) c.pieces.result.now all)
+    subst AreRows (sym c.in_ok-cells.ensures.cells) (rows-passing (is_within c.args.range.now) c.pieces.result.now all)
 
 pub returns : goal.returns
 returns c =
     let now = c.args.self.now in
     let test = is_within c.args.range.now in
     let same : c.pieces.result.now ≡ now.rows = c.pieces.ensures.rows ∙ ap (λ (s : SnapshotState). s.rows) c.self.view_is in
-    let rows = c.in_ok-pieces.ensures ∙ c.in_ok-cells.ensures.cells ∙ ap (filter test) same in
+    let rows = c.in_ok-cells.ensures.cells ∙ ap (filter test) same in
     let place : c.place.result ≡ now.place = c.place.ensures ∙ ap (λ (s : SnapshotState). s.place) c.self.view_is in
-    c.in_ok-from_pieces.ensures
-    ∙ ap (λ (n : ℕ). record { place = n; rows = c.in_ok-pieces.pieces }) place
+    c.in_ok-from_cells.ensures
+    ∙ ap (λ (n : ℕ). record { place = n; rows = map arc_value c.in_ok-cells.field-0.cells.items }) place
     ∙ ap (λ (these : List Write). record { place = now.place; rows = these }) rows
 
 pub invariant_of-result : goal.invariant_of-result
@@ -72,6 +63,5 @@ invariant_of-result c =
     subst (λ (rows : List Write). IsChange all rows (length all) (length rows) change) (sym some) c.in_ok-cells.ensures.change in
     let after = c.in_ok-index.ensures all before told
     (λ alone. subst (λ (rows : List Write). list_all has_id_alone rows ≡ true) (sym some) (alone-passing test all alone)) in
-    let rows = ap (λ (s : SnapshotState). s.rows) c.in_ok-from_pieces.ensures ∙ c.in_ok-pieces.ensures ∙ sym (ap (map arc_value) value) in
-    subst (λ (index : Index). IsIndexed c.in_ok-from_pieces.field-0.rows index) (sym c.in_ok-new.ensures.ok)
-    (subst (λ (these : List Write). IsIndexed these c.in_ok-index.index) (sym rows) after)
+    let rows = ap (λ (s : SnapshotState). s.rows) c.in_ok-from_cells.ensures ∙ sym (ap (map arc_value) value) in
+    subst (λ (these : List Write). IsIndexed these (arc_value c.in_ok-index.index)) (sym rows) after

@@ -1,12 +1,18 @@
 -- Of each run of writes with one id the last: where the ids do not descend, it is the last write of the id.
-use Rattle.std.proofs.Common.{◌≡◌, ◌∙◌, ℕ, suc, ◌-◌, Bool, true, false, cond, List, [], ◌∷◌, ◌++◌, length, filter, Some, None, ◌⊎◌, inl, inr, refl, sym, ap, subst, arith}
+use Rattle.std.proofs.Common.{◌≡◌, ◌∙◌, ℕ, suc, ◌+◌, ◌-◌, Bool, true, false, not, cond, List, [], ◌∷◌, ◌++◌, length, map, filter, take, Some, None, ◌⊎◌, inl, inr, refl, sym, ap, subst, arith}
 use Rattle.std.specs.Prelude.{slice_get}
+use Rattle.std.specs.Arc.{arc_value}
+use Rattle.std.specs.declared.alloc.Global.{Global}
+use Rattle.std.specs.declared.sync.Arc.{Arc}
+use Rattle.std.specs.Option.{option_map}
 use Rattle.std.specs.Cmp.Lexicographic.{slice_cmp, texts_ties}
-use Rattle.std.specs.List.{dedup_from}
+use Rattle.std.specs.List.{dedup_from, take-map}
 use Rattle.std.specs.List.Sorted.{IsStrictlySortedBy}
 use Rattle.std.specs.Ordering.{nat_cmp}
 use Rattle.std.specs.Str.{bytes_eq}
 use Rattle.std.proofs.lemmas.Cmp.{nat_list_cmp_total}
+use Rattle.std.proofs.lemmas.List.{append-nil}
+use Rattle.std.proofs.lemmas.Option.{slice_get-map}
 use Rattle.std.proofs.lemmas.List.Kept.{IsStrictlySortedBy-dedup}
 use Rattle.sc_record.specs.declared.write.Write.{Write}
 use Rattle.sc_record.specs.Writes.{is_of, write_of, AscendById}
@@ -16,11 +22,60 @@ use Rattle.sc_journal.specs.Journal.{last_of}
 use Rattle.sc_journal.proofs.ListLemmas.{last_of_cases}
 use Rattle.sc_journal.proofs.JournalLemmas.{id_from_is_of}
 use Rattle.sc_bucket.specs.Taking.{AreLastOf, IsSortedById}
+use Rattle.sc_bucket.proofs.FindLemmas.{filter_take-next}
+
+-- what those of the first cells that pass become with the next
+passing-one : (p : Write → Bool) (cells : List (Arc Write Global)) (at : ℕ) (cell : Arc Write Global) (found : List Write)
+    → slice_get cells at ≡ Some cell → found ≡ filter p (map arc_value (take at cells))
+    → found ++ filter p (arc_value cell ∷ []) ≡ filter p (map arc_value (take (at + 1) cells))
+passing-one p cells at cell found there so_far =
+    ap (λ (these : List Write). these ++ filter p (arc_value cell ∷ [])) so_far
+    ∙ ap (λ (these : List Write). filter p these ++ filter p (arc_value cell ∷ [])) (sym (take-map arc_value at cells))
+    ∙ filter_take-next p (map arc_value cells) at (arc_value cell) (slice_get-map arc_value cells at ∙ ap (option_map arc_value) there)
+    ∙ ap (filter p) (take-map arc_value (at + 1) cells)
+
+-- where it passes
+pub passing-next : (p : Write → Bool) (cells : List (Arc Write Global)) (at : ℕ) (cell : Arc Write Global) (found : List Write)
+    → slice_get cells at ≡ Some cell → p (arc_value cell) ≡ true → found ≡ filter p (map arc_value (take at cells))
+    → found ++ arc_value cell ∷ [] ≡ filter p (map arc_value (take (at + 1) cells))
+passing-next p cells at cell found there passes so_far =
+    let one : filter p (arc_value cell ∷ []) ≡ arc_value cell ∷ [] = rw passes refl in
+    ap (λ (these : List Write). found ++ these) (sym one) ∙ passing-one p cells at cell found there so_far
+
+-- and where it doesn't
+pub not_passing-next : (p : Write → Bool) (cells : List (Arc Write Global)) (at : ℕ) (cell : Arc Write Global) (found : List Write)
+    → slice_get cells at ≡ Some cell → p (arc_value cell) ≡ false → found ≡ filter p (map arc_value (take at cells))
+    → found ≡ filter p (map arc_value (take (at + 1) cells))
+not_passing-next p cells at cell found there fails so_far =
+    let none : filter p (arc_value cell ∷ []) ≡ [] = rw fails refl in
+    sym (append-nil found) ∙ ap (λ (these : List Write). found ++ these) (sym none) ∙ passing-one p cells at cell found there so_far
 
 -- of a write and of those that follow, the last of each run of one id
 abbrev pub last_of_runs : Write → List Write → List Write
 last_of_runs write [] = write ∷ []
 last_of_runs write (next ∷ rest) = cond (is_of write.id next) (last_of_runs next rest) (write ∷ last_of_runs next rest)
+
+-- two writes are not of one id, as their ids tell
+pub differs : (one other : Write) (is : Bool) (latest next : Write) → one ≡ next → other ≡ latest → is ≡ not (bytes_eq one.id other.id)
+    → is ≡ not (is_of latest.id next)
+differs one other is latest next one_is other_is tells =
+    tells ∙ ap (λ (w : Write). not (bytes_eq w.id other.id)) one_is ∙ ap (λ (w : Write). not (bytes_eq next.id w.id)) other_is
+
+-- where the next write is not of the id, the run ends
+pub runs-apart : (write next : Write) (rest : List Write) → not (is_of write.id next) ≡ true
+    → last_of_runs write (next ∷ rest) ≡ write ∷ last_of_runs next rest
+runs-apart write next rest apart = by (is_of write.id next) apart where
+  by : (b : Bool) → not b ≡ true → cond b (last_of_runs next rest) (write ∷ last_of_runs next rest) ≡ write ∷ last_of_runs next rest
+  by false is = refl
+  by true is = absurd (cc)
+
+-- and where it is, it goes on
+pub runs-same : (write next : Write) (rest : List Write) → not (is_of write.id next) ≡ false
+    → last_of_runs write (next ∷ rest) ≡ last_of_runs next rest
+runs-same write next rest same = by (is_of write.id next) same where
+  by : (b : Bool) → not b ≡ false → cond b (last_of_runs next rest) (write ∷ last_of_runs next rest) ≡ last_of_runs next rest
+  by true is = refl
+  by false is = absurd (cc)
 
 -- their ids are those of all, each run once
 ids-last_of_runs : (write : Write) (rest : List Write) → ids (last_of_runs write rest) ≡ dedup_from bytes_eq write.id (ids rest)

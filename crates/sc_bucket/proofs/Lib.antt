@@ -31,6 +31,7 @@ pub mod DeliverAllLemmas
 pub mod ArrivedLemmas
 pub mod FeedLemmas
 pub mod FindLemmas
+pub mod ChangedAtLemmas
 pub mod ReplicasLemmas
 pub mod ExchangeLemmas
 pub mod SpareLemmas

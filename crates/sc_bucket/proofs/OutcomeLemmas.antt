@@ -7,13 +7,11 @@ use Rattle.std.specs.declared.alloc.Global.{Global}
 use Rattle.std.proofs.Math.Path.{fun_ext}
 use Rattle.std.proofs.lemmas.Simd.{map-map}
 use Rattle.sc_record.specs.Versions.{found_version, version_after, shown_version, meets}
-use Rattle.sc_record.specs.Writes.{write_of}
 use Rattle.sc_record.specs.declared.slice.CoreId.{CoreId}
 use Rattle.sc_record.specs.declared.write.Write.{Write}
 use Rattle.sc_record.specs.declared.order.Order.{Order}
 use Rattle.sc_record.specs.declared.entry.Entry.{Entry}
 use Rattle.sc_record.specs.declared.entry.Entry.TheVariants as entry
-use Rattle.sc_router.specs.Route.{route_hash}
 use Rattle.sc_cluster.specs.declared.slice.Slice.{Slice}
 use Rattle.sc_cluster.proofs.ListLemmas.{filter-map}
 use Rattle.sc_replica.specs.Core.{Core, led}
@@ -36,23 +34,18 @@ use Rattle.sc_bucket.specs.Flight.{sent_to}
 use Rattle.sc_bucket.specs.Events.{AreSameCores, IsSameButRoom, Accepts, outcome_of}
 use Rattle.sc_bucket.specs.Room.{basis, BucketHasRoom}
 use Rattle.sc_bucket.specs.Sound.{IsSound}
-use Rattle.sc_bucket.proofs.SoundLemmas.{leader_reads}
 use Rattle.sc_bucket.proofs.CoreLemmas.{name_of}
 use Rattle.sc_bucket.proofs.SendLemmas.{takes}
 use Rattle.sc_bucket.proofs.AcceptLemmas.{sent_by}
 use Rattle.sc_bucket.proofs.PlaceLemmas.{some_at, same_core_at, IsLeaderAt-same_cores, AreSameCores-led}
 
--- Where the cell of the id was read from the core that leads its hash, and the order's condition was tested on it: the cell
--- is the last write of the id, and the condition is met or not as tested.
-pub condition_tested : (b : Bucket) (order : Order) (hash : ℤ) (at : ℕ) (core : Core) (last : Option Write) (condition version : ℤ)
-    (met : Bool) → IsSound b → hash ≡ route_hash order.id → IsLeaderAt b.map b.replicas hash at
-    → slice_get b.replicas at ≡ Some core → last ≡ write_of core.cells order.id → condition ≡ order.condition
-    → version ≡ found_version last → met ≡ meets condition version
-    → (last ≡ last_write b.journal.entries order.id) × (meets order.condition (found b.journal.entries order.id) ≡ met)
-condition_tested b order hash at core last condition version met sound hashed leader there read condition_is version_is tested =
-    let last_is : last ≡ last_write b.journal.entries order.id = read ∙ leader_reads b hash at core order.id sound leader there hashed in
-    let found_is : version ≡ found b.journal.entries order.id = version_is ∙ ap found_version last_is in
-    (last_is, ap (λ c. meets c (found b.journal.entries order.id)) (sym condition_is) ∙ ap (meets condition) (sym found_is) ∙ sym tested)
+-- Where an order's condition was tested on the last write of its id, it is met or not as tested.
+pub condition_tested : (journal : List Entry) (order : Order) (last : Option Write) (condition version : ℤ) (met : Bool)
+    → last ≡ last_write journal order.id → condition ≡ order.condition → version ≡ found_version last → met ≡ meets condition version
+    → meets order.condition (found journal order.id) ≡ met
+condition_tested journal order last condition version met last_is condition_is version_is tested =
+    let found_is : version ≡ found journal order.id = version_is ∙ ap found_version last_is in
+    ap (λ c. meets c (found journal order.id)) (sym condition_is) ∙ ap (meets condition) (sym found_is) ∙ sym tested
 
 -- an order whose change makes no document is refused by the name of the field, or since memory ran out
 pub partial_outcome : (basis : Basis) (before after : List Entry) (order : Order) (now : ℕ) (last : Option Write)

@@ -1,4 +1,4 @@
-ghost use Rattle.std.specs.Prelude.{◌≡◌, ◌<◌, ◌≤◌, ◌+◌, ◌<ℤ◌, Ok, Err, IfOk, IfErr, OnOk, OnErr, ◌++◌, ◌&&◌, not, length, map, filter, slice_get, Some, None, option_copied, false, All, Contains};
+ghost use Rattle.std.specs.Prelude.{◌≡◌, ℕ, ◌<◌, ◌≤◌, ◌+◌, ◌<ℤ◌, Ok, Err, IfOk, IfErr, OnOk, OnErr, ◌++◌, ◌&&◌, not, length, map, filter, slice_get, Some, None, option_copied, false, All, Contains};
 ghost use Rattle.std.specs.List.{AllZip, IsDistinct};
 ghost use Rattle.std.specs.Option.{option_map};
 ghost use Rattle.std.specs.Arc.{arc_value};
@@ -8,6 +8,7 @@ ghost use Rattle.sc_cluster.specs.Slices.{is_inactive};
 ghost use Rattle.sc_router.specs.Route.{route_hash};
 ghost use Rattle.sc_replica.specs.Core.{Core};
 ghost use Rattle.sc_partial.specs.Resolved.{IsRefusalOf, fields_of};
+ghost use Rattle.sc_journal.specs.Journal.{last_write};
 ghost use Rattle.sc_journal.specs.Legal.{HasTerms, MayWrite};
 ghost use Rattle.sc_journal.specs.Outcomes.{Makes, refused, IsWriteOf, IsFitting, IsOutcome, live_fields};
 ghost use Rattle.sc_record.specs.Names.{is_core};
@@ -137,21 +138,57 @@ impl Bucket {
     {
         let replica = self.replicas.get(leader);
         let last = replica.cell(&order.id);
+        let doc = self.document_for(alloc, order, last)?;
+        let (id, terms) = self.parts_for(alloc, order, &doc)?;
+        Ok(Write {
+            id,
+            hash,
+            version: next_version(now, replica.clock()),
+            terms,
+            doc,
+        })
+    }
+
+    // The document that the order makes of its id, whose last write this is, or why the order is refused, but for room.
+    fn document_for(
+        &self,
+        alloc: Global,
+        order: &Order,
+        last: Option<&Cell>,
+    ) -> Result<Option<Doc>, AcceptFault>
+        requires { option_map arc_value (option_copied last) ≡ last_write self.now.journal.entries order.now.id }
+        ensures fitting { OnOk result (IsFitting self.now.journal.entries order.now) }
+        ensures made { IfOk result (Makes (last_write self.now.journal.entries order.now.id) order.now.change) }
+        ensures refused { IfErr result (λ fault. (now : ℕ) → IsOutcome (basis self.now) self.now.journal.entries order.now now (outcome_of (Err fault)) self.now.journal.entries) }
+    {
         let found = found(last);
         if !meets(order.condition, found) {
             return Err(AcceptFault::Conflict { found });
         }
         let doc = document_after(alloc, last, &order.change)?;
+        Ok(doc)
+    }
+
+    // The id of the write that the order makes with this document, and what a search finds it by; the order fits.
+    fn parts_for(
+        &self,
+        alloc: Global,
+        order: &Order,
+        doc: &Option<Doc>,
+    ) -> Result<(Id, List<Term>), AcceptFault>
+        requires sound { IsSound self.now }
+        requires fitting { IsFitting self.now.journal.entries order.now }
+        ensures room { OnOk result (BucketHasRoom 2 self.now) }
+        ensures id { IfOk result (λ parts. parts.0 ≡ order.now.id) }
+        ensures terms { IfOk result (λ parts. HasTerms order.now.id doc.now parts.1) }
+        ensures refused { IfErr result (λ fault. (now : ℕ) → IsOutcome (basis self.now) self.now.journal.entries order.now now (outcome_of (Err fault)) self.now.journal.entries) }
+    {
         if self.limit < self.entries() + self.owed + 2 {
             return Err(AcceptFault::LogFull);
         }
-        Ok(Write {
-            id: order.id.clone_in(alloc)?,
-            hash,
-            version: next_version(now, replica.clock()),
-            terms: terms_for(alloc, &order.id, &doc)?,
-            doc,
-        })
+        let id = order.id.clone_in(alloc)?;
+        let terms = terms_for(alloc, &order.id, doc)?;
+        Ok((id, terms))
     }
 
     // The messages that send a write, which the core at this place leads, to each other core that takes it.

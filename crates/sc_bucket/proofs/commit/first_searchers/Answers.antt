@@ -1,8 +1,9 @@
 -- No cells may be rows, and each slice gets a searcher of none, as its leader has none.
-use Rattle.std.proofs.Common.{◌≡◌, ◌∙◌, ◌+◌, List, [], Global, refl, sym, ap, subst, take, All, Contains, map}
+use Rattle.std.proofs.Common.{◌≡◌, ◌∙◌, ◌+◌, List, [], Global, refl, sym, ap, subst, take, All, Contains, map, arith}
 use Rattle.std.specs.Arc.{arc_value}
 use Rattle.std.specs.declared.sync.Arc.{Arc}
 use Rattle.std.specs.Option.{option_copied}
+use Rattle.std.proofs.lemmas.List.{take_all}
 use Rattle.std.proofs.lemmas.List.Elements.{All-push, All-contains}
 use Rattle.sc_record.specs.declared.write.Write.{Write}
 use Rattle.sc_snapshot.specs.Rows.{AreRows}
@@ -10,7 +11,7 @@ use Rattle.sc_cluster.specs.declared.slice.Slice.{Slice}
 use Rattle.sc_cluster.specs.declared.slice.State.TheVariants as states
 use Rattle.sc_replica.specs.Core.{Core}
 use Rattle.sc_bucket.specs.Cores.{IsNewCore}
-use Rattle.sc_bucket.specs.Searchers.{AreOfEachSlice, AreLed, IsTaken}
+use Rattle.sc_bucket.specs.Searchers.{AreOfEachSlice, AreLed, AreTaken, IsTaken}
 use Rattle.sc_bucket.specs.declared.standing.Standing.{Standing}
 use Rattle.sc_bucket.proofs.SearcherLemmas.{no_rows}
 use Rattle.sc_bucket.proofs.TakenLemmas.{Contains-slice_get, AreOfEachSlice-active}
@@ -55,3 +56,13 @@ loop-at-preserved c =
           (taken_new slices cores slice searcher here active led new refl refl (c.in_ok-new.ensures.ok ∙ c.in_ok-from_list.ensures
           ∙ ap (λ (cells : List (Arc Write Global)). record { place = 0; rows = map arc_value cells }) c.new.ensures)));
     }
+
+pub returns : goal.returns
+returns c cores led new =
+    let slices = c.args.slices.now in
+    let items = c.loop-at.searchers.items in
+    subst (AreTaken slices cores 0) (sym (c.from_vec.ensures ∙ c.shrink_to_fit.ensures.items)) (record {
+      each_slice = subst (λ (these : List Slice). AreOfEachSlice these items)
+          (take_all c.loop-at.at slices (omega (arith, c.loop-at-test.false, c.len-at-end.ensures))) c.loop-at.invariant.each_slice;
+      taken = c.loop-at.invariant.taken cores led new;
+    })

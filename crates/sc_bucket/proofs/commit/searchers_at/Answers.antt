@@ -1,8 +1,10 @@
 -- Each active slice gets its searcher.
-use Rattle.std.proofs.Common.{◌∙◌, ◌+◌, Global, Vec, length, sym, ap, subst, take, All, arith}
+use Rattle.std.proofs.Common.{◌∙◌, ◌+◌, Global, Vec, List, length, sym, ap, subst, take, All, arith}
 use Rattle.std.specs.Option.{option_copied}
+use Rattle.std.proofs.lemmas.List.{take_all}
 use Rattle.std.proofs.lemmas.List.Elements.{All-push}
-use Rattle.sc_bucket.specs.Searchers.{AreOfEachSlice, IsTaken}
+use Rattle.sc_cluster.specs.declared.slice.Slice.{Slice}
+use Rattle.sc_bucket.specs.Searchers.{AreOfEachSlice, AreTaken, IsTaken}
 use Rattle.sc_bucket.specs.declared.standing.Standing.{Standing}
 use Rattle.sc_bucket.proofs.TakenLemmas.{Contains-slice_get, active_from_test, inactive_from_test, AreOfEachSlice-active, AreOfEachSlice-inactive, fewer-before_active}
 use Rattle.sc_bucket.proofs.commit.searchers_at.Goals as goal
@@ -54,3 +56,13 @@ loop-at-preserved c =
             taken = subst (All IsOne) (sym items) c.loop-at.invariant.taken;
           }
     ]
+
+pub returns : goal.returns
+returns c =
+    let b = c.args.bucket.now in
+    let items = c.loop-at.searchers.items in
+    subst (AreTaken b.map b.replicas (length b.journal.entries)) (sym c.from_vec.ensures) (record {
+      each_slice = subst (λ (slices : List Slice). AreOfEachSlice slices items)
+          (take_all c.loop-at.at b.map (omega (arith, c.loop-at-test.false, c.len-at-end.ensures))) c.loop-at.invariant.each_slice;
+      taken = c.loop-at.invariant.taken;
+    })

@@ -1,5 +1,6 @@
 -- One more core is the next replica of the slice.
-use Rattle.std.proofs.Common.{◌∙◌, All, map, sym, ap, subst, arith}
+use Rattle.std.proofs.Common.{◌∙◌, ◌++◌, ℕ, All, map, sym, ap, subst, arith}
+use Rattle.std.specs.List.{range_with_len}
 use Rattle.std.proofs.lemmas.Int.{ints}
 use Rattle.std.proofs.lemmas.List.Elements.{All-push}
 use Rattle.sc_replica.specs.Core.{Core}
@@ -31,3 +32,15 @@ loop-below-preserved c =
       counted = λ all. subst (All IsCounted) (sym c.in_ok-push.ensures.items)
           (All-push IsCounted c.loop-below.replicas.items core (c.loop-below.invariant.counted all) counted);
     }
+
+pub returns-clause-keys : goal.returns-clause-keys
+returns-clause-keys c =
+    c.loop-below.invariant.keys
+    ∙ ap (λ n. map core_key c.args.replicas.now.items ++ map (λ (replica : ℕ). (c.args.slice.now.id.0, replica)) (range_with_len 1 n))
+    (omega (arith, c.loop-below-test.false, c.loop-below.auto.below-end))
+
+pub returns-clause-new : goal.returns-clause-new
+returns-clause-new c = c.loop-below.invariant.new
+
+pub returns-clause-counted : goal.returns-clause-counted
+returns-clause-counted c = c.loop-below.invariant.counted

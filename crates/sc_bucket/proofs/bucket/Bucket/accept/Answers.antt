@@ -1,25 +1,30 @@
 -- The order is accepted, or it is refused and nothing but room has changed.
-use Rattle.std.proofs.Common.{◌≡◌, false, All, Contains, length, map, to_z, of_z, w32, w64, sym, ap, ◌∙◌, subst, arith}
+use Rattle.std.proofs.Common.{◌≡◌, false, All, Contains, List, length, map, to_z, of_z, w32, w64, sym, ap, ◌∙◌, subst, arith}
 use Rattle.std.specs.Arc.{arc_value}
 use Rattle.std.specs.List.{IsDistinct}
 use Rattle.std.proofs.lemmas.List.Elements.{All-weaker}
 use Rattle.std.proofs.lemmas.Int.{ints}
+use Rattle.std.proofs.lemmas.Result.{err_from_is_err_and}
 use Rattle.sc_record.specs.Versions.{version_after, shown_version}
 use Rattle.sc_record.specs.declared.write.Write.{Write}
+use Rattle.sc_record.specs.declared.entry.Entry.{Entry}
 use Rattle.sc_record.proofs.VersionLemmas.{version_after-above_clock}
 use Rattle.sc_replica.specs.Core.{Core}
+use Rattle.sc_journal.specs.Legal.{MayWrite}
 use Rattle.sc_journal.specs.Outcomes.{IsWriteOf}
 use Rattle.sc_bucket.specs.declared.message.Message.{Message}
 use Rattle.sc_record.specs.Names.{is_core}
 use Rattle.sc_bucket.specs.Cores.{followers, IsLeaderAt}
 use Rattle.sc_bucket.specs.Flight.{sent_of}
+use Rattle.sc_bucket.specs.Room.{basis}
+use Rattle.sc_bucket.specs.Accepting.{HasMemory}
 use Rattle.sc_bucket.proofs.CoreLemmas.{name_of, AreApart-from_ascending}
 use Rattle.sc_bucket.proofs.SendLemmas.{names-sent}
 use Rattle.sc_bucket.proofs.FollowerLemmas.{IsFollower, are_followers, follower_is_there, followers_apart}
 use Rattle.sc_bucket.proofs.AcceptLemmas.{bucket_has_map}
 use Rattle.sc_bucket.proofs.RoomLemmas.{BucketHasRoom-same}
 use Rattle.sc_bucket.proofs.PlaceLemmas.{length-same_cores, same_core_at, IsLeaderAt-same_cores}
-use Rattle.sc_bucket.proofs.OutcomeLemmas.{Accepts-put, accepted_outcome, sent_by-share, sent_by-same}
+use Rattle.sc_bucket.proofs.OutcomeLemmas.{memory_outcome, Accepts-put, accepted_outcome, sent_by-share, sent_by-same}
 use Rattle.sc_bucket.proofs.bucket.Bucket.accept.Goals as goal
 
 pub put_in-requires-clause-within : goal.put_in-requires-clause-within
@@ -138,3 +143,40 @@ returns-clause-outcome c =
     c.leader-leader.result (map sent_of c.in_ok-messages.messages.items) c.make_room.ensures.same c.put_in.ensures.put c.in_ok-write.ensures.fitting
     c.in_ok-write.ensures.room write version leader clocked sent in
     accepted_outcome c.args.self.now c.put_in.new.self c.args.order.now c.args.now (to_z w64 (of_z w64 c.shown.result)) accepts
+
+pub put_in-requires-clause-sound : goal.put_in-requires-clause-sound
+put_in-requires-clause-sound c = c.make_room.ensures.sound
+
+pub put_in-requires-clause-memory : goal.put_in-requires-clause-memory
+put_in-requires-clause-memory c =
+    subst (HasMemory c.make_room.new.self c.leader-leader.result) (ap (map sent_of) c.deref.ensures.value) c.in_ok-make_room.ensures.memory
+
+pub put_in-requires-clause-shares : goal.put_in-requires-clause-shares
+put_in-requires-clause-shares c = c.in_ok-entry.ensures.1 ∙ sym c.in_ok-entry.ensures.0
+
+pub put_in-requires-clause-next : goal.put_in-requires-clause-next
+put_in-requires-clause-next c =
+    subst (λ (journal : List Entry). MayWrite journal (arc_value c.in_ok-entry.entry)) (sym c.make_room.ensures.same.entries)
+    (subst (MayWrite c.args.self.now.journal.entries) (sym c.in_ok-entry.ensures.0) c.in_ok-write.ensures.next)
+
+pub returns-clause-sound : goal.returns-clause-sound
+returns-clause-sound c = c.put_in.ensures.sound
+
+pub returns-in_err-entry-clause-outcome : goal.returns-in_err-entry-clause-outcome
+returns-in_err-entry-clause-outcome c =
+    let b = c.args.self.now in
+    let p = err_from_is_err_and c.from_residual-in_err-entry.result c.from_residual-in_err-entry.ensures.1 in
+    rw p.1 (memory_outcome (basis b) b.journal.entries b.journal.entries c.args.order.now c.args.now p.0 c.in_ok-write.ensures.fitting.met p.2)
+
+pub returns-in_err-messages-clause-outcome : goal.returns-in_err-messages-clause-outcome
+returns-in_err-messages-clause-outcome c =
+    let b = c.args.self.now in
+    let p = err_from_is_err_and c.from_residual-in_err-messages.result c.from_residual-in_err-messages.ensures.1 in
+    rw p.1 (memory_outcome (basis b) b.journal.entries b.journal.entries c.args.order.now c.args.now p.0 c.in_ok-write.ensures.fitting.met p.2)
+
+pub returns-in_err-make_room-clause-outcome : goal.returns-in_err-make_room-clause-outcome
+returns-in_err-make_room-clause-outcome c =
+    let b = c.args.self.now in
+    let p = err_from_is_err_and c.from_residual-in_err-make_room.result c.from_residual-in_err-make_room.ensures.1 in
+    rw p.1 (memory_outcome (basis b) b.journal.entries c.make_room.new.self.journal.entries c.args.order.now c.args.now p.0
+    c.in_ok-write.ensures.fitting.met p.2)

@@ -1,11 +1,17 @@
 -- One more slice's cores get their messages, where the slice takes the write.
-use Rattle.std.proofs.Common.{◌≡◌, length, map, sym, ap, ◌∙◌, ℤ, Vec, Global, to_z, of_z, w32, arith}
+use Rattle.std.proofs.Common.{◌≡◌, length, map, List, sym, ap, ◌∙◌, ℤ, Vec, Global, to_z, of_z, w32, arith}
 use Rattle.std.specs.Arc.{arc_value}
 use Rattle.std.specs.Option.{option_copied}
 use Rattle.std.proofs.lemmas.Int.{ints}
+use Rattle.std.proofs.lemmas.List.{take_all}
+use Rattle.std.proofs.lemmas.Option.{same_Some}
+use Rattle.sc_record.specs.declared.slice.CoreId.{CoreId}
 use Rattle.sc_record.specs.declared.write.Write.{Write}
+use Rattle.sc_cluster.specs.declared.slice.Slice.{Slice}
+use Rattle.sc_replica.specs.Core.{Core}
 use Rattle.sc_bucket.specs.declared.message.Message.{Message}
-use Rattle.sc_bucket.specs.Flight.{sent_of}
+use Rattle.sc_bucket.specs.Cores.{followers}
+use Rattle.sc_bucket.specs.Flight.{sent_of, sent_to}
 use Rattle.sc_bucket.proofs.SendLemmas.{takes, followers-more, followers-same}
 use Rattle.sc_bucket.proofs.bucket.Bucket.messages_for.Goals as goal
 use Rattle.sc_bucket.proofs.bucket.Bucket.messages_for.Goals.{then-takes+in_ok-push_messages, else-takes}
@@ -28,3 +34,14 @@ loop-at-preserved c =
           c.core-leader.result c.loop-at.at slice (map sent_of c.if-takes.messages.items) there (same_test ∙ w.if-takes.false)
           (ap (λ (v : Vec Message Global). map sent_of v.items) w.messages-is ∙ c.loop-at.invariant)
     ]
+
+pub returns : goal.returns
+returns c core there =
+    let b = c.args.self.now in
+    let write = arc_value c.args.write.now in
+    let same : c.get.result.now ≡ core = same_Some c.get.result.now core (sym c.get.ensures ∙ there) in
+    c.loop-at.invariant
+    ∙ ap (λ (slices : List Slice). sent_to (length b.journal.entries) write (followers slices b.replicas write.hash c.core-leader.result))
+    (take_all c.loop-at.at b.map (omega (arith, c.loop-at-test.false, c.len-at-end.ensures)))
+    ∙ ap (λ (name : CoreId). sent_to (length b.journal.entries) write (followers b.map b.replicas write.hash name))
+    (c.core-leader.ensures.value ∙ ap (λ (one : Core). one.core) same)

@@ -1,7 +1,8 @@
 -- The write is put in, and the bucket is sound again.
-use Rattle.std.proofs.Common.{◌≡◌, ◌+◌, ◌-◌, ℕ, List, [], ◌∷◌, ◌++◌, length, map, set, Some, slice_get, refl, ap, ◌∙◌, arith}
+use Rattle.std.proofs.Common.{◌≡◌, ◌≤◌, ◌+◌, ◌-◌, ℕ, List, [], ◌∷◌, ◌++◌, length, map, set, Some, slice_get, refl, ap, subst, ◌∙◌, arith}
 use Rattle.std.specs.declared.sync.Arc.{Arc}
 use Rattle.std.specs.declared.alloc.Global.{Global}
+use Rattle.std.proofs.lemmas.List.{length-map}
 use Rattle.sc_record.specs.declared.write.Write.{Write}
 use Rattle.sc_record.specs.declared.entry.Entry.TheVariants as entry
 use Rattle.sc_replica.specs.Core.{Core, led}
@@ -56,3 +57,16 @@ returns-clause-sound c =
     c.args.entry c.args.leader messages put refl c.requires.next c.requires.room c.requires.memory c.requires.leader
     (c.requires.sent c.requires.leader.core c.requires.leader.found)
     (c.requires.above c.requires.leader.core c.requires.leader.found) c.requires.sound
+
+pub append-requires : goal.append-requires
+append-requires c = c.requires.memory.unsettled
+
+pub append-requires-2 : goal.append-requires-2
+append-requires-2 c = omega (arith, c.requires.memory.journal)
+
+pub append-requires-3 : goal.append-requires-3
+append-requires-3 c =
+    subst (λ n. n ≤ c.args.self.now.flight.room) (length-map c.args.messages.items sent_of) c.requires.memory.flight
+
+pub lead-requires-clause-room : goal.lead-requires-clause-room
+lead-requires-clause-room c core there = omega (arith, c.requires.memory.one_more core there)

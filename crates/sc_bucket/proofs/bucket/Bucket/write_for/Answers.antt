@@ -1,64 +1,22 @@
 -- The write of an order, or why there is none.
-use Rattle.std.proofs.Common.{◌≡◌, ◌<ℤ◌, pos, Option, to_z, of_z, w32, w64, sym, ap, ◌∙◌, subst, arith}
+use Rattle.std.proofs.Common.{◌≡◌, ◌<ℤ◌, pos, to_z, of_z, w32, w64, sym, ap, ◌∙◌, subst, arith}
 use Rattle.std.proofs.lemmas.Int.{ints}
 use Rattle.std.proofs.lemmas.Option.{same_Some}
-use Rattle.std.proofs.lemmas.Result.{err_from_is_err_and}
-use Rattle.sc_record.specs.Versions.{found_version, version_after}
+use Rattle.sc_record.specs.Versions.{version_after}
 use Rattle.sc_record.specs.Writes.{write_of}
-use Rattle.sc_record.specs.declared.write.Write.{Write}
 use Rattle.sc_record.proofs.VersionLemmas.{version_after-above_zero}
 use Rattle.sc_router.specs.Route.{route_hash}
 use Rattle.sc_replica.specs.Core.{Core}
 use Rattle.sc_journal.specs.Journal.{last_write}
 use Rattle.sc_journal.specs.Legal.{HasTerms}
-use Rattle.sc_journal.specs.Outcomes.{Makes, refused}
-use Rattle.sc_bucket.specs.Room.{basis}
 use Rattle.sc_bucket.proofs.WriteLemmas.{write_may_follow, clock_can_rise, core_clock}
 use Rattle.sc_bucket.proofs.SoundLemmas.{leader_reads}
-use Rattle.sc_bucket.proofs.OutcomeLemmas.{condition_tested, partial_outcome, memory_outcome}
 use Rattle.sc_bucket.proofs.bucket.Bucket.write_for.Goals as goal
 
-pub returns-then-not-meets-clause-refused : goal.returns-then-not-meets-clause-refused
-returns-then-not-meets-clause-refused c =
-    let back : to_z w64 (of_z w64 c.found-found.result) ≡ c.found-found.result = omega (arith, ints) in
-    let condition : to_z w64 (of_z w64 c.args.order.now.condition) ≡ c.args.order.now.condition = omega (arith, ints) in
-    let known = condition_tested c.args.self.now c.args.order.now c.args.hash c.args.leader c.get-replica.result.now _ _ _ _ c.requires.sound
-    c.requires.hash c.requires.leader c.get-replica.ensures c.cell-last.ensures.value condition (back ∙ c.found-found.ensures)
-    (sym c.if-not-meets.true ∙ c.meets.ensures) in
-    (known.1, back ∙ c.found-found.ensures ∙ ap found_version known.0)
-
-pub returns-in_err-doc-clause-refused : goal.returns-in_err-doc-clause-refused
-returns-in_err-doc-clause-refused c =
-    let back : to_z w64 (of_z w64 c.found-found.result) ≡ c.found-found.result = omega (arith, ints) in
-    let condition : to_z w64 (of_z w64 c.args.order.now.condition) ≡ c.args.order.now.condition = omega (arith, ints) in
-    let known = condition_tested c.args.self.now c.args.order.now c.args.hash c.args.leader c.get-replica.result.now _ _ _ _ c.requires.sound
-    c.requires.hash c.requires.leader c.get-replica.ensures c.cell-last.ensures.value condition (back ∙ c.found-found.ensures)
-    (sym c.if-not-meets.false ∙ c.meets.ensures) in
-    let p = err_from_is_err_and c.from_residual.result c.from_residual.ensures.1 in
-    rw p.1 (partial_outcome (basis c.args.self.now) c.args.self.now.journal.entries c.args.self.now.journal.entries
-    c.args.order.now c.args.now _ c.in_err-doc.field-0.0 p.0 known.0 known.1 c.in_err-doc.ensures.refused p.2)
-
-pub returns-then-self-entries-clause-refused : goal.returns-then-self-entries-clause-refused
-returns-then-self-entries-clause-refused c =
-    let back : to_z w64 (of_z w64 c.found-found.result) ≡ c.found-found.result = omega (arith, ints) in
-    let condition : to_z w64 (of_z w64 c.args.order.now.condition) ≡ c.args.order.now.condition = omega (arith, ints) in
-    let known = condition_tested c.args.self.now c.args.order.now c.args.hash c.args.leader c.get-replica.result.now _ _ _ _ c.requires.sound
-    c.requires.hash c.requires.leader c.get-replica.ensures c.cell-last.ensures.value condition (back ∙ c.found-found.ensures)
-    (sym c.if-not-meets.false ∙ c.meets.ensures) in (
-      record { met = known.1; taken = ap (λ (w : Option Write). refused w c.args.order.now.change) (sym known.0) ∙ c.in_ok-doc.ensures.taken },
-      omega (arith, c.if-self-entries.true, c.entries.ensures.count, c.requires.sound.journal.owed_is),
-    )
-
-pub returns-in_err-clone_in-clause-refused : goal.returns-in_err-clone_in-clause-refused
-returns-in_err-clone_in-clause-refused c =
-    let back : to_z w64 (of_z w64 c.found-found.result) ≡ c.found-found.result = omega (arith, ints) in
-    let condition : to_z w64 (of_z w64 c.args.order.now.condition) ≡ c.args.order.now.condition = omega (arith, ints) in
-    let known = condition_tested c.args.self.now c.args.order.now c.args.hash c.args.leader c.get-replica.result.now _ _ _ _ c.requires.sound
-    c.requires.hash c.requires.leader c.get-replica.ensures c.cell-last.ensures.value condition (back ∙ c.found-found.ensures)
-    (sym c.if-not-meets.false ∙ c.meets.ensures) in
-    let p = err_from_is_err_and c.from_residual-in_err-clone_in.result c.from_residual-in_err-clone_in.ensures.1 in
-    rw p.1 (memory_outcome (basis c.args.self.now) c.args.self.now.journal.entries c.args.self.now.journal.entries
-    c.args.order.now c.args.now p.0 known.1 p.2)
+pub document_for-requires : goal.document_for-requires
+document_for-requires c =
+    c.cell-last.ensures.value ∙ leader_reads c.args.self.now c.args.hash c.args.leader c.get-replica.result.now c.args.order.now.id c.requires.sound
+    c.requires.leader c.get-replica.ensures c.requires.hash
 
 pub next_version-requires-clause-can_rise : goal.next_version-requires-clause-can_rise
 next_version-requires-clause-can_rise c =
@@ -66,17 +24,6 @@ next_version-requires-clause-can_rise c =
     let rises = clock_can_rise c.args.self.now c.get-replica.result.now.clock c.requires.sound.journal
     (core_clock c.args.self.now c.args.leader c.get-replica.result.now c.requires.sound c.get-replica.ensures) in
     omega (arith, ints, rises, back, c.clock.ensures.value)
-
-pub returns-in_err-terms_for-clause-refused : goal.returns-in_err-terms_for-clause-refused
-returns-in_err-terms_for-clause-refused c =
-    let back : to_z w64 (of_z w64 c.found-found.result) ≡ c.found-found.result = omega (arith, ints) in
-    let condition : to_z w64 (of_z w64 c.args.order.now.condition) ≡ c.args.order.now.condition = omega (arith, ints) in
-    let known = condition_tested c.args.self.now c.args.order.now c.args.hash c.args.leader c.get-replica.result.now _ _ _ _ c.requires.sound
-    c.requires.hash c.requires.leader c.get-replica.ensures c.cell-last.ensures.value condition (back ∙ c.found-found.ensures)
-    (sym c.if-not-meets.false ∙ c.meets.ensures) in
-    let p = err_from_is_err_and c.from_residual-in_err-terms_for.result c.from_residual-in_err-terms_for.ensures.1 in
-    rw p.1 (memory_outcome (basis c.args.self.now) c.args.self.now.journal.entries c.args.self.now.journal.entries
-    c.args.order.now c.args.now p.0 known.1 p.2)
 
 pub invariant_of-result : goal.invariant_of-result
 invariant_of-result c =
@@ -89,29 +36,15 @@ invariant_of-result c =
           (version_after-above_zero c.args.now c.get-replica.result.now.clock c.clock.ensures.core.from_zero);
     }
 
-pub returns-clause-fitting : goal.returns-clause-fitting
-returns-clause-fitting c =
-    let back : to_z w64 (of_z w64 c.found-found.result) ≡ c.found-found.result = omega (arith, ints) in
-    let condition : to_z w64 (of_z w64 c.args.order.now.condition) ≡ c.args.order.now.condition = omega (arith, ints) in
-    let known = condition_tested c.args.self.now c.args.order.now c.args.hash c.args.leader c.get-replica.result.now _ _ _ _ c.requires.sound
-    c.requires.hash c.requires.leader c.get-replica.ensures c.cell-last.ensures.value condition (back ∙ c.found-found.ensures)
-    (sym c.if-not-meets.false ∙ c.meets.ensures) in
-    record { met = known.1; taken = ap (λ (w : Option Write). refused w c.args.order.now.change) (sym known.0) ∙ c.in_ok-doc.ensures.taken }
-
 pub returns-clause-made : goal.returns-clause-made
 returns-clause-made c =
-    let back : to_z w64 (of_z w64 c.found-found.result) ≡ c.found-found.result = omega (arith, ints) in
-    let condition : to_z w64 (of_z w64 c.args.order.now.condition) ≡ c.args.order.now.condition = omega (arith, ints) in
-    let known = condition_tested c.args.self.now c.args.order.now c.args.hash c.args.leader c.get-replica.result.now _ _ _ _ c.requires.sound
-    c.requires.hash c.requires.leader c.get-replica.ensures c.cell-last.ensures.value condition (back ∙ c.found-found.ensures)
-    (sym c.if-not-meets.false ∙ c.meets.ensures) in
     let clock : to_z w64 (of_z w64 c.clock.result) ≡ c.clock.result = omega (arith, ints) in
     let kept : to_z w64 (of_z w64 c.next_version.result) ≡ c.next_version.result = omega (arith, ints) in
     let version : to_z w64 (of_z w64 c.next_version.result) ≡ version_after c.args.now c.get-replica.result.now.clock =
     kept ∙ c.next_version.ensures ∙ ap (version_after c.args.now) (clock ∙ c.clock.ensures.value) in
     record {
-      id = c.in_ok-clone_in.ensures;
-      document = subst (λ (w : Option Write). Makes w c.args.order.now.change c.in_ok-doc.doc) known.0 c.in_ok-doc.ensures.made;
+      id = c.in_ok-id.ensures.id;
+      document = c.in_ok-doc.ensures.made;
       version = (c.get-replica.result.now.clock, core_clock c.args.self.now c.args.leader c.get-replica.result.now c.requires.sound c.get-replica.ensures, version);
     }
 
@@ -122,14 +55,14 @@ returns-clause-next c =
     let kept : to_z w64 (of_z w64 c.next_version.result) ≡ c.next_version.result = omega (arith, ints) in
     let version : to_z w64 (of_z w64 c.next_version.result) ≡ version_after c.args.now c.get-replica.result.now.clock =
     kept ∙ c.next_version.ensures ∙ ap (version_after c.args.now) (clock ∙ c.clock.ensures.value) in
-    let id : c.in_ok-clone_in.field-0 ≡ c.args.order.now.id = c.in_ok-clone_in.ensures in
+    let id : c.in_ok-id.id ≡ c.args.order.now.id = c.in_ok-id.ensures.id in
     let last : write_of c.get-replica.result.now.cells c.args.order.now.id ≡ last_write c.args.self.now.journal.entries c.args.order.now.id =
     leader_reads c.args.self.now c.args.hash c.args.leader c.get-replica.result.now c.args.order.now.id c.requires.sound c.requires.leader c.get-replica.ensures c.requires.hash in
     write_may_follow c.args.self.now.first c.args.self.now.journal.entries c.get-replica.result.now _ c.args.now c.requires.sound.journal.legal
     c.clock.ensures.core (core_clock c.args.self.now c.args.leader c.get-replica.result.now c.requires.sound c.get-replica.ensures)
     (subst (λ i. write_of c.get-replica.result.now.cells i ≡ last_write c.args.self.now.journal.entries i) (sym id) last)
     (hash ∙ c.requires.hash ∙ ap route_hash (sym id))
-    (subst (λ i. HasTerms i c.in_ok-doc.doc c.in_ok-terms_for.field-0) (sym id) c.in_ok-terms_for.ensures) version
+    (subst (λ i. HasTerms i c.in_ok-doc.doc c.in_ok-id.terms) (sym id) c.in_ok-id.ensures.terms) version
 
 pub returns-clause-version : goal.returns-clause-version
 returns-clause-version c core there =

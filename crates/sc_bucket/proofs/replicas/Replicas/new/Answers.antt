@@ -1,7 +1,8 @@
 -- The next slice's cores come to the end.
-use Rattle.std.proofs.Common.{◌∙◌, ◌++◌, sym, ap}
+use Rattle.std.proofs.Common.{◌∙◌, ◌++◌, All, map, sym, ap, subst, arith}
 use Rattle.std.specs.Option.{option_copied}
-use Rattle.sc_bucket.specs.Cores.{slice_keys}
+use Rattle.std.proofs.lemmas.List.{take_all}
+use Rattle.sc_bucket.specs.Cores.{core_key, core_keys, slice_keys, IsCounted, IsNewCore}
 use Rattle.sc_bucket.proofs.CoreLemmas.{keys-push}
 use Rattle.sc_bucket.proofs.replicas.Replicas.new.Goals as goal
 
@@ -16,3 +17,14 @@ loop-at-preserved c =
       new = c.push_replicas.ensures.new c.loop-at.invariant.new;
       counted = c.push_replicas.ensures.counted c.loop-at.invariant.counted;
     }
+
+pub returns-clause-keys : goal.returns-clause-keys
+returns-clause-keys c =
+    ap (map core_key) c.shrink_to_fit.ensures.items ∙ c.loop-at.invariant.keys
+    ∙ ap core_keys (take_all c.loop-at.at c.args.slices.now (omega (arith, c.loop-at-test.false, c.len-at-end.ensures)))
+
+pub returns-clause-new : goal.returns-clause-new
+returns-clause-new c = subst (All IsNewCore) (sym c.shrink_to_fit.ensures.items) c.loop-at.invariant.new
+
+pub returns-clause-counted : goal.returns-clause-counted
+returns-clause-counted c = subst (All IsCounted) (sym c.shrink_to_fit.ensures.items) c.loop-at.invariant.counted

@@ -36,8 +36,8 @@ pub(crate) fn matching<'a, L: Ledger>(
     unjoined(alloc, query, snapshot, steps)?.joined(alloc)
 }
 
-/// The numbers of the live rows that match the query, looked up as by `matching`, where the outermost join is not made yet. A query that
-/// joins two terms waits for nothing else, and takes no memory.
+/// The numbers of the live rows that match the query, looked up as by `matching`, where the outermost join is not made yet. For a query
+/// that joins two terms no memory is taken.
 pub(crate) fn unjoined<'a, L: Ledger>(
     alloc: Global,
     query: &Bound,

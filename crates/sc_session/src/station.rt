@@ -106,12 +106,7 @@ impl<C, H, P, L> MemStation<C, H, P, L> {
         ensures calls { IfOk result (λ station. station.calls ≡ 0) }
         ensures faults { IfOk result (λ station. station.faults ≡ 0) }
     {
-        let mut given = Vec::with_capacity(alloc, crews.len())?;
-        let mut back = Vec::with_capacity(alloc, crews.len())?;
-        for crew in crews {
-            given.push_reserved(Some(crew));
-            back.push_reserved(None);
-        }
+        let (given, back) = placed(alloc, crews)?;
         Ok(MemStation {
             crews: given,
             back,
@@ -119,6 +114,57 @@ impl<C, H, P, L> MemStation<C, H, P, L> {
             calls: 0,
             faults: Faults::none(),
         })
+    }
+}
+
+/// A place for each of these, with it there, and one with nothing in it.
+fn placed<T: Drop>(
+    alloc: Global,
+    all: Vec<T>,
+) -> Result<(Vec<Option<T>>, Vec<Option<T>>), AllocError>
+    ensures given { IfOk result (λ places. places.0.items ≡ map (λ one. Some one) all.items) }
+    ensures back { IfOk result (λ places. places.1.items ≡ map (λ one. None) all.items) }
+{
+    let mut given = Vec::with_capacity(alloc, all.len())?;
+    let mut back = Vec::with_capacity(alloc, all.len())?;
+    for one in all {
+        given.push_reserved(Some(one));
+        back.push_reserved(None);
+    }
+    Ok((given, back))
+}
+
+/// Takes what stands at this number, where something does and nothing is back there.
+fn take_out<T>(
+    crews: &mut Vec<Option<T>>,
+    back: &Vec<Option<T>>,
+    worker: u32,
+) -> Result<T, AllocError>
+    requires { vec_len back.now ≡ vec_len crews.old }
+    ensures given { IfOk result (λ crew. found_at crews.old.items worker ≡ Some crew) }
+    ensures crews { OnOk result (SetsAt worker None (found_at crews.old.items) (found_at crews.new.items)) }
+    ensures out { OnOk result (SetsAt worker true (is_out crews.old.items back.now.items) (is_out crews.new.items back.now.items)) }
+    ensures refused { OnErr result (crews.new ≡ crews.old) }
+    ensures length { vec_len crews.new ≡ vec_len crews.old }
+{
+    let at = worker as usize;
+    if at >= crews.len() || crews[at].is_none() || back[at].is_some() {
+        return Err(AllocError);
+    }
+    Ok(crews[at].take().unwrap())
+}
+
+/// Puts this back at the number that it was taken from.
+fn put_back<T>(crews: &Vec<Option<T>>, back: &mut Vec<Option<T>>, worker: u32, crew: T)
+    requires length { vec_len back.old ≡ vec_len crews.now }
+    requires out { is_out crews.now.items back.old.items worker ≡ true }
+    ensures back { SetsAt worker (Some crew) (found_at back.old.items) (found_at back.new.items) }
+    ensures out { SetsAt worker false (is_out crews.now.items back.old.items) (is_out crews.now.items back.new.items) }
+    ensures length { vec_len back.new ≡ vec_len back.old }
+{
+    match mem::replace(&mut back[worker as usize], Some(crew)) {
+        None => {}
+        Some(_) => unreachable!(),
     }
 }
 
@@ -167,11 +213,7 @@ impl<C: Clock + Send, H: Hosts + Send, P: Pace + Send, L: Listener + Send> Stati
         ensures back { self.new.back ≡ self.old.back }
         ensures faults { self.new.faults ≡ self.old.faults }
     {
-        let at = worker as usize;
-        if at >= self.crews.len() || self.crews[at].is_none() || self.back[at].is_some() {
-            return Err(AllocError);
-        }
-        Ok(self.crews[at].take().unwrap())
+        take_out(&mut self.crews, &self.back, worker)
     }
 
     fn back(&mut self, worker: u32, crew: Crew<C, H, P, L>)
@@ -181,9 +223,6 @@ impl<C: Clock + Send, H: Hosts + Send, P: Pace + Send, L: Listener + Send> Stati
         ensures crews { self.new.crews ≡ self.old.crews }
         ensures faults { self.new.faults ≡ self.old.faults }
     {
-        match mem::replace(&mut self.back[worker as usize], Some(crew)) {
-            None => {}
-            Some(_) => unreachable!(),
-        }
+        put_back(&self.crews, &mut self.back, worker, crew);
     }
 }

@@ -1,5 +1,8 @@
-ghost use Rattle.std.specs.Prelude.{◌≡◌, ◌<◌, ◌^◌, IfOk, IfErr, IfSome, length};
-ghost use Rattle.std.specs.Option.{option_map};
+ghost use Rattle.std.specs.Prelude.{◌≡◌, ◌<◌, ◌^◌, [], ◌++◌, codes, filter, map, IfOk, IfErr, IfSome, OnOk, length};
+ghost use Rattle.std.specs.Option.{option_map, unwrap_or};
+ghost use Rattle.std.specs.Str.{bytes_eq};
+ghost use Rattle.sc_model.specs.declared.message.Param.{Param};
+ghost use Rattle.sc_model.specs.Parameters.{parameter};
 ghost use Rattle.sc_session.specs.Parameters as parameters;
 ghost use Rattle.sc_session.specs.Requests as asking;
 ghost use Rattle.sc_session.specs.Asking.{select_of, RefusesSearch};
@@ -103,15 +106,32 @@ fn has_bad_route(params: &[Param]) -> bool
 fn query_texts(alloc: Global, params: &[Param]) -> Result<List<Text>, AllocError>
     ensures { IfOk result (λ texts. texts ≡ parameters.query_texts params.now) }
 {
+    let first = query_text(alloc, params)?;
     let mut texts = List::new(alloc);
-    texts.push(match parameter("q", params) {
-        Some(text) => text.clone_in(alloc)?,
-        None => Text::new(alloc, "")?,
-    })?;
+    texts.push(first)?;
+    push_filters(&mut texts, alloc, params)?;
+    Ok(texts)
+}
+
+/// The text of `q`, which is empty where it is not there.
+fn query_text(alloc: Global, params: &[Param]) -> Result<Text, AllocError>
+    ensures { IfOk result (λ text. text ≡ unwrap_or (parameter (codes "q") params.now) []) }
+{
+    match parameter("q", params) {
+        Some(text) => Ok(text.clone_in(alloc)?),
+        None => Text::new(alloc, ""),
+    }
+}
+
+/// Puts the text of each `fq` at the end.
+fn push_filters(texts: &mut List<Text>, alloc: Global, params: &[Param]) -> Result<(), AllocError>
+    ensures { OnOk result (texts.new ≡ texts.old ++ map (λ (param : Param). param.value)
+        (filter (λ (param : Param). bytes_eq param.name (codes "fq")) params.now)) }
+{
     for param in params {
         if param.name.as_str() == "fq" {
             texts.push(param.value.clone_in(alloc)?)?;
         }
     }
-    Ok(texts)
+    Ok(())
 }

@@ -1,6 +1,6 @@
 //! `sc_io`: hosts and paces that fail and stop by number, and the folders of the machine's hosts.
 
-use crate::support::assert_text;
+use crate::support::{assert_same, assert_text};
 use sc_io::{FolderHosts, Hosts, MemHosts, MemPace, NoPace, Pace, SplitStep};
 use sc_record::List;
 use std::alloc::{AllocError, Global};
@@ -51,7 +51,11 @@ fn hosts_in_memory_keep_the_started_cores_and_fail_by_number(rt: HostRuntime) ->
     let results = results(alloc, &mut hosts, calls_of_memory())?;
     assert_text(&rt, results.as_str(), "+++-+-++");
     assert_text(&rt, shown(alloc, &hosts)?.as_str(), "b on 2;c on 2;");
-    assert_eq!(rt; (hosts.faults.count(), hosts.stop_faults.count()), (1, 1));
+    assert_same(
+        &rt,
+        (hosts.faults.count(), hosts.stop_faults.count()),
+        (1, 1),
+    );
     Ok(())
 }
 
@@ -84,7 +88,11 @@ fn a_started_core_is_a_folder_with_its_properties(rt: HostRuntime) -> Result<(),
     let stopped = results(alloc, &mut hosts, stops_of_folders())?;
     assert_text(&rt, stopped.as_str(), "-++");
     assert!(rt; !fs::exists(&rt, FOLDER)?);
-    assert_eq!(rt; (hosts.faults.count(), hosts.stop_faults.count()), (1, 1));
+    assert_same(
+        &rt,
+        (hosts.faults.count(), hosts.stop_faults.count()),
+        (1, 1),
+    );
     fs::remove_dir(&rt, "cores")?;
     Ok(())
 }
@@ -102,7 +110,7 @@ fn answers<P: Pace>(pace: &mut P) -> [bool; 4] {
 #[test]
 fn a_pace_in_memory_stops_by_number(rt: HostRuntime) {
     let mut pace = MemPace::new(Some(2));
-    assert_eq!(rt; answers(&mut pace), [true, true, false, true]);
-    assert_eq!(rt; pace.stops.count(), 1);
-    assert_eq!(rt; answers(&mut NoPace), [true; 4]);
+    assert_same(&rt, answers(&mut pace), [true, true, false, true]);
+    assert_same(&rt, pace.stops.count(), 1);
+    assert_same(&rt, answers(&mut NoPace), [true; 4]);
 }

@@ -3,7 +3,7 @@
 ghost use Rattle.std.specs.Prelude.{◌≡◌, pos, ◌<ℤ◌, ◌<◌, IfOk};
 ghost use Rattle.std.specs.Arc.{arc_value};
 
-use crate::support::assert_text;
+use crate::support::{assert_same, assert_text};
 use sc_record::{Cell, CoreId, Id, List, SliceId, Write};
 use sc_replica::Replica;
 use sc_ulog::Mode;
@@ -69,7 +69,7 @@ fn drops_the_older(rt: HostRuntime) -> Result<(), Fail> {
     keeps_newest(&rt, alloc, &mut core, VERSION)?;
     keeps_newest(&rt, alloc, &mut core, VERSION + 1)?;
     assert_version(&rt, alloc, &core, "abd", None)?;
-    assert_eq!(rt; core.core().replica, 2);
+    assert_same(&rt, core.core().replica, 2);
     Ok(())
 }
 
@@ -96,14 +96,14 @@ fn assert_version(
     id: &str,
     wanted: Option<i64>,
 ) -> Result<(), Fail> {
-    assert_eq!(rt; version_of(alloc, core, id)?, wanted);
+    assert_same(rt, version_of(alloc, core, id)?, wanted);
     Ok(())
 }
 
 /// The core's clock shows this version, and it has so many cells.
 fn assert_reached(rt: &impl Abort, core: &Replica, clock: i64, cells: usize) {
-    assert_eq!(rt; core.clock(), clock);
-    assert_eq!(rt; core.cells().len(), cells);
+    assert_same(rt, core.clock(), clock);
+    assert_same(rt, core.cells().len(), cells);
 }
 
 // Ids that are led and fed in another order ascend by their bytes.
@@ -152,13 +152,13 @@ fn replays_in_two_pieces(rt: HostRuntime) -> Result<(), Fail> {
     let alloc = rt.alloc();
     let mut core = follower(alloc, Mode::Buffering);
     send_seventy(alloc, &mut core)?;
-    assert_eq!(rt; core.buffered(), 70);
-    assert_eq!(rt; core.cells().len(), 0);
+    assert_same(&rt, core.buffered(), 70);
+    assert_same(&rt, core.cells().len(), 0);
     replay_first(&rt, &mut core)?;
-    assert_eq!(rt; core.buffered(), 6);
-    assert_eq!(rt; core.clock(), VERSION + 63);
+    assert_same(&rt, core.buffered(), 6);
+    assert_same(&rt, core.clock(), VERSION + 63);
     replay_rest(&rt, &mut core)?;
-    assert_eq!(rt; core.cells().len(), 70);
+    assert_same(&rt, core.cells().len(), 70);
     assert_version(&rt, alloc, &core, "69", Some(VERSION + 17))
 }
 
@@ -185,10 +185,17 @@ fn id_numbered(alloc: Global, n: u32) -> Result<String, AllocError>
     format!(in alloc; "{}", n * 37 % 70)
 }
 
+/// The core's mode is the one that is wanted.
+fn assert_mode(rt: &impl Abort, found: Mode, wanted: Mode)
+    ensures { found ≡ wanted }
+{
+    assert_eq!(rt; found, wanted);
+}
+
 /// Replays the first piece of what was buffered, after which there is more.
 fn replay_first(rt: &impl Abort, core: &mut Replica) -> Result<(), Fail> {
     core.reserve(core.buffered())?;
-    assert_eq!(rt; core.mode(), Mode::Buffering);
+    assert_mode(rt, core.mode(), Mode::Buffering);
     core.start_replay();
     assert!(rt; !core.replay());
     Ok(())
@@ -196,9 +203,9 @@ fn replay_first(rt: &impl Abort, core: &mut Replica) -> Result<(), Fail> {
 
 /// Replays the rest, after which the core is active.
 fn replay_rest(rt: &impl Abort, core: &mut Replica) -> Result<(), Fail> {
-    assert_eq!(rt; core.mode(), Mode::Replaying);
+    assert_mode(rt, core.mode(), Mode::Replaying);
     core.reserve(core.buffered())?;
     assert!(rt; core.replay());
-    assert_eq!(rt; core.mode(), Mode::Active);
+    assert_mode(rt, core.mode(), Mode::Active);
     Ok(())
 }

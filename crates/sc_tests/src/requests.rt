@@ -1,5 +1,6 @@
 //! `sc_http`: a read that fails in mid-stream is reported.
 
+use crate::support::assert_same;
 use sc_http::{MessageEnd, Reader};
 use sc_io::MemSource;
 use sc_record::List;
@@ -27,7 +28,7 @@ fn a_fault_is_reported(rt: HostRuntime) -> Result<(), Fail> {
     for line in requests().lines() {
         let (reads, request) = line.split_once(' ').unwrap_or((line, ""));
         let end = end_of(rt.alloc(), request, reads.parse::<u64>().unwrap_or(0))?;
-        assert_eq!(rt; end, Some(MessageEnd::ReadFault));
+        assert_same(&rt, end, Some(MessageEnd::ReadFault));
     }
     Ok(())
 }

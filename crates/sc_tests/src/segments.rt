@@ -6,6 +6,7 @@ ghost use Rattle.sc_segment.specs.Fresh.{IsFresh};
 ghost use Rattle.std.proofs.lemmas.Cmp.{on_total, nat_cmp_total};
 ghost use native.Mathlib.Omega.{arith};
 
+use crate::support::assert_same;
 use sc_segment::{Builder, Kept, Key, LiveBits, Segment, Steps, ends_of, join, join_start};
 use std::alloc::{AllocError, Global};
 use std::cell::Cell;
@@ -82,7 +83,7 @@ pub fn assert_rows<'a, L: Ledger>(
     steps: &mut Steps<L>,
 ) {
     key.compared.set(0);
-    assert_eq!(rt; segment.postings(key, steps), rows);
+    assert_same(rt, segment.postings(key, steps), rows);
     assert!(rt; key.compared.get() <= limit);
 }
 
@@ -200,7 +201,7 @@ fn assert_joined(
     how: Kept,
     rows: &[u32],
 ) -> Result<(), AllocError> {
-    assert_eq!(rt; joined(alloc, how)?.as_slice(), rows);
+    assert_same(rt, joined(alloc, how)?.as_slice(), rows);
     Ok(())
 }
 
@@ -215,8 +216,8 @@ fn assert_start(
     let left: &[u32] = &[1, 2, 5, 7, 9];
     let right: &[u32] = &[2, 3, 7, 10];
     let start = join_start(alloc, how, left, right, ends_of(left, right), 2)?;
-    assert_eq!(rt; start.count, count);
-    assert_eq!(rt; start.rows.as_slice(), rows);
+    assert_same(rt, start.count, count);
+    assert_same(rt, start.rows.as_slice(), rows);
     Ok(())
 }
 
@@ -226,14 +227,23 @@ fn counts_and_begins_a_join(rt: HostRuntime) -> Result<(), Fail> {
     assert_start(&rt, alloc, Kept::Both, 2, &[2, 7])?;
     assert_start(&rt, alloc, Kept::Either, 7, &[1, 2])?;
     assert_start(&rt, alloc, Kept::LeftAlone, 3, &[1, 5])?;
-
-    // Marks up to row 1,000 would take more words than both lists have rows.
-    let left: &[u32] = &[1, 1000];
-    let right: &[u32] = &[1000];
-    let start = join_start(alloc, Kept::Both, left, right, ends_of(left, right), 1)?;
-    assert_eq!(rt; start.count, 1);
-    assert_eq!(rt; start.rows.as_slice(), [1000].as_slice());
+    assert_sparse(&rt, alloc)?;
     Ok(())
+}
+
+// Marks up to row 10,000 would be more than 512 for each row of both lists.
+fn assert_sparse(rt: &impl Abort, alloc: Global) -> Result<(), AllocError> {
+    let left: &[u32] = &[1, 10000];
+    let right: &[u32] = &[10000];
+    let start = join_start(alloc, Kept::Both, left, right, ends_of(left, right), 1)?;
+    assert_same(rt, start.count, 1);
+    assert_same(rt, start.rows.as_slice(), &[10000]);
+    Ok(())
+}
+
+// The row is one of the four that are cleared.
+fn is_cleared(row: u32) -> bool {
+    matches!(row, 0 | 63 | 64 | 129)
 }
 
 #[test]
@@ -245,7 +255,7 @@ fn clears_one_row(rt: HostRuntime) -> Result<(), Fail> {
     live.clear(129);
     live.clear(129);
     for row in 0..130 {
-        assert_eq!(rt; live.is_live(row), !matches!(row, 0 | 63 | 64 | 129));
+        assert_same(&rt, live.is_live(row), !is_cleared(row));
     }
     LiveBits::new(rt.alloc(), 0)?;
     Ok(())

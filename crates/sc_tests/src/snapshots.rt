@@ -2,6 +2,7 @@
 
 ghost use Rattle.sc_segment.specs.Fresh.{IsFresh};
 
+use crate::support::assert_same;
 use sc_hash::Range;
 use sc_record::{Cell, CoreId, Doc, Id, List, SliceId, Term, Text, Write};
 use sc_replica::Replica;
@@ -75,6 +76,11 @@ fn snapshot(rt: &impl Abort, alloc: Global, core: &Replica) -> Result<Snapshot, 
     Ok(Snapshot::of(alloc, 3, &cells)?)
 }
 
+/// The key of the word's term.
+fn key(alloc: Global, word: &str) -> Result<TermKey, AllocError> {
+    TermKey::of(&term(alloc, word)?)
+}
+
 /// The numbers of the live rows that have the word.
 fn assert_rows<L: Ledger>(
     rt: &impl Abort,
@@ -83,9 +89,9 @@ fn assert_rows<L: Ledger>(
     word: &str,
     rows: &[u32],
     steps: &mut Steps<L>,
-) -> Result<(), Fail> {
-    let key = TermKey::of(&term(alloc, word)?)?;
-    assert_eq!(rt; snapshot.postings(&key, steps), rows);
+) -> Result<(), AllocError> {
+    let key = key(alloc, word)?;
+    assert_same(rt, snapshot.postings(&key, steps), rows);
     Ok(())
 }
 
@@ -104,22 +110,20 @@ fn assert_words<L: Ledger>(
     alloc: Global,
     snapshot: &Snapshot,
     blank: Blank,
-) -> Result<(), Fail>
+) -> Result<(), AllocError>
     requires { IsFresh blank L.name L.parts }
 {
     let mut steps = Steps::<L>::new(blank);
     assert_rows(rt, alloc, snapshot, "rust", &[0, 2], &mut steps)?;
     assert_rows(rt, alloc, snapshot, "action", &[0], &mut steps)?;
-    assert_rows(rt, alloc, snapshot, "lucene", &[], &mut steps)?;
-    Ok(())
+    assert_rows(rt, alloc, snapshot, "lucene", &[], &mut steps)
 }
 
 /// The first row and the third are live, and there is no fourth.
 fn assert_live(rt: &impl Abort, snapshot: &Snapshot) {
     assert_eq!(rt; snapshot.rows(), 3);
     assert!(rt; snapshot.is_live(0) && !snapshot.is_live(1) && snapshot.is_live(2));
-    let numbers: &[u32] = &[0, 2];
-    assert_eq!(rt; snapshot.live(), numbers);
+    assert_same(rt, snapshot.live(), &[0, 2]);
 }
 
 #[test]
@@ -149,29 +153,27 @@ fn assert_words_of_part<L: Ledger>(
     alloc: Global,
     part: &Snapshot,
     blank: Blank,
-) -> Result<(), Fail>
+) -> Result<(), AllocError>
     requires { IsFresh blank L.name L.parts }
 {
     let mut steps = Steps::<L>::new(blank);
     assert_rows(rt, alloc, part, "rust", &[1], &mut steps)?;
-    assert_rows(rt, alloc, part, "action", &[], &mut steps)?;
-    Ok(())
+    assert_rows(rt, alloc, part, "action", &[], &mut steps)
 }
 
 /// Two rows are there, of which the first is a deletion, between the hashes of both.
 fn assert_part(rt: &impl Abort, part: &Snapshot) {
-    assert_eq!(rt; part.place(), 3);
+    assert_same(rt, part.place(), 3);
     assert_eq!(rt; part.rows(), 2);
     assert!(rt; !part.is_live(0) && part.is_live(1));
-    let numbers: &[u32] = &[1];
-    assert_eq!(rt; part.live(), numbers);
+    assert_same(rt, part.live(), &[1]);
     assert_hashes(rt, part);
 }
 
 /// The hashes of both rows.
 fn assert_hashes(rt: &impl Abort, part: &Snapshot) {
-    assert_eq!(rt; part.least_hash(), 2);
-    assert_eq!(rt; part.greatest_hash(), 3);
+    assert_same(rt, part.least_hash(), 2);
+    assert_same(rt, part.greatest_hash(), 3);
 }
 
 #[test]

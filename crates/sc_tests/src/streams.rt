@@ -2,6 +2,7 @@
 
 ghost use Rattle.std.specs.Prelude.{◌<◌, length};
 
+use crate::support::assert_same;
 use sc_io::{Clock, MachineClock, Sink, Source, StdSink, StdSource};
 use std::alloc::{AllocError, Global};
 use std::io::{ErrorKind, Read, Write};
@@ -60,6 +61,11 @@ impl rt::Clock for Watch {
     }
 }
 
+// A clock over the machine shows this time, each time.
+fn assert_shows(rt: &impl Abort, watch: Watch, want: u64) {
+    assert_same(rt, timestamps(&mut MachineClock::new(&watch)), [want; 4]);
+}
+
 #[test]
 fn the_machines_clock_shows_milliseconds_since_1970(rt: HostRuntime) {
     for (nanos, want) in [
@@ -68,8 +74,7 @@ fn the_machines_clock_shows_milliseconds_since_1970(rt: HostRuntime) {
         (Some(1_609_459_200_123_999_999), 1_609_459_200_123),
         (None, 0),
     ] {
-        let watch = Watch(nanos);
-        assert_eq!(rt; timestamps(&mut MachineClock::new(&watch)), [want; 4]);
+        assert_shows(&rt, Watch(nanos), want);
     }
     // the real one stands after 2021, when this was written
     assert!(rt; MachineClock::new(&rt).now() > 1_609_459_200_000);
@@ -100,8 +105,8 @@ fn standard_input_is_read_on_after_an_interrupted_read(rt: HostRuntime) -> Resul
     let alloc = rt.alloc();
     let mut source = StdSource::new(Pipe { calls: 0 });
     let given = reads(alloc, &mut source, &mut [0; 3], 4)?;
-    assert_eq!(rt; given.as_slice(), b"abc|!|de||".as_slice());
-    assert_eq!(rt; source.faults.count(), 1);
+    assert_same(&rt, given.as_slice(), b"abc|!|de||");
+    assert_same(&rt, source.faults.count(), 1);
     Ok(())
 }
 
@@ -140,8 +145,8 @@ fn standard_output_is_given_the_whole_pieces(rt: HostRuntime) -> Result<(), Fail
         calls: 0,
     });
     let written = writes(alloc, &mut sink, &["abc", "de\n", "", "fgh"])?;
-    assert_eq!(rt; written.as_slice(), [true, false, true, true].as_slice());
-    assert_eq!(rt; sink.faults.count(), 1);
-    assert_eq!(rt; sink.output.written.as_slice(), b"abcdefgh".as_slice());
+    assert_same(&rt, written.as_slice(), &[true, false, true, true]);
+    assert_same(&rt, sink.faults.count(), 1);
+    assert_same(&rt, sink.output.written.as_slice(), b"abcdefgh");
     Ok(())
 }

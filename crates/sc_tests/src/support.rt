@@ -1,6 +1,12 @@
 //! What tests of several crates share.
 
+use std::fmt::Debug;
 use std::process::Abort;
+
+/// What was found is what is wanted.
+pub fn assert_same<T: Copy + PartialEq + Debug>(rt: &impl Abort, found: T, wanted: T) {
+    assert_eq!(rt; found, wanted);
+}
 
 /// The text that was found is the one that is wanted.
 pub fn assert_text(rt: &impl Abort, found: &str, wanted: &str) {

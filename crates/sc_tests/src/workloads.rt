@@ -1,6 +1,6 @@
 //! The orders of the demonstration's workers, and how many a batch has.
 
-use crate::support::assert_text;
+use crate::support::{assert_same, assert_text};
 use sc_commands::Batch;
 use sc_record::{Change, List};
 use sc_workload::orders;
@@ -46,6 +46,6 @@ fn batches_have_at_most_100_orders(rt: HostRuntime) -> Result<(), Fail> {
     for batch in &orders(alloc, u64::MAX, 250, 0, 1)? {
         lengths.push(batch.orders.len())?;
     }
-    assert_eq!(rt; lengths.as_slice(), [100, 100, 50].as_slice());
+    assert_same(&rt, lengths.as_slice(), &[100, 100, 50]);
     Ok(())
 }

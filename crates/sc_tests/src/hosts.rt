@@ -5,6 +5,7 @@ use sc_io::{FolderHosts, Hosts, MemHosts, MemPace, NoPace, Pace, SplitStep};
 use sc_record::List;
 use std::alloc::{AllocError, Global};
 use std::fs;
+use std::process::Abort;
 use std::test::Fail;
 
 // Which of the calls succeed, a `+` for each that does and a `-` for each that fails. A call is `start NODE CORE` or `stop NODE CORE`.
@@ -48,11 +49,16 @@ fn hosts_in_memory_keep_the_started_cores_and_fail_by_number(rt: HostRuntime) ->
     let alloc = rt.alloc();
     let fails = List::from_vec(Vec::from_array(alloc, [3, 5])?);
     let mut hosts = MemHosts::new(alloc, fails);
-    let results = results(alloc, &mut hosts, calls_of_memory())?;
-    assert_text(&rt, results.as_str(), "+++-+-++");
-    assert_text(&rt, shown(alloc, &hosts)?.as_str(), "b on 2;c on 2;");
+    keep_and_fail(&rt, alloc, &mut hosts)
+}
+
+// The fourth and the sixth call fail, and the cores that were started stay.
+fn keep_and_fail(rt: &impl Abort, alloc: Global, hosts: &mut MemHosts) -> Result<(), Fail> {
+    let results = results(alloc, hosts, calls_of_memory())?;
+    assert_text(rt, results.as_str(), "+++-+-++");
+    assert_text(rt, shown(alloc, hosts)?.as_str(), "b on 2;c on 2;");
     assert_same(
-        &rt,
+        rt,
         (hosts.faults.count(), hosts.stop_faults.count()),
         (1, 1),
     );

@@ -63,13 +63,17 @@ fn version_of(alloc: Global, core: &Replica, id: &str) -> Result<Option<i64>, Fa
 // A follower that is sent the versions v1, v0 and v1 of one id keeps v1.
 #[test]
 fn drops_the_older(rt: HostRuntime) -> Result<(), Fail> {
-    let alloc = rt.alloc();
-    let mut core = follower(alloc, Mode::Active);
-    keeps_newest(&rt, alloc, &mut core, VERSION + 1)?;
-    keeps_newest(&rt, alloc, &mut core, VERSION)?;
-    keeps_newest(&rt, alloc, &mut core, VERSION + 1)?;
-    assert_version(&rt, alloc, &core, "abd", None)?;
-    assert_same(&rt, core.core().replica, 2);
+    let mut core = follower(rt.alloc(), Mode::Active);
+    keeps_newest_of_three(&rt, rt.alloc(), &mut core)
+}
+
+/// The core keeps the newest of three versions, and has no other id.
+fn keeps_newest_of_three(rt: &impl Abort, alloc: Global, core: &mut Replica) -> Result<(), Fail> {
+    keeps_newest(rt, alloc, core, VERSION + 1)?;
+    keeps_newest(rt, alloc, core, VERSION)?;
+    keeps_newest(rt, alloc, core, VERSION + 1)?;
+    assert_version(rt, alloc, core, "abd", None)?;
+    assert_same(rt, core.core().replica, 2);
     Ok(())
 }
 
@@ -109,11 +113,15 @@ fn assert_reached(rt: &impl Abort, core: &Replica, clock: i64, cells: usize) {
 // Ids that are led and fed in another order ascend by their bytes.
 #[test]
 fn cells_ascend(rt: HostRuntime) -> Result<(), Fail> {
-    let alloc = rt.alloc();
-    let mut core = follower(alloc, Mode::Active);
-    feed_each(alloc, &mut core, "m é b aa z a ma B b")?;
-    lead_newest(&rt, alloc, &mut core)?;
-    assert_text(&rt, ids_of(alloc, &core)?.as_str(), "B a aa b c m ma z é ");
+    let mut core = follower(rt.alloc(), Mode::Active);
+    keeps_order(&rt, rt.alloc(), &mut core)
+}
+
+/// The core has the ids that it is sent in the order of their bytes.
+fn keeps_order(rt: &impl Abort, alloc: Global, core: &mut Replica) -> Result<(), Fail> {
+    feed_each(alloc, core, "m é b aa z a ma B b")?;
+    lead_newest(rt, alloc, core)?;
+    assert_text(rt, ids_of(alloc, core)?.as_str(), "B a aa b c m ma z é ");
     Ok(())
 }
 
@@ -149,17 +157,25 @@ fn ids_of(alloc: Global, core: &Replica) -> Result<String, AllocError> {
 // Of 70 writes that were buffered, 64 are replayed and then the other 6.
 #[test]
 fn replays_in_two_pieces(rt: HostRuntime) -> Result<(), Fail> {
-    let alloc = rt.alloc();
-    let mut core = follower(alloc, Mode::Buffering);
-    send_seventy(alloc, &mut core)?;
-    assert_same(&rt, core.buffered(), 70);
-    assert_same(&rt, core.cells().len(), 0);
-    replay_first(&rt, &mut core)?;
-    assert_same(&rt, core.buffered(), 6);
-    assert_same(&rt, core.clock(), VERSION + 63);
-    replay_rest(&rt, &mut core)?;
-    assert_same(&rt, core.cells().len(), 70);
-    assert_version(&rt, alloc, &core, "69", Some(VERSION + 17))
+    let mut core = follower(rt.alloc(), Mode::Buffering);
+    replays_what_it_buffered(&rt, rt.alloc(), &mut core)
+}
+
+/// The core, which buffers, replays what it is sent in two pieces.
+fn replays_what_it_buffered(
+    rt: &impl Abort,
+    alloc: Global,
+    core: &mut Replica,
+) -> Result<(), Fail> {
+    send_seventy(alloc, core)?;
+    assert_same(rt, core.buffered(), 70);
+    assert_same(rt, core.cells().len(), 0);
+    replay_first(rt, core)?;
+    assert_same(rt, core.buffered(), 6);
+    assert_same(rt, core.clock(), VERSION + 63);
+    replay_rest(rt, core)?;
+    assert_same(rt, core.cells().len(), 70);
+    assert_version(rt, alloc, core, "69", Some(VERSION + 17))
 }
 
 /// Sends the core 70 writes of as many ids, each newer than those before.

@@ -58,6 +58,12 @@ fn core(alloc: Global) -> Result<Replica, Fail> {
         replica: 1,
     };
     let mut replica = Replica::new(alloc, core, Mode::Active);
+    feed_three(alloc, &mut replica)?;
+    Ok(replica)
+}
+
+/// Feeds the core the three writes.
+fn feed_three(alloc: Global, replica: &mut Replica) -> Result<(), Fail> {
     for (id, hash, words) in [
         ("c", 3, Some("rust")),
         ("b", 2, None),
@@ -66,7 +72,7 @@ fn core(alloc: Global) -> Result<Replica, Fail> {
         replica.reserve(1)?;
         replica.feed(write(alloc, id, hash, words)?);
     }
-    Ok(replica)
+    Ok(())
 }
 
 /// The snapshot of the core's cells, of which there are three.
@@ -98,10 +104,16 @@ fn assert_rows<L: Ledger>(
 fn finds_live_rows<L: Ledger>(rt: &impl Abort, alloc: Global, blank: Blank) -> Result<(), Fail>
     requires { IsFresh blank L.name L.parts }
 {
-    let snapshot = snapshot(rt, alloc, &core(alloc)?)?;
-    assert_words::<L>(rt, alloc, &snapshot, blank)?;
+    let snapshot = whole(rt, alloc)?;
     assert_live(rt, &snapshot);
+    assert_words::<L>(rt, alloc, &snapshot, blank)?;
     Ok(())
+}
+
+/// The snapshot of all of the core.
+fn whole(rt: &impl Abort, alloc: Global) -> Result<Snapshot, Fail> {
+    let core = core(alloc)?;
+    snapshot(rt, alloc, &core)
 }
 
 /// Two documents have one word, one of them another, and none the third.
@@ -143,7 +155,7 @@ fn finds_rows_of_range<L: Ledger>(rt: &impl Abort, alloc: Global, blank: Blank) 
 
 /// The rows of the snapshot whose hashes are 2 and 3.
 fn part(rt: &impl Abort, alloc: Global) -> Result<Snapshot, Fail> {
-    let whole = snapshot(rt, alloc, &core(alloc)?)?;
+    let whole = whole(rt, alloc)?;
     Ok(whole.within(alloc, &Range { min: 2, max: 3 })?)
 }
 

@@ -7,6 +7,7 @@ ghost use Rattle.sc_collection.specs.Shapes.{IsShape};
 ghost use Rattle.sc_shared.specs.Collections.{layout_of};
 ghost use Rattle.sc_shared.specs.Sharing.{ArePasses, out_of};
 
+use crate::support::assert_same;
 use sc_collection::{Desk, Shape, Trail, commit_all};
 use sc_shared::{Collection, Home, Passes, Shared};
 use std::alloc::{AllocError, Global};
@@ -99,7 +100,7 @@ fn entries_by_two<R: Wait, N: Home>(
 fn each_bucket_has_a_lock_of_its_own(rt: HostRuntime) -> Result<(), Fail> {
     let (collection, passes, others, _) = new_collection(rt.alloc(), &two_buckets())?;
     let entries = entries_by_two::<HostRuntime, Brand>(&rt, &collection, passes, others);
-    assert_eq!(rt; entries, 0);
+    assert_same(&rt, entries, 0);
     Ok(())
 }
 
@@ -182,6 +183,6 @@ fn two_threads_lose_no_commit(rt: HostRuntime) -> Result<(), Fail> {
     let (collection, passes, others, watching) = new_collection(alloc, &two_buckets())?;
     let passes = commit_in_two(&rt, alloc, &collection, passes, others)?;
     let entries = entries_by_two::<HostRuntime, Brand>(&rt, &collection, passes, watching);
-    assert_eq!(rt; entries, u64::from(2 * 2 * ROUNDS));
+    assert_same(&rt, entries, u64::from(2 * 2 * ROUNDS));
     Ok(())
 }

@@ -9,6 +9,7 @@ use sc_io::{Fixed, MemSink, MemSource, Never, NoPace};
 use sc_record::List;
 use sc_session::{Crew, MemListener, MemStation};
 use std::alloc::{AllocError, Global};
+use std::process::Abort;
 use std::sync::Wait;
 use std::test::Fail;
 use std::thread::Threads;
@@ -60,6 +61,36 @@ fn told_whole<R: Threads + Wait + Sync>(
     told(rt, alloc, demo, crews, List::new(alloc))
 }
 
+/// Where nothing fails, a demonstration comes to this.
+fn assert_whole<R: Threads + Wait + Sync + Abort>(
+    rt: &R,
+    alloc: Global,
+    demo: &Demo,
+    wanted: &str,
+) -> Result<(), AllocError>
+    requires { IsDemo demo.now }
+{
+    let found = told_whole(rt, alloc, demo)?;
+    assert_text(rt, found.as_str(), wanted);
+    Ok(())
+}
+
+/// By a station that has so many crews, and where these writes fail, a demonstration comes to this.
+fn assert_told<R: Threads + Wait + Sync + Abort>(
+    rt: &R,
+    alloc: Global,
+    demo: &Demo,
+    crews: u32,
+    lines: List<u64>,
+    wanted: &str,
+) -> Result<(), AllocError>
+    requires { IsDemo demo.now }
+{
+    let found = told(rt, alloc, demo, crews, lines)?;
+    assert_text(rt, found.as_str(), wanted);
+    Ok(())
+}
+
 fn of_thousand() -> &'static str {
     "0\norders 1000\naccepted 1000\nsplit done\nfound 400\ng_s:a 133\ng_s:b 267\n"
 }
@@ -93,13 +124,9 @@ fn demo_lines_are_the_same_for_any_number_of_workers(rt: HostRuntime) -> Result<
             count: 1,
             workers,
         };
-        assert_text(
-            &rt,
-            told_whole(&rt, alloc, &thousand)?.as_str(),
-            of_thousand(),
-        );
-        assert_text(&rt, told_whole(&rt, alloc, &ten)?.as_str(), of_ten());
-        assert_text(&rt, told_whole(&rt, alloc, &one)?.as_str(), of_one());
+        assert_whole(&rt, alloc, &thousand, of_thousand())?;
+        assert_whole(&rt, alloc, &ten, of_ten())?;
+        assert_whole(&rt, alloc, &one, of_one())?;
     }
     Ok(())
 }
@@ -113,10 +140,8 @@ fn a_demo_says_what_failed(rt: HostRuntime) -> Result<(), Fail> {
         count: 10,
         workers: 2,
     };
-    let no_crew = told(&rt, alloc, &ten, 2, List::new(alloc))?;
-    assert_text(&rt, no_crew.as_str(), "6\n");
+    assert_told(&rt, alloc, &ten, 2, List::new(alloc), "6\n")?;
     let first = List::from_vec(Vec::from_array(alloc, [0])?);
-    let no_lines = told(&rt, alloc, &ten, 3, first)?;
-    assert_text(&rt, no_lines.as_str(), "5\n");
+    assert_told(&rt, alloc, &ten, 3, first, "5\n")?;
     Ok(())
 }

@@ -6,6 +6,7 @@ ghost use Rattle.sc_lock.specs.Journal.{GrowsByAtMostOne};
 ghost use Rattle.std.specs.Thread.{IsSync};
 ghost use Rattle.sc_lock.specs.Tokens.{lock_id, IsPassOf, IsFree, IsKeeperOf, IsFreeKeeper, keeper_part};
 
+use crate::support::assert_same;
 use sc_lock::{Badge, Keeper, Kept, Lock, Pass, Turn};
 use std::alloc::AllocError;
 use std::sync::Wait;
@@ -302,7 +303,7 @@ fn four_threads_add_ten_thousand_each(rt: HostRuntime) -> Result<(), AllocError>
     let passes = (one, others.0, others.1, others.2);
     let mut pass = four(&rt, &lock, passes, 0, 10000)?;
     assert!(rt; has_all(&rt, &lock, &mut pass, 4, 10000));
-    assert_eq!(rt; mark_found(&rt, &lock, &mut keeper), 7);
+    assert_same(&rt, mark_found(&rt, &lock, &mut keeper), 7);
     lock.meet(&mut pass, &mut keeper);
     let badge = lock.badge(&keeper)?;
     let (numbers, turn) = lock.hold(&rt, &mut pass);

@@ -357,7 +357,8 @@ fn an_update_and_a_deletion_come_amid_a_split(rt: HostRuntime) -> Result<(), Fai
             r#"POST /solr/docs/update HTTP/1.1|Host: a|Content-Length: 28||[{"id":"abc","_version_":7}]"#,
         ],
     )?;
-    assert_eq!(rt;
+    assert_text(
+        &rt,
         told.as_str(),
         r#"{"adds":["abc",1048576000],"responseHeader":{"QTime":0,"status":0}}
 {"committed":true,"responseHeader":{"QTime":0,"status":0},"subs":["shard1_0","shard1_1"]}
@@ -365,7 +366,7 @@ fn an_update_and_a_deletion_come_amid_a_split(rt: HostRuntime) -> Result<(), Fai
 {"error":{"code":409,"msg":"version conflict for abc expected=7 actual=-1048576002"},"responseHeader":{"QTime":0,"status":409}}
 {"adds":["abc",1048576001],"responseHeader":{"QTime":0,"status":0}}
 {"deletes":["abc",-1048576002],"responseHeader":{"QTime":0,"status":0}}
-"#
+"#,
     );
     Ok(())
 }

@@ -12,6 +12,7 @@ use sc_server::run_server;
 use sc_session::{Crew, Link, MemListener, MemStation};
 use std::alloc::{AllocError, Global};
 use std::hint::spin_loop;
+use std::process::Abort;
 use std::sync::atomic::{AtomicBool, Ordering};
 use std::sync::{Arc, Wait};
 use std::test::Fail;
@@ -128,23 +129,26 @@ fn told(
 ) -> Result<String, AllocError> {
     let mut told = String::new(alloc);
     for taken in &listener.taken {
-        let source = &taken.link.source.source;
-        if source.faults.count() > 0 {
-            told.push_str("failed ")?;
-        }
-        if source.at < source.bytes.len() {
-            told.push_str("unread ")?;
-        }
-        let written = std::str::from_utf8(taken.link.sink.sink.bytes.as_slice()).unwrap_or("");
-        told.push_str(written)?;
-        told.push_str(stops_shown(alloc, &taken.trail)?.as_str())?;
+        push_link(&mut told, &taken.link)?;
+        push_stops(alloc, &mut told, &taken.trail)?;
     }
     Ok(told)
 }
 
-/// The stops, each as its lock and its place, with a sign where it made an entry.
-fn stops_shown(alloc: Global, trail: &Trail) -> Result<String, AllocError> {
-    let mut text = String::new(alloc);
+/// Puts what was written to this connection at the end of the text, after its words.
+fn push_link(text: &mut String, link: &Link<WaitingSource, MarkingSink>) -> Result<(), AllocError> {
+    let source = &link.source.source;
+    if source.faults.count() > 0 {
+        text.push_str("failed ")?;
+    }
+    if source.at < source.bytes.len() {
+        text.push_str("unread ")?;
+    }
+    text.push_str(std::str::from_utf8(link.sink.sink.bytes.as_slice()).unwrap_or(""))
+}
+
+/// Puts the stops at the end of the text, each as its lock and its place, with a sign where it made an entry.
+fn push_stops(alloc: Global, text: &mut String, trail: &Trail) -> Result<(), AllocError> {
     for at in 0..trail.len() {
         if let Some(stop) = trail.get(at) {
             let sign = if stop.made { "+" } else { "" };
@@ -152,7 +156,7 @@ fn stops_shown(alloc: Global, trail: &Trail) -> Result<String, AllocError> {
             text.push_str(shown.as_str())?;
         }
     }
-    Ok(text)
+    Ok(())
 }
 
 /// What a server of so many workers comes to, over one bucket, where a connection comes to each worker: its status, what it wrote of itself,
@@ -184,8 +188,23 @@ fn served<R: Threads + Wait + Sync>(
     let mut station = MemStation::new(alloc, crews, opens)?;
     let mut sink = MemSink::new(alloc, lines);
     let status = run_server(rt, alloc, &server, &mut sink, &mut station);
-    let line = std::str::from_utf8(sink.bytes.as_slice()).unwrap_or("");
-    let told = told_of_crews(alloc, station.back.as_slice())?;
+    told_in_all(
+        alloc,
+        status,
+        sink.bytes.as_slice(),
+        station.back.as_slice(),
+    )
+}
+
+/// The status, what the server wrote of itself, and what was written to the connections of the crews that are back.
+fn told_in_all(
+    alloc: Global,
+    status: u8,
+    written: &[u8],
+    crews: &[Option<OneLink>],
+) -> Result<String, AllocError> {
+    let line = std::str::from_utf8(written).unwrap_or("");
+    let told = told_of_crews(alloc, crews)?;
     format!(in alloc; "{status} {line}{}", told.as_str())
 }
 
@@ -291,11 +310,27 @@ fn a_status_says_what_failed(rt: HostRuntime) -> Result<(), Fail> {
     let first = || -> Result<List<u64>, AllocError> {
         Ok(List::from_vec(Vec::from_array(alloc, [0])?))
     };
-    let port_fails = served_by_one(&rt, alloc, first()?, List::new(alloc))?;
-    assert_text(&rt, port_fails.as_str(), "7 ");
-    let line_fails = served_by_one(&rt, alloc, List::new(alloc), first()?)?;
-    assert_text(&rt, line_fails.as_str(), "5 \n");
-    let none_fails = served_by_one(&rt, alloc, List::new(alloc), List::new(alloc))?;
-    assert_text(&rt, none_fails.as_str(), answer_of_one());
+    assert_comes_to(&rt, alloc, first()?, List::new(alloc), "7 ")?;
+    assert_comes_to(&rt, alloc, List::new(alloc), first()?, "5 \n")?;
+    assert_comes_to(
+        &rt,
+        alloc,
+        List::new(alloc),
+        List::new(alloc),
+        answer_of_one(),
+    )?;
+    Ok(())
+}
+
+/// A server of one worker, where these calls fail, comes to this.
+fn assert_comes_to<R: Threads + Wait + Sync + Abort>(
+    rt: &R,
+    alloc: Global,
+    opens: List<u64>,
+    lines: List<u64>,
+    wanted: &str,
+) -> Result<(), AllocError> {
+    let found = served_by_one(rt, alloc, opens, lines)?;
+    assert_text(rt, found.as_str(), wanted);
     Ok(())
 }

@@ -28,13 +28,19 @@ pub fn new_collection(alloc: Global, words: &[&str]) -> Result<Collection, Alloc
     ensures board_out { IfOk result (λ collection. collection.desk.board_out ≡ None) }
 {
     let desk = Alone::new(alloc, &shape_of(words))?;
-    let hosts = hosts_of(alloc, &desk)?;
-    Ok(Collection {
-        desk,
-        hosts,
-        pace: MemPace::new(None),
-        wire: Wire::new(alloc),
-    })
+    match hosts_of(alloc, &desk) {
+        Ok(hosts) => Ok(Collection {
+            desk,
+            hosts,
+            pace: MemPace::new(None),
+            wire: Wire::new(alloc),
+        }),
+        Err(fault) => {
+            // By a call, as the program's stage.
+            drop(desk);
+            Err(fault)
+        }
+    }
 }
 
 /// The shape of the collection that a line asks for.

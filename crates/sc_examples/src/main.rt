@@ -58,7 +58,10 @@ fn main(rt: HostRuntime) -> io::Result<()> {
     buckets_and_pages_go_between_threads();
     let alloc = rt.alloc();
     let mut stage = Stage::new(alloc)?;
-    answer_lines(&rt, alloc, &mut stage)
+    let answered = answer_lines(&rt, alloc, &mut stage);
+    // By a call, since at the end of the function each of its parts would be followed.
+    drop(stage);
+    answered
 }
 
 /// Buckets and pages may go from thread to thread.

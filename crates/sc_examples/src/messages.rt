@@ -60,8 +60,7 @@ fn first(alloc: Global, most: usize, text: &str) -> Result<String, AllocError>
 {
     let mut source = source_of(alloc, text, most)?;
     let mut reader = Reader::new(alloc)?;
-    let line = next_request(alloc, &mut reader, &mut source)?;
-    with_end(alloc, &mut reader, &mut source, line)
+    first_of(alloc, &mut reader, &mut source)
 }
 
 /// The next request.
@@ -76,13 +75,13 @@ fn next_request(
     }
 }
 
-/// The line, and where no other request follows, why.
-fn with_end(
+/// The next request, and where no other follows, why.
+fn first_of(
     alloc: Global,
     reader: &mut Reader,
     source: &mut MemSource,
-    line: String,
 ) -> Result<String, AllocError> {
+    let line = next_request(alloc, reader, source)?;
     match end_of(alloc, reader, source) {
         None => Ok(line),
         Some(end) => format!(in alloc; "{line} {end:?}"),

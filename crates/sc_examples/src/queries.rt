@@ -1,6 +1,7 @@
 //! `sc_query`: `query.parse TEXT` and `query.and TEXT & TEXT`. A query is shown as `*`, `field=value@place`, `!q`,
 //! `(p & q)` and `(p | q)`.
 
+use crate::line::Line;
 use sc_query::{Query, QueryFault, and, parse};
 use std::alloc::{AllocError, Global};
 
@@ -34,24 +35,40 @@ pub fn read(alloc: Global, text: &str) -> Result<Query, AllocError> {
 }
 
 fn shown(alloc: Global, query: &Query) -> Result<String, AllocError> {
+    let mut line = Line::new(alloc);
+    put_query(&mut line, query);
+    line.end()
+}
+
+/// Puts a query at the end.
+fn put_query(line: &mut Line, query: &Query) {
     match query {
-        Query::All => String::from_str(alloc, "*"),
-        Query::Leaf { field, value, at } => leaf(alloc, field.as_str(), value.as_str(), *at),
-        Query::Not(operand) => not(alloc, shown(alloc, operand)?),
-        Query::And(left, right) => joined(alloc, shown(alloc, left)?, "&", shown(alloc, right)?),
-        Query::Or(left, right) => joined(alloc, shown(alloc, left)?, "|", shown(alloc, right)?),
+        Query::All => line.push("*"),
+        Query::Leaf { field, value, at } => put_leaf(line, field.as_str(), value.as_str(), *at),
+        Query::Not(operand) => {
+            line.push("!");
+            put_query(line, operand);
+        }
+        Query::And(left, right) => {
+            line.push("(");
+            put_query(line, left);
+            line.push(" & ");
+            put_query(line, right);
+            line.push(")");
+        }
+        Query::Or(left, right) => {
+            line.push("(");
+            put_query(line, left);
+            line.push(" | ");
+            put_query(line, right);
+            line.push(")");
+        }
     }
 }
 
-fn leaf(alloc: Global, field: &str, value: &str, at: u32) -> Result<String, AllocError> {
-    format!(in alloc; "{field}={value}@{at}")
-}
-
-fn not(alloc: Global, operand: String) -> Result<String, AllocError> {
-    format!(in alloc; "!{operand}")
-}
-
-/// Two operands and the mark between them.
-fn joined(alloc: Global, left: String, mark: &str, right: String) -> Result<String, AllocError> {
-    format!(in alloc; "({left} {mark} {right})")
+/// A leaf: its field, its value and its place.
+fn put_leaf(line: &mut Line, field: &str, value: &str, at: u32) {
+    line.push(field);
+    line.put("=", &value);
+    line.put("@", &at);
 }

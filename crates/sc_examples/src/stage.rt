@@ -9,6 +9,7 @@ use crate::words::{number, word};
 use sc_bucket::Bucket;
 use sc_hash::murmur3;
 use std::alloc::{AllocError, Global};
+use std::mem::replace;
 use std::thread::Threads;
 
 /// What the lines are about.
@@ -26,24 +27,19 @@ impl Stage {
         ensures out { IfOk result (λ stage. stage.collection.desk.out ≡ None) }
         ensures board_out { IfOk result (λ stage. stage.collection.desk.board_out ≡ None) }
     {
-        let collection = new_collection(alloc, &[])?;
-        Stage::with(alloc, collection)
-    }
-
-    // A stage with this collection and a new bucket.
-    fn with(alloc: Global, collection: Collection) -> Result<Stage, AllocError>
-        requires out { collection.desk.out ≡ None }
-        requires board_out { collection.desk.board_out ≡ None }
-        ensures sound { IfOk result (λ stage. IsSound stage.bucket) }
-        ensures out { IfOk result (λ stage. stage.collection.desk.out ≡ None) }
-        ensures board_out { IfOk result (λ stage. stage.collection.desk.board_out ≡ None) }
-    {
         let bucket = new_bucket(alloc, &[])?;
-        Ok(Stage {
-            bucket,
-            collection,
-            now: 1000,
-        })
+        match new_collection(alloc, &[]) {
+            Ok(collection) => Ok(Stage {
+                bucket,
+                collection,
+                now: 1000,
+            }),
+            Err(fault) => {
+                // By a call, as the program's stage.
+                drop(bucket);
+                Err(fault)
+            }
+        }
     }
 }
 
@@ -92,12 +88,12 @@ fn set(alloc: Global, stage: &mut Stage, words: &[&str]) -> Result<(), AllocErro
     }
 }
 
-/// Puts a new bucket in the old one's place.
+/// Puts a new bucket in the old one's place, which is dropped by a call, as the program's stage.
 fn set_bucket(alloc: Global, bucket: &mut Bucket, words: &[&str]) -> Result<(), AllocError>
     requires { IsSound bucket.old }
     ensures { IsSound bucket.new }
 {
-    *bucket = new_bucket(alloc, words)?;
+    drop(replace(bucket, new_bucket(alloc, words)?));
     Ok(())
 }
 
@@ -123,7 +119,7 @@ fn set_in_collection(
     }
 }
 
-/// Puts a new collection in the old one's place.
+/// Puts a new collection in the old one's place, which is dropped so too.
 fn set_collection(
     alloc: Global,
     collection: &mut Collection,
@@ -134,7 +130,7 @@ fn set_collection(
     ensures out { collection.new.desk.out ≡ None }
     ensures board_out { collection.new.desk.board_out ≡ None }
 {
-    *collection = new_collection(alloc, words)?;
+    drop(replace(collection, new_collection(alloc, words)?));
     Ok(())
 }
 

@@ -127,10 +127,15 @@ fn put_replica(
     put_number(line, replica);
     put_mode(line, replica);
     put_feed(line, bucket, replica.core());
-    for cell in replica.cells().share(alloc)?.as_slice() {
+    put_cells(line, replica.cells().share(alloc)?.as_slice());
+    Ok(())
+}
+
+/// Writes, as each is put.
+fn put_cells(line: &mut Line, cells: &[Cell]) {
+    for cell in cells {
         put_cell(line, cell);
     }
-    Ok(())
 }
 
 /// A core's name, and its number where that is another than its seat's.

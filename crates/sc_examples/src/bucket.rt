@@ -1,6 +1,7 @@
 ghost use Rattle.std.specs.Prelude.{IfOk};
 ghost use Rattle.sc_bucket.specs.Sound.{IsSound};
 
+use crate::line::joined;
 use crate::words::{log_limit, number, word};
 use sc_bucket::{Accepted, Bucket};
 use sc_cluster::ClusterMap;
@@ -80,8 +81,8 @@ fn accept(alloc: Global, bucket: &mut Bucket, order: &Order, now: u64) -> Result
     ensures { IsSound bucket.new }
 {
     match bucket.accept(alloc, order, now) {
-        Ok(Accepted { version, place }) => format!(in alloc; "{version} at {place}"),
-        Err(fault) => format!(in alloc; "{fault}"),
+        Ok(Accepted { version, place }) => joined(alloc, &version, " at ", &place),
+        Err(fault) => fault.to_string(alloc),
     }
 }
 
@@ -91,7 +92,7 @@ fn commit(alloc: Global, bucket: &mut Bucket) -> Result<String, AllocError>
 {
     match bucket.commit(alloc) {
         Ok(()) => String::from_str(alloc, "done"),
-        Err(fault) => format!(in alloc; "{fault}"),
+        Err(fault) => fault.to_string(alloc),
     }
 }
 
@@ -103,7 +104,7 @@ pub fn read(alloc: Global, bucket: &Bucket, words: &[&str]) -> Result<String, Al
         return Err(AllocError);
     };
     match bucket.read(&id) {
-        Some(cell) => format!(in alloc; "{}", cell.shown()),
+        Some(cell) => cell.shown().to_string(alloc),
         None => String::from_str(alloc, "none"),
     }
 }

@@ -1,5 +1,6 @@
 //! The causes of `sc_reply`, by their names.
 
+use crate::line::joined;
 use crate::words::word_and;
 use sc_reply::Cause;
 use std::alloc::{AllocError, Global};
@@ -9,7 +10,7 @@ pub fn cause_line(alloc: Global, text: &str) -> Result<String, AllocError> {
     let (name, given) = word_and(text);
     let cause = cause_of(name, given);
     let message = cause.message(alloc)?;
-    format!(in alloc; "{} {}", cause.status(), message.as_str())
+    joined(alloc, &cause.status(), " ", &message.as_str())
 }
 
 fn cause_of<'a>(name: &str, given: &'a str) -> Cause<'a> {

@@ -32,7 +32,7 @@ fn parts(alloc: Global, text: &str) -> Result<String, AllocError> {
     };
     match cut(alloc, &range, count) {
         Ok(parts) => ranges(alloc, parts.as_slice()),
-        Err(fault) => format!(in alloc; "{fault}"),
+        Err(fault) => fault.to_string(alloc),
     }
 }
 
@@ -62,7 +62,7 @@ fn in_map(
         "slices" => slices(alloc, map),
         "leads" => {
             let hash = u32::from_str_radix(text, 16).unwrap_or(0);
-            format!(in alloc; "{}", map.leads(hash.cast_signed()).0)
+            map.leads(hash.cast_signed()).0.to_string(alloc)
         }
         "named" => named(alloc, map, text),
         _ => nodes(alloc, map, text),
@@ -95,7 +95,7 @@ fn put_slice(alloc: Global, line: &mut Line, slice: &Slice) {
 /// The id of the slice of this name.
 fn named(alloc: Global, map: &ClusterMap, name: &str) -> Result<String, AllocError> {
     match map.by_name(name) {
-        Some(id) => format!(in alloc; "{}", id.0),
+        Some(id) => id.0.to_string(alloc),
         None => String::from_str(alloc, "none"),
     }
 }
@@ -104,7 +104,7 @@ fn named(alloc: Global, map: &ClusterMap, name: &str) -> Result<String, AllocErr
 fn nodes(alloc: Global, map: &ClusterMap, text: &str) -> Result<String, AllocError> {
     let replica = text.parse::<u8>().unwrap_or(0);
     match map.get(1) {
-        Some(slice) if replica > 0 => format!(in alloc; "{}", slice.node_of(replica, 3)),
+        Some(slice) if replica > 0 => slice.node_of(replica, 3).to_string(alloc),
         _ => Err(AllocError),
     }
 }

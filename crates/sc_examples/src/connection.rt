@@ -1,7 +1,7 @@
 ghost use Rattle.std.specs.Prelude.{◌≡◌, None, true, IfOk};
 ghost use Rattle.sc_collection.specs.Shapes.{IsShape, is_bucket_count};
 
-use crate::line::Line;
+use crate::line::{Line, joined};
 use crate::wire::Wire;
 use crate::words::{log_limit, number};
 use sc_collection::{Alone, Desk, Shape, Stop, Trail};
@@ -112,7 +112,7 @@ pub fn show_cores(alloc: Global, hosts: &MemHosts) -> Result<String, AllocError>
 fn started_cores(alloc: Global, hosts: &MemHosts) -> Result<Vec<String>, AllocError> {
     let mut cores = Vec::new(alloc);
     for host in hosts.started.as_slice() {
-        cores.push(format!(in alloc; "{}@{}", host.core.as_str(), host.node)?)?;
+        cores.push(joined(alloc, &host.core.as_str(), "@", &host.node)?)?;
     }
     Ok(cores)
 }

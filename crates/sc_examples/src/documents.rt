@@ -63,7 +63,7 @@ pub fn document_of(alloc: Global, body: &str) -> Result<Doc, AllocError> {
 fn read_back(alloc: Global, body: &str) -> Result<String, AllocError> {
     match read(alloc, body.as_bytes()) {
         Ok(value) => String::from_str(alloc, print(alloc, &value)?.as_str()),
-        Err(fault) => format!(in alloc; "{fault}"),
+        Err(fault) => fault.to_string(alloc),
     }
 }
 
@@ -71,7 +71,7 @@ fn read_back(alloc: Global, body: &str) -> Result<String, AllocError> {
 fn read_bytes(alloc: Global, digits: &str) -> Result<String, AllocError> {
     match read(alloc, bytes_of(alloc, digits)?.as_slice()) {
         Ok(_) => String::from_str(alloc, "JSON"),
-        Err(fault) => format!(in alloc; "{fault}"),
+        Err(fault) => fault.to_string(alloc),
     }
 }
 
@@ -100,7 +100,7 @@ fn put_raw(line: &mut Line, field: &RawField) {
 fn order(alloc: Global, body: &str) -> Result<String, AllocError> {
     match check_doc(alloc, &raw_of(alloc, body)?) {
         Ok(order) => order_line(alloc, &order),
-        Err(fault) => format!(in alloc; "{fault}"),
+        Err(fault) => fault.to_string(alloc),
     }
 }
 
@@ -141,7 +141,7 @@ fn changed_by(alloc: Global, old: Option<&Doc>, order: &Order) -> Result<String,
     };
     match resolve(alloc, old, changes) {
         Ok(doc) => doc_line(alloc, &doc),
-        Err(fault) => format!(in alloc; "{fault}"),
+        Err(fault) => fault.to_string(alloc),
     }
 }
 

@@ -1,3 +1,4 @@
+use crate::line::joined;
 use crate::words::{core, number, signed, word};
 use sc_bucket::Bucket;
 use sc_cluster::{Slice, SplitPlan};
@@ -125,7 +126,7 @@ fn sub_of(
     let name = parent.name.as_str();
     Ok(SubSlice {
         id: SliceId(id),
-        name: Text::from_string(alloc, format!(in alloc; "{name}_{number}")?)?,
+        name: Text::from_string(alloc, joined(alloc, &name, "_", &number)?)?,
         min: range.min,
         max: range.max,
         replicas: parent.replicas,

@@ -1,5 +1,6 @@
 //! `sc_hash`: `hash.murmur3 SEED TEXT`, `hash.murmur3-bytes SEED HEX`, `hash.range MIN MAX` and `hash.read TEXT`.
 
+use crate::line::joined;
 use crate::words::word_and;
 use sc_hash::{Range, murmur3, parse_range, range_text};
 use std::alloc::{AllocError, Global};
@@ -43,7 +44,7 @@ fn written(alloc: Global, min: &str, max: &str) -> Result<String, AllocError> {
 /// The ends of the range that the text is.
 fn read(alloc: Global, text: &str) -> Result<String, AllocError> {
     match parse_range(text) {
-        Some(range) => format!(in alloc; "{} {}", range.min, range.max),
+        Some(range) => joined(alloc, &range.min, " ", &range.max),
         None => String::from_str(alloc, "no range"),
     }
 }

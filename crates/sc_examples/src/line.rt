@@ -49,3 +49,13 @@ impl Line {
         if lost { Err(AllocError) } else { Ok(text) }
     }
 }
+
+/// Two values as a text, with this one between them.
+pub fn joined<A: fmt::Display, B: fmt::Display>(
+    alloc: Global,
+    left: &A,
+    between: &str,
+    right: &B,
+) -> Result<String, AllocError> {
+    format!(in alloc; "{left}{between}{right}")
+}

@@ -104,7 +104,7 @@ fn write_answer<R: Threads + Sync + Print>(
     ensures board_out { stage.new.collection.desk.board_out ≡ None }
 {
     let answer = answer_line(rt, alloc, stage, line)?;
-    println!(rt; "{}", answer.as_str())
+    rt.println(answer.as_str())
 }
 
 /// What is written for a line: it asks for an example where its first word has a dot, and is one of a scenario otherwise.

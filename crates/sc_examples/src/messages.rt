@@ -38,8 +38,17 @@ fn count(alloc: Global, most: usize, text: &str) -> Result<String, AllocError>
 {
     let mut source = source_of(alloc, text, most)?;
     let mut reader = Reader::new(alloc)?;
+    counted(alloc, &mut reader, &mut source)
+}
+
+/// How many requests come, and why no other follows.
+fn counted(
+    alloc: Global,
+    reader: &mut Reader,
+    source: &mut MemSource,
+) -> Result<String, AllocError> {
     for count in 0..9u32 {
-        if let Some(end) = end_of(alloc, &mut reader, &mut source) {
+        if let Some(end) = end_of(alloc, reader, source) {
             return format!(in alloc; "{count} {end:?}");
         }
     }

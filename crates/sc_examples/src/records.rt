@@ -3,6 +3,7 @@
 
 ghost use Rattle.std.specs.Prelude.{pos, ◌<ℤ◌};
 
+use crate::line::joined;
 use crate::words::word_and;
 use sc_record::{Cell, CloneIn, Doc, Id, List, Text, Write, found, kind_of, next_version};
 use std::alloc::{AllocError, Global};
@@ -16,7 +17,7 @@ pub fn answer(alloc: Global, question: &str, text: &str) -> Result<String, Alloc
         "version" => version(alloc, first, rest),
         "shown" => shown(alloc, text),
         "text" => kept(alloc, text),
-        "size" => format!(in alloc; "{}", size_of::<Text>()),
+        "size" => size_of::<Text>().to_string(alloc),
         "least" => least_text(alloc, first, rest),
         _ => least_id(alloc, first, rest),
     }
@@ -42,7 +43,7 @@ pub fn id_of(alloc: Global, text: &str) -> Result<Id, AllocError> {
 fn id(alloc: Global, text: &str) -> Result<String, AllocError> {
     match Id::new(alloc, text) {
         Ok(id) => format!(in alloc; "{} bytes", id.as_str().len()),
-        Err(fault) => format!(in alloc; "{fault}"),
+        Err(fault) => fault.to_string(alloc),
     }
 }
 
@@ -53,7 +54,7 @@ fn version(alloc: Global, moment: &str, clock: &str) -> Result<String, AllocErro
     if clock < 0 || clock == i64::MAX {
         return Err(AllocError);
     }
-    format!(in alloc; "{}", next_version(moment, clock))
+    next_version(moment, clock).to_string(alloc)
 }
 
 fn write_of(alloc: Global, version: i64, doc: Option<Doc>) -> Result<Cell, AllocError>
@@ -99,7 +100,7 @@ fn copy_of(alloc: Global, text: &str) -> Result<Text, AllocError> {
 /// Whether a copy of the kept text is the text still, and how long it is.
 fn kept(alloc: Global, text: &str) -> Result<String, AllocError> {
     let copy = copy_of(alloc, text)?;
-    format!(in alloc; "{} {}", copy.as_str() == text, copy.as_str().len())
+    joined(alloc, &(copy.as_str() == text), " ", &copy.as_str().len())
 }
 
 /// The lesser of two values, by the bound.

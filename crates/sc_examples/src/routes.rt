@@ -32,7 +32,7 @@ fn bucket(alloc: Global, text: &str) -> Result<String, AllocError>
         "2" => bucket_of(id, 2),
         _ => bucket_of(id, 256),
     };
-    format!(in alloc; "{bucket}")
+    bucket.to_string(alloc)
 }
 
 /// Whether the route's range holds the id's hash.
@@ -42,5 +42,5 @@ fn holds(alloc: Global, text: &str) -> Result<String, AllocError>
     let Some((route, id)) = text.split_once(' ') else {
         return Err(AllocError);
     };
-    format!(in alloc; "{}", key_range(route).contains(route_hash(id)))
+    key_range(route).contains(route_hash(id)).to_string(alloc)
 }

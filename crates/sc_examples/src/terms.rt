@@ -3,7 +3,7 @@
 //! The words of a text are shown with bars between them, and after a slash its one word, where it has one.
 
 use crate::documents::order_of;
-use crate::line::Line;
+use crate::line::{Line, joined};
 use crate::words::word_and;
 use sc_json::print;
 use sc_record::{Change, Kind, List, Order, Term, Text};
@@ -63,7 +63,7 @@ fn order_with(alloc: Global, text: &str) -> Result<Order, AllocError> {
 fn words(alloc: Global, text: &str) -> Result<String, AllocError> {
     let words = words_found(alloc, text)?;
     let word = one_word(alloc, text)?;
-    format!(in alloc; "{words}/{word}")
+    joined(alloc, &words, "/", &word)
 }
 
 /// The words by which a document with this text is found, a bar behind each.

@@ -23,7 +23,7 @@ pub fn answer(alloc: Global, question: &str, body: &str) -> Result<String, Alloc
 
 fn count(alloc: Global, body: &str) -> Result<String, AllocError> {
     match count_docs(alloc, body.as_bytes())? {
-        Some(count) => format!(in alloc; "{count}"),
+        Some(count) => count.to_string(alloc),
         None => String::from_str(alloc, "not counted"),
     }
 }
@@ -31,7 +31,7 @@ fn count(alloc: Global, body: &str) -> Result<String, AllocError> {
 fn orders(alloc: Global, body: &str) -> Result<String, AllocError> {
     match read_update(alloc, body.as_bytes(), &FLAGS) {
         Ok(batch) => batch_text(alloc, &batch),
-        Err(fault) => format!(in alloc; "{fault}"),
+        Err(fault) => fault.to_string(alloc),
     }
 }
 

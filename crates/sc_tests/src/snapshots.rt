@@ -64,14 +64,21 @@ fn core(alloc: Global) -> Result<Replica, Fail> {
 
 /// Feeds the core the three writes.
 fn feed_three(alloc: Global, replica: &mut Replica) -> Result<(), Fail> {
-    for (id, hash, words) in [
-        ("c", 3, Some("rust")),
-        ("b", 2, None),
-        ("a", 1, Some("action in rust")),
-    ] {
-        replica.reserve(1)?;
-        replica.feed(write(alloc, id, hash, words)?);
-    }
+    feed(alloc, replica, "c", 3, Some("rust"))?;
+    feed(alloc, replica, "b", 2, None)?;
+    feed(alloc, replica, "a", 1, Some("action in rust"))
+}
+
+/// Feeds the core a write.
+fn feed(
+    alloc: Global,
+    replica: &mut Replica,
+    id: &str,
+    hash: i32,
+    words: Option<&str>,
+) -> Result<(), Fail> {
+    replica.reserve(1)?;
+    replica.feed(write(alloc, id, hash, words)?);
     Ok(())
 }
 

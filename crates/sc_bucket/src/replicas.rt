@@ -37,7 +37,8 @@ impl Replicas {
     {
         let mut replicas = Vec::new(alloc);
         for at in 0..slices.len() {
-            push_replicas(alloc, &mut replicas, slices.get(at).unwrap())?;
+            let slice = slices.get(at).unwrap();
+            push_replicas(alloc, &mut replicas, slice)?;
         }
         replicas.shrink_to_fit();
         Ok(Replicas { replicas })

@@ -74,7 +74,8 @@ fn push_subs(
         ++ map (λ (sub : Slice). cut_to sub (standing_of searcher.now)) (forming slices.now)) }
 {
     for at in 0..slices.len() {
-        push_sub(handed, slices.get(at).unwrap(), searcher)?;
+        let slice = slices.get(at).unwrap();
+        push_sub(handed, slice, searcher)?;
     }
     Ok(())
 }

@@ -2,11 +2,15 @@
 use Rattle.std.proofs.Common.{◌∙◌, ◌++◌, ℕ, All, map, sym, ap, subst, arith}
 use Rattle.std.specs.List.{range_with_len}
 use Rattle.std.proofs.lemmas.Int.{ints}
+use Rattle.std.proofs.lemmas.List.{append-nil}
 use Rattle.std.proofs.lemmas.List.Elements.{All-push}
 use Rattle.sc_replica.specs.Core.{Core}
 use Rattle.sc_bucket.specs.Cores.{core_key, IsCounted, IsNewCore}
 use Rattle.sc_bucket.proofs.CoreLemmas.{keys_more}
 use Rattle.sc_bucket.proofs.replicas.push_replicas.Goals as goal
+
+pub loop-below-init : goal.loop-below-init
+loop-below-init c = record { keys = sym (append-nil (map core_key c.args.replicas.now.items)); new = λ all. all; counted = λ all. all }
 
 pub loop-below-preserved : goal.loop-below-preserved
 loop-below-preserved c =

@@ -10,9 +10,9 @@ use Rattle.sc_bucket.proofs.spares.push_subs.Goals as goal
 
 pub loop-at-preserved : goal.loop-at-preserved
 loop-at-preserved c =
-    subs-next c.args.searcher.now c.args.slices.now c.loop-at.at c.unwrap.result.now (map standing_of c.args.handed.now.items)
+    subs-next c.args.searcher.now c.args.slices.now c.loop-at.at c.unwrap-slice.result.now (map standing_of c.args.handed.now.items)
     (map standing_of c.loop-at.handed.items) (map standing_of c.push_sub.new.handed.items)
-    (sym c.get.ensures.slice ∙ ap option_copied c.unwrap.ensures) c.loop-at.invariant c.in_ok-push_sub.ensures
+    (sym c.get.ensures.slice ∙ ap option_copied c.unwrap-slice.ensures) c.loop-at.invariant c.in_ok-push_sub.ensures
 
 pub loop-at-init : goal.loop-at-init
 loop-at-init c = sym (append-nil (map standing_of c.args.handed.now.items))

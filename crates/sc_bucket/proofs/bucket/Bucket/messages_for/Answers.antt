@@ -16,6 +16,9 @@ use Rattle.sc_bucket.proofs.SendLemmas.{takes, followers-more, followers-same}
 use Rattle.sc_bucket.proofs.bucket.Bucket.messages_for.Goals as goal
 use Rattle.sc_bucket.proofs.bucket.Bucket.messages_for.Goals.{then-takes+in_ok-push_messages, else-takes}
 
+pub loop-at-init : goal.loop-at-init
+loop-at-init c = ap (map sent_of) c.new-messages.ensures.items
+
 pub loop-at-preserved : goal.loop-at-preserved
 loop-at-preserved c =
     let slice = c.unwrap-slice.result.now in

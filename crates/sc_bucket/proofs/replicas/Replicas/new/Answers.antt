@@ -8,8 +8,8 @@ use Rattle.sc_bucket.proofs.replicas.Replicas.new.Goals as goal
 
 pub loop-at-preserved : goal.loop-at-preserved
 loop-at-preserved c =
-    let slice = c.unwrap.result.now in
-    let there = sym c.get.ensures.slice ∙ ap option_copied c.unwrap.ensures in
+    let slice = c.unwrap-slice.result.now in
+    let there = sym c.get.ensures.slice ∙ ap option_copied c.unwrap-slice.ensures in
     record {
       keys = c.in_ok-push_replicas.ensures.keys
           ∙ ap (λ keys. keys ++ slice_keys slice) c.loop-at.invariant.keys

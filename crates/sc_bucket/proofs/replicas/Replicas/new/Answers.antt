@@ -2,9 +2,19 @@
 use Rattle.std.proofs.Common.{◌∙◌, ◌++◌, All, map, sym, ap, subst, arith}
 use Rattle.std.specs.Option.{option_copied}
 use Rattle.std.proofs.lemmas.List.{take_all}
+use Rattle.std.proofs.lemmas.List.Elements.{All-nil}
 use Rattle.sc_bucket.specs.Cores.{core_key, core_keys, slice_keys, IsCounted, IsNewCore}
 use Rattle.sc_bucket.proofs.CoreLemmas.{keys-push}
 use Rattle.sc_bucket.proofs.replicas.Replicas.new.Goals as goal
+
+pub loop-at-init : goal.loop-at-init
+loop-at-init c =
+    let none = c.new-replicas.ensures.items in
+    record {
+      keys = ap (map core_key) none;
+      new = subst (All IsNewCore) (sym none) (All-nil IsNewCore);
+      counted = subst (All IsCounted) (sym none) (All-nil IsCounted);
+    }
 
 pub loop-at-preserved : goal.loop-at-preserved
 loop-at-preserved c =

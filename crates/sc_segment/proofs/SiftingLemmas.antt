@@ -1,8 +1,8 @@
 -- Rows that are looked for in a list by marks.
-use Rattle.std.proofs.Common.{◌≡◌, ◌≢◌, ℕ, ◌+◌, ◌-◌, ◌<◌, ◌≤◌, ◌==◌, zero, suc, Bool, true, false, not, ◌&&◌, ◌||◌, cond, List, [], ◌∷◌, All, length, get_or, set, take, replicate, slice_get, slice_index, Option, None, Some, IfSome, SomeIff, refl, ap, sym, ◌∙◌, arith, ⊎_elim}
+use Rattle.std.proofs.Common.{◌≡◌, ◌≢◌, ℕ, ◌+◌, ◌-◌, ◌<◌, ◌≤◌, ◌==◌, zero, suc, Bool, true, false, not, ◌&&◌, ◌||◌, cond, List, [], ◌∷◌, All, length, get_or, set, take, slice_get, slice_index, Option, None, Some, IfSome, SomeIff, refl, ap, sym, ◌∙◌, arith, ⊎_elim}
 use Rattle.std.proofs.lemmas.Bool.{cases_eq}
 use Rattle.std.proofs.lemmas.Bool.Decides.{nat_tests}
-use Rattle.std.proofs.lemmas.List.{get_or-replicate, length-replicate, get_or-set_other, get_or-set_same, length-set}
+use Rattle.std.proofs.lemmas.List.{get_or-set_other, get_or-set_same, length-set}
 use Rattle.std.proofs.lemmas.List.Elements.{All-from_get_or}
 use Rattle.std.proofs.lemmas.List.Folds.{list_any_more}
 use Rattle.std.proofs.lemmas.List.Kept.{IsStrictlyIncreasing-filter}
@@ -68,11 +68,6 @@ marks_more rows absent end at within below long marks row low =
     let old : row < length absent = rw long low in
     read ∙ ap Some (get_or-set_other absent one row false false apart) ∙ sym (slice_get-get_or absent row false old) ∙ marks row low ∙ ap (λ b. Some (not b)) (sym has))
     (cases_eq row one)
-
--- before any row was cleared
-pub marks_none : (end : ℕ) (row : ℕ) → row < end → slice_get (replicate end true) row ≡ Some (not (has_row [] row))
-marks_none end row low =
-    slice_get-get_or (replicate end true) row true (rw (length-replicate end true) low) ∙ ap Some (get_or-replicate end row true true low)
 
 same_row : (x n : ℕ) → (x == n) ≡ true → x ≡ n
 same_row x n h = grind (arith, nat_tests)

@@ -8,9 +8,9 @@ use Rattle.sc_record.specs.declared.term.Term.{Term}
 use Rattle.sc_record.specs.declared.write.Write.{Write}
 use Rattle.sc_journal.specs.Legal.{HasTerms}
 use Rattle.sc_snapshot.specs.Postings.{has_term, is_live_at}
-use Rattle.sc_segment.specs.Joining.{has_row, keeps, IsJoin}
-use Rattle.sc_segment.specs.declared.joining.Kept.{Kept}
-use Rattle.sc_segment.specs.declared.joining.Kept.TheVariants.{Both, Either, LeftAlone}
+use Rattle.sc_rows.specs.Joining.{has_row, keeps, IsJoin}
+use Rattle.sc_rows.specs.declared.joining.Kept.{Kept}
+use Rattle.sc_rows.specs.declared.joining.Kept.TheVariants.{Both, Either, LeftAlone}
 use Rattle.sc_eval.specs.Criteria.{Criterion, criterion_of}
 use Rattle.sc_eval.specs.Matching.{matches, is_live}
 use Rattle.sc_eval.specs.Operands.{joined_by, criterion_with}

@@ -3,8 +3,8 @@ use Rattle.std.proofs.Common.{◌≡◌, ℕ, Bool, ◌+◌, ◌-◌, ◌*◌, �
 use Rattle.std.proofs.Math.Nat.{pow-le-pow_right, mul-le-mul_right}
 use Rattle.std.proofs.lemmas.Bool.{cases_lt}
 use Rattle.sc_record.specs.declared.write.Write.{Write}
-use Rattle.sc_segment.specs.Joining.{IsJoin}
-use Rattle.sc_segment.specs.declared.joining.Kept.{Kept}
+use Rattle.sc_rows.specs.Joining.{IsJoin}
+use Rattle.sc_rows.specs.declared.joining.Kept.{Kept}
 use Rattle.sc_snapshot.specs.Postings.{term_count}
 use Rattle.sc_eval.specs.Criteria.{Criterion, criterion_of}
 use Rattle.sc_eval.specs.Operands.{joined_by, criterion_with}

@@ -1,7 +1,7 @@
 -- What stands to the right of the leftmost operand of a bound query, and what both ask together.
 use Rattle.std.specs.Prelude.{List, [], ◌∷◌}
-use Rattle.sc_segment.specs.declared.joining.Kept.{Kept}
-use Rattle.sc_segment.specs.declared.joining.Kept.TheVariants.{Both, Either, LeftAlone}
+use Rattle.sc_rows.specs.declared.joining.Kept.{Kept}
+use Rattle.sc_rows.specs.declared.joining.Kept.TheVariants.{Both, Either, LeftAlone}
 use Rattle.sc_eval.specs.Criteria.{Criterion, criterion_of}
 use Rattle.sc_eval.specs.declared.operand.Pair.{Pair}
 use Rattle.sc_eval.specs.declared.operand.Right.{Right}

@@ -2,7 +2,7 @@
 //! snapshot are joined, and where a range does not have all hashes of the rows those that match are read.
 //!
 //! It depends on `sc_record` for documents and writes, on `sc_query` for the query's tree, on `sc_schema` for what a document is
-//! found by, on `sc_segment` for joining lists and for counting steps, on `sc_snapshot` for the rows and their posting lists, on
+//! found by, on `sc_rows` for joining lists, on `sc_keys` for counting steps, on `sc_snapshot` for the rows and their posting lists, on
 //! `sc_journal` for what is true of their terms, on `sc_hash` for the range, and on `thiserror`. It does no input and no output.
 //! The layers above use the contract of `bind`, which says of each query which criterion it is or where its fault is, and those of
 //! `find`, which gives how many rows are found and the numbers of the first of them, and of `evaluate`, which gives all as a filter of the rows.

@@ -4,7 +4,7 @@ ghost use Rattle.std.specs.Prelude.{ℕ, ◌-◌, ◌≤◌, List, All, IfOk, Is
 ghost use Rattle.sc_record.specs.declared.write.Write.{Write};
 ghost use Rattle.sc_journal.specs.Legal.{HasTerms};
 ghost use Rattle.std.specs.List.Sorted.{IsStrictlyIncreasing};
-ghost use Rattle.sc_segment.specs.Joining.{IsJoin};
+ghost use Rattle.sc_rows.specs.Joining.{IsJoin};
 ghost use Rattle.sc_eval.specs.Criteria.{Criterion, criterion_of};
 ghost use Rattle.sc_eval.specs.Operands.{pair_criterion};
 ghost use Rattle.sc_eval.specs.Numbers.{numbers_of, is_match, AreNumbersOf, AreStepsOfLeaves};
@@ -14,7 +14,8 @@ use crate::bound::Bound;
 use crate::numbers::Numbers;
 use crate::operand::{Operand, Pair, Right, first_operand, pair_of_terms};
 use crate::unjoined::Unjoined;
-use sc_segment::{Kept, Steps};
+use sc_keys::Steps;
+use sc_rows::Kept;
 use sc_snapshot::{Snapshot, TermKey};
 use std::alloc::{AllocError, Global};
 use std::sync::ledger::Ledger;

@@ -6,7 +6,7 @@ ghost use Rattle.sc_eval.specs.Criteria.{Criterion, criterion_of};
 ghost use Rattle.sc_eval.specs.Operands.{criterion_with, operand_criterion, pair_criterion, joined_by};
 
 use crate::bound::Bound;
-use sc_segment::Kept;
+use sc_rows::Kept;
 use sc_snapshot::TermKey;
 use std::alloc::AllocError;
 

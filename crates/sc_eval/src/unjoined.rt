@@ -3,12 +3,12 @@
 
 ghost use Rattle.std.specs.Prelude.{◌↔◌, List, ℕ, IfOk, IfSome};
 ghost use Rattle.std.specs.List.Sorted.{IsStrictlyIncreasing};
-ghost use Rattle.sc_segment.specs.Joining.{BothEndBefore};
+ghost use Rattle.sc_rows.specs.Joining.{BothEndBefore};
 ghost use Rattle.sc_eval.specs.Numbers.{numbers_of, IsBeginning};
 ghost use Rattle.sc_eval.specs.Unjoined.{CanBeJoined, IsEnd, IsJoined};
 
 use crate::numbers::{Matches, Numbers};
-use sc_segment::{Kept, ends_of, join, join_start};
+use sc_rows::{Kept, ends_of, join, join_start};
 use std::alloc::{AllocError, Global};
 
 /// Numbers of rows, in one list, or in two that are not joined yet. Of these an end may be noted, which is above the numbers of both.

@@ -3,8 +3,8 @@ use Rattle.std.proofs.Common.{◌≡◌, ℕ, zero, suc, Bool, List, [], ◌∷�
 use Rattle.std.proofs.Math.ListN.{drop_of_length-le}
 use Rattle.std.proofs.lemmas.List.{append-nil, take_all}
 use Rattle.sc_record.specs.declared.write.Write.{Write}
-use Rattle.sc_segment.specs.Joining.{has_row}
-use Rattle.sc_segment.proofs.JoinLemmas.{increasing_from_ascend}
+use Rattle.sc_rows.specs.Joining.{has_row}
+use Rattle.sc_rows.proofs.JoinLemmas.{increasing_from_ascend}
 use Rattle.sc_snapshot.specs.Rows.{AreRows}
 use Rattle.sc_bucket.specs.declared.standing.Searcher.{Searcher}
 use Rattle.sc_eval.specs.Criteria.{Criterion}

@@ -1,6 +1,6 @@
 ghost use Rattle.std.specs.Prelude.{◌≡◌};
 ghost use Rattle.sc_bucket.specs.Taking.{lent};
-ghost use Rattle.sc_segment.specs.Heads.{front_number};
+ghost use Rattle.sc_keys.specs.Heads.{front_number};
 
 use sc_bucket::Searcher;
 use sc_eval::{Numbers, Unjoined};

@@ -2,7 +2,7 @@
 //! looked up after the holds, over many rows by several threads at once, and of all that is found one page is shown.
 //!
 //! It depends on the clauses of any `Desk`, on `sc_eval` for what a query finds in one searcher's rows, on `sc_snapshot` for reading them
-//! and on `sc_segment` for the count of steps that both take. The layers above use the clause `searched` of `search`: exactly the documents
+//! and on `sc_keys` for the count of steps that both take. The layers above use the clause `searched` of `search`: exactly the documents
 //! that match in the journals' committed parts are found, each once. Where lists are joined, the terms are looked up with all searchers,
 //! and the outermost lists are read, one row in each line of memory, before these are joined. What each searcher finds is counted, and only
 //! as many numbers of rows are kept as the page can show. The rows at these numbers, ascending by id, are lent, and the page is taken of

@@ -1,6 +1,6 @@
 ghost use Rattle.std.specs.Prelude.{◌≡◌, ◌<◌, ◌∷◌, List, length, map, not, All, IfOk, vec_len};
 ghost use Rattle.sc_record.specs.declared.write.Write.{Write};
-ghost use Rattle.sc_segment.specs.Fresh.{IsFresh};
+ghost use Rattle.sc_keys.specs.Fresh.{IsFresh};
 ghost use Rattle.sc_fanout.specs.Pages.{AreFound, IsStartOf, all_of};
 ghost use Rattle.sc_fanout.specs.Merging.{gathered, goes_before};
 ghost use Rattle.sc_fanout.specs.Steps.{searcher_rows};
@@ -9,8 +9,8 @@ ghost use Rattle.sc_fanout.specs.Hits.{BeginAlike, FrontAscends, HitsAscend, IsL
 
 use crate::hits::{Front, Hits, Lead};
 use sc_bucket::Searcher;
+use sc_keys::{Steps, front_number};
 use sc_record::Cell;
-use sc_segment::{Steps, front_number};
 use std::alloc::{AllocError, Global};
 use std::sync::ledger::{Blank, Ledger};
 

@@ -1,9 +1,9 @@
 -- An index carried over entry by entry, in the order of the keys.
 use Rattle.std.proofs.Common.{◌≡◌, ℕ, zero, suc, ◌+◌, ◌<◌, ◌≤◌, ◌||◌, Bool, true, false, cond, List, [], ◌∷◌, ◌++◌, length, take, slice_get, Option, Some, None, option_map, unwrap_or, append-nil, refl, sym, ap, subst, ◌∙◌, arith}
 use Rattle.std.proofs.lemmas.Cmp.{alike_right, tied_back, tied_itself}
-use Rattle.std.proofs.lemmas.List.{take_more, take_all}
+use Rattle.std.proofs.lemmas.List.{take_all}
 use Rattle.std.proofs.lemmas.List.Elements.{All-nil, All-push}
-use Rattle.std.proofs.lemmas.Option.{slice_get-map, slice_get_within, get_or_from_slice_get}
+use Rattle.std.proofs.lemmas.Option.{slice_get-map}
 use Rattle.std.specs.Cmp.{IsTotalOrder}
 use Rattle.std.specs.declared.cmp.Ordering.{Ordering}
 use Rattle.std.specs.declared.cmp.Ordering.TheVariants.{Less, Equal, Greater}
@@ -12,21 +12,17 @@ use Rattle.std.specs.List.Sorted.{IsStrictlyIncreasing, IsStrictlySortedBy}
 use Rattle.std.specs.Map.{keys_of, lookup}
 use Rattle.std.specs.Ordering.{is_eq, ordering_reverse}
 use Rattle.std.specs.Prelude.{⊤}
-use Rattle.sc_segment.proofs.CarryLemmas.{new_numbers-ascend}
+use Rattle.sc_keys.proofs.SearchLemmas.{in_order, lookup_agree}
+use Rattle.sc_keys.proofs.StoringLemmas.{take-place}
+use Rattle.sc_keys.specs.Searching.{IsGapFor}
+use Rattle.sc_rows.proofs.NumberLemmas.{new_numbers-ascend}
+use Rattle.sc_rows.specs.Moving.{new_numbers, KeepsOrder}
+use Rattle.sc_rows.specs.declared.joining.Kept.TheVariants.{Either}
+use Rattle.sc_rows.specs.Joining.{has_row, IsJoin}
 use Rattle.sc_segment.proofs.IndexLemmas.{All-place}
 use Rattle.sc_segment.proofs.MembersLemmas.{Equal-from_is_eq}
-use Rattle.sc_segment.proofs.SearchLemmas.{in_order, lookup_agree}
-use Rattle.sc_segment.specs.Carrying.{new_numbers, KeepsOrder, IsCarriedSoFar, IsAbove, AreBefore}
-use Rattle.sc_segment.specs.declared.joining.Kept.TheVariants.{Either}
+use Rattle.sc_segment.specs.Carrying.{IsCarriedSoFar, IsAbove, AreBefore}
 use Rattle.sc_segment.specs.Index.{IsInOrder, HasRows, rows_at}
-use Rattle.sc_segment.specs.Joining.{has_row, IsJoin}
-use Rattle.sc_segment.specs.Searching.{IsGapFor}
-
--- one entry more
-pub take-place : {X : Type 0} (xs : List X) (i : ℕ) (x : X) → slice_get xs i ≡ Some x → take (i + 1) xs ≡ take i xs ++ x ∷ []
-take-place xs i x at =
-    let within = slice_get_within xs i x at in
-    take_more xs i x within ∙ ap (λ (y : _). take i xs ++ y ∷ []) (get_or_from_slice_get xs i x x at)
 
 module _ {K : Type 0} {order : K → K → Ordering} (o : IsTotalOrder order) where
   -- the keys of these entries compare equal to the key

@@ -1,8 +1,9 @@
 -- An index laid out flat: what it has at each place, and after rows or a key were put at its end.
 use Rattle.std.proofs.Common.{◌≡◌, ℕ, zero, suc, ◌+◌, ◌-◌, ◌<◌, ◌≤◌, List, [], ◌∷◌, ◌++◌, length, take, drop, get_or, slice_get, Some, append-nil, refl, sym, ap, subst, ◌∙◌, arith}
-use Rattle.std.proofs.lemmas.List.{length-append, length-drop, length-take-le, length_push, drop-append-le, take-append-le, take_rest, drop_all}
+use Rattle.std.proofs.lemmas.List.{length-append, length-drop, length_push, drop-append-le, take-append-le, take_rest, drop_all}
 use Rattle.std.specs.Map.{keys_of}
 use Rattle.std.specs.List.{slice_range}
+use Rattle.sc_rows.proofs.RangeLemmas.{length-range}
 use Rattle.sc_segment.specs.Flat.{FlatState, IsLaidOut, AreAllClosed, PutsKey, entries_from, entry_for, key_ends, last_end, AreEnds, rows_among}
 use Rattle.sc_segment.specs.Storing.{KeptState}
 
@@ -75,13 +76,6 @@ closed-from ends rows are is =
     let le = last_within 0 ends (length rows) are in
     let none : length (drop (last_end 0 ends) rows) ≡ 0 = ap (λ (rs : List ℕ). length rs) is in
     omega (arith, le, none, length-drop (last_end 0 ends) rows)
-
--- how many rows lie between two places
-pub length-range : (rows : List ℕ) (a b : ℕ) → a ≤ b → b ≤ length rows → length (slice_range rows a b) + a ≡ b
-length-range rows a b le within =
-    let enough : b - a ≤ length (drop a rows) = rw (length-drop a rows) (omega arith) in
-    let long : length (slice_range rows a b) ≡ b - a = length-take-le (b - a) (drop a rows) enough in
-    omega (arith, long, le)
 
 module _ {K : Type 0} where
   pub length-entries : (from : ℕ) (keys : List K) (ends rows : List ℕ) → length keys ≡ length ends → length (entries_from from keys ends rows) ≡ length ends

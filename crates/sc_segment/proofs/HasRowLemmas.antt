@@ -4,9 +4,9 @@ use Rattle.std.proofs.lemmas.Bool.Decides.{nat_tests}
 use Rattle.std.specs.List.{dedup, dedup_from, list_any}
 use Rattle.std.specs.Ordering.{is_eq}
 use Rattle.std.specs.declared.cmp.Ordering.{Ordering}
+use Rattle.sc_rows.specs.Joining.{has_row}
 use Rattle.sc_segment.proofs.RowsLemmas.{same}
 use Rattle.sc_segment.specs.Index.{rows_with}
-use Rattle.sc_segment.specs.Joining.{has_row}
 
 same-equal : (x y : ℕ) → same y x ≡ true → y ≡ x
 same-equal x y h = grind (arith, nat_tests)

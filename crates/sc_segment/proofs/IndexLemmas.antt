@@ -18,14 +18,15 @@ use Rattle.std.specs.Map.{keys_of, lookup}
 use Rattle.std.specs.Option.{IfSome}
 use Rattle.std.specs.Ordering.{is_eq, is_lt, nat_cmp, eq_by_cmp}
 use Rattle.std.specs.Set.{distinct_count, unique_keys}
+use Rattle.sc_keys.proofs.SearchLemmas.{lookup-equal}
+use Rattle.sc_keys.specs.Searching.{IsGapFor}
+use Rattle.sc_rows.proofs.SameRowsLemmas.{same_rows}
+use Rattle.sc_rows.specs.Moving.{new_numbers}
+use Rattle.sc_rows.specs.Joining.{has_row}
 use Rattle.sc_segment.proofs.AddingLemmas.{unwrap_or-non_empty, some-rows_with}
 use Rattle.sc_segment.proofs.MembersLemmas.{Contains-rows_with, Contains-cases}
-use Rattle.sc_segment.proofs.SameRowsLemmas.{same_rows}
-use Rattle.sc_segment.proofs.SearchLemmas.{lookup-equal}
-use Rattle.sc_segment.specs.Carrying.{IsCarried, new_numbers}
+use Rattle.sc_segment.specs.Carrying.{IsCarried}
 use Rattle.sc_segment.specs.Index.{IsIndexOf, IsInOrder, rows_with, rows_at, distinct_keys, non_empty, WasAddedWith}
-use Rattle.sc_segment.specs.Joining.{has_row}
-use Rattle.sc_segment.specs.Searching.{IsGapFor}
 
 -- what holds of each element holds of the one at a place
 pub All-place : {X : Type 0} (P : X → Type 0) (xs : List X) (i : ℕ) (x : X) → All P xs → slice_get xs i ≡ Some x → P x

@@ -1,26 +1,16 @@
--- The lemmas of posting lists and live rows.
+-- The lemmas of posting lists.
 pub mod AddingLemmas
 pub mod AheadLemmas
-pub mod BitsLemmas
-pub mod CarryLemmas
 pub mod EntryLemmas
 pub mod FilingLemmas
 pub mod FlatLemmas
-pub mod FrontLemmas
 pub mod HasRowLemmas
-pub mod HeadLemmas
 pub mod IndexLemmas
-pub mod JoinLemmas
 pub mod MembersLemmas
-pub mod MovedLemmas
 pub mod OwnLemmas
 pub mod PlacingLemmas
 pub mod RowsLemmas
-pub mod SameRowsLemmas
-pub mod SearchLemmas
-pub mod SiftingLemmas
 pub mod SortingLemmas
-pub mod StartLemmas
 pub mod StayingLemmas
 pub mod StoringLemmas
 pub mod TallyLemmas

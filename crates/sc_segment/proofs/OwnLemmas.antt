@@ -1,12 +1,12 @@
--- Rows that keep their numbers, and the rows of keys one after another that are told to stay.
-use Rattle.std.proofs.Common.{◌≡◌, ℕ, zero, suc, ◌+◌, ◌-◌, ◌<◌, ◌≤◌, Bool, List, [], ◌∷◌, ◌++◌, length, take, drop, get_or, Option, Some, refl, sym, ap, subst, ◌∙◌, arith, ⊎_elim}
-use Rattle.std.proofs.lemmas.Bool.{cases_lt}
-use Rattle.std.proofs.lemmas.List.{drop-drop, drop-take}
-use Rattle.std.proofs.lemmas.List.Elements.{All-nil, All-head, All-tail, All-append, All-drop, All-same}
-use Rattle.std.specs.List.{cons_option, slice_range}
-use Rattle.sc_segment.proofs.AheadLemmas.{range-join, range-take}
+-- The rows of keys one after another that are told to stay keep their numbers.
+use Rattle.std.proofs.Common.{◌≡◌, ℕ, zero, suc, ◌+◌, ◌-◌, ◌<◌, ◌≤◌, Bool, List, ◌++◌, length, take, get_or, Option, Some, sym, ap, subst, ◌∙◌, arith}
+use Rattle.std.proofs.lemmas.List.Elements.{All-append, All-same}
+use Rattle.std.specs.List.{slice_range}
+use Rattle.sc_rows.proofs.OwnLemmas.{own-from}
+use Rattle.sc_rows.proofs.RangeLemmas.{range-join, range-take}
+use Rattle.sc_rows.specs.Moving.{new_number, AllStay, AreOwn}
 use Rattle.sc_segment.proofs.FlatLemmas.{IsPlaced, rows_among-rises}
-use Rattle.sc_segment.specs.Carrying.{new_number, new_numbers, AllStay, AreKept, AreOwn, StayAt}
+use Rattle.sc_segment.specs.Carrying.{StayAt}
 use Rattle.sc_segment.specs.Flat.{rows_among}
 
 module _ (moved : List (Option ℕ)) where
@@ -14,35 +14,6 @@ module _ (moved : List (Option ℕ)) where
   abbrev IsOwn : ℕ → Type 0
   IsOwn row = new_number moved row ≡ Some row
 
-  -- rows that keep their numbers are their own new numbers
-  pub own-numbers : (rows : List ℕ) → AreOwn moved rows → new_numbers moved rows ≡ rows
-  own-numbers [] own = refl
-  own-numbers (r ∷ rs) own =
-      ap (λ (number : Option ℕ). cons_option number (new_numbers moved rs)) (All-head IsOwn r rs own) ∙ ap (λ (ns : List ℕ). r ∷ ns) (own-numbers rs (All-tail IsOwn r rs own))
-
-  pub own-kept : (rows : List ℕ) → AreOwn moved rows → AreKept moved rows
-  own-kept rows own = ap length (own-numbers rows own)
-
-  -- rows that keep their numbers, from a later place on
-  own-later : (rows : List ℕ) (a b c : ℕ) → a ≤ b → b ≤ c → AreOwn moved (slice_range rows a c) → AreOwn moved (slice_range rows b c)
-  own-later rows a b c first later own =
-      let sum : c - a ≡ (b - a) + (c - b) = omega arith in
-      let place : a + (b - a) ≡ b = omega arith in
-      let part : slice_range rows b c ≡ drop (b - a) (slice_range rows a c) =
-      ap (λ (n : ℕ). take (c - b) (drop n rows)) (sym place)
-      ∙ ap (take (c - b)) (sym (drop-drop (b - a) a rows))
-      ∙ sym (drop-take (b - a) (c - b) (drop a rows))
-      ∙ ap (λ (n : ℕ). drop (b - a) (take n (drop a rows))) (sym sum) in
-      All-same IsOwn (slice_range rows b c) (drop (b - a) (slice_range rows a c)) part (All-drop IsOwn (b - a) (slice_range rows a c) own)
-
-  pub own-from : (rows : List ℕ) (a b c : ℕ) → a ≤ b → AreOwn moved (slice_range rows a c) → AreOwn moved (slice_range rows b c)
-  own-from rows a b c first own = ⊎_elim
-      (λ (past : c < b). let none : c - b ≡ 0 = omega arith in
-      All-same IsOwn (slice_range rows b c) [] (ap (λ (n : ℕ). take n (drop b rows)) none) (All-nil IsOwn))
-      (λ (later : b ≤ c). own-later rows a b c first later own)
-      (cases_lt c b)
-
-  -- ---- keys that are told to stay
   module _ {K : Type 0} (keys : List K) (ends rows : List ℕ) (entries : List (K × List ℕ)) (stays : List Bool)
       (placed : (i : ℕ) → i < length entries → IsPlaced keys ends rows entries i (rows_among (take i entries))) (own : StayAt moved entries stays) where
     own-key : (key : ℕ) → key < length entries → AllStay stays key (key + 1) → AreOwn moved (slice_range rows (rows_among (take key entries)) (get_or ends key 0))
@@ -78,4 +49,4 @@ module _ (moved : List (Option ℕ)) where
         let before = rows_among-rises entries at key rises in
         let all = own-run at (key - at) key (omega (arith, rises)) within stay in
         let part = range-take rows last (rows_among (take at entries)) (get_or ends key 0) (omega (arith, before, p.rises)) fits in
-        own-from (take last rows) (rows_among (take at entries)) passed (get_or ends key 0) begins (subst (AreOwn moved) (sym part) all)
+        own-from moved (take last rows) (rows_among (take at entries)) passed (get_or ends key 0) begins (subst (AreOwn moved) (sym part) all)

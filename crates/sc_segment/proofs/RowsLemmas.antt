@@ -8,7 +8,7 @@ use Rattle.std.specs.declared.cmp.Ordering.TheVariants.{Less}
 use Rattle.std.specs.List.{dedup, dedup_from}
 use Rattle.std.specs.List.Sorted.{IsStrictlyIncreasing, IsStrictlySortedBy}
 use Rattle.std.specs.Ordering.{nat_cmp}
-use Rattle.sc_segment.proofs.JoinLemmas.{AscendFrom, ascend_from_increasing, increasing_from_ascend}
+use Rattle.sc_rows.proofs.JoinLemmas.{AscendFrom, ascend_from_increasing, increasing_from_ascend}
 
 -- whether two rows are one
 abbrev pub same : ℕ → ℕ → Bool

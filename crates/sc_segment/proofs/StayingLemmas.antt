@@ -8,7 +8,7 @@ use Rattle.std.specs.declared.cmp.Ordering.TheVariants.{Less, Equal, Greater}
 use Rattle.std.specs.List.Sorted.{IsStrictlySortedBy}
 use Rattle.std.specs.Map.{keys_of}
 use Rattle.std.specs.Ordering.{is_eq, ordering_reverse}
-use Rattle.sc_segment.proofs.SearchLemmas.{in_order, greater_up_to}
+use Rattle.sc_keys.proofs.SearchLemmas.{in_order, greater_up_to}
 use Rattle.sc_segment.specs.Index.{rows_at}
 
 -- a key that is told to stay was told so before another one was not

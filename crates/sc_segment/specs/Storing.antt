@@ -1,25 +1,11 @@
--- Keys by their places among stored keys, and an index that is written with places for its keys.
-use Rattle.std.specs.Prelude.{◌≡◌, ℕ, ◌<◌, ⊤, List, [], ◌∷◌, All, Option, length, option_map, slice_get}
-use Rattle.std.specs.Arc.{arc_value}
+-- An index that is written with places for its keys, among stored keys.
+use Rattle.std.specs.Prelude.{◌≡◌, ℕ, ⊤, List, [], ◌∷◌, Option, option_map, slice_get}
 use Rattle.std.specs.declared.cmp.Ordering.{Ordering}
 use Rattle.std.specs.declared.cmp.Ordering.TheVariants.{Equal}
-use Rattle.std.specs.List.{filter_map, flat_map}
+use Rattle.std.specs.List.{filter_map}
 use Rattle.std.specs.Map.{keys_of}
+use Rattle.sc_keys.specs.Storing.{ArePlaces}
 use Rattle.sc_segment.specs.Carrying.{IsCarriedSoFar}
-use Rattle.sc_segment.specs.declared.keys.Piece.{Piece}
-
--- the keys of a piece
-abbrev pub keys_in : {K : Type 0} → Piece K → List K
-keys_in piece = (arc_value piece.keys).items
-
--- the keys of all pieces
-abbrev pub stored_in : {K : Type 0} → List (Piece K) → List K
-stored_in pieces = flat_map keys_in pieces
-
--- the keys of an index, and the stored keys that they are among
-pub record KeysState (K : Type 0) : Type 0 where
-  pub stored : List K
-  pub keys : List K
 
 -- an index that is only read, and the stored keys that its own are among
 pub record KeptState (K : Type 0) : Type 0 where
@@ -27,31 +13,11 @@ pub record KeptState (K : Type 0) : Type 0 where
   pub entries : List (K × List ℕ)
 
 module _ {K : Type 0} (stored : List K) where
-  -- the keys at these places
-  abbrev pub keys_at : List ℕ → List K
-  keys_at places = filter_map (slice_get stored) places
-
-  -- there is a key at each of these places
-  abbrev pub ArePlaces : List ℕ → Type 0
-  ArePlaces places = All (λ place. place < length stored) places
-
   -- these entries with the keys at their places
   abbrev pub entries_of_places : List (ℕ × List ℕ) → List (K × List ℕ)
   entries_of_places entries = filter_map (λ e. option_map (λ key. (key, e.1)) (slice_get stored e.0)) entries
 
--- these are the places of the keys of an index
-pub record HasPlaces {K : Type 0} (state : KeysState K) (places : List ℕ) : Type 0 where
-  pub are_places : ArePlaces state.stored places
-  pub keys : keys_at state.stored places ≡ state.keys
-
 module _ {K : Type 0} (order : K → K → Ordering) where
-  -- keys that compare equal one by one
-  abbrev pub AreAlike : List K → List K → Type 0
-  AreAlike [] [] = ⊤
-  AreAlike [] (other ∷ others) = ⊥
-  AreAlike (key ∷ keys) [] = ⊥
-  AreAlike (key ∷ keys) (other ∷ others) = (order key other ≡ Equal) × AreAlike keys others
-
   -- entries with the same rows whose keys compare equal one by one
   abbrev pub AreEntriesAlike : List (K × List ℕ) → List (K × List ℕ) → Type 0
   AreEntriesAlike [] [] = ⊤

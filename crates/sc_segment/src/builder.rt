@@ -7,10 +7,10 @@ ghost use Rattle.sc_segment.specs.Filing.{AreFiled, FilesRow, NoRowAbove, filed_
 ghost use Rattle.sc_segment.specs.declared.tally.Posting.{Posting};
 
 use crate::flat_index::KeptIndex;
-use crate::key::Key;
 use crate::placing::laid_out;
 use crate::segment::Segment;
 use crate::tally::{Posting, Tally};
+use sc_keys::Key;
 use std::alloc::{AllocError, Global};
 use std::collections::HashMap;
 use std::collections::hash_map::Entry;

@@ -1,23 +1,18 @@
 ghost use Rattle.std.specs.Prelude.{◌≡◌, ◌<◌, ◌≤◌, ℕ, List, [], ◌∷◌, ◌++◌, length, take, slice_get, Some, IfOk, OnOk};
 ghost use Rattle.std.specs.declared.cmp.Ordering.TheVariants.{Less};
-ghost use Rattle.std.specs.List.Sorted.{IsStrictlyIncreasing};
-ghost use Rattle.sc_segment.specs.declared.joining.Kept.TheVariants.{Either};
-ghost use Rattle.sc_segment.specs.Carrying.{new_numbers, KeepsOrder, IsCarried, IsAbove, AreBefore, OthersStay, StayAt};
+ghost use Rattle.sc_keys.specs.Fresh.{IsFresh};
+ghost use Rattle.sc_rows.specs.Moving.{KeepsOrder};
+ghost use Rattle.sc_segment.specs.Carrying.{IsCarried, IsAbove, AreBefore, OthersStay, StayAt};
 ghost use Rattle.sc_segment.specs.Flat.{entry_for};
-ghost use Rattle.sc_segment.specs.Fresh.{IsFresh};
 ghost use Rattle.sc_segment.specs.Index.{IsInOrder, HasRows};
-ghost use Rattle.sc_segment.specs.Joining.{IsJoin};
 ghost use Rattle.sc_segment.specs.Storing.{IsCarriedAt};
 
 use crate::flat_index::{FlatIndex, KeptIndex};
-use crate::key::Key;
-use crate::keys::Keys;
-use crate::moved::Moved;
-use crate::segment::{Segment, search};
+use crate::segment::Segment;
 use crate::staying::which_stay;
-use crate::steps::Steps;
+use sc_keys::{Key, Keys, Steps, search};
+use sc_rows::Moved;
 use std::alloc::{AllocError, Global};
-use std::cmp::Ordering;
 use std::marker::Brand;
 use std::sync::ledger::{Blank, Ledger};
 
@@ -161,7 +156,7 @@ fn carry_to_key<K: Key + Drop, L: Ledger>(
     match search(old.keys(), from, key, steps) {
         Ok(at) => {
             index.carry(old, from, at, moved, stays)?;
-            merge_rows(index, old.rows_of(at), moved, added)?;
+            index.add_merged(old.rows_of(at), moved, added)?;
             close_at(index, place)?;
             Ok(at + 1)
         }
@@ -172,45 +167,6 @@ fn carry_to_key<K: Key + Drop, L: Ledger>(
             Ok(at)
         }
     }
-}
-
-// Puts the new numbers of rows at the end, with the rows that are added among them.
-fn merge_rows<K: Drop>(
-    index: &mut FlatIndex<K>,
-    rows: &[u32],
-    moved: &Moved,
-    added: &[u32],
-) -> Result<(), AllocError>
-    requires moved { KeepsOrder moved.now }
-    requires rows { IsStrictlyIncreasing rows.now }
-    requires added { IsStrictlyIncreasing added.now }
-    requires none { index.old.pending ≡ [] }
-    ensures entries { OnOk result (index.new.entries ≡ index.old.entries) }
-    ensures rows { OnOk result (IsJoin Either (new_numbers moved.now rows.now) added.now index.new.pending) }
-{
-    let mut low = 0;
-    let mut high = 0;
-    'merging: while low < rows.len() && high < added.len() {
-        let other = added[high];
-        match moved.get(rows[low]) {
-            None => low += 1,
-            Some(number) => match number.cmp(&other) {
-                Ordering::Less => low += index.add_below(&rows[low..], moved, other)?,
-                Ordering::Equal => {
-                    index.add_row(number)?;
-                    low += 1;
-                    high += 1;
-                }
-                Ordering::Greater => {
-                    index.add_row(other)?;
-                    high += 1;
-                }
-            },
-        }
-    }
-    index.add_moved(&rows[low..], moved)?;
-    index.add_rows(&added[high..])?;
-    Ok(())
 }
 
 // Puts the place of a key at the end, where rows wait for it.

@@ -1,15 +1,17 @@
-ghost use Rattle.std.specs.Prelude.{◌≡◌, ℕ, ◌+◌, ◌^◌, ◌<◌, ◌≤◌, ◌↔◌, IsTrue, List, [], ◌∷◌, ◌++◌, length, take, slice_get, slice_index, All, Some, IfOk, OnOk, ◌-◌, vec_len, vec_capacity};
+ghost use Rattle.std.specs.Prelude.{◌≡◌, ℕ, ◌+◌, ◌^◌, ◌<◌, ◌≤◌, ◌↔◌, IsTrue, List, [], ◌∷◌, ◌++◌, length, take, slice_get, slice_index, Some, IfOk, OnOk, ◌-◌, vec_len, vec_capacity};
+ghost use Rattle.std.specs.List.Sorted.{IsStrictlyIncreasing};
 ghost use Rattle.std.specs.Map.{keys_of};
-ghost use Rattle.sc_segment.specs.Carrying.{new_number, new_numbers, KeepsOrder, AreBefore, StayAt};
+ghost use Rattle.sc_keys.specs.Storing.{ArePlaces};
+ghost use Rattle.sc_rows.specs.declared.joining.Kept.TheVariants.{Either};
+ghost use Rattle.sc_rows.specs.Joining.{IsJoin};
+ghost use Rattle.sc_rows.specs.Moving.{new_numbers, KeepsOrder};
+ghost use Rattle.sc_segment.specs.Carrying.{AreBefore, StayAt};
 ghost use Rattle.sc_segment.specs.Flat.{FlatState, IsLaidOut, AreAllClosed, PutsKey, entries_from, key_ends, rows_among};
 ghost use Rattle.sc_segment.specs.Index.{IsInOrder};
-ghost use Rattle.sc_segment.specs.Storing.{AreEntriesAlike, ArePlaces, IsCarriedAt, entries_of_places};
+ghost use Rattle.sc_segment.specs.Storing.{AreEntriesAlike, IsCarriedAt, entries_of_places};
 
-use crate::key::Key;
-use crate::keys::Keys;
-use crate::moved::Moved;
-use crate::moving::{push_ahead, push_below, push_moved};
-use crate::staying::Runs;
+use sc_keys::{Key, Keys};
+use sc_rows::{Moved, Runs, merge_moved, push_ahead};
 use std::alloc::{AllocError, Global};
 use std::marker::Model;
 use std::mem;
@@ -54,37 +56,21 @@ impl<K: Drop> FlatIndex<K> {
         FlatIndex { keys, ends, rows }
     }
 
-    /// The new numbers of rows, as rows more of the next key. Room is made once for all of them.
-    pub(crate) fn add_moved(&mut self, rows: &[u32], moved: &Moved) -> Result<(), AllocError>
-        ensures { OnOk result (self.new ≡ record { entries = self.old.entries; pending = self.old.pending ++ new_numbers moved.now rows.now }) }
-    {
-        self.rows.reserve(rows.len())?;
-        push_moved(&mut self.rows, rows, moved);
-        Ok(())
-    }
-
-    /// The new numbers of rows, as rows more of the next key, up to the first that is not below a limit. Gives how many rows stand
-    /// before it. Room is made once for all rows.
-    pub(crate) fn add_below(
+    /// The new numbers of rows, with the rows that are added among them, as the rows of the next key, of which none waits.
+    pub(crate) fn add_merged(
         &mut self,
         rows: &[u32],
         moved: &Moved,
-        limit: u32,
-    ) -> Result<usize, AllocError>
-        ensures within { IfOk result (λ count. count ≤ length rows.now) }
-        ensures added { IfOk result (λ count. self.new ≡ record { entries = self.old.entries; pending = self.old.pending ++ new_numbers moved.now (take count rows.now) }) }
-        ensures below { IfOk result (λ count. All (λ number. number < limit) (new_numbers moved.now (take count rows.now))) }
-        ensures rises { IfOk result (λ count. (number : ℕ) → 0 < length rows.now → new_number moved.now (slice_index rows.now 0) ≡ Some number → number < limit → 0 < count) }
+        added: &[u32],
+    ) -> Result<(), AllocError>
+        requires moved { KeepsOrder moved.now }
+        requires rows { IsStrictlyIncreasing rows.now }
+        requires added { IsStrictlyIncreasing added.now }
+        requires none { self.old.pending ≡ [] }
+        ensures entries { OnOk result (self.new.entries ≡ self.old.entries) }
+        ensures rows { OnOk result (IsJoin Either (new_numbers moved.now rows.now) added.now self.new.pending) }
     {
-        self.rows.reserve(rows.len())?;
-        Ok(push_below(&mut self.rows, rows, moved, limit))
-    }
-
-    /// One row more of the next key.
-    pub(crate) fn add_row(&mut self, row: u32) -> Result<(), AllocError>
-        ensures { OnOk result (self.new ≡ record { entries = self.old.entries; pending = self.old.pending ++ row ∷ [] }) }
-    {
-        self.rows.push(row)?;
+        merge_moved(&mut self.rows, rows, moved, added)?;
         Ok(())
     }
 

@@ -2,26 +2,14 @@ ghost use Rattle.std.specs.Prelude.{◌≡◌, ℕ, ◌+◌, ◌<◌, ◌≤◌,
 ghost use Rattle.std.specs.declared.cmp.Ordering.TheVariants.{Less, Greater};
 ghost use Rattle.std.specs.List.Sorted.{IsStrictlySortedBy};
 ghost use Rattle.std.specs.Ordering.{is_eq};
-ghost use Rattle.sc_segment.specs.Carrying.{AllStay, LoseNone};
-ghost use Rattle.sc_segment.specs.Fresh.{IsFresh};
+ghost use Rattle.sc_keys.specs.Fresh.{IsFresh};
+ghost use Rattle.sc_segment.specs.Carrying.{LoseNone};
 ghost use Rattle.sc_segment.specs.Index.{IsInOrder};
 
 use crate::flat_index::KeptIndex;
-use crate::key::Key;
-use crate::keys::Keys;
-use crate::segment::search;
-use crate::steps::Steps;
+use sc_keys::{Key, Keys, Steps, search};
 use std::alloc::{AllocError, Global};
 use std::sync::ledger::{Blank, Ledger};
-
-/// Which keys of an index stay, and where the rows of each key end. Only the keys before a place count, and nothing is known of one past
-/// the end of the first list.
-#[derive(Clone, Copy)]
-pub(crate) struct Runs<'a> {
-    pub(crate) stays: &'a [bool],
-    pub(crate) ends: &'a [u32],
-    pub(crate) before: usize,
-}
 
 /// Which keys of an index stay as they are: true for each, but for those that an index of lost rows has. Only the keys of the latter are
 /// sought. The only error is that memory was refused. How often keys are compared is counted for proofs alone.
@@ -89,21 +77,4 @@ fn leave_key<K: Key, L: Ledger>(
         }
         Err(at) => at,
     }
-}
-
-/// The last of the keys that are told to stay, one after another, from this one on, before another place.
-pub(crate) fn last_staying(stays: &[bool], at: usize, before: usize) -> usize
-    requires stays { slice_get stays.now at ≡ Some true }
-    requires within { at < before }
-    ensures rises { at ≤ result }
-    ensures within { result < before }
-    ensures stay { AllStay stays.now at (result + 1) }
-{
-    let end = before.min(stays.len());
-    for next in at + 1..end {
-        if !stays[next] {
-            return next - 1;
-        }
-    }
-    end - 1
 }

@@ -14,9 +14,9 @@ use Rattle.sc_record.specs.declared.term.Term.{Term}
 use Rattle.sc_record.specs.declared.write.Write.{Write}
 use Rattle.sc_record.specs.Writes.{AscendById}
 use Rattle.sc_record.proofs.TermLemmas.{same_term, same_term-equal}
-use Rattle.sc_segment.proofs.JoinLemmas.{AscendFrom, ascend_from_increasing}
+use Rattle.sc_rows.proofs.JoinLemmas.{AscendFrom, ascend_from_increasing}
+use Rattle.sc_rows.specs.Joining.{has_row}
 use Rattle.sc_segment.specs.Index.{distinct_keys}
-use Rattle.sc_segment.specs.Joining.{has_row}
 use Rattle.sc_snapshot.specs.Edits.{put_in, edited, AreAbove, AreInOrder}
 use Rattle.sc_snapshot.specs.Keys.{key_cmp}
 use Rattle.sc_snapshot.specs.Postings.{key_order, keyed, keyed_rows, live_terms, has_term, term_count, is_live_at, is_live_of, is_id_term, is_no_other_id, is_id_alone, has_id_alone, AreIdsFound, other_terms, without_ids, AreLiveRows}

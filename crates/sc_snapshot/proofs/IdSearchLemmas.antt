@@ -10,8 +10,8 @@ use Rattle.std.specs.Str.{bytes_eq}
 use Rattle.std.specs.declared.cmp.Ordering.TheVariants.{Less, Equal, Greater}
 use Rattle.sc_record.specs.declared.write.Write.{Write}
 use Rattle.sc_record.specs.Writes.{AscendById}
-use Rattle.sc_segment.proofs.JoinLemmas.{AscendFrom, ascend_from_increasing}
-use Rattle.sc_segment.specs.Joining.{has_row}
+use Rattle.sc_rows.proofs.JoinLemmas.{AscendFrom, ascend_from_increasing}
+use Rattle.sc_rows.specs.Joining.{has_row}
 use Rattle.sc_snapshot.specs.Ids.{IsPlaceOfId}
 use Rattle.sc_snapshot.specs.Postings.{is_live_at, is_live_of, AreLiveRows}
 use Rattle.sc_snapshot.proofs.EditedLemmas.{later-above}

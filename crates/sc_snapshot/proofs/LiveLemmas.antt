@@ -8,8 +8,8 @@ use Rattle.std.proofs.lemmas.List.Kept.{IsStrictlyIncreasing-filter}
 use Rattle.std.proofs.lemmas.Option.{slice_get_past}
 use Rattle.std.specs.List.{range_with_len}
 use Rattle.sc_record.specs.declared.write.Write.{Write}
-use Rattle.sc_segment.proofs.JoinLemmas.{AscendFrom, increasing_from_ascend}
-use Rattle.sc_segment.specs.Joining.{has_row}
+use Rattle.sc_rows.proofs.JoinLemmas.{AscendFrom, increasing_from_ascend}
+use Rattle.sc_rows.specs.Joining.{has_row}
 use Rattle.sc_snapshot.specs.Postings.{is_live_at, AreLiveRows}
 
 -- the numbers below n that pass

@@ -6,11 +6,12 @@ use Rattle.std.proofs.lemmas.Option.{slice_get_within, get_or_from_slice_get, If
 use Rattle.std.specs.List.{range_with_len}
 use Rattle.std.specs.Option.{IfSome}
 use Rattle.sc_record.specs.declared.write.Write.{Write}
+use Rattle.sc_rows.specs.Moving.{new_number}
+use Rattle.sc_rows.specs.Joining.{has_row}
 use Rattle.sc_segment.proofs.IndexLemmas.{rows_at-index}
-use Rattle.sc_segment.specs.Carrying.{new_number, OthersStay}
+use Rattle.sc_segment.specs.Carrying.{OthersStay}
 use Rattle.sc_segment.specs.Filing.{BuilderState}
 use Rattle.sc_segment.specs.Index.{IsIndexOf, rows_at}
-use Rattle.sc_segment.specs.Joining.{has_row}
 use Rattle.sc_snapshot.specs.Change.{is_kept, keyed_new, IsChange, LosesInPlace}
 use Rattle.sc_snapshot.specs.Postings.{key_order, keyed, keyed_rows, has_term, live_terms, without_ids}
 use Rattle.sc_snapshot.specs.declared.change.Change.{Change}

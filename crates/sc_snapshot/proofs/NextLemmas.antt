@@ -11,11 +11,12 @@ use Rattle.std.specs.List.{filter_map, cons_option}
 use Rattle.std.specs.Option.{option_map}
 use Rattle.sc_record.specs.declared.write.Write.{Write}
 use Rattle.std.proofs.lemmas.Cmp.{on_total}
+use Rattle.sc_rows.proofs.JoinLemmas.{AscendFrom, increasing_from_ascend}
+use Rattle.sc_rows.specs.Moving.{new_number, new_numbers, KeepsOrder}
+use Rattle.sc_rows.specs.Joining.{has_row}
 use Rattle.sc_segment.proofs.IndexLemmas.{rows_at-index, IsIndexOf-from_rows, rows_with-ascend}
-use Rattle.sc_segment.proofs.JoinLemmas.{AscendFrom, increasing_from_ascend}
-use Rattle.sc_segment.specs.Carrying.{new_number, new_numbers, KeepsOrder, IsCarried}
+use Rattle.sc_segment.specs.Carrying.{IsCarried}
 use Rattle.sc_segment.specs.Index.{IsIndexOf, rows_at}
-use Rattle.sc_segment.specs.Joining.{has_row}
 use Rattle.sc_snapshot.specs.Change.{moves_to, is_kept, keyed_new, IsChange}
 use Rattle.sc_snapshot.specs.Postings.{key_order, keyed_rows, has_term, without_ids}
 use Rattle.sc_snapshot.specs.declared.change.Change.{Change}

@@ -9,9 +9,9 @@ use Rattle.std.specs.Ordering.{is_eq}
 use Rattle.sc_record.specs.declared.term.Term.{Term}
 use Rattle.sc_record.specs.declared.write.Write.{Write}
 use Rattle.sc_record.proofs.TermLemmas.{same_term}
+use Rattle.sc_rows.specs.Joining.{has_row}
 use Rattle.sc_segment.proofs.HasRowLemmas.{has_row-rows_with}
 use Rattle.sc_segment.specs.Index.{rows_with}
-use Rattle.sc_segment.specs.Joining.{has_row}
 use Rattle.sc_snapshot.specs.Change.{is_kept, keyed_new}
 use Rattle.sc_snapshot.specs.Keys.{key_cmp}
 use Rattle.sc_snapshot.specs.Postings.{key_order, keyed, keyed_rows, live_terms, has_term}

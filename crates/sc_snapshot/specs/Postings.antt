@@ -7,8 +7,8 @@ use Rattle.std.specs.declared.cmp.Ordering.{Ordering}
 use Rattle.sc_record.specs.declared.term.Term.{Term}
 use Rattle.sc_record.specs.declared.write.Write.{Write}
 use Rattle.sc_record.proofs.TermLemmas.{same_term}
+use Rattle.sc_rows.specs.Joining.{has_row}
 use Rattle.sc_segment.specs.Index.{IsIndexOf, distinct_keys}
-use Rattle.sc_segment.specs.Joining.{has_row}
 use Rattle.sc_snapshot.specs.Keys.{key_cmp}
 use Rattle.sc_snapshot.specs.declared.index.Index.{Index}
 use Rattle.sc_snapshot.specs.declared.survey.Survey.{Survey}

@@ -10,7 +10,8 @@ use crate::filing::file_row;
 use crate::pieces::Pieces;
 use crate::term_key::TermKey;
 use sc_record::Write;
-use sc_segment::{Builder, Moved};
+use sc_rows::Moved;
+use sc_segment::Builder;
 use std::alloc::{AllocError, Global};
 
 /// How the rows of a snapshot become those of the next one.

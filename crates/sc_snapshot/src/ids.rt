@@ -3,13 +3,13 @@ ghost use Rattle.std.specs.Arc.{arc_value};
 ghost use Rattle.std.specs.List.{list_all, list_any};
 ghost use Rattle.std.specs.List.Sorted.{IsStrictlyIncreasing};
 ghost use Rattle.sc_record.specs.Writes.{AscendById};
-ghost use Rattle.sc_segment.specs.Joining.{has_row};
+ghost use Rattle.sc_rows.specs.Joining.{has_row};
 ghost use Rattle.sc_snapshot.specs.Ids.{IsPlaceOfId};
 ghost use Rattle.sc_snapshot.specs.Postings.{has_id_alone, is_id_alone, is_id_term, is_live_of, is_no_other_id, AreLiveRows};
 
 use crate::pieces::Pieces;
+use sc_keys::Steps;
 use sc_record::{Cell, Term, Text, Write};
-use sc_segment::Steps;
 use std::cmp::Ordering;
 use std::sync::ledger::Ledger;
 

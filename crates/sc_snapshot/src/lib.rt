@@ -1,7 +1,7 @@
 //! The committed rows of a core: of each id the write that a search sees, a deletion too, ascending by the ids' bytes.
 //!
-//! It depends on `sc_hash`, on `sc_record` and on `sc_segment` for posting lists, and does no input and no output. The layers above take
-//! a `Snapshot` of the cells of a core, which a searcher searches by `postings`, `live`, `is_live` and `row`, and whose `Rows` a feed
+//! It depends on `sc_hash`, on `sc_record`, on `sc_rows`, `sc_keys` and `sc_segment` for posting lists, and does no input and no output. The
+//! layers above take a `Snapshot` of the cells of a core, which a searcher searches by `postings`, `live`, `is_live` and `row`, and whose `Rows` a feed
 //! reads by `row`. At the next commit `Snapshot::next` makes the new snapshot of the last one and of the cells that changed: it shares
 //! the pieces of rows that no change falls into, carries the index over, and files only what changed: where few documents are replaced and
 //! no row gets another number, also what is lost, so that the rows of all other terms are copied. The terms of ids are not filed where

@@ -3,7 +3,7 @@ ghost use Rattle.std.specs.Arc.{arc_value};
 ghost use Rattle.std.specs.List.Sorted.{IsStrictlyIncreasing};
 ghost use Rattle.sc_record.specs.declared.write.Write.{Write};
 ghost use Rattle.sc_record.specs.Writes.{AscendById};
-ghost use Rattle.sc_segment.specs.Joining.{has_row};
+ghost use Rattle.sc_rows.specs.Joining.{has_row};
 ghost use Rattle.sc_snapshot.specs.Rows.{AreRows, AreChanged, is_within, lent};
 ghost use Rattle.sc_snapshot.specs.Postings.{has_term, term_count, is_live_at};
 
@@ -14,8 +14,8 @@ use crate::part::Part;
 use crate::plain::Rows;
 use crate::term_key::TermKey;
 use sc_hash::Range;
+use sc_keys::Steps;
 use sc_record::{Cell, List};
-use sc_segment::Steps;
 use std::alloc::{AllocError, Global};
 use std::marker::Model;
 use std::sync::Arc;

@@ -9,7 +9,7 @@ ghost use Rattle.sc_snapshot.specs.declared.edits.Edit.{Edit};
 
 use crate::edits::Edit;
 use sc_record::{Cell, Write};
-use sc_segment::{LiveBits, put_run};
+use sc_rows::{LiveBits, put_run};
 use std::alloc::{AllocError, Global};
 
 /// Which rows are live, by their numbers and by a bit for each row, and between which hashes the rows' are.

@@ -6,12 +6,12 @@ ghost use Rattle.std.specs.Hash.{and-Alike, on_Alike, same_Alike};
 ghost use Rattle.std.specs.Ordering.{nat_cmp};
 ghost use Rattle.std.specs.Str.{bytes_eq};
 ghost use Rattle.std.proofs.lemmas.Cmp.{nat_list_cmp_total, and_equiv, on_equiv, on_total, then_total};
-ghost use Rattle.sc_segment.proofs.FrontLemmas.{front_number-first};
-ghost use Rattle.sc_segment.specs.Heads.{front_number};
+ghost use Rattle.sc_keys.proofs.FrontLemmas.{front_number-first};
+ghost use Rattle.sc_keys.specs.Heads.{front_number};
 ghost use Rattle.sc_snapshot.specs.Keys.{key_cmp};
 
+use sc_keys::{Key, Steps, front_number};
 use sc_record::Term;
-use sc_segment::{Key, Steps, front_number};
 use std::alloc::AllocError;
 use std::cmp::Ordering;
 use std::hash::{Hash, Hasher};

@@ -1,11 +1,13 @@
 //! `sc_segment`: what becomes of the rows of each key when some rows change.
 
 ghost use Rattle.std.specs.Prelude.{IfOk};
-ghost use Rattle.sc_segment.specs.Carrying.{KeepsOrder};
-ghost use Rattle.sc_segment.specs.Fresh.{IsFresh};
+ghost use Rattle.sc_keys.specs.Fresh.{IsFresh};
+ghost use Rattle.sc_rows.specs.Moving.{KeepsOrder};
 
 use crate::segments::{CountedKey, assert_rows, filled};
-use sc_segment::{Moved, Segment, Steps};
+use sc_keys::Steps;
+use sc_rows::Moved;
+use sc_segment::Segment;
 use std::alloc::{AllocError, Global};
 use std::cell::Cell;
 use std::marker::Brand;

@@ -1,13 +1,16 @@
-//! `sc_segment`: the rows of each key, in how many steps they are found, which rows two lists give, and which rows are live.
+//! `sc_segment`, `sc_keys` and `sc_rows`: the rows of each key, in how many steps they are found, which rows two lists give, and which rows
+//! are live.
 
 ghost use Rattle.std.specs.Prelude.{◌<◌};
 ghost use Rattle.std.specs.Ordering.{nat_cmp};
-ghost use Rattle.sc_segment.specs.Fresh.{IsFresh};
+ghost use Rattle.sc_keys.specs.Fresh.{IsFresh};
 ghost use Rattle.std.proofs.lemmas.Cmp.{on_total, nat_cmp_total};
 ghost use native.Mathlib.Omega.{arith};
 
 use crate::support::assert_same;
-use sc_segment::{Builder, Kept, Key, LiveBits, Segment, Steps, ends_of, join, join_start};
+use sc_keys::{Key, Steps};
+use sc_rows::{Kept, LiveBits, ends_of, join, join_start};
+use sc_segment::{Builder, Segment};
 use std::alloc::{AllocError, Global};
 use std::cell::Cell;
 use std::cmp::Ordering;

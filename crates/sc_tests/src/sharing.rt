@@ -2,9 +2,11 @@
 
 use sc_cluster::{ClusterMap, SplitPlan};
 use sc_eval::{BindFault, Bound};
+use sc_keys::Key;
 use sc_query::{Query, QueryFault};
 use sc_replica::{Cells, Replica};
-use sc_segment::{Key, LiveBits, Segment};
+use sc_rows::LiveBits;
+use sc_segment::Segment;
 use sc_snapshot::Snapshot;
 use sc_ulog::Log;
 use std::marker::{Send, Sync};

@@ -1,12 +1,12 @@
 //! `sc_snapshot`: the live rows of each term, by the index of a snapshot, or of its rows in a range of hashes.
 
-ghost use Rattle.sc_segment.specs.Fresh.{IsFresh};
+ghost use Rattle.sc_keys.specs.Fresh.{IsFresh};
 
 use crate::support::assert_same;
 use sc_hash::Range;
+use sc_keys::Steps;
 use sc_record::{Cell, CoreId, Doc, Id, List, SliceId, Term, Text, Write};
 use sc_replica::Replica;
-use sc_segment::Steps;
 use sc_snapshot::{Snapshot, TermKey};
 use sc_ulog::Mode;
 use std::alloc::{AllocError, Global};

@@ -4,7 +4,7 @@ use Rattle.sc_eval.specs.Criteria.{Criterion, criterion_of}
 use Rattle.sc_eval.specs.Operands.{criterion_with}
 use Rattle.sc_eval.specs.declared.bound.Bound.{Bound}
 use Rattle.sc_eval.specs.declared.operand.Right.{Right}
-use Rattle.sc_segment.specs.declared.joining.Kept.TheVariants.{Either}
+use Rattle.sc_rows.specs.declared.joining.Kept.TheVariants.{Either}
 use Rattle.sc_eval.proofs.OperandLemmas.{criterion_with-step}
 use Rattle.sc_eval.proofs.operand.first_operand.Goals as goal
 

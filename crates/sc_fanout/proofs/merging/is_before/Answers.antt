@@ -6,8 +6,8 @@ use Rattle.std.proofs.lemmas.Bool.{cases_lt, le-ltb, lt-ltb}
 use Rattle.std.proofs.lemmas.Cmp.{nat_list_cmp_total}
 use Rattle.sc_record.specs.declared.write.Write.{Write}
 use Rattle.sc_bucket.specs.Taking.{lent}
-use Rattle.sc_segment.specs.Heads.{front_number}
-use Rattle.sc_segment.proofs.FrontLemmas.{front_number-first}
+use Rattle.sc_keys.specs.Heads.{front_number}
+use Rattle.sc_keys.proofs.FrontLemmas.{front_number-first}
 use Rattle.sc_fanout.proofs.merging.is_before.Goals as goal
 
 then-equal : (o : Ordering) → ordering_then o Equal ≡ o

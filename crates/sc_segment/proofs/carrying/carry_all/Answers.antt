@@ -4,10 +4,10 @@ use Rattle.std.proofs.lemmas.List.{take_all}
 use Rattle.std.proofs.lemmas.List.Elements.{All-nil}
 use Rattle.std.proofs.lemmas.Map.Entries.{length-keys_of}
 use Rattle.std.specs.Map.{keys_of}
-use Rattle.sc_segment.proofs.EntryLemmas.{so_far-start, take-place, above-before, place_of_key}
+use Rattle.sc_keys.proofs.StoringLemmas.{take-place, IsWithin}
+use Rattle.sc_keys.proofs.SearchLemmas.{in_order}
+use Rattle.sc_segment.proofs.EntryLemmas.{so_far-start, above-before, place_of_key}
 use Rattle.sc_segment.proofs.IndexLemmas.{All-place}
-use Rattle.sc_segment.proofs.SearchLemmas.{in_order}
-use Rattle.sc_segment.proofs.StoringLemmas.{IsWithin}
 use Rattle.sc_segment.specs.Carrying.{AreBefore}
 use Rattle.sc_segment.specs.Storing.{IsCarriedAt}
 use Rattle.sc_segment.specs.Index.{HasRows}

@@ -39,8 +39,8 @@ carry-requires-clause-within g c =
     let within = within_entries c.args.old.now.entries c.in-Ok.at place.0 place.1 in
     omega (arith, within)
 
-pub merge_rows-requires-clause-rows : goal.merge_rows-requires-clause-rows
-merge_rows-requires-clause-rows g c =
+pub add_merged-requires-clause-rows : goal.add_merged-requires-clause-rows
+add_merged-requires-clause-rows g c =
     let place = rw c.keys.ensures.keys at c.in-Ok.ensures.place in
     (All-place HasRows c.args.old.now.entries c.in-Ok.at (place.0, c.rows_of.result.now) c.requires.old.rows (c.rows_of.ensures place.0 place.1)).1
 
@@ -71,12 +71,12 @@ returns-in_ok-close_at-in-Ok-clause-carried g c = λ more before found are above
     let place = rw c.keys.ensures.keys at c.in-Ok.ensures.place in
     let old = c.args.old.now.entries in
     let at_last = c.in_ok-carry-in-Ok.ensures.carried more before are so_far in
-    let put = c.in_ok-close_at-in-Ok.ensures.entries ∙ ap (λ (es : List (ℕ × List ℕ)). es ++ entry_for c.args.place c.merge_rows.new.index.pending) c.in_ok-merge_rows-in-Ok.ensures.entries in
+    let put = c.in_ok-close_at-in-Ok.ensures.entries ∙ ap (λ (es : List (ℕ × List ℕ)). es ++ entry_for c.args.place c.add_merged.new.self.pending) c.in_ok-add_merged-in-Ok.ensures.entries in
     carried_at-put (c.args.old.now.stored ++ more) g.met.K.Key.total c.args.moved.now (take c.in-Ok.at old) before (take (c.in-Ok.at + 1) old) (before ++ (c.args.key.now, c.args.added.now) ∷ [])
-    c.carry.new.self.entries c.close_at.new.index.entries c.args.place c.merge_rows.new.index.pending c.args.key.now found put at_last
+    c.carry.new.self.entries c.close_at.new.index.entries c.args.place c.add_merged.new.self.pending c.args.key.now found put at_last
     (λ later has. so_far-both g.met.K.Key.total c.args.moved.now c.requires.moved old c.requires.old c.in-Ok.at (place.0, c.rows_of.result.now) (c.rows_of.ensures place.0 place.1)
-    c.args.key.now c.args.added.now c.merge_rows.new.index.pending before (entries_of_places (c.args.old.now.stored ++ more) c.carry.new.self.entries) later place.2 above
-    at_last.so_far c.in_ok-merge_rows-in-Ok.ensures.rows has)
+    c.args.key.now c.args.added.now c.add_merged.new.self.pending before (entries_of_places (c.args.old.now.stored ++ more) c.carry.new.self.entries) later place.2 above
+    at_last.so_far c.in_ok-add_merged-in-Ok.ensures.rows has)
 
 pub returns-in_ok-close_at-in-Err-clause-passed : goal.returns-in_ok-close_at-in-Err-clause-passed
 returns-in_ok-close_at-in-Err-clause-passed g c =

@@ -1,7 +1,7 @@
 -- The place of an added key is its own, after those of the old keys.
 use Rattle.std.proofs.Common.{◌≡◌, ◌+◌, ◌++◌, length, get_or, slice_get, sym, ap, ◌∙◌, rules, arith}
 use Rattle.std.proofs.lemmas.List.{get_or_default}
-use Rattle.sc_segment.proofs.StoringLemmas.{found-within, found-after, in_places, key_stored}
+use Rattle.sc_keys.proofs.StoringLemmas.{found-within, found-after, in_places, key_stored}
 use Rattle.sc_segment.proofs.carrying.place_after.Goals as goal
 
 pub bounds-places-at : goal.bounds-places-at

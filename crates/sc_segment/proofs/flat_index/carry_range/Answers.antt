@@ -2,12 +2,14 @@
 use Rattle.std.proofs.Common.{◌≡◌, ◌+◌, ◌-◌, ◌<◌, ◌≤◌, ℕ, List, ◌++◌, Some, length, take, drop, get_or, refl, sym, ap, subst, ◌∙◌, arith}
 use Rattle.std.proofs.lemmas.List.{get_or_default, length-take-le, take_all}
 use Rattle.std.specs.List.{slice_range}
-use Rattle.sc_segment.proofs.AheadLemmas.{IsAhead, range-take, ahead-start, ahead-all, pushed-count, end-counted, end-closed, end-long, end-ahead}
+use Rattle.sc_keys.proofs.StoringLemmas.{in_places, key_in_more}
+use Rattle.sc_rows.proofs.RangeLemmas.{range-take}
+use Rattle.sc_rows.specs.Moving.{new_numbers}
+use Rattle.sc_segment.proofs.AheadLemmas.{IsAhead, ahead-start, ahead-all, pushed-count, end-counted, end-closed, end-long, end-ahead}
 use Rattle.sc_segment.proofs.EntryLemmas.{so_far-old}
 use Rattle.sc_segment.proofs.FlatLemmas.{as_flat, length-entries, start_counted, counted_within, rows_among-rises, placed, laid_out-put, closed-put, entries-put}
 use Rattle.sc_segment.proofs.OwnLemmas.{own-ahead}
-use Rattle.sc_segment.proofs.StoringLemmas.{in_places, key_in_more, carried_at-put}
-use Rattle.sc_segment.specs.Carrying.{new_numbers}
+use Rattle.sc_segment.proofs.StoringLemmas.{carried_at-put}
 use Rattle.sc_segment.specs.Flat.{IsLaidOut, AreAllClosed, PutsKey, entries_from, key_ends, last_end, rows_among}
 use Rattle.sc_segment.specs.Storing.{KeptState, IsCarriedAt, entries_of_places}
 use Rattle.sc_segment.proofs.flat_index.carry_range.Goals as goal

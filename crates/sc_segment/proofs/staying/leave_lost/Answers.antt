@@ -4,8 +4,8 @@ use Rattle.std.proofs.lemmas.Bool.{cases_lt}
 use Rattle.std.proofs.lemmas.Map.Entries.{length-keys_of}
 use Rattle.std.proofs.lemmas.Option.{slice_get_within}
 use Rattle.std.specs.Map.{keys_of}
+use Rattle.sc_keys.proofs.SearchLemmas.{in_order}
 use Rattle.sc_segment.proofs.EntryLemmas.{place_of_key}
-use Rattle.sc_segment.proofs.SearchLemmas.{in_order}
 use Rattle.sc_segment.proofs.StayingLemmas.{apart-back, rows_at-none}
 use Rattle.sc_segment.proofs.staying.leave_lost.Goals as goal
 

@@ -3,7 +3,7 @@ use Rattle.std.proofs.Common.{◌≡◌, ◌+◌, ◌-◌, ◌^◌, ◌/◌, ◌
 use Rattle.std.proofs.lemmas.Option.{slice_get-get_or}
 use Rattle.std.specs.declared.cmp.Ordering.TheVariants.{Less, Equal, Greater}
 use Rattle.sc_record.specs.declared.write.Write.{Write}
-use Rattle.sc_segment.proofs.SearchLemmas.{pow-step, halved_more, bound_more}
+use Rattle.sc_keys.proofs.SearchLemmas.{pow-step, halved_more, bound_more}
 use Rattle.sc_snapshot.proofs.IdSearchLemmas.{live-within, lower-more, higher-more, place-found, place-none}
 use Rattle.sc_snapshot.proofs.PlaceLemmas.{order}
 use Rattle.sc_snapshot.proofs.ids.place_of_id.Goals as goal

@@ -1,10 +1,11 @@
 -- The keys compare equal to those at the places of the index that was written.
 use Rattle.std.proofs.Common.{◌≡◌, List, ℕ, ◌++◌, length, sym, ap, subst, ◌∙◌}
 use Rattle.std.specs.Map.{keys_of}
+use Rattle.sc_keys.specs.Storing.{ArePlaces}
 use Rattle.sc_segment.proofs.FlatLemmas.{keys_of-entries}
 use Rattle.sc_segment.proofs.StoringLemmas.{entries_of_places-alike, as_long-alike}
 use Rattle.sc_segment.specs.Flat.{FlatState, AreEnds}
-use Rattle.sc_segment.specs.Storing.{KeptState, ArePlaces}
+use Rattle.sc_segment.specs.Storing.{KeptState}
 use Rattle.sc_segment.proofs.flat_index.KeptIndex.of_places.Goals as goal
 
 -- the stored keys of both indexes are those of their keys

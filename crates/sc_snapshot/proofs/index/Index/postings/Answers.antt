@@ -1,8 +1,8 @@
 -- The row of an id is sought among the live rows, and other terms among the keys.
 use Rattle.std.proofs.Common.{◌≡◌, ◌+◌, ◌*◌, ◌≤◌, List, ℕ, true, false, length, map, sym, ap, subst, ◌∙◌, arith}
 use Rattle.std.specs.List.{list_all}
+use Rattle.sc_rows.specs.Joining.{has_row}
 use Rattle.sc_segment.specs.Index.{IsIndexOf}
-use Rattle.sc_segment.specs.Joining.{has_row}
 use Rattle.sc_snapshot.specs.Postings.{key_order, keyed_rows, term_count, is_id_term, has_id_alone, without_ids, AreIdsFound}
 use Rattle.sc_snapshot.proofs.IdLemmas.{alone-at, count-live, count-others, has_term-others}
 use Rattle.sc_snapshot.proofs.PostingLemmas.{has_row-term}

@@ -1,6 +1,0 @@
--- The keys that were passed stay.
-use Rattle.sc_segment.specs.Carrying.{AllStay}
-use Rattle.sc_segment.proofs.staying.last_staying.Given as goal
-
-abbrev pub invariant-loop-next : goal.invariant-loop-next
-invariant-loop-next l = AllStay l.stays l.at l.next

@@ -34,11 +34,11 @@ use Rattle.sc_bucket.specs.declared.bucket.Bucket.{Bucket}
 use Rattle.sc_bucket.specs.Accepting.{HasMemory, IsPut}
 use Rattle.sc_bucket.specs.Room.{BucketHasRoom}
 use Rattle.sc_bucket.specs.Kept.{Sent, FeedState}
-use Rattle.sc_bucket.specs.Cores.{core_key, followers, IsLeaderAt, IsCoreWithoutRoom}
+use Rattle.sc_replicas.specs.Cores.{core_key, followers, IsLeaderAt, IsCoreWithoutRoom}
 use Rattle.sc_bucket.specs.Flight.{sent_to, is_same_message}
 use Rattle.sc_bucket.specs.Pending.{pending}
 use Rattle.sc_bucket.specs.Sound.{AreActive, HasJournal, IsSent, AreSent, HasSpare, HasSearchers, IsMarked, is_idle, IsInPhase, IsSound}
-use Rattle.sc_bucket.proofs.CoreLemmas.{name_of, AreApart-from_ascending}
+use Rattle.sc_replicas.proofs.CoreLemmas.{name_of, AreApart-from_ascending}
 use Rattle.sc_bucket.proofs.SoundLemmas.{All-slice_get, AreAlike, AreAlike-set, name_and_mark, set-kept, AreMarked, SaysSame, SaysSame-push, AreMarked-left, names-alike, HasCores-alike, AreFeeds-alike, IsInPhase-alike, ArePrepared-same}
 use Rattle.sc_bucket.proofs.SearcherLemmas.{HasSearchers-grown}
 use Rattle.sc_bucket.proofs.PlaceLemmas.{All-set_apart}

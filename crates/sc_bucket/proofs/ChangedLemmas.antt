@@ -6,7 +6,7 @@ use Rattle.std.proofs.lemmas.Option.{none-some, same_Some}
 use Rattle.sc_record.specs.declared.slice.CoreId.{CoreId}
 use Rattle.sc_record.specs.Names.{is_core}
 use Rattle.sc_replica.specs.Core.{Core}
-use Rattle.sc_bucket.proofs.CoreLemmas.{AreApart, name_of, is_core-Decides}
+use Rattle.sc_replicas.proofs.CoreLemmas.{AreApart, name_of, is_core-Decides}
 use Rattle.sc_bucket.proofs.SoundLemmas.{All-slice_get}
 use Rattle.sc_bucket.proofs.FollowerLemmas.{All-named}
 

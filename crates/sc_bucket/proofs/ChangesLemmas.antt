@@ -22,7 +22,7 @@ use Rattle.sc_journal.specs.Journal.{last_of}
 use Rattle.sc_journal.proofs.ListLemmas.{last_of_cases}
 use Rattle.sc_journal.proofs.JournalLemmas.{id_from_is_of}
 use Rattle.sc_bucket.specs.Taking.{AreLastOf, IsSortedById}
-use Rattle.sc_bucket.proofs.FindLemmas.{filter_take-next}
+use Rattle.sc_replicas.proofs.FindLemmas.{filter_take-next}
 
 -- what those of the first cells that pass become with the next
 passing-one : (p : Write → Bool) (cells : List (Arc Write Global)) (at : ℕ) (cell : Arc Write Global) (found : List Write)

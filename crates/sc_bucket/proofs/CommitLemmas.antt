@@ -31,15 +31,16 @@ use Rattle.sc_journal.proofs.DownLemmas.{LeavesCores-committed}
 use Rattle.sc_journal.proofs.SettledLemmas.{unsettled-push_other, is_settled-push_other}
 use Rattle.sc_journal.proofs.SplitLemmas.{map_after-left, open_split-left, owed-push_committed, LeavesSlices-committed}
 use Rattle.sc_journal.proofs.LegalLemmas.{IsLegal-push}
-use Rattle.sc_bucket.specs.Cores.{without_room}
-use Rattle.sc_bucket.specs.Searchers.{standing_rows, ShowsCommitted, IsTaken, AreTaken, ArePrepared}
+use Rattle.sc_replicas.specs.Cores.{without_room}
+use Rattle.sc_replicas.specs.Searchers.{standing_rows}
+use Rattle.sc_bucket.specs.Searchers.{ShowsCommitted, IsTaken, AreTaken, ArePrepared}
 use Rattle.sc_bucket.specs.Kept.{Sent, FeedState}
 use Rattle.sc_bucket.specs.Flight.{is_same_message}
 use Rattle.sc_bucket.specs.Sound.{AreActive, HasJournal, HasSearchers, AreWritten, Serves, IsSent, HasSpare, IsSound}
 use Rattle.sc_bucket.specs.Events.{Commits}
 use Rattle.sc_bucket.specs.declared.bucket.Bucket.{Bucket}
-use Rattle.sc_bucket.specs.declared.standing.Standing.{Standing}
-use Rattle.sc_bucket.proofs.CoreLemmas.{element_from_map}
+use Rattle.sc_replicas.specs.declared.standing.Standing.{Standing}
+use Rattle.sc_replicas.proofs.CoreLemmas.{element_from_map}
 use Rattle.sc_bucket.proofs.SoundLemmas.{SaysSame, SaysSame-push, IsSent-left, IsSound-left}
 use Rattle.sc_bucket.proofs.TakenLemmas.{Contains-slice_get}
 use Rattle.sc_bucket.proofs.AcceptLemmas.{bucket_has_map}

@@ -10,7 +10,7 @@ use Rattle.sc_cluster.specs.Slices.{is_inactive_state, is_inactive}
 use Rattle.sc_cluster.proofs.ListLemmas.{filter-all}
 use Rattle.sc_journal.specs.Down.{follower_keys, all_followers}
 use Rattle.sc_bucket.specs.Sound.{AreActive}
-use Rattle.sc_bucket.proofs.CoreLemmas.{joined-push}
+use Rattle.sc_replicas.proofs.CoreLemmas.{joined-push}
 
 -- a slice has one less than replicas
 pub length-follower_keys : (slice : Slice) → length (follower_keys slice) ≡ slice.replicas - 1

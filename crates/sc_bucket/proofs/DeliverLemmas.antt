@@ -14,12 +14,12 @@ use Rattle.sc_replica.specs.Core.{Core, fed, buffered, received, received_in}
 use Rattle.sc_bucket.specs.declared.bucket.Bucket.{Bucket}
 use Rattle.sc_bucket.specs.Kept.{Sent, FlightState}
 use Rattle.sc_record.specs.Names.{is_core}
-use Rattle.sc_bucket.specs.Cores.{IsCoreWithoutRoom}
+use Rattle.sc_replicas.specs.Cores.{IsCoreWithoutRoom}
 use Rattle.sc_bucket.specs.Flight.{in_flight, received_by, delivered, is_same_message, IsFirstOf}
 use Rattle.sc_bucket.specs.Pending.{to_feed, pending}
 use Rattle.sc_bucket.specs.Sound.{HasJournal, IsSent, AreSent, HasSpare, IsSound}
 use Rattle.sc_bucket.specs.Events.{Delivers, DeliversFirst}
-use Rattle.sc_bucket.proofs.CoreLemmas.{AreApart, name_of, is_core-Decides, IsCoreFound, AreApart-from_ascending}
+use Rattle.sc_replicas.proofs.CoreLemmas.{AreApart, name_of, is_core-Decides, IsCoreFound, AreApart-from_ascending}
 use Rattle.sc_bucket.proofs.ChangedLemmas.{changed_at}
 use Rattle.sc_bucket.proofs.PendingLemmas.{length-pending}
 use Rattle.sc_bucket.proofs.SearcherLemmas.{HasSearchers-same}

@@ -24,7 +24,7 @@ use Rattle.sc_journal.specs.Outcomes.{IsClock}
 use Rattle.sc_journal.proofs.JournalLemmas.{is_of_from_id, last_write_is, last_write_none}
 use Rattle.sc_journal.proofs.ListLemmas.{last_of_cases, split_at}
 use Rattle.sc_journal.proofs.VersionLemmas.{ascends_in_versions, legal_newest}
-use Rattle.sc_bucket.specs.Cores.{is_attached}
+use Rattle.sc_replicas.specs.Cores.{is_attached}
 use Rattle.sc_bucket.specs.Sound.{Serves, IsInRange}
 use Rattle.sc_bucket.proofs.FlightLemmas.{IsOneLess, one_less}
 

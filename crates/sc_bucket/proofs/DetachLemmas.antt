@@ -31,12 +31,12 @@ use Rattle.sc_journal.proofs.LegalLemmas.{IsLegal-push}
 use Rattle.sc_journal.proofs.OwedLemmas.{owed-push_down}
 use Rattle.sc_bucket.specs.declared.bucket.Bucket.{Bucket}
 use Rattle.sc_bucket.specs.Kept.{JournalState, Sent, FlightState, FeedState}
-use Rattle.sc_bucket.specs.Cores.{core_key, IsCoreWithoutRoom}
+use Rattle.sc_replicas.specs.Cores.{core_key, IsCoreWithoutRoom}
 use Rattle.sc_bucket.specs.Flight.{is_to, is_same_message}
 use Rattle.sc_bucket.specs.Pending.{pending}
 use Rattle.sc_bucket.specs.Sound.{AreActive, HasJournal, IsInRange, IsSent, AreSent, HasSpare, IsMarked, is_idle, IsInPhase, IsSound}
 use Rattle.sc_bucket.specs.Events.{CanDetach, detached, Detaches}
-use Rattle.sc_bucket.proofs.CoreLemmas.{is_core-Decides, IsCoreFound, AreApart-from_ascending}
+use Rattle.sc_replicas.proofs.CoreLemmas.{is_core-Decides, IsCoreFound, AreApart-from_ascending}
 use Rattle.sc_bucket.proofs.SearcherLemmas.{HasSearchers-grown}
 use Rattle.sc_bucket.proofs.FollowerLemmas.{IsDistinct-filter, All-from_contains, negated}
 use Rattle.sc_bucket.proofs.AcceptLemmas.{bucket_has_map}

@@ -17,10 +17,10 @@ use Rattle.sc_journal.specs.Down.{is_down, follower_keys}
 use Rattle.sc_journal.proofs.FollowerLemmas.{follower_is}
 use Rattle.sc_journal.proofs.LegalDownLemmas.{legal_down}
 use Rattle.sc_bucket.specs.declared.bucket.Bucket.{Bucket}
-use Rattle.sc_bucket.specs.Cores.{core_key, slice_keys}
+use Rattle.sc_replicas.specs.Cores.{core_key, slice_keys}
 use Rattle.sc_bucket.specs.Sound.{IsMarked, HasCores, IsSound}
 use Rattle.sc_bucket.specs.Events.{CanDetach}
-use Rattle.sc_bucket.proofs.CoreLemmas.{name_of, same_name_by, is_core-Decides, element_from_map}
+use Rattle.sc_replicas.proofs.CoreLemmas.{name_of, same_name_by, is_core-Decides, element_from_map}
 use Rattle.sc_bucket.proofs.SoundLemmas.{All-slice_get}
 use Rattle.sc_bucket.proofs.TakenLemmas.{Contains-slice_get}
 use Rattle.sc_bucket.proofs.FollowerLemmas.{negated}

@@ -17,7 +17,7 @@ use Rattle.sc_bucket.specs.Kept.{FeedState}
 use Rattle.sc_record.specs.Names.{is_core}
 use Rattle.sc_snapshot.specs.Rows.{is_within}
 use Rattle.sc_bucket.specs.Pending.{is_feed_of, left_of, to_feed}
-use Rattle.sc_bucket.proofs.CoreLemmas.{is_core-Decides}
+use Rattle.sc_replicas.proofs.CoreLemmas.{is_core-Decides}
 
 -- the rows from one on
 rows_from : (rows : List Write) (next : ℕ) (row : Write) → slice_get rows next ≡ Some row → drop next rows ≡ row ∷ drop (next + 1) rows

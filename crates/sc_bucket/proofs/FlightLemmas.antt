@@ -11,7 +11,7 @@ use Rattle.sc_bucket.specs.Kept.{Sent}
 use Rattle.sc_record.specs.Names.{is_core}
 use Rattle.sc_bucket.specs.declared.message.Message.{Message}
 use Rattle.sc_bucket.specs.Flight.{sent_of, in_flight, IsFirstOf}
-use Rattle.sc_bucket.proofs.PlaceLemmas.{some_at}
+use Rattle.sc_replicas.proofs.FindLemmas.{some_at}
 use Rattle.sc_bucket.proofs.PendingLemmas.{in_flight-append}
 
 -- an element at a place stands between those before it and those after it

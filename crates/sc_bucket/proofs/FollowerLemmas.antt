@@ -18,9 +18,9 @@ use Rattle.sc_cluster.proofs.PairLemmas.{Contains-from_map}
 use Rattle.sc_replica.specs.Core.{Core}
 use Rattle.sc_bucket.specs.Kept.{Sent}
 use Rattle.sc_record.specs.Names.{is_core}
-use Rattle.sc_bucket.specs.Cores.{is_attached, has_hash, follows, followers}
+use Rattle.sc_replicas.specs.Cores.{is_attached, has_hash, follows, followers}
 use Rattle.sc_bucket.specs.Flight.{is_same_message, sent_to}
-use Rattle.sc_bucket.proofs.CoreLemmas.{AreApart, is_core-Decides, name_of}
+use Rattle.sc_replicas.proofs.CoreLemmas.{AreApart, is_core-Decides, name_of}
 use Rattle.sc_bucket.proofs.SendLemmas.{takes, followers_in}
 
 -- what is true of each element is so at each place

@@ -10,7 +10,7 @@ use Rattle.sc_ulog.specs.LogState.{IsEmptyWhereActive}
 use Rattle.sc_replica.specs.Core.{Core, IsCore, led, fed, received, received_in, fed_all, replay_limit, replayed, mode_left}
 use Rattle.sc_replica.specs.Deliveries.{replaying}
 use Rattle.sc_replica.proofs.CoreLemmas.{IsCore-led, IsCore-fed, IsCore-received}
-use Rattle.sc_bucket.specs.Cores.{IsNewCore, without_room, IsCoreWithoutRoom}
+use Rattle.sc_replicas.specs.Cores.{IsNewCore, without_room, IsCoreWithoutRoom}
 
 -- so it is of each core
 in_order-of : (core : Core) → IsCore core → IsCoreWithoutRoom core

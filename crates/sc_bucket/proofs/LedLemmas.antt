@@ -31,11 +31,11 @@ use Rattle.sc_journal.proofs.JournalLemmas.{id_from_is_of, writes-push_write, la
 use Rattle.sc_journal.proofs.VersionLemmas.{IsClock-append, IsClock-push_write}
 use Rattle.sc_bucket.specs.Kept.{Sent, FeedState}
 use Rattle.sc_record.specs.Names.{is_core}
-use Rattle.sc_bucket.specs.Cores.{is_attached, followers, IsLeaderAt}
+use Rattle.sc_replicas.specs.Cores.{is_attached, followers, IsLeaderAt}
 use Rattle.sc_bucket.specs.Flight.{sent_to}
 use Rattle.sc_bucket.specs.Pending.{pending}
 use Rattle.sc_bucket.specs.Sound.{Serves, AreWritten, HasOrAwaits, IsInRange, AreInRange}
-use Rattle.sc_bucket.proofs.CoreLemmas.{AreApart, same_name_by, is_core-Decides, core_alone}
+use Rattle.sc_replicas.proofs.CoreLemmas.{AreApart, same_name_by, is_core-Decides, core_alone}
 use Rattle.sc_bucket.proofs.SoundLemmas.{All-slice_get}
 use Rattle.sc_bucket.proofs.PlaceLemmas.{All-set_apart}
 use Rattle.sc_bucket.proofs.TakenLemmas.{Contains-slice_get}

@@ -1,7 +1,6 @@
 -- Facts on buckets.
 pub mod EntriesLemmas
 pub mod UncommittedLemmas
-pub mod CoreLemmas
 pub mod InOrderLemmas
 pub mod SearcherLemmas
 pub mod SoundLemmas
@@ -30,10 +29,6 @@ pub mod NextLemmas
 pub mod DeliverAllLemmas
 pub mod ArrivedLemmas
 pub mod FeedLemmas
-pub mod FindLemmas
-pub mod ChangedAtLemmas
-pub mod ReplicasLemmas
-pub mod ExchangeLemmas
 pub mod SpareLemmas
 pub mod LeftOutLemmas
 pub mod DetachLemmas

@@ -15,15 +15,16 @@ use Rattle.sc_cluster.specs.Slices.{is_active_state, is_active}
 use Rattle.sc_cluster.proofs.ListLemmas.{All-from_slice_get, Contains-map, Contains-from_filter}
 use Rattle.sc_bucket.specs.Events.{Commits}
 use Rattle.sc_bucket.specs.Kept.{JournalState}
-use Rattle.sc_bucket.specs.Moving.{moved_to, AreMoved, HasOwnRows, IsUnchanged}
+use Rattle.sc_replicas.specs.Searchers.{moved_to, AreMoved, HasOwnRows, StandingState, standing_of, standing_rows}
+use Rattle.sc_bucket.specs.Moving.{IsUnchanged}
 use Rattle.sc_bucket.specs.Room.{BucketHasRoom}
-use Rattle.sc_bucket.specs.Searchers.{StandingState, standing_of, standing_rows, ShowsCommitted, IsTaken, AreTaken, ArePrepared}
+use Rattle.sc_bucket.specs.Searchers.{ShowsCommitted, IsTaken, AreTaken, ArePrepared}
 use Rattle.sc_bucket.specs.Sound.{IsInRange, IsSound}
 use Rattle.sc_bucket.specs.Taking.{IsLastOf}
 use Rattle.sc_bucket.specs.declared.bucket.Bucket.{Bucket}
-use Rattle.sc_bucket.specs.declared.standing.Standing.{Standing}
+use Rattle.sc_replicas.specs.declared.standing.Standing.{Standing}
 use Rattle.sc_bucket.proofs.CommitLemmas.{IsSound-committed}
-use Rattle.sc_bucket.proofs.CoreLemmas.{element_from_map}
+use Rattle.sc_replicas.proofs.CoreLemmas.{element_from_map}
 use Rattle.sc_bucket.proofs.NextLemmas.{AreCommittedOf-last, AreChangesOf-none, IsOfLeader-same}
 use Rattle.sc_bucket.proofs.TakenLemmas.{Contains-slice_get}
 

@@ -23,14 +23,14 @@ use Rattle.sc_journal.specs.Splits.{map_after, open_split, owed}
 use Rattle.sc_journal.proofs.LegalLemmas.{IsLegal-none}
 use Rattle.sc_bucket.specs.Kept.{Sent, FeedState}
 use Rattle.sc_record.specs.Names.{is_core}
-use Rattle.sc_bucket.specs.Cores.{core_key, core_keys, slice_keys, core_number, CoresAscend, IsCounted, IsNewCore, IsCoreWithoutRoom}
+use Rattle.sc_replicas.specs.Cores.{core_key, core_keys, slice_keys, core_number, CoresAscend, IsCounted, IsNewCore, IsCoreWithoutRoom}
 use Rattle.sc_bucket.specs.Searchers.{AreTaken}
 use Rattle.sc_bucket.specs.Flight.{in_flight, is_same_message}
 use Rattle.sc_bucket.specs.Pending.{to_feed, pending}
 use Rattle.sc_bucket.specs.Sound.{AreActive, HasJournal, Serves, HasOrAwaits, IsInRange, IsSent, AreSent, HasSpare, HasCores, IsFeed, AreFeeds, IsSound}
 use Rattle.sc_bucket.specs.declared.bucket.Bucket.{Bucket}
 use Rattle.sc_bucket.specs.declared.phase.Phase.TheVariants as phases
-use Rattle.sc_bucket.proofs.CoreLemmas.{have_leaders, keys_among}
+use Rattle.sc_replicas.proofs.CoreLemmas.{have_leaders, keys_among}
 use Rattle.sc_bucket.proofs.SearcherLemmas.{HasSearchers-new}
 use Rattle.sc_bucket.proofs.InOrderLemmas.{in_order-new}
 

@@ -26,12 +26,13 @@ use Rattle.sc_journal.proofs.ListLemmas.{last_of-append, last_of_cases}
 use Rattle.sc_journal.proofs.JournalLemmas.{id_from_is_of}
 use Rattle.sc_journal.proofs.LegalLemmas.{legal_hash}
 use Rattle.sc_bucket.specs.Entries.{uncommitted}
-use Rattle.sc_bucket.specs.Cores.{IsCoreWithoutRoom, IsLeaderOf}
-use Rattle.sc_bucket.specs.Searchers.{standing_rows, ShowsCommitted}
+use Rattle.sc_replicas.specs.Cores.{IsCoreWithoutRoom, IsLeaderOf}
+use Rattle.sc_replicas.specs.Searchers.{standing_rows}
+use Rattle.sc_bucket.specs.Searchers.{ShowsCommitted}
 use Rattle.sc_bucket.specs.Taking.{AreChangesOf, AreCommittedOf, AreLastOf, IsLastOf, IsOfLeader}
 use Rattle.sc_bucket.specs.Sound.{IsInRange, HasLastWrites, Serves, AreWritten, AreInRange, IsSound}
 use Rattle.sc_bucket.specs.declared.bucket.Bucket.{Bucket}
-use Rattle.sc_bucket.specs.declared.standing.Standing.{Standing}
+use Rattle.sc_replicas.specs.declared.standing.Standing.{Standing}
 use Rattle.sc_bucket.proofs.CommitLemmas.{AreRows-sound}
 use Rattle.sc_bucket.proofs.SearcherLemmas.{AreLed-from_keys, no_rows}
 use Rattle.sc_bucket.proofs.TakenLemmas.{Contains-slice_get}

@@ -29,15 +29,16 @@ use Rattle.sc_bucket.specs.declared.accept.AcceptFault.{AcceptFault}
 use Rattle.sc_bucket.specs.declared.accept.AcceptFault.TheVariants as faults
 use Rattle.sc_bucket.specs.Kept.{Sent}
 use Rattle.sc_bucket.specs.Accepting.{accept_fault, IsPut}
-use Rattle.sc_bucket.specs.Cores.{follows, followers, IsLeaderAt, without_room}
+use Rattle.sc_replicas.specs.Cores.{follows, followers, IsLeaderAt, without_room}
 use Rattle.sc_bucket.specs.Flight.{sent_to}
 use Rattle.sc_bucket.specs.Events.{AreSameCores, IsSameButRoom, Accepts, outcome_of}
 use Rattle.sc_bucket.specs.Room.{basis, BucketHasRoom}
 use Rattle.sc_bucket.specs.Sound.{IsSound}
-use Rattle.sc_bucket.proofs.CoreLemmas.{name_of}
+use Rattle.sc_replicas.proofs.CoreLemmas.{name_of}
 use Rattle.sc_bucket.proofs.SendLemmas.{takes}
 use Rattle.sc_bucket.proofs.AcceptLemmas.{sent_by}
-use Rattle.sc_bucket.proofs.PlaceLemmas.{some_at, same_core_at, IsLeaderAt-same_cores, AreSameCores-led}
+use Rattle.sc_replicas.proofs.FindLemmas.{some_at}
+use Rattle.sc_bucket.proofs.PlaceLemmas.{same_core_at, IsLeaderAt-same_cores, AreSameCores-led}
 
 -- Where an order's condition was tested on the last write of its id, it is met or not as tested.
 pub condition_tested : (journal : List Entry) (order : Order) (last : Option Write) (condition version : ℤ) (met : Bool)

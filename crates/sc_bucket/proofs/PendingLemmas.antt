@@ -12,7 +12,7 @@ use Rattle.sc_bucket.specs.Kept.{Sent, FeedState}
 use Rattle.sc_record.specs.Names.{is_core}
 use Rattle.sc_bucket.specs.Flight.{sent_to, in_flight, is_to}
 use Rattle.sc_bucket.specs.Pending.{to_feed, pending}
-use Rattle.sc_bucket.proofs.CoreLemmas.{is_core-Decides, is_core-itself}
+use Rattle.sc_replicas.proofs.CoreLemmas.{is_core-Decides, is_core-itself}
 
 -- the core that a message goes to
 abbrev pub goes_to : Sent → CoreId

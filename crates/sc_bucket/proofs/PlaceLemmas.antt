@@ -1,5 +1,5 @@
 -- Cores at the places of a list: what doesn't depend on their room, and which core is at which place.
-use Rattle.std.proofs.Common.{◌≡◌, ◌≢◌, ℕ, ℤ, zero, suc, ◌<◌, ◌⊎◌, inl, inr, List, [], ◌∷◌, length, map, get_or, set, Some, refl, sym, ap, ◌∙◌, subst, All, slice_get, arith}
+use Rattle.std.proofs.Common.{◌≡◌, ◌≢◌, ℕ, ℤ, ◌<◌, ◌⊎◌, inl, inr, List, length, map, get_or, set, Some, sym, ap, ◌∙◌, subst, All, slice_get, arith}
 use Rattle.std.specs.Option.{option_map}
 use Rattle.std.proofs.lemmas.Bool.{cases_eq}
 use Rattle.std.proofs.lemmas.Grind.{get_or-set_at}
@@ -9,14 +9,9 @@ use Rattle.sc_record.specs.declared.write.Write.{Write}
 use Rattle.sc_record.specs.declared.slice.CoreId.{CoreId}
 use Rattle.sc_cluster.specs.declared.slice.Slice.{Slice}
 use Rattle.sc_replica.specs.Core.{Core, led}
-use Rattle.sc_bucket.specs.Cores.{IsLeaderAt, without_room}
+use Rattle.sc_replicas.specs.Cores.{IsLeaderAt, without_room}
+use Rattle.sc_replicas.proofs.FindLemmas.{some_at}
 use Rattle.sc_bucket.specs.Events.{AreSameCores}
-
--- there is an element at each place of a list
-pub some_at : {X : Type 0} (xs : List X) (k : ℕ) → k < length xs → (x : X) × (slice_get xs k ≡ Some x)
-some_at [] k within = absurd (omega arith)
-some_at (x ∷ xs) zero within = (x, refl)
-some_at (x ∷ xs) (suc k) within = some_at xs k (omega arith)
 
 -- the element that was written
 pub slice_get-set : {X : Type 0} (xs : List X) (k : ℕ) (y : X) → k < length xs → slice_get (set xs k y) k ≡ Some y

@@ -22,7 +22,7 @@ use Rattle.sc_bucket.specs.Events.{HasSameFirstAndLimit, IsSameButRoom}
 use Rattle.sc_bucket.specs.Accepting.{IsRoomier, HasMore, HasMoreAt, HasMemory}
 use Rattle.sc_bucket.specs.Room.{BucketHasRoom}
 use Rattle.sc_bucket.specs.Sound.{AreActive, HasJournal, HasSpare, IsSound}
-use Rattle.sc_bucket.proofs.CoreLemmas.{is_core-Decides}
+use Rattle.sc_replicas.proofs.CoreLemmas.{is_core-Decides}
 use Rattle.sc_bucket.proofs.SearcherLemmas.{HasSearchers-same}
 use Rattle.sc_bucket.proofs.SoundLemmas.{All-slice_get, SaysSame-same, ArePrepared-same, AreSent-same, IsSound-left}
 use Rattle.sc_bucket.proofs.PendingLemmas.{goes_to, in_flight-append, length-in_flight, in_flight-none, in_flight-once, in_flight-cases, length-pending, length-pending_more}

@@ -12,14 +12,15 @@ use Rattle.sc_replica.specs.Core.{Core}
 use Rattle.sc_bucket.specs.Kept.{Sent, FeedState}
 use Rattle.sc_bucket.specs.declared.message.Message.{Message}
 use Rattle.sc_record.specs.Names.{is_core}
-use Rattle.sc_bucket.specs.Cores.{with_room, without_room}
+use Rattle.sc_replicas.specs.Cores.{with_room, without_room}
 use Rattle.sc_bucket.specs.Flight.{in_flight}
 use Rattle.sc_bucket.specs.Pending.{to_feed, pending}
 use Rattle.sc_bucket.specs.Sound.{HasSpare}
 use Rattle.sc_bucket.specs.Events.{AreSameCores}
 use Rattle.sc_bucket.specs.Accepting.{IsRoomier, HasMore, HasMoreAt}
-use Rattle.sc_bucket.proofs.PlaceLemmas.{some_at, slice_get-set, same_core_at, length-same_cores}
-use Rattle.sc_bucket.proofs.CoreLemmas.{AreApart, is_core-Decides, core_alone, name_of}
+use Rattle.sc_replicas.proofs.FindLemmas.{some_at}
+use Rattle.sc_bucket.proofs.PlaceLemmas.{slice_get-set, same_core_at, length-same_cores}
+use Rattle.sc_replicas.proofs.CoreLemmas.{AreApart, is_core-Decides, core_alone, name_of}
 use Rattle.sc_bucket.proofs.SoundLemmas.{names-same_cores}
 
 -- a core is as roomy as itself, and roomier with more room

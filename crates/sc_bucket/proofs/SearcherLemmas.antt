@@ -13,12 +13,13 @@ use Rattle.sc_cluster.proofs.LeaderLemmas.{same_from_id}
 use Rattle.sc_replica.specs.Core.{Core}
 use Rattle.sc_journal.specs.Journal.{writes, last_write}
 use Rattle.sc_journal.specs.Committed.{committed, last_commit}
-use Rattle.sc_bucket.specs.Cores.{core_key, IsNewCore}
-use Rattle.sc_bucket.specs.Searchers.{standing_rows, AreOfEachSlice, ShowsCommitted, IsTaken, AreTaken, AreLed}
+use Rattle.sc_replicas.specs.Cores.{core_key, IsNewCore}
+use Rattle.sc_replicas.specs.Searchers.{standing_rows}
+use Rattle.sc_bucket.specs.Searchers.{AreOfEachSlice, ShowsCommitted, IsTaken, AreTaken, AreLed}
 use Rattle.sc_bucket.specs.Sound.{HasSearchers}
 use Rattle.sc_bucket.specs.declared.bucket.Bucket.{Bucket}
-use Rattle.sc_bucket.specs.declared.standing.Standing.{Standing}
-use Rattle.sc_bucket.proofs.CoreLemmas.{element_from_map, IsLeaderOf-from_key}
+use Rattle.sc_replicas.specs.declared.standing.Standing.{Standing}
+use Rattle.sc_replicas.proofs.CoreLemmas.{element_from_map, IsLeaderOf-from_key}
 
 -- each write of the one journal is one of the other
 abbrev pub KeepsWrites : List Entry → List Entry → Type 0

@@ -20,7 +20,7 @@ use Rattle.sc_journal.specs.Seats.{seats}
 use Rattle.sc_journal.proofs.SeatLemmas.{seats_are_exchanged, seats_begin_in_order}
 use Rattle.sc_journal.proofs.SumLemmas.{All-joined}
 use Rattle.sc_bucket.specs.declared.bucket.Bucket.{Bucket}
-use Rattle.sc_bucket.specs.Cores.{core_key, core_keys, slice_keys, is_numbered, HasCore}
+use Rattle.sc_replicas.specs.Cores.{core_key, core_keys, slice_keys, is_numbered, HasCore}
 use Rattle.sc_bucket.specs.Sound.{HasJournal, IsMarked, IsSound}
 use Rattle.sc_bucket.proofs.DownLemmas.{slice_key}
 use Rattle.sc_bucket.proofs.AcceptLemmas.{bucket_has_map}

@@ -14,9 +14,9 @@ use Rattle.sc_cluster.specs.Slices.{is_inactive}
 use Rattle.sc_replica.specs.Core.{Core}
 use Rattle.sc_bucket.specs.Kept.{Sent}
 use Rattle.sc_bucket.specs.declared.message.Message.{Message}
-use Rattle.sc_bucket.specs.Cores.{has_hash, follows, followers}
+use Rattle.sc_replicas.specs.Cores.{has_hash, follows, followers}
 use Rattle.sc_bucket.specs.Flight.{sent_of, sent_to}
-use Rattle.sc_bucket.proofs.CoreLemmas.{name_of}
+use Rattle.sc_replicas.proofs.CoreLemmas.{name_of}
 
 -- the first items of a list, and the next
 first_more : {X : Type 0} (xs : List X) (at : ℕ) (x : X) → slice_get xs at ≡ Some x → take (at + 1) xs ≡ take at xs ++ x ∷ []

@@ -20,7 +20,7 @@ use Rattle.sc_journal.proofs.DownLemmas.{LeavesCores-settled}
 use Rattle.sc_journal.proofs.SettledLemmas.{unsettled_is, unsettled_from, unsettled-push_settled, is_settled-push}
 use Rattle.sc_journal.proofs.SplitLemmas.{map_after-left, open_split-left, owed-push_settled, LeavesSlices-settled}
 use Rattle.sc_journal.proofs.LegalLemmas.{IsLegal-push}
-use Rattle.sc_bucket.specs.Cores.{without_room}
+use Rattle.sc_replicas.specs.Cores.{without_room}
 use Rattle.sc_bucket.specs.Kept.{Sent, FlightState}
 use Rattle.sc_bucket.specs.Flight.{is_of_write, is_same_message}
 use Rattle.sc_bucket.specs.Sound.{AreActive, HasJournal, IsSent, HasSpare, IsSound}

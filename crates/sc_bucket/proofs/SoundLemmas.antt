@@ -30,7 +30,7 @@ use Rattle.sc_journal.proofs.DownLemmas.{LeavesCores, is_down-left}
 use Rattle.sc_journal.proofs.SeatLemmas.{LeavesSeats, seats-left}
 use Rattle.sc_bucket.specs.Kept.{Sent, FeedState}
 use Rattle.sc_record.specs.Names.{key_of_core, is_core}
-use Rattle.sc_bucket.specs.Cores.{core_key, core_keys, slice_keys, is_attached, IsLeaderAt, without_room}
+use Rattle.sc_replicas.specs.Cores.{core_key, core_keys, slice_keys, is_attached, IsLeaderAt, without_room}
 use Rattle.sc_bucket.specs.Searchers.{ArePrepared}
 use Rattle.sc_bucket.specs.Flight.{is_same_message}
 use Rattle.sc_bucket.specs.Pending.{pending}
@@ -39,8 +39,8 @@ use Rattle.sc_bucket.specs.Events.{AreSameCores, HasSameSplit}
 use Rattle.sc_bucket.specs.declared.bucket.Bucket.{Bucket}
 use Rattle.sc_bucket.specs.declared.phase.Phase.{Phase}
 use Rattle.sc_bucket.specs.declared.phase.Phase.TheVariants as phases
-use Rattle.sc_bucket.proofs.CoreLemmas.{AscendByName-same}
-pub use Rattle.sc_bucket.proofs.CoreLemmas.{name_of}
+use Rattle.sc_replicas.proofs.CoreLemmas.{AscendByName-same}
+pub use Rattle.sc_replicas.proofs.CoreLemmas.{name_of}
 
 -- what is true of each core is true of that at a place
 pub All-slice_get : {A : Type 0} (P : A → Type 0) (xs : List A) (k : ℕ) (x : A) → All P xs → slice_get xs k ≡ Some x → P x

@@ -7,9 +7,10 @@ use Rattle.std.proofs.lemmas.Option.{slice_get-map}
 use Rattle.sc_record.specs.declared.slice.SliceId.{SliceId}
 use Rattle.sc_cluster.specs.declared.slice.Slice.{Slice}
 use Rattle.sc_cluster.specs.Slices.{is_forming, forming}
-use Rattle.sc_bucket.specs.Searchers.{StandingState, standing_of, cut_to}
-use Rattle.sc_bucket.specs.declared.standing.Standing.{Standing}
-use Rattle.sc_bucket.proofs.FindLemmas.{filter_take-next}
+use Rattle.sc_replicas.specs.Searchers.{StandingState, standing_of}
+use Rattle.sc_bucket.specs.Searchers.{cut_to}
+use Rattle.sc_replicas.specs.declared.standing.Standing.{Standing}
+use Rattle.sc_replicas.proofs.FindLemmas.{filter_take-next}
 
 -- it is not the searcher of the parent
 abbrev pub is_other : SliceId → StandingState → Bool

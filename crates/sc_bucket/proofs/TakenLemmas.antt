@@ -1,6 +1,5 @@
 -- The searcher that is taken of an active slice, those of all of them, and which searcher is a slice's.
-use Rattle.std.proofs.Common.{◌≡◌, ◌≢◌, ◌∙◌, ℕ, ◌+◌, ◌<◌, ◌≤◌, Bool, true, false, cond, List, [], ◌∷◌, ◌++◌, length, get_or, map, filter, take, drop, slice_get, Some, None, Option, Bor, MatchOption, Contains, IsSome, refl, sym, ap, subst, arith, length-append}
-use Rattle.std.specs.List.{AllWithin, HoldsAt}
+use Rattle.std.proofs.Common.{◌≡◌, ◌∙◌, ℕ, ◌+◌, ◌<◌, ◌≤◌, Bool, true, false, cond, List, [], ◌∷◌, ◌++◌, length, map, filter, take, drop, slice_get, Some, Option, Contains, refl, sym, ap, subst, arith, length-append}
 use Rattle.std.proofs.lemmas.List.{append-nil, length-map, map-append, length-take, drop-append-le, take_all, take_more, take-append-drop}
 use Rattle.std.proofs.lemmas.List.Elements.{All-push, filter_more, filter-append}
 use Rattle.std.proofs.lemmas.Option.{slice_get_within, get_or_from_slice_get, same_Some}
@@ -15,14 +14,15 @@ use Rattle.sc_cluster.specs.Slices.{is_active_state, is_active}
 use Rattle.sc_cluster.specs.Changes.{IsBeingSplit}
 use Rattle.sc_cluster.proofs.ListLemmas.{Contains-map, Contains-filter}
 use Rattle.sc_replica.specs.Core.{Core}
-use Rattle.sc_bucket.specs.Cores.{IsLeaderOf}
+use Rattle.sc_replicas.specs.Cores.{IsLeaderOf}
 use Rattle.sc_bucket.specs.Searchers.{AreOfEachSlice, NoneIsActive, HasParentSearcher}
 use Rattle.sc_bucket.specs.Sound.{IsInPhase}
 use Rattle.sc_bucket.specs.declared.bucket.Bucket.{Bucket}
 use Rattle.sc_bucket.specs.declared.phase.Phase.{Phase}
 use Rattle.sc_bucket.specs.declared.phase.Phase.TheVariants as phases
-use Rattle.sc_bucket.specs.declared.standing.Standing.{Standing}
-use Rattle.sc_bucket.proofs.CoreLemmas.{is_core-Decides, element_from_map, IsCoreFound}
+use Rattle.sc_replicas.specs.declared.standing.Standing.{Standing}
+use Rattle.sc_replicas.proofs.CoreLemmas.{is_core-Decides, IsCoreFound}
+use Rattle.sc_replicas.proofs.StandingLemmas.{slice_of}
 
 -- an element at a place is one of the list
 pub Contains-slice_get : {X : Type 0} (xs : List X) (at : ℕ) (x : X) → slice_get xs at ≡ Some x → Contains xs x
@@ -111,34 +111,6 @@ fewer-before_active slices at slice before all there active so_far each =
       ap (λ (these : List Slice). length these) (active_more slices at slice true there (ap is_active_state active)),
       length-append first (slice ∷ []),
     )
-
--- the name of a searcher's slice
-abbrev pub slice_of : Standing → SliceId
-slice_of searcher = searcher.slice
-
--- what a search for the searcher of a slice finds
-abbrev pub IsStandingFound : List Standing → SliceId → Option (Bor Standing) → Type 0
-IsStandingFound searchers id found =
-    MatchOption found (AllWithin (λ (s : Standing). s.slice.0 ≢ id.0) searchers 0 (length searchers))
-    (λ (s : Bor Standing). (s.now.slice.0 ≡ id.0) × (i : ℕ) × (i < length searchers) × HoldsAt (λ (other : Standing). other ≡ s.now) searchers i
-    × AllWithin (λ (other : Standing). other.slice.0 ≢ id.0) searchers 0 i)
-
--- a searcher that is there is found
-pub standing_is_found : (searchers : List Standing) (id : SliceId) (found : Option (Bor Standing)) → IsStandingFound searchers id found
-    → Contains (map slice_of searchers) id → IsSome found
-standing_is_found searchers id (Some s) is there = refl
-standing_is_found searchers id None none there =
-    let (k, s, at, is) = element_from_map slice_of searchers id there in
-    let same : (get_or searchers k s).slice.0 ≡ id.0 =
-    ap (λ (one : Standing). one.slice.0) (get_or_from_slice_get searchers k s s at) ∙ ap (λ (one : SliceId). one.0) is in
-    absurd (none k s (omega arith) (slice_get_within searchers k s at) same)
-
--- and what is found is the slice's
-pub standing_found_is : (searchers : List Standing) (id : SliceId) (found : Option (Bor Standing)) (s : Bor Standing)
-    → IsStandingFound searchers id found → found ≡ Some s → Contains searchers s.now × (s.now.slice ≡ id)
-standing_found_is searchers id found s is found_is =
-    let here = subst (IsStandingFound searchers id) found_is is in
-    ((here.1, here.2, here.3 s.now), ap (λ (n : ℕ). record { 0 = n }) here.0)
 
 -- each active slice has a searcher
 pub has_searcher : (slices : List Slice) (searchers : List Standing) (slice : Slice) → AreOfEachSlice slices searchers

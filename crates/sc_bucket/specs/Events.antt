@@ -14,7 +14,7 @@ use Rattle.sc_journal.specs.Journal.{write_at, is_settled}
 use Rattle.sc_journal.specs.Down.{is_down, IsFollower}
 use Rattle.sc_journal.specs.Outcomes.{Outcome, accepted, conflict, partial, log_full, out_of_memory, IsFitting, IsWriteOf}
 use Rattle.sc_bucket.specs.Kept.{Sent}
-use Rattle.sc_bucket.specs.Cores.{followers, IsLeaderAt, without_room}
+use Rattle.sc_replicas.specs.Cores.{followers, IsLeaderAt, without_room}
 use Rattle.sc_bucket.specs.Searchers.{AreTaken}
 use Rattle.sc_bucket.specs.Room.{BucketHasRoom}
 use Rattle.sc_bucket.specs.Flight.{is_of_write, is_to, sent_to, delivered, delivered_all, arrived, IsFirstOf}

@@ -1,7 +1,6 @@
 -- What a bucket keeps, what is true of it at every moment, and what its events do.
 pub mod Kept
 pub mod Entries
-pub mod Cores
 pub mod Searchers
 pub mod Flight
 pub mod Pending

@@ -2,11 +2,9 @@
 use Rattle.std.specs.Prelude.{◌≡◌, ◌≤◌, ℕ, ◌+◌, nat_eq, not, List, ◌++◌, map, filter, take, drop, slice_get, Option, Some, None, IsSome, IfSome, false, All, Contains, ⊤}
 use Rattle.std.specs.Arc.{arc_value}
 use Rattle.sc_hash.specs.Range.{IsWithin}
-use Rattle.sc_hash.specs.declared.range.Range.{Range}
 use Rattle.sc_router.specs.Route.{route_hash}
 use Rattle.sc_record.specs.Writes.{write_of}
 use Rattle.sc_record.specs.declared.slice.SliceId.{SliceId}
-use Rattle.sc_snapshot.specs.Rows.{SnapshotState}
 use Rattle.sc_record.specs.declared.write.Write.{Write}
 use Rattle.sc_record.specs.declared.entry.Entry.{Entry}
 use Rattle.sc_cluster.specs.declared.slice.State.TheVariants as states
@@ -15,15 +13,12 @@ use Rattle.sc_cluster.specs.Slices.{is_active, forming}
 use Rattle.sc_replica.specs.Core.{Core}
 use Rattle.sc_journal.specs.Journal.{writes, last_write}
 use Rattle.sc_journal.specs.Committed.{committed}
-use Rattle.sc_bucket.specs.Cores.{IsLeaderOf}
+use Rattle.sc_replicas.specs.Cores.{IsLeaderOf}
+use Rattle.sc_replicas.specs.Searchers.{StandingState, standing_of}
 use Rattle.sc_bucket.specs.declared.phase.Phase.{Phase}
 use Rattle.sc_bucket.specs.declared.phase.Phase.TheVariants as phases
-use Rattle.sc_bucket.specs.declared.standing.Standing.{Standing}
-use Rattle.sc_bucket.specs.declared.standing.Searcher.{Searcher}
-
--- the rows that a searcher looks at
-abbrev pub standing_rows : Standing → List Write
-standing_rows searcher = (arc_value searcher.snapshot).rows
+use Rattle.sc_replicas.specs.declared.standing.Standing.{Standing}
+use Rattle.sc_replicas.specs.declared.standing.Searcher.{Searcher}
 
 -- each active slice has a searcher, in the order of the map, and no other slice has one
 abbrev pub AreOfEachSlice : List Slice → List Standing → Type 0
@@ -79,15 +74,6 @@ pub record IsFirstSearcher (slices : List Slice) (searchers : List Standing) (jo
   pub snapshot_is : arc_value found.snapshot ≡ arc_value searcher.snapshot
   pub range_is : found.range ≡ slice.range
   pub shows : ShowsCommitted journal slice (arc_value found.snapshot).rows
-
--- a searcher as contracts see it
-pub record StandingState : Type 0 where
-  pub slice : SliceId
-  pub range : Range
-  pub snapshot : SnapshotState
-
-abbrev pub standing_of : Standing → StandingState
-standing_of searcher = record { slice = searcher.slice; range = searcher.range; snapshot = arc_value searcher.snapshot }
 
 -- the searcher of a sub that finds in its range what this one finds
 abbrev pub cut_to : Slice → StandingState → StandingState

@@ -26,14 +26,15 @@ use Rattle.sc_journal.specs.Outcomes.{IsClock}
 use Rattle.sc_journal.specs.Committed.{last_commit}
 use Rattle.sc_bucket.specs.Kept.{Sent, FeedState}
 use Rattle.sc_record.specs.Names.{is_core, key_of_core}
-use Rattle.sc_bucket.specs.Cores.{core_key, core_keys, slice_keys, is_attached, CoresAscend, IsCounted, IsCoreWithoutRoom}
-use Rattle.sc_bucket.specs.Searchers.{standing_rows, AreOfEachSlice, ShowsCommitted, ArePrepared}
+use Rattle.sc_replicas.specs.Cores.{core_key, core_keys, slice_keys, is_attached, CoresAscend, IsCounted, IsCoreWithoutRoom}
+use Rattle.sc_replicas.specs.Searchers.{standing_rows}
+use Rattle.sc_bucket.specs.Searchers.{AreOfEachSlice, ShowsCommitted, ArePrepared}
 use Rattle.sc_bucket.specs.Flight.{in_flight, is_same_message}
 use Rattle.sc_bucket.specs.Pending.{pending}
 use Rattle.sc_bucket.specs.declared.bucket.Bucket.{Bucket}
 use Rattle.sc_bucket.specs.declared.phase.Phase.{Phase}
 use Rattle.sc_bucket.specs.declared.phase.Phase.TheVariants as phases
-use Rattle.sc_bucket.specs.declared.standing.Standing.{Standing}
+use Rattle.sc_replicas.specs.declared.standing.Standing.{Standing}
 
 -- every slice is active
 abbrev pub AreActive : List Slice → Type 0

@@ -12,12 +12,12 @@ use Rattle.sc_cluster.specs.declared.slice.State.TheVariants as states
 use Rattle.sc_cluster.specs.declared.slice.Slice.{Slice}
 use Rattle.sc_replica.specs.Core.{Core}
 use Rattle.sc_journal.specs.Journal.{last_of}
-use Rattle.sc_bucket.specs.Cores.{IsLeaderOf}
+use Rattle.sc_replicas.specs.Cores.{IsLeaderOf}
 use Rattle.sc_bucket.specs.Entries.{uncommitted}
 use Rattle.sc_bucket.specs.Searchers.{ShowsCommitted}
 use Rattle.sc_bucket.specs.Sound.{IsInRange}
 use Rattle.sc_bucket.specs.declared.bucket.Bucket.{Bucket}
-use Rattle.sc_bucket.specs.declared.standing.Standing.{Standing}
+use Rattle.sc_replicas.specs.declared.standing.Standing.{Standing}
 
 -- the slice is active, and this is its searcher as it was last taken
 pub record IsLastOf (b : Bucket) (slice : Slice) (last : Standing) : Type 0 where

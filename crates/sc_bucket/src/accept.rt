@@ -12,7 +12,7 @@ ghost use Rattle.sc_journal.specs.Journal.{last_write};
 ghost use Rattle.sc_journal.specs.Legal.{HasTerms, MayWrite};
 ghost use Rattle.sc_journal.specs.Outcomes.{Makes, refused, IsWriteOf, IsFitting, IsOutcome, live_fields};
 ghost use Rattle.sc_record.specs.Names.{is_core};
-ghost use Rattle.sc_bucket.specs.Cores.{has_hash, CoresAscend, follows, followers, IsLeaderAt};
+ghost use Rattle.sc_replicas.specs.Cores.{has_hash, CoresAscend, follows, followers, IsLeaderAt};
 ghost use Rattle.sc_bucket.specs.Kept.{FeedState};
 ghost use Rattle.sc_bucket.specs.Flight.{sent_of, sent_to};
 ghost use Rattle.sc_bucket.specs.Room.{basis, BucketHasRoom};
@@ -26,7 +26,6 @@ use sc_cluster::{Slice, State};
 use sc_partial::{PartialFault, resolve};
 use sc_record::{
     Cell, Change, CloneIn, CoreId, Doc, Entry, Id, List, Order, Term, Text, Write, found, meets,
-    next_version,
 };
 use sc_replica::Replica;
 use sc_router::route_hash;
@@ -136,14 +135,13 @@ impl Bucket {
         ensures version { IfOk result (λ write. (core : Core) → slice_get self.now.replicas leader ≡ Some core → write.version ≡ version_after now core.clock) }
         ensures refused { IfErr result (λ fault. IsOutcome (basis self.now) self.now.journal.entries order.now now (outcome_of (Err fault)) self.now.journal.entries) }
     {
-        let replica = self.replicas.get(leader);
-        let last = replica.cell(&order.id);
+        let (last, version) = self.replicas.next_of(leader, &order.id, now);
         let doc = self.document_for(alloc, order, last)?;
         let (id, terms) = self.parts_for(alloc, order, &doc)?;
         Ok(Write {
             id,
             hash,
-            version: next_version(now, replica.clock()),
+            version,
             terms,
             doc,
         })

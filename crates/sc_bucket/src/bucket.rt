@@ -7,11 +7,10 @@ use crate::feeds::Feeds;
 use crate::flight::Flight;
 use crate::journal::Journal;
 use crate::phase::Phase;
-use crate::replicas::Replicas;
-use crate::standing::Standing;
 use crate::unsettled::Unsettled;
 use sc_cluster::{ClusterMap, Slice};
 use sc_record::{Cell, CloneIn, CoreId, Id, List};
+use sc_replicas::{Replicas, Standing};
 use sc_router::route_hash;
 use std::alloc::{AllocError, Global};
 
@@ -51,7 +50,7 @@ impl Bucket {
     ghost use Rattle.sc_journal.specs.Journal.{last_write, write_at, is_settled};
     ghost use Rattle.sc_journal.specs.Limits.{least_journal, greatest_journal};
     ghost use Rattle.sc_journal.specs.Down.{all_followers};
-    ghost use Rattle.sc_bucket.specs.Cores.{IsLeaderAt};
+    ghost use Rattle.sc_replicas.specs.Cores.{IsLeaderAt};
     ghost use Rattle.sc_bucket.specs.Sound.{AreActive, IsSound};
     ghost use Rattle.sc_bucket.specs.New.{IsNewBucket};
 

@@ -1,26 +1,24 @@
 ghost use Rattle.std.specs.Prelude.{◌≡◌, ◌<◌, ◌+◌, ◌↔◌, Err, List, [], length, map, IsTrue, IsFalse, All, Contains, IfOk, OnOk, OnErr};
-ghost use Rattle.sc_hash.specs.Range.{IsWithin};
-ghost use Rattle.sc_record.specs.declared.write.Write.{Write};
 ghost use Rattle.sc_cluster.specs.declared.slice.State.TheVariants as states;
 ghost use Rattle.sc_snapshot.specs.Rows.{lent};
 ghost use Rattle.sc_replica.specs.Core.{Core};
-ghost use Rattle.sc_bucket.specs.Cores.{IsNewCore};
+ghost use Rattle.sc_replicas.specs.Cores.{IsNewCore};
 ghost use Rattle.sc_bucket.specs.Room.{BucketHasRoom, BucketIsFull};
 ghost use Rattle.sc_bucket.specs.Sound.{AreActive, IsSound};
-ghost use Rattle.sc_bucket.specs.declared.standing.Standing.{Standing};
+ghost use Rattle.sc_replicas.specs.declared.standing.Standing.{Standing};
 ghost use Rattle.sc_bucket.specs.Searchers.{AreLed, AreTaken, IsTaken, HasParentSearcher, ArePrepared};
 ghost use Rattle.sc_bucket.specs.Taking.{AreChangesOf, AreCommittedOf, IsLastOf, IsOfLeader};
 ghost use Rattle.sc_bucket.specs.Events.{IsSameButRoom, Commits};
-ghost use Rattle.sc_bucket.specs.Moving.{AreMoved, IsUnchanged};
+ghost use Rattle.sc_replicas.specs.Searchers.{AreMoved};
+ghost use Rattle.sc_bucket.specs.Moving.{IsUnchanged};
 
 use crate::bucket::Bucket;
 use crate::changes::changes_in;
 use crate::phase::Phase;
 use crate::spares::hand_on;
-use crate::standing::{Standing, have_own_rows, move_all, searcher_for};
 use sc_cluster::{ClusterMap, Slice, State};
-use sc_hash::Range;
 use sc_record::{Cell, Entry, List};
+use sc_replicas::{Standing, are_within, have_own_rows, move_all, searcher_for};
 use sc_snapshot::Snapshot;
 use std::alloc::{AllocError, Global};
 use std::mem;
@@ -215,13 +213,6 @@ fn snapshot_of(
         let part = last.snapshot.within(alloc, &slice.range)?;
         changed_snapshot(alloc, bucket, slice, &part)
     }
-}
-
-/// Whether the hashes of all rows are in the range, as far as the least and the greatest of them tell.
-pub(crate) fn are_within(snapshot: &Snapshot, range: &Range) -> bool
-    ensures { IsTrue result → All (λ (row : Write). IsWithin range.now.min range.now.max row.hash) snapshot.now.rows }
-{
-    range.min <= snapshot.least_hash() && snapshot.greatest_hash() <= range.max
 }
 
 // The snapshot of what was committed of the slice, with what was written in the slice's range since the last commit. Where nothing was

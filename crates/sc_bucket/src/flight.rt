@@ -1,13 +1,13 @@
 ghost use Rattle.std.specs.Prelude.{◌≡◌, ◌≢◌, ◌<◌, ◌≤◌, ◌-◌, [], ◌++◌, length, map, filter, take, max, slice_get, Some, true, false, not, MatchOption, OnOk, OnErr, All};
 ghost use Rattle.std.specs.List.{remove};
 ghost use Rattle.sc_bucket.specs.Kept.{Sent};
-ghost use Rattle.sc_bucket.specs.Cores.{is_of_one};
+ghost use Rattle.sc_replicas.specs.Cores.{is_of_one};
 ghost use Rattle.sc_bucket.specs.Flight.{sent_of, is_to, IsFirstOf};
 
 use crate::message::Message;
-use crate::replicas::is_of_one;
 use sc_cluster::ClusterMap;
 use sc_record::CoreId;
+use sc_replicas::is_of_one;
 use std::alloc::{AllocError, Global};
 use std::marker::Model;
 

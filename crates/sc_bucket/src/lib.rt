@@ -1,5 +1,6 @@
-//! One bucket: the journal of its ids, its own copy of the cluster's map, and the cells of its cores. Each event of it is
-//! one call, which keeps what `IsSound` says of every bucket, and changes what its own definition in `specs/Events` says.
+//! One bucket: the journal of its ids, its own copy of the cluster's map, and the cells of its cores, whose list is that of
+//! `sc_replicas`. Each event of it is one call, which keeps what `IsSound` says of every bucket, and changes what its own definition
+//! in `specs/Events` says.
 //!
 //! Proved: `accept`, `deliver`, `deliver_nth`, `settle`, `commit` and `detach` keep what `IsSound` says of a bucket, and do what
 //! `specs/Events` says: `accept` gives the answer of `IsOutcome`, both ways, with a version after its leader's clock, sends the
@@ -17,8 +18,7 @@
 //! core is active; each core has the mark and the number that the journal gives to its seat; no message is in flight to a core
 //! that is down, and each searcher has of each id of its range the last write before the last commit; ids of a core ascend, no
 //! cell is newer than its core's clock, and an active core buffers nothing; the snapshots of searchers and feeds have the places
-//! at which they were taken. `Replicas::exchange` has two cores change seats with all that they have, and `Replicas::renew` puts
-//! a new core in the place of one, whose number it takes.
+//! at which they were taken.
 //!
 //! Tested alone: the worked orders; a full log; two and three replicas; two commits of two shards.
 //!
@@ -36,9 +36,7 @@ mod flight;
 mod journal;
 mod message;
 mod phase;
-mod replicas;
 mod spares;
-mod standing;
 mod unsettled;
 
 // The bucket, and its events.
@@ -62,9 +60,7 @@ pub use flight::Flight;
 pub use journal::Journal;
 pub use message::Message;
 pub use phase::Phase;
-pub use replicas::Replicas;
 pub use spares::hand_on;
-pub use standing::{Searcher, Standing, searcher_for};
 pub use unsettled::Unsettled;
 
 // What an entry takes in a journal, besides what it shares or what a split notes.

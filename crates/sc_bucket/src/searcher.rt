@@ -3,8 +3,8 @@ ghost use Rattle.sc_bucket.specs.Sound.{IsSound};
 ghost use Rattle.sc_bucket.specs.Searchers.{NoneIsActive, IsFirstSearcher};
 
 use crate::bucket::Bucket;
-use crate::standing::{Searcher, searcher_for};
 use sc_cluster::State;
+use sc_replicas::{Searcher, searcher_for};
 use std::alloc::AllocError;
 use std::sync::Arc;
 

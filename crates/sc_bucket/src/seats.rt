@@ -1,6 +1,6 @@
 ghost use Rattle.std.specs.Prelude.{◌≡◌, ◌<◌, ◌↔◌, IsTrue};
 ghost use Rattle.sc_journal.specs.Seats.{seats};
-ghost use Rattle.sc_bucket.specs.Cores.{HasCore};
+ghost use Rattle.sc_replicas.specs.Cores.{HasCore};
 ghost use Rattle.sc_bucket.specs.Sound.{IsSound};
 
 use crate::bucket::Bucket;

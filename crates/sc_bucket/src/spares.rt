@@ -3,12 +3,13 @@ ghost use Rattle.std.specs.Arc.{arc_value};
 ghost use Rattle.sc_snapshot.specs.Rows.{SnapshotState};
 ghost use Rattle.sc_cluster.specs.declared.slice.Slice.{Slice};
 ghost use Rattle.sc_cluster.specs.Slices.{forming};
-ghost use Rattle.sc_bucket.specs.declared.standing.Standing.{Standing};
-ghost use Rattle.sc_bucket.specs.Searchers.{StandingState, standing_of, cut_to, AreHandedOn};
+ghost use Rattle.sc_replicas.specs.declared.standing.Standing.{Standing};
+ghost use Rattle.sc_replicas.specs.Searchers.{StandingState, standing_of};
+ghost use Rattle.sc_bucket.specs.Searchers.{cut_to, AreHandedOn};
 
-use crate::standing::{Standing, searcher_for};
 use sc_cluster::{ClusterMap, Slice};
 use sc_record::{List, SliceId};
+use sc_replicas::{Standing, searcher_for};
 use std::alloc::{AllocError, Global};
 use std::sync::Arc;
 

@@ -15,7 +15,7 @@ use Rattle.sc_seen.specs.declared.board.BoardEntry.{BoardEntry}
 use Rattle.sc_seen.specs.Board.{board_map}
 use Rattle.sc_seen.specs.Seen.{Layout}
 use Rattle.sc_bucket.specs.declared.bucket.Bucket.{Bucket}
-use Rattle.sc_bucket.specs.Cores.{IsNewCore}
+use Rattle.sc_replicas.specs.Cores.{IsNewCore}
 use Rattle.sc_keeper.specs.declared.part.CorePart.{CorePart}
 use Rattle.sc_keeper.specs.declared.part.Part.{Part}
 use Rattle.sc_keeper.specs.Part.{part_of, part_of_core, part_of_feed, keeper_entries}

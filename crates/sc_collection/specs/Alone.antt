@@ -10,7 +10,7 @@ use Rattle.sc_seen.specs.Seen.{Layout, Seen}
 use Rattle.sc_bucket.specs.declared.bucket.Bucket.{Bucket}
 use Rattle.sc_bucket.specs.declared.phase.Phase.TheVariants as phases
 use Rattle.sc_bucket.specs.Sound.{IsSound}
-use Rattle.sc_bucket.specs.Cores.{IsNewCore}
+use Rattle.sc_replicas.specs.Cores.{IsNewCore}
 use Rattle.sc_keeper.specs.declared.part.Part.{Part}
 use Rattle.sc_keeper.specs.Part.{part_of, is_of_keeper, keeper_entries}
 use Rattle.sc_board.specs.declared.board.Board.{Board}

@@ -3,10 +3,11 @@
 ghost use Rattle.sc_bucket.specs.Sound.{IsSound};
 
 use crate::line::Line;
-use sc_bucket::{Bucket, EntryRef, Standing};
+use sc_bucket::{Bucket, EntryRef};
 use sc_cluster::Slice;
 use sc_record::{Cell, CoreId, Entry, Id};
 use sc_replica::Replica;
+use sc_replicas::Standing;
 use sc_snapshot::Rows;
 use std::alloc::{AllocError, Global};
 

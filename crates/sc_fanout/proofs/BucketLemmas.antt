@@ -36,7 +36,7 @@ use Rattle.sc_journal.proofs.JournalLemmas.{is_of_own, last_write_is, writes-app
 use Rattle.sc_journal.proofs.LegalLemmas.{legal_hash, legal_terms}
 use Rattle.sc_bucket.specs.Sound.{IsSound}
 use Rattle.sc_bucket.specs.declared.bucket.Bucket.{Bucket}
-use Rattle.sc_bucket.specs.declared.standing.Searcher.{Searcher}
+use Rattle.sc_replicas.specs.declared.standing.Searcher.{Searcher}
 use Rattle.sc_bucket.proofs.AcceptLemmas.{bucket_has_map}
 use Rattle.sc_bucket.proofs.WriteLemmas.{Contains-find}
 use Rattle.sc_collection.specs.Desks.{IsBucketOf}

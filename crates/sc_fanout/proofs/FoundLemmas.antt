@@ -9,7 +9,7 @@ use Rattle.std.proofs.lemmas.List.Elements.{All-append}
 use Rattle.std.proofs.lemmas.Grind.{div_ceil_times}
 use Rattle.std.proofs.Math.Nat.{mul_comm}
 use Rattle.std.proofs.Math.Seq.{get_or-append_seam}
-use Rattle.sc_bucket.specs.declared.standing.Searcher.{Searcher}
+use Rattle.sc_replicas.specs.declared.standing.Searcher.{Searcher}
 use Rattle.sc_eval.specs.Criteria.{Criterion}
 use Rattle.sc_fanout.specs.Pages.{all_of}
 use Rattle.sc_fanout.specs.Steps.{found_in}

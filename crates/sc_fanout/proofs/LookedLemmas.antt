@@ -6,7 +6,7 @@ use Rattle.sc_record.specs.declared.write.Write.{Write}
 use Rattle.sc_rows.specs.Joining.{has_row}
 use Rattle.sc_rows.proofs.JoinLemmas.{increasing_from_ascend}
 use Rattle.sc_snapshot.specs.Rows.{AreRows}
-use Rattle.sc_bucket.specs.declared.standing.Searcher.{Searcher}
+use Rattle.sc_replicas.specs.declared.standing.Searcher.{Searcher}
 use Rattle.sc_eval.specs.Criteria.{Criterion}
 use Rattle.sc_eval.specs.Matching.{finds}
 use Rattle.sc_eval.specs.Numbers.{numbers_of, passes, AreNumbersOf, IsBeginning}

@@ -17,7 +17,7 @@ use Rattle.sc_seen.specs.Moments.{View, Keeps}
 use Rattle.sc_seen.specs.declared.stop.Stop.{Stop}
 use Rattle.sc_seen.proofs.ExtendsLemmas.{IsPrefix-then}
 use Rattle.sc_seen.proofs.GoesOnLemmas.{take-prefix, Keeps-none, Keeps-then, Keeps-sees}
-use Rattle.sc_bucket.specs.declared.standing.Searcher.{Searcher}
+use Rattle.sc_replicas.specs.declared.standing.Searcher.{Searcher}
 use Rattle.sc_fanout.specs.declared.ask.Ask.{Ask}
 use Rattle.sc_fanout.specs.declared.shown.Page.{Page}
 use Rattle.sc_fanout.specs.Pages.{AreFound, IsPageOf, all_of}

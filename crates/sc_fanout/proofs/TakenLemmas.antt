@@ -14,8 +14,8 @@ use Rattle.sc_cluster.specs.declared.slice.Slice.{Slice}
 use Rattle.sc_cluster.specs.Slices.{is_active, is_active_state}
 use Rattle.sc_cluster.proofs.ListLemmas.{filter-none}
 use Rattle.sc_bucket.specs.Searchers.{NoneIsActive, IsFirstSearcher}
-use Rattle.sc_bucket.specs.declared.standing.Searcher.{Searcher}
-use Rattle.sc_bucket.specs.declared.standing.Standing.{Standing}
+use Rattle.sc_replicas.specs.declared.standing.Searcher.{Searcher}
+use Rattle.sc_replicas.specs.declared.standing.Standing.{Standing}
 use Rattle.sc_fanout.specs.Steps.{asks_for, is_asked, IsOfSlice, AreOfSlices}
 
 int_le-Decides : (a b : ℤ) → Decides (int_le a b) (a ≤ℤ b)

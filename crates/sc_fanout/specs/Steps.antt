@@ -18,7 +18,7 @@ use Rattle.sc_journal.specs.Legal.{IsLegal, HasTerms}
 use Rattle.sc_seen.specs.Seen.{Layout}
 use Rattle.sc_seen.specs.Moments.{View, Keeps}
 use Rattle.sc_bucket.specs.Searchers.{ShowsCommitted}
-use Rattle.sc_bucket.specs.declared.standing.Searcher.{Searcher}
+use Rattle.sc_replicas.specs.declared.standing.Searcher.{Searcher}
 
 -- whether a search looks at slices of this range: it has no route, or some hash is in both
 abbrev pub asks_for : Option Range → Range → Bool

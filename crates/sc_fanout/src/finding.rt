@@ -10,9 +10,9 @@ ghost use Rattle.sc_fanout.specs.Hits.{HasFound, HasMatches};
 ghost use Rattle.sc_fanout.specs.Steps.{searcher_rows, HaveTerms};
 
 use crate::hits::{Found, Hits, Looked};
-use sc_bucket::Searcher;
 use sc_eval::{Bound, Matches, Numbers, Unjoined, find, look_up};
 use sc_keys::Steps;
+use sc_replicas::Searcher;
 use std::alloc::{AllocError, Global};
 use std::marker::Brand;
 use std::sync::ledger::{Blank, Ledger};

@@ -2,9 +2,9 @@ ghost use Rattle.std.specs.Prelude.{◌≡◌};
 ghost use Rattle.sc_bucket.specs.Taking.{lent};
 ghost use Rattle.sc_keys.specs.Heads.{front_number};
 
-use sc_bucket::Searcher;
 use sc_eval::{Numbers, Unjoined};
 use sc_record::{Cell, Write};
+use sc_replicas::Searcher;
 
 /// The numbers of the rows that the query finds with a searcher, where the outermost join is not made yet.
 #[derive(Drop)]

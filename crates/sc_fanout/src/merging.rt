@@ -8,9 +8,9 @@ ghost use Rattle.sc_bucket.specs.Taking.{lent};
 ghost use Rattle.sc_fanout.specs.Hits.{BeginAlike, FrontAscends, HitsAscend, IsLeast, LeadAscends, front_rows, hit_rows, lead_left, lead_rows, leads_of, lent_in, rows_numbered, rows_left};
 
 use crate::hits::{Front, Hits, Lead};
-use sc_bucket::Searcher;
 use sc_keys::{Steps, front_number};
 use sc_record::Cell;
+use sc_replicas::Searcher;
 use std::alloc::{AllocError, Global};
 use std::sync::ledger::{Blank, Ledger};
 

@@ -8,8 +8,8 @@ ghost use Rattle.sc_fanout.specs.declared.hits.Found.{Found};
 
 use crate::finding::find_all;
 use crate::hits::Found;
-use sc_bucket::Searcher;
 use sc_eval::Bound;
+use sc_replicas::Searcher;
 use std::alloc::{AllocError, Global};
 use std::thread;
 use std::thread::Threads;

@@ -1,7 +1,7 @@
 ghost use Rattle.std.specs.Prelude.{◌≡◌, ◌+◌, ◌<◌, ◌≤◌, [], length, filter, All, OnOk};
 ghost use Rattle.sc_snapshot.specs.Rows.{AreRows};
 ghost use Rattle.sc_bucket.specs.Sound.{IsSound};
-ghost use Rattle.sc_bucket.specs.declared.standing.Searcher.{Searcher};
+ghost use Rattle.sc_replicas.specs.declared.standing.Searcher.{Searcher};
 ghost use Rattle.sc_seen.specs.Moments.{view_of};
 ghost use Rattle.sc_collection.specs.Desks.{nothing_out, IsDeskAtRest};
 ghost use Rattle.sc_collection.specs.Kept.{trail_room};
@@ -12,9 +12,10 @@ use crate::ask::Ask;
 use crate::pages::page;
 use crate::parts::{find_in_parts, parts_for};
 use crate::shown::Page;
-use sc_bucket::{Bucket, Searcher};
+use sc_bucket::Bucket;
 use sc_collection::{Desk, Stop, Trail};
 use sc_hash::Range;
+use sc_replicas::Searcher;
 use std::alloc::{AllocError, Global};
 use std::thread::Threads;
 

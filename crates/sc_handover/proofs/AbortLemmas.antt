@@ -21,14 +21,14 @@ use Rattle.sc_journal.proofs.OwedLemmas.{owed-push_failed}
 use Rattle.sc_journal.proofs.SeatLemmas.{seats-left}
 use Rattle.sc_journal.proofs.SplitLemmas.{open_split-push}
 use Rattle.sc_bucket.specs.Kept.{FeedState}
-use Rattle.sc_bucket.specs.Cores.{is_of_one}
+use Rattle.sc_replicas.specs.Cores.{is_of_one}
 use Rattle.sc_bucket.specs.Pending.{is_feed_of, to_feed}
 use Rattle.sc_bucket.specs.Sound.{is_idle, IsFeed, IsSplitOpen, IsInPhase, IsSound}
 use Rattle.sc_bucket.specs.declared.bucket.Bucket.{Bucket}
 use Rattle.sc_bucket.specs.declared.phase.Phase.{Phase}
 use Rattle.sc_bucket.specs.declared.phase.Phase.TheVariants as phases
 use Rattle.sc_bucket.proofs.AcceptLemmas.{bucket_has_map}
-use Rattle.sc_bucket.proofs.CoreLemmas.{is_core-Decides}
+use Rattle.sc_replicas.proofs.CoreLemmas.{is_core-Decides}
 use Rattle.sc_bucket.proofs.FeedLemmas.{to_feed-none}
 use Rattle.sc_handover.specs.Conditions.{split_of, CanAbort}
 use Rattle.sc_handover.proofs.CountLemmas.{count_followers}

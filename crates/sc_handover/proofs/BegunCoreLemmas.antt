@@ -26,12 +26,12 @@ use Rattle.sc_journal.proofs.JournalLemmas.{writes-push_other, last_write_is}
 use Rattle.sc_journal.proofs.LegalLemmas.{legal_hash}
 use Rattle.sc_bucket.specs.Kept.{Sent, FeedState}
 use Rattle.sc_record.specs.Names.{is_core}
-use Rattle.sc_bucket.specs.Cores.{core_key, core_keys, IsLeaderOf}
+use Rattle.sc_replicas.specs.Cores.{core_key, core_keys, IsLeaderOf}
 use Rattle.sc_bucket.specs.Flight.{in_flight}
 use Rattle.sc_bucket.specs.Pending.{is_feed_of, left_of, to_feed, pending}
 use Rattle.sc_bucket.specs.Sound.{AreWritten, IsInRange, IsSent, HasCores, Serves, IsSound}
 use Rattle.sc_bucket.specs.declared.bucket.Bucket.{Bucket}
-use Rattle.sc_bucket.proofs.CoreLemmas.{name_of, is_core-Decides}
+use Rattle.sc_replicas.proofs.CoreLemmas.{name_of, is_core-Decides}
 use Rattle.sc_bucket.proofs.DeliverLemmas.{IsSoundIn}
 use Rattle.sc_bucket.proofs.DeliveredLemmas.{IsSoundCore}
 use Rattle.sc_bucket.proofs.FeedLemmas.{to_feed-none}

@@ -14,7 +14,7 @@ use Rattle.sc_replica.specs.Core.{Core}
 use Rattle.sc_journal.specs.Splits.{entries_of_split}
 use Rattle.sc_journal.proofs.DownLemmas.{LeavesCores-begun}
 use Rattle.sc_bucket.specs.Kept.{FeedState}
-use Rattle.sc_bucket.specs.Cores.{IsLeaderOf, without_room, IsCoreWithoutRoom}
+use Rattle.sc_replicas.specs.Cores.{IsLeaderOf, without_room, IsCoreWithoutRoom}
 use Rattle.sc_bucket.specs.Searchers.{ArePrepared}
 use Rattle.sc_bucket.specs.Sound.{HasJournal, IsIdle, IsInPhase, IsSound}
 use Rattle.sc_bucket.specs.declared.bucket.Bucket.{Bucket}

@@ -27,10 +27,10 @@ use Rattle.sc_journal.proofs.LegalDownLemmas.{leader_is_up}
 use Rattle.sc_journal.proofs.SeatLemmas.{seats_begin_in_order}
 use Rattle.sc_bucket.specs.Kept.{FeedState}
 use Rattle.sc_record.specs.Names.{key_of_core, is_core}
-use Rattle.sc_bucket.specs.Cores.{core_key, core_keys, slice_keys, core_number, IsCounted, without_room}
+use Rattle.sc_replicas.specs.Cores.{core_key, core_keys, slice_keys, core_number, IsCounted, without_room}
 use Rattle.sc_bucket.specs.Sound.{HasJournal, IsMarked, may_catch_up, HasCores, IsFeed, AreFeeds}
 use Rattle.sc_bucket.specs.declared.bucket.Bucket.{Bucket}
-use Rattle.sc_bucket.proofs.CoreLemmas.{keys_among}
+use Rattle.sc_replicas.proofs.CoreLemmas.{keys_among}
 use Rattle.sc_bucket.proofs.FeedLemmas.{fed_core}
 use Rattle.sc_bucket.proofs.SoundLemmas.{SaysSame, SaysSame-push, AreMarked-left}
 use Rattle.sc_handover.specs.Made.{first_core, first_feed}

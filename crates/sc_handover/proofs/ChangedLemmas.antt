@@ -13,14 +13,14 @@ use Rattle.sc_ulog.specs.declared.mode.Mode.TheVariants.{Active}
 use Rattle.sc_replica.specs.Core.{Core}
 use Rattle.sc_bucket.specs.Kept.{Sent, FeedState}
 use Rattle.sc_record.specs.Names.{is_core}
-use Rattle.sc_bucket.specs.Cores.{IsCoreWithoutRoom}
+use Rattle.sc_replicas.specs.Cores.{IsCoreWithoutRoom}
 use Rattle.sc_bucket.specs.Flight.{in_flight}
 use Rattle.sc_bucket.specs.Pending.{to_feed}
 use Rattle.sc_bucket.specs.Sound.{may_catch_up, HasCores, OfEachCore, IsSent, AreSent, IsFeed, AreFeeds, AreLedActively, IsInPhase, IsSound}
 use Rattle.sc_bucket.specs.declared.bucket.Bucket.{Bucket}
 use Rattle.sc_bucket.specs.declared.phase.Phase.{Phase}
 use Rattle.sc_bucket.specs.declared.phase.Phase.TheVariants as phases
-use Rattle.sc_bucket.proofs.CoreLemmas.{name_of, is_core-Decides, AreApart-from_ascending, core_alone}
+use Rattle.sc_replicas.proofs.CoreLemmas.{name_of, is_core-Decides, AreApart-from_ascending, core_alone}
 use Rattle.sc_bucket.proofs.PlaceLemmas.{All-set_apart}
 use Rattle.sc_bucket.proofs.RoomLemmas.{HasJournal-same}
 use Rattle.sc_bucket.proofs.SearcherLemmas.{HasSearchers-same}

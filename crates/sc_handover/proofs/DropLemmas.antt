@@ -23,7 +23,7 @@ use Rattle.sc_journal.proofs.OwedLemmas.{owed-push_dropped}
 use Rattle.sc_journal.proofs.SeatLemmas.{seats-push_dropped}
 use Rattle.sc_journal.proofs.SplitLemmas.{open_split-push}
 use Rattle.sc_bucket.specs.Kept.{FeedState}
-use Rattle.sc_bucket.specs.Cores.{is_of_one}
+use Rattle.sc_replicas.specs.Cores.{is_of_one}
 use Rattle.sc_bucket.specs.Pending.{to_feed}
 use Rattle.sc_bucket.specs.Searchers.{ArePrepared}
 use Rattle.sc_bucket.specs.Sound.{may_catch_up, IsFeed, IsIdle, IsInPhase, IsSound}

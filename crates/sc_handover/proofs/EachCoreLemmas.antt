@@ -11,7 +11,7 @@ use Rattle.sc_bucket.specs.Sound.{HasJournal, HasSearchers, AreSent, HasCores, A
 use Rattle.sc_bucket.specs.declared.bucket.Bucket.{Bucket}
 use Rattle.sc_bucket.proofs.DeliveredLemmas.{IsSoundCore}
 use Rattle.sc_bucket.proofs.DeliverLemmas.{IsSoundIn, core_is_sound}
-use Rattle.sc_bucket.specs.Cores.{IsCoreWithoutRoom}
+use Rattle.sc_replicas.specs.Cores.{IsCoreWithoutRoom}
 
 -- a core of a sound bucket is sound
 pub core_in : (b : Bucket) (core : Core) → IsSound b → Contains b.replicas core → IsSoundIn b b.flight.messages core

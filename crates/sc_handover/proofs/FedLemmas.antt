@@ -18,7 +18,7 @@ use Rattle.sc_snapshot.specs.Rows.{is_within}
 use Rattle.sc_bucket.specs.Pending.{is_feed_of, left_of, to_feed}
 use Rattle.sc_bucket.specs.Sound.{IsFeed, AreFeeds, IsSound}
 use Rattle.sc_bucket.specs.declared.bucket.Bucket.{Bucket}
-use Rattle.sc_bucket.proofs.CoreLemmas.{is_core-Decides}
+use Rattle.sc_replicas.proofs.CoreLemmas.{is_core-Decides}
 use Rattle.sc_bucket.proofs.FeedLemmas.{fed_core, to_feed-of}
 use Rattle.sc_bucket.proofs.FlightLemmas.{map-remove}
 use Rattle.sc_bucket.proofs.PlaceLemmas.{All-set_apart, slice_get-set}

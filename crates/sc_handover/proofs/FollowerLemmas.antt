@@ -8,11 +8,11 @@ use Rattle.sc_record.specs.declared.write.Write.{Write}
 use Rattle.sc_cluster.specs.declared.slice.Slice.{Slice}
 use Rattle.sc_replica.specs.Core.{Core}
 use Rattle.sc_bucket.specs.Kept.{FeedState}
-use Rattle.sc_bucket.specs.Cores.{core_key, IsLeaderOf, without_room}
+use Rattle.sc_replicas.specs.Cores.{core_key, IsLeaderOf, without_room}
 use Rattle.sc_bucket.specs.Sound.{HasLastWrites, IsSound}
 use Rattle.sc_bucket.specs.declared.bucket.Bucket.{Bucket}
 use Rattle.sc_bucket.proofs.AcceptLemmas.{bucket_has_map}
-use Rattle.sc_bucket.proofs.CoreLemmas.{IsCoreFound, leader_is_found}
+use Rattle.sc_replicas.proofs.CoreLemmas.{IsCoreFound, leader_is_found}
 use Rattle.sc_bucket.proofs.TakenLemmas.{found_leads}
 use Rattle.sc_bucket.specs.Pending.{new_feed}
 use Rattle.sc_handover.specs.Made.{leader_of, empty_core, IsRoomyFor, cells_now}

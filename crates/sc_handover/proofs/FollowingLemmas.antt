@@ -23,7 +23,7 @@ use Rattle.sc_bucket.specs.Pending.{is_feed_of, left_of, to_feed, pending}
 use Rattle.sc_bucket.specs.Sound.{HasLastWrites, IsInRange, may_catch_up, IsFeed, AreFeeds, IsSound}
 use Rattle.sc_bucket.specs.declared.bucket.Bucket.{Bucket}
 use Rattle.sc_bucket.proofs.AcceptLemmas.{bucket_has_map}
-use Rattle.sc_bucket.proofs.CoreLemmas.{is_core-Decides}
+use Rattle.sc_replicas.proofs.CoreLemmas.{is_core-Decides}
 use Rattle.sc_bucket.proofs.DeliveredLemmas.{IsSoundCore}
 use Rattle.sc_bucket.proofs.FeedLemmas.{fed_core}
 use Rattle.sc_bucket.proofs.FollowerLemmas.{IsDistinct-append}

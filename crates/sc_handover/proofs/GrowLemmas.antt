@@ -11,12 +11,12 @@ use Rattle.sc_ulog.specs.declared.mode.Mode.TheVariants.{Active}
 use Rattle.sc_replica.specs.Core.{Core}
 use Rattle.sc_bucket.specs.Kept.{Sent, FlightState, FeedState}
 use Rattle.sc_record.specs.Names.{is_core}
-use Rattle.sc_bucket.specs.Cores.{IsLeaderOf, IsCoreWithoutRoom, put_by_name, without_room}
+use Rattle.sc_replicas.specs.Cores.{IsLeaderOf, IsCoreWithoutRoom, put_by_name, without_room}
 use Rattle.sc_bucket.specs.Flight.{is_to, arrived}
 use Rattle.sc_bucket.specs.Sound.{HasLastWrites, IsSound}
 use Rattle.sc_bucket.specs.Events.{DeliversAllTo}
 use Rattle.sc_bucket.specs.declared.bucket.Bucket.{Bucket}
-use Rattle.sc_bucket.proofs.CoreLemmas.{name_of, is_core-Decides}
+use Rattle.sc_replicas.proofs.CoreLemmas.{name_of, is_core-Decides}
 use Rattle.sc_bucket.proofs.SoundLemmas.{AreAlike, names-alike, All-alike}
 use Rattle.sc_bucket.specs.Pending.{new_feed}
 use Rattle.sc_handover.specs.Conditions.{CanGrow}

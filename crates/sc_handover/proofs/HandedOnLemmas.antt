@@ -27,11 +27,12 @@ use Rattle.sc_journal.specs.Journal.{writes, last_write}
 use Rattle.sc_journal.specs.Committed.{committed, last_commit}
 use Rattle.sc_journal.proofs.CommittedLemmas.{committed-push_other, last_commit-push_other}
 use Rattle.sc_journal.proofs.JournalLemmas.{writes-push_other}
-use Rattle.sc_bucket.specs.Searchers.{AreOfEachSlice, ShowsCommitted, StandingState, standing_of, cut_to, AreHandedOn, ArePrepared}
+use Rattle.sc_replicas.specs.Searchers.{StandingState, standing_of}
+use Rattle.sc_bucket.specs.Searchers.{AreOfEachSlice, ShowsCommitted, cut_to, AreHandedOn, ArePrepared}
 use Rattle.sc_bucket.specs.Sound.{HasSearchers, IsSplitOpen, IsSound}
 use Rattle.sc_bucket.specs.declared.bucket.Bucket.{Bucket}
 use Rattle.sc_bucket.specs.declared.phase.Phase.TheVariants as phases
-use Rattle.sc_bucket.specs.declared.standing.Standing.{Standing}
+use Rattle.sc_replicas.specs.declared.standing.Standing.{Standing}
 use Rattle.sc_bucket.proofs.AcceptLemmas.{bucket_has_map}
 use Rattle.sc_bucket.proofs.SearcherLemmas.{IsAt}
 use Rattle.sc_handover.proofs.NotedLemmas.{is_settled-active}

@@ -19,13 +19,13 @@ use Rattle.sc_journal.proofs.LegalDownLemmas.{forming_is_up}
 use Rattle.sc_journal.proofs.SeatLemmas.{seats_begin_in_order}
 use Rattle.sc_bucket.specs.Kept.{Sent, FeedState}
 use Rattle.sc_record.specs.Names.{is_core}
-use Rattle.sc_bucket.specs.Cores.{core_key, core_keys, slice_keys, core_number, IsCounted, put_by_name, without_room, IsCoreWithoutRoom}
+use Rattle.sc_replicas.specs.Cores.{core_key, core_keys, slice_keys, core_number, IsCounted, put_by_name, without_room, IsCoreWithoutRoom}
 use Rattle.sc_bucket.specs.Flight.{in_flight, is_to}
 use Rattle.sc_bucket.specs.Pending.{is_feed_of}
 use Rattle.sc_bucket.specs.Sound.{IsSent, IsMarked, may_catch_up, HasCores, IsFeed, AreFeeds, IsInPhase, IsSound}
 use Rattle.sc_bucket.specs.declared.bucket.Bucket.{Bucket}
 use Rattle.sc_bucket.proofs.AcceptLemmas.{bucket_has_map}
-use Rattle.sc_bucket.proofs.CoreLemmas.{name_of, keys_among, element_from_map}
+use Rattle.sc_replicas.proofs.CoreLemmas.{name_of, keys_among, element_from_map}
 use Rattle.sc_bucket.proofs.SoundLemmas.{IsOpen-same}
 use Rattle.sc_bucket.proofs.TakenLemmas.{Contains-slice_get}
 use Rattle.sc_handover.specs.Conditions.{CanGrow}

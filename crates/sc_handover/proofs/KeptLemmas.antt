@@ -20,10 +20,10 @@ use Rattle.sc_record.specs.Names.{key_of_core}
 use Rattle.sc_record.specs.declared.entry.Entry.{Entry}
 use Rattle.sc_journal.specs.Down.{is_down}
 use Rattle.sc_journal.specs.Seats.{seats}
-use Rattle.sc_bucket.specs.Cores.{core_key, core_keys, slice_keys, core_number, is_of_one, IsCounted}
+use Rattle.sc_replicas.specs.Cores.{core_key, core_keys, slice_keys, core_number, is_of_one, IsCounted}
 use Rattle.sc_bucket.specs.Sound.{IsMarked, may_catch_up, HasCores}
 use Rattle.sc_bucket.specs.declared.bucket.Bucket.{Bucket}
-use Rattle.sc_bucket.proofs.CoreLemmas.{keys_among}
+use Rattle.sc_replicas.proofs.CoreLemmas.{keys_among}
 
 -- the one slices are some of the others
 abbrev pub AreSome : List Slice → List Slice → Type 0

@@ -15,12 +15,12 @@ use Rattle.sc_journal.specs.Journal.{writes, writes_of, last_write}
 use Rattle.sc_journal.proofs.JournalLemmas.{last_write_none}
 use Rattle.sc_bucket.specs.Kept.{Sent, FeedState}
 use Rattle.sc_record.specs.Names.{is_core}
-use Rattle.sc_bucket.specs.Cores.{core_key, core_number, is_attached, CoresAscend}
+use Rattle.sc_replicas.specs.Cores.{core_key, core_number, is_attached, CoresAscend}
 use Rattle.sc_bucket.specs.Flight.{in_flight}
 use Rattle.sc_bucket.specs.Pending.{is_feed_of, to_feed, pending}
 use Rattle.sc_bucket.specs.Sound.{HasLastWrites, IsFeed, IsSound}
 use Rattle.sc_bucket.specs.declared.bucket.Bucket.{Bucket}
-use Rattle.sc_bucket.proofs.CoreLemmas.{is_core-Decides}
+use Rattle.sc_replicas.proofs.CoreLemmas.{is_core-Decides}
 use Rattle.sc_bucket.proofs.DeliveredLemmas.{IsSoundCore}
 use Rattle.sc_bucket.proofs.FeedLemmas.{to_feed-none}
 use Rattle.sc_handover.proofs.EachCoreLemmas.{core_in}

@@ -17,14 +17,14 @@ use Rattle.sc_replica.specs.Deliveries.{received_all}
 use Rattle.sc_journal.specs.Down.{is_down, IsFollower}
 use Rattle.sc_journal.proofs.FollowerLemmas.{follower_is}
 use Rattle.sc_bucket.specs.Kept.{Sent, FeedState}
-use Rattle.sc_bucket.specs.Cores.{core_key, seated}
+use Rattle.sc_replicas.specs.Cores.{core_key, seated}
 use Rattle.sc_bucket.specs.Flight.{in_flight, is_to, arrived}
 use Rattle.sc_bucket.specs.Pending.{is_feed_of}
 use Rattle.sc_bucket.specs.Sound.{IsSound}
 use Rattle.sc_bucket.specs.Events.{DeliversAllTo}
 use Rattle.sc_bucket.specs.declared.bucket.Bucket.{Bucket}
 use Rattle.sc_bucket.proofs.ChangedLemmas.{changed_at}
-use Rattle.sc_bucket.proofs.CoreLemmas.{IsCoreFound, is_core-Decides, AreApart-from_ascending, leader_is_found}
+use Rattle.sc_replicas.proofs.CoreLemmas.{IsCoreFound, is_core-Decides, AreApart-from_ascending, leader_is_found}
 use Rattle.sc_bucket.proofs.DeliverLemmas.{place_of_core}
 use Rattle.sc_bucket.proofs.SoundLemmas.{name_and_mode, AreAlike}
 use Rattle.sc_handover.specs.Conditions.{IsInMode, CanLead}

@@ -20,16 +20,17 @@ use Rattle.sc_journal.proofs.CommittedLemmas.{committed-push_other, last_commit-
 use Rattle.sc_journal.proofs.JournalLemmas.{writes-push_other}
 use Rattle.sc_journal.proofs.SettledLemmas.{SettlesNothing}
 use Rattle.sc_bucket.specs.Kept.{Sent}
-use Rattle.sc_bucket.specs.Cores.{is_of_one, IsCoreWithoutRoom}
+use Rattle.sc_replicas.specs.Cores.{is_of_one, IsCoreWithoutRoom}
 use Rattle.sc_bucket.specs.Flight.{in_flight, is_to, is_same_message}
 use Rattle.sc_bucket.specs.Pending.{to_feed, pending}
-use Rattle.sc_bucket.specs.Searchers.{ShowsCommitted, standing_rows, ArePrepared}
+use Rattle.sc_replicas.specs.Searchers.{standing_rows}
+use Rattle.sc_bucket.specs.Searchers.{ShowsCommitted, ArePrepared}
 use Rattle.sc_bucket.specs.Sound.{HasJournal, HasSearchers, IsSent, AreSent, AreFeeds, may_catch_up, IsInPhase, IsSound}
 use Rattle.sc_bucket.specs.declared.bucket.Bucket.{Bucket}
 use Rattle.sc_bucket.specs.declared.phase.Phase.TheVariants as phases
-use Rattle.sc_bucket.specs.declared.standing.Standing.{Standing}
+use Rattle.sc_replicas.specs.declared.standing.Standing.{Standing}
 use Rattle.sc_bucket.proofs.AcceptLemmas.{bucket_has_map}
-use Rattle.sc_bucket.proofs.CoreLemmas.{is_core-Decides, name_of}
+use Rattle.sc_replicas.proofs.CoreLemmas.{is_core-Decides, name_of}
 use Rattle.sc_bucket.proofs.DeliveredLemmas.{IsSoundCore}
 use Rattle.sc_bucket.proofs.DeliverLemmas.{IsSoundIn}
 use Rattle.sc_bucket.proofs.SearcherLemmas.{HasSearchers-grown}

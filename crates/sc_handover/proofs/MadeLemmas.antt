@@ -16,10 +16,10 @@ use Rattle.sc_cluster.proofs.ListLemmas.{Contains-map, All-from_slice_get}
 use Rattle.sc_replica.specs.Core.{Core, IsCore}
 use Rattle.sc_bucket.specs.Kept.{FeedState}
 use Rattle.sc_record.specs.Names.{is_core}
-use Rattle.sc_bucket.specs.Cores.{slice_keys, core_number, CoresAscend, without_room, IsCoreWithoutRoom}
+use Rattle.sc_replicas.specs.Cores.{slice_keys, core_number, CoresAscend, without_room, IsCoreWithoutRoom}
 use Rattle.sc_bucket.specs.Pending.{to_feed, left_of}
 use Rattle.sc_bucket.specs.Events.{AreSameCores}
-use Rattle.sc_bucket.proofs.CoreLemmas.{name_of, same_name_by, is_core-itself, AreApart-from_ascending}
+use Rattle.sc_replicas.proofs.CoreLemmas.{name_of, same_name_by, is_core-itself, AreApart-from_ascending}
 use Rattle.sc_bucket.proofs.FeedLemmas.{fed_core, to_feed-of}
 use Rattle.sc_bucket.proofs.TakenLemmas.{Contains-slice_get}
 use Rattle.sc_bucket.proofs.InOrderLemmas.{in_order-empty}

@@ -13,7 +13,7 @@ use Rattle.sc_journal.specs.Legal.{MayFollow}
 use Rattle.sc_journal.specs.Splits.{map_change_of, open_split, owed}
 use Rattle.sc_journal.proofs.SettledLemmas.{SettlesNothing}
 use Rattle.sc_bucket.specs.Kept.{Sent, JournalState, PlacesState}
-use Rattle.sc_bucket.specs.Cores.{is_of_one}
+use Rattle.sc_replicas.specs.Cores.{is_of_one}
 use Rattle.sc_bucket.specs.Sound.{HasJournal}
 use Rattle.sc_bucket.specs.Events.{HasSameFirstAndLimit}
 use Rattle.sc_bucket.specs.declared.bucket.Bucket.{Bucket}

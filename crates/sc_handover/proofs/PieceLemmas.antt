@@ -12,7 +12,7 @@ use Rattle.sc_bucket.specs.Kept.{FeedState}
 use Rattle.sc_snapshot.specs.Rows.{is_within}
 use Rattle.sc_bucket.specs.Pending.{is_feed_of, left_of}
 use Rattle.sc_bucket.specs.declared.bucket.Bucket.{Bucket}
-use Rattle.sc_bucket.proofs.CoreLemmas.{is_core-Decides, IsCoreFound}
+use Rattle.sc_replicas.proofs.CoreLemmas.{is_core-Decides, IsCoreFound}
 use Rattle.sc_bucket.proofs.DeliverLemmas.{place_of_core}
 use Rattle.sc_handover.specs.Made.{feed_limit, piece_of, moved_on}
 use Rattle.sc_handover.specs.Events.{FeedsPiece}

@@ -7,7 +7,7 @@ use Rattle.std.proofs.lemmas.Option.{none-some, same_Some, slice_get-map}
 use Rattle.sc_record.specs.declared.slice.CoreId.{CoreId}
 use Rattle.sc_record.specs.Names.{is_core}
 use Rattle.sc_journal.specs.Seats.{exchanged}
-use Rattle.sc_bucket.proofs.CoreLemmas.{same_name_by, is_core-Decides}
+use Rattle.sc_replicas.proofs.CoreLemmas.{same_name_by, is_core-Decides}
 use Rattle.sc_bucket.proofs.PlaceLemmas.{slice_get-set, All-set_apart}
 
 -- the element at another place

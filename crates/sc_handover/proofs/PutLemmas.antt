@@ -10,7 +10,7 @@ use Rattle.sc_cluster.proofs.OrderLemmas.{IsStrictlyIncreasing-append}
 use Rattle.sc_cluster.proofs.PairLemmas.{Contains-from_map}
 use Rattle.sc_replica.specs.Core.{Core}
 use Rattle.sc_record.specs.Names.{is_core}
-use Rattle.sc_bucket.specs.Cores.{core_number, CoresAscend, IsCounted, put_by_name}
+use Rattle.sc_replicas.specs.Cores.{core_number, CoresAscend, IsCounted, put_by_name}
 
 -- what is true of the core and of each of the others is true of each then
 pub All-put : (P : Core → Type 0) (core : Core) (cores : List Core) → P core → All P cores → All P (put_by_name core cores)

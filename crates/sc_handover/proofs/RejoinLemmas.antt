@@ -11,7 +11,7 @@ use Rattle.sc_replica.specs.Core.{Core}
 use Rattle.sc_journal.specs.Down.{is_down}
 use Rattle.sc_journal.specs.Splits.{owed}
 use Rattle.sc_bucket.specs.Kept.{JournalState, FeedState}
-use Rattle.sc_bucket.specs.Cores.{IsLeaderOf, without_room}
+use Rattle.sc_replicas.specs.Cores.{IsLeaderOf, without_room}
 use Rattle.sc_bucket.specs.Pending.{new_feed}
 use Rattle.sc_bucket.specs.Room.{BucketHasRoom}
 use Rattle.sc_bucket.specs.declared.bucket.Bucket.{Bucket}

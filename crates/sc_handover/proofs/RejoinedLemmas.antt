@@ -29,7 +29,7 @@ use Rattle.sc_journal.proofs.OwedLemmas.{owed-push_up}
 use Rattle.sc_journal.proofs.SeatLemmas.{seats-left}
 use Rattle.sc_journal.proofs.SplitLemmas.{LeavesSlices-up, map_after-left, open_split-left}
 use Rattle.sc_bucket.specs.Kept.{JournalState, Sent, FeedState}
-use Rattle.sc_bucket.specs.Cores.{core_key, IsCoreWithoutRoom}
+use Rattle.sc_replicas.specs.Cores.{core_key, IsCoreWithoutRoom}
 use Rattle.sc_bucket.specs.Flight.{in_flight, is_to, is_same_message}
 use Rattle.sc_bucket.specs.Pending.{pending}
 use Rattle.sc_bucket.specs.Room.{BucketHasRoom}
@@ -37,7 +37,7 @@ use Rattle.sc_bucket.specs.Sound.{HasJournal, Serves, IsMarked, IsSent, AreSent,
 use Rattle.sc_bucket.specs.declared.bucket.Bucket.{Bucket}
 use Rattle.sc_bucket.specs.declared.phase.Phase.{Phase}
 use Rattle.sc_bucket.proofs.AcceptLemmas.{bucket_has_map}
-use Rattle.sc_bucket.proofs.CoreLemmas.{name_of, is_core-Decides, IsCoreFound}
+use Rattle.sc_replicas.proofs.CoreLemmas.{name_of, is_core-Decides, IsCoreFound}
 use Rattle.sc_bucket.proofs.DeliverLemmas.{place_of_core}
 use Rattle.sc_bucket.proofs.LeftOutLemmas.{apart_too}
 use Rattle.sc_bucket.proofs.PlaceLemmas.{slice_get-set, All-set_apart}

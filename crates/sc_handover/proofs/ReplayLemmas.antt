@@ -15,13 +15,13 @@ use Rattle.sc_bucket.specs.Flight.{in_flight}
 use Rattle.sc_bucket.specs.Pending.{is_feed_of, to_feed}
 use Rattle.sc_bucket.specs.Sound.{HasSpare, IsFeed, AreFeeds, IsSound}
 use Rattle.sc_bucket.specs.declared.bucket.Bucket.{Bucket}
-use Rattle.sc_bucket.proofs.CoreLemmas.{is_core-Decides, IsCoreFound}
+use Rattle.sc_replicas.proofs.CoreLemmas.{is_core-Decides, IsCoreFound}
 use Rattle.sc_bucket.proofs.PendingLemmas.{length-pending}
 use Rattle.sc_bucket.proofs.SoundLemmas.{All-slice_get, name_and_mark}
 use Rattle.sc_bucket.proofs.TakenLemmas.{Contains-slice_get}
 use Rattle.sc_bucket.proofs.DeliveredLemmas.{IsSoundCore, fed_all_is_sound, other_log_is_sound}
 use Rattle.sc_bucket.proofs.DeliverLemmas.{IsSoundIn, place_of_core, named_at}
-use Rattle.sc_bucket.specs.Cores.{IsCoreWithoutRoom}
+use Rattle.sc_replicas.specs.Cores.{IsCoreWithoutRoom}
 use Rattle.sc_bucket.proofs.InOrderLemmas.{in_order-replaying, in_order-replayed}
 use Rattle.sc_handover.specs.Conditions.{IsInMode, IsUnfed, CanStartReplay, CanReplay}
 use Rattle.sc_handover.specs.Events.{ChangesCore, StartsReplay, ReplaysPiece}

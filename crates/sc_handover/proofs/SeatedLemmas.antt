@@ -28,13 +28,13 @@ use Rattle.sc_journal.proofs.JournalLemmas.{writes-push_other}
 use Rattle.sc_journal.proofs.LegalDownLemmas.{leader_is_up}
 use Rattle.sc_journal.proofs.SeatLemmas.{seats-push_led}
 use Rattle.sc_bucket.specs.Kept.{Sent}
-use Rattle.sc_bucket.specs.Cores.{core_key, seated, IsLeaderOf, IsCoreWithoutRoom}
+use Rattle.sc_replicas.specs.Cores.{core_key, seated, IsLeaderOf, IsCoreWithoutRoom}
 use Rattle.sc_bucket.specs.Flight.{in_flight, is_to}
 use Rattle.sc_bucket.specs.Pending.{to_feed, pending}
 use Rattle.sc_bucket.specs.Sound.{HasLastWrites, Serves, IsInRange, IsMarked, IsSound}
 use Rattle.sc_bucket.specs.declared.bucket.Bucket.{Bucket}
 use Rattle.sc_bucket.proofs.AcceptLemmas.{bucket_has_map}
-use Rattle.sc_bucket.proofs.CoreLemmas.{is_core-Decides, IsCoreFound}
+use Rattle.sc_replicas.proofs.CoreLemmas.{is_core-Decides, IsCoreFound}
 use Rattle.sc_bucket.proofs.DeliverLemmas.{place_of_core}
 use Rattle.sc_bucket.proofs.DeliveredLemmas.{IsSoundCore}
 use Rattle.sc_bucket.proofs.FeedLemmas.{to_feed-none}

@@ -29,12 +29,12 @@ use Rattle.sc_journal.proofs.OwedLemmas.{owed-push_led}
 use Rattle.sc_journal.proofs.SplitLemmas.{LeavesSlices-led, map_after-left, open_split-left}
 use Rattle.sc_journal.proofs.VersionLemmas.{newest_from_last}
 use Rattle.sc_bucket.specs.Kept.{JournalState, FlightState, Sent}
-use Rattle.sc_bucket.specs.Cores.{seated, without_room, IsCoreWithoutRoom}
+use Rattle.sc_replicas.specs.Cores.{seated, without_room, IsCoreWithoutRoom}
 use Rattle.sc_bucket.specs.Flight.{is_to, is_same_message}
 use Rattle.sc_bucket.specs.Sound.{HasJournal, HasLastWrites, IsSent, AreSent, IsInPhase, IsSound}
 use Rattle.sc_bucket.specs.declared.bucket.Bucket.{Bucket}
 use Rattle.sc_bucket.proofs.AcceptLemmas.{bucket_has_map}
-use Rattle.sc_bucket.proofs.CoreLemmas.{name_of, same_name_by}
+use Rattle.sc_replicas.proofs.CoreLemmas.{name_of, same_name_by}
 use Rattle.sc_bucket.proofs.FollowerLemmas.{IsDistinct-filter, All-from_contains}
 use Rattle.sc_bucket.proofs.LeftOutLemmas.{left_out, apart_too}
 use Rattle.sc_bucket.proofs.PlaceLemmas.{slice_get-set}

@@ -17,7 +17,7 @@ use Rattle.sc_bucket.specs.Kept.{Sent}
 use Rattle.sc_bucket.specs.Flight.{is_same_message}
 use Rattle.sc_bucket.specs.Sound.{IsSent, AreSent}
 use Rattle.sc_bucket.specs.declared.bucket.Bucket.{Bucket}
-use Rattle.sc_bucket.proofs.CoreLemmas.{name_of}
+use Rattle.sc_replicas.proofs.CoreLemmas.{name_of}
 
 -- a message whose core is there then, and is down no more than before, is of a write that is not settled still
 pub IsSent-push : (old new : Bucket) (one : Entry) (message : Sent)

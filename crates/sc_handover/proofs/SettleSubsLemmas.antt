@@ -19,7 +19,7 @@ use Rattle.sc_bucket.specs.Flight.{in_flight, is_to, arrived}
 use Rattle.sc_bucket.specs.Sound.{IsSent, IsSound}
 use Rattle.sc_bucket.specs.Events.{HasSameFirstAndLimit, HasSameSplit, DeliversAllTo}
 use Rattle.sc_bucket.specs.declared.bucket.Bucket.{Bucket}
-use Rattle.sc_bucket.proofs.CoreLemmas.{name_of, is_core-Decides, element_from_map}
+use Rattle.sc_replicas.proofs.CoreLemmas.{name_of, is_core-Decides, element_from_map}
 use Rattle.sc_bucket.proofs.PendingLemmas.{goes_to, in_flight-none}
 use Rattle.sc_bucket.proofs.SoundLemmas.{name_and_mode, AreAlike, AreAlike-map}
 use Rattle.sc_handover.specs.Made.{settled_sub}

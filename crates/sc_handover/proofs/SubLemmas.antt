@@ -19,7 +19,7 @@ use Rattle.sc_ulog.specs.declared.mode.Mode.{Mode}
 use Rattle.sc_ulog.specs.declared.mode.Mode.TheVariants.{Active, Buffering}
 use Rattle.sc_replica.specs.Core.{Core}
 use Rattle.sc_journal.proofs.LegalDownLemmas.{forming_is_up}
-use Rattle.sc_bucket.specs.Cores.{core_key, core_keys, slice_keys, is_attached}
+use Rattle.sc_replicas.specs.Cores.{core_key, core_keys, slice_keys, is_attached}
 use Rattle.sc_bucket.specs.Sound.{IsMarked, is_idle, may_catch_up, IsFeed, IsSound}
 use Rattle.sc_bucket.specs.declared.bucket.Bucket.{Bucket}
 use Rattle.sc_bucket.proofs.AcceptLemmas.{bucket_has_map}

@@ -23,7 +23,7 @@ use Rattle.sc_journal.proofs.DownLemmas.{LeavesCores-switched}
 use Rattle.sc_journal.proofs.JournalLemmas.{last_write-push_other, writes-push_other}
 use Rattle.sc_journal.proofs.SplitLemmas.{open_split-push}
 use Rattle.sc_bucket.specs.Kept.{FlightState}
-use Rattle.sc_bucket.specs.Cores.{core_key, core_keys, slice_keys, is_attached, CoresAscend, IsCounted, IsCoreWithoutRoom}
+use Rattle.sc_replicas.specs.Cores.{core_key, core_keys, slice_keys, is_attached, CoresAscend, IsCounted, IsCoreWithoutRoom}
 use Rattle.sc_bucket.specs.Pending.{pending}
 use Rattle.sc_bucket.specs.Searchers.{ArePrepared}
 use Rattle.sc_bucket.specs.Sound.{HasLastWrites, HasCores, IsInPhase, IsSound}

@@ -16,7 +16,7 @@ use Rattle.sc_replica.specs.Core.{Core}
 use Rattle.sc_journal.specs.Down.{is_down, follower_keys}
 use Rattle.sc_journal.specs.Splits.{map_after, open_split, owed}
 use Rattle.sc_journal.proofs.OwedLemmas.{owed-push_switched}
-use Rattle.sc_bucket.specs.Cores.{core_keys, slice_keys, is_attached}
+use Rattle.sc_replicas.specs.Cores.{core_keys, slice_keys, is_attached}
 use Rattle.sc_bucket.specs.Sound.{HasJournal, IsSplitOpen, AreLedActively, IsInPhase, IsSound}
 use Rattle.sc_bucket.specs.declared.bucket.Bucket.{Bucket}
 use Rattle.sc_bucket.specs.declared.phase.Phase.TheVariants as phases

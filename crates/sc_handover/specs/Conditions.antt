@@ -13,7 +13,7 @@ use Rattle.sc_replica.specs.Core.{Core}
 use Rattle.sc_bucket.specs.Kept.{FeedState}
 use Rattle.sc_record.specs.Names.{is_core, key_of_core}
 use Rattle.sc_journal.specs.Down.{is_down, IsFollower}
-use Rattle.sc_bucket.specs.Cores.{core_key, slice_keys}
+use Rattle.sc_replicas.specs.Cores.{core_key, slice_keys}
 use Rattle.sc_bucket.specs.Pending.{is_feed_of}
 use Rattle.sc_bucket.specs.Sound.{AreLedActively}
 use Rattle.sc_bucket.specs.declared.bucket.Bucket.{Bucket}

@@ -13,7 +13,7 @@ use Rattle.sc_replica.specs.Core.{Core, fed_all, replayed}
 use Rattle.sc_replica.specs.Deliveries.{replaying}
 use Rattle.sc_journal.specs.Splits.{entries_of_split}
 use Rattle.sc_bucket.specs.Kept.{Sent, FeedState}
-use Rattle.sc_bucket.specs.Cores.{IsLeaderOf, is_of_one, put_by_name}
+use Rattle.sc_replicas.specs.Cores.{IsLeaderOf, is_of_one, put_by_name}
 use Rattle.sc_bucket.specs.Flight.{is_to, arrived}
 use Rattle.sc_bucket.specs.Searchers.{AreTaken, AreHandedOn}
 use Rattle.sc_bucket.specs.Room.{BucketHasRoom}

@@ -14,7 +14,7 @@ use Rattle.sc_replica.specs.Core.{Core}
 use Rattle.sc_replica.specs.Deliveries.{received_all}
 use Rattle.sc_bucket.specs.Kept.{Sent, FeedState}
 use Rattle.sc_bucket.specs.Flight.{in_flight}
-use Rattle.sc_bucket.specs.Cores.{is_of_one}
+use Rattle.sc_replicas.specs.Cores.{is_of_one}
 use Rattle.sc_bucket.specs.declared.bucket.Bucket.{Bucket}
 use Rattle.sc_bucket.specs.Pending.{left_of, new_feed}
 

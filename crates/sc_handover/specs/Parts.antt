@@ -9,7 +9,7 @@ use Rattle.sc_cluster.specs.Changes.{Change, after}
 use Rattle.sc_ulog.specs.LogState.{IsEmptyWhereActive}
 use Rattle.sc_replica.specs.Core.{Core}
 use Rattle.sc_bucket.specs.Kept.{Sent, FeedState}
-use Rattle.sc_bucket.specs.Cores.{IsCounted, IsLeaderOf, is_of_one, put_by_name, seated, without_room}
+use Rattle.sc_replicas.specs.Cores.{IsCounted, IsLeaderOf, is_of_one, put_by_name, seated, without_room}
 use Rattle.sc_bucket.specs.Flight.{is_to}
 use Rattle.sc_bucket.specs.Searchers.{AreHandedOn}
 use Rattle.sc_bucket.specs.Sound.{HasLastWrites}

@@ -4,7 +4,7 @@ use Rattle.std.specs.List.{AllZip}
 use Rattle.sc_record.specs.declared.slice.SliceId.{SliceId}
 use Rattle.sc_cluster.specs.Changes.{Change, after}
 use Rattle.sc_replica.specs.Core.{Core}
-use Rattle.sc_bucket.specs.Cores.{IsLeaderOf, without_room}
+use Rattle.sc_replicas.specs.Cores.{IsLeaderOf, without_room}
 use Rattle.sc_bucket.specs.Searchers.{AreTaken, AreHandedOn}
 use Rattle.sc_bucket.specs.declared.bucket.Bucket.{Bucket}
 use Rattle.sc_handover.specs.Made.{first_core, empty_core, cells_now, first_feed, IsRoomyFor}

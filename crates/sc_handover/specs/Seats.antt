@@ -12,7 +12,7 @@ use Rattle.sc_cluster.specs.declared.slice.Slice.{Slice}
 use Rattle.sc_replica.specs.Core.{Core}
 use Rattle.sc_journal.specs.Journal.{writes_of}
 use Rattle.sc_bucket.specs.Kept.{Sent}
-use Rattle.sc_bucket.specs.Cores.{IsLeaderOf, seated}
+use Rattle.sc_replicas.specs.Cores.{IsLeaderOf, seated}
 use Rattle.sc_bucket.specs.Flight.{is_to, arrived}
 use Rattle.sc_bucket.specs.Pending.{new_feed}
 use Rattle.sc_bucket.specs.Room.{BucketHasRoom}

@@ -2,8 +2,8 @@ ghost use Rattle.std.specs.Prelude.{◌≡◌, ◌<◌, ◌≤◌, ◌+◌, ◌^
 ghost use Rattle.std.specs.List.{AllZip};
 ghost use Rattle.std.specs.Arc.{arc_value};
 ghost use Rattle.sc_journal.specs.Splits.{entries_of_split};
-ghost use Rattle.sc_bucket.specs.Cores.{without_room};
-ghost use Rattle.sc_bucket.specs.declared.standing.Standing.{Standing};
+ghost use Rattle.sc_replicas.specs.Cores.{without_room};
+ghost use Rattle.sc_replicas.specs.declared.standing.Standing.{Standing};
 ghost use Rattle.sc_bucket.specs.Room.{BucketHasRoom, BucketIsFull};
 ghost use Rattle.sc_bucket.specs.Pending.{new_feed};
 ghost use Rattle.sc_bucket.specs.Sound.{IsSound};
@@ -13,11 +13,12 @@ ghost use Rattle.sc_handover.specs.Made.{first_core, sub_range, empty_core, firs
 ghost use Rattle.sc_handover.specs.Events.{Begins};
 ghost use Rattle.sc_handover.specs.Preparing.{IsPreparedFor};
 
-use sc_bucket::{Bucket, Feed, Feeds, Phase, Standing, hand_on, searcher_for, searchers_at};
+use sc_bucket::{Bucket, Feed, Feeds, Phase, hand_on, searchers_at};
 use sc_cluster::{ClusterMap, SplitPlan};
 use sc_hash::Range;
 use sc_record::{CloneIn, CoreId, Entry, List, SliceId, SubSlice};
 use sc_replica::Replica;
+use sc_replicas::{Standing, searcher_for};
 use sc_snapshot::Rows;
 use sc_ulog::Mode;
 use std::alloc::{AllocError, Global};

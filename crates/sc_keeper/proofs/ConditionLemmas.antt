@@ -13,10 +13,10 @@ use Rattle.sc_cluster.proofs.PairLemmas.{Contains-from_map}
 use Rattle.sc_ulog.specs.declared.mode.Mode.{Mode}
 use Rattle.sc_ulog.specs.declared.mode.Mode.TheVariants.{Active, Buffering, Replaying}
 use Rattle.sc_replica.specs.Core.{Core}
-use Rattle.sc_bucket.specs.Cores.{core_key, slice_keys}
+use Rattle.sc_replicas.specs.Cores.{core_key, slice_keys}
 use Rattle.sc_bucket.specs.Sound.{IsSound}
 use Rattle.sc_bucket.specs.declared.bucket.Bucket.{Bucket}
-use Rattle.sc_bucket.proofs.CoreLemmas.{IsLeaderOf-from_key}
+use Rattle.sc_replicas.proofs.CoreLemmas.{IsLeaderOf-from_key}
 use Rattle.sc_handover.specs.Conditions.{IsInMode, IsThereActive, CanBegin, CanFeed, CanStartReplay, CanReplay, CanBeReady, CanGrow, CanSwitch, CanAbort, CanDrop}
 use Rattle.sc_handover.proofs.LastWriteLemmas.{same_from_key}
 use Rattle.sc_keeper.specs.declared.part.CorePart.{CorePart}

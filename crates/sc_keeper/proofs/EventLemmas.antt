@@ -22,7 +22,7 @@ use Rattle.sc_ulog.specs.declared.mode.Mode.TheVariants.{Replaying}
 use Rattle.sc_replica.specs.Core.{Core, fed_all, mode_left, replayed, replay_limit}
 use Rattle.sc_replica.specs.Deliveries.{replaying}
 use Rattle.sc_bucket.specs.Kept.{FeedState}
-use Rattle.sc_bucket.specs.Cores.{core_number, is_of_one, put_by_name}
+use Rattle.sc_replicas.specs.Cores.{core_number, is_of_one, put_by_name}
 use Rattle.sc_bucket.specs.Flight.{in_flight, arrived}
 use Rattle.sc_bucket.specs.Pending.{new_feed}
 use Rattle.sc_bucket.specs.Sound.{IsSound}

@@ -10,7 +10,7 @@ use Rattle.sc_cluster.specs.Plans.{IsPlan}
 use Rattle.sc_cluster.specs.Changes.{IsInactive}
 use Rattle.sc_ulog.specs.declared.mode.Mode.{Mode}
 use Rattle.sc_ulog.specs.declared.mode.Mode.TheVariants.{Active, Buffering, Replaying}
-use Rattle.sc_bucket.specs.Cores.{slice_keys}
+use Rattle.sc_replicas.specs.Cores.{slice_keys}
 use Rattle.sc_bucket.specs.declared.phase.Phase.TheVariants as phases
 use Rattle.sc_handover.specs.Conditions.{split_of}
 use Rattle.sc_keeper.specs.declared.part.CorePart.{CorePart}

@@ -9,7 +9,7 @@ use Rattle.sc_record.specs.declared.entry.Entry.TheVariants as entry
 use Rattle.sc_cluster.specs.Changes.{Change, after}
 use Rattle.sc_ulog.specs.declared.mode.Mode.TheVariants.{Active, Buffering, Replaying}
 use Rattle.sc_replica.specs.Core.{replay_limit}
-use Rattle.sc_bucket.specs.Cores.{core_number, is_of_one}
+use Rattle.sc_replicas.specs.Cores.{core_number, is_of_one}
 use Rattle.sc_bucket.specs.declared.phase.Phase.{Phase}
 use Rattle.sc_bucket.specs.declared.phase.Phase.TheVariants as phases
 use Rattle.sc_handover.specs.Made.{first_core, feed_limit}

@@ -11,8 +11,8 @@ use Rattle.sc_bucket.specs.contracts.bucket.Bucket as Bucket
 use Rattle.sc_bucket.specs.contracts.feeds.Feeds as Feeds
 use Rattle.sc_bucket.specs.contracts.flight.Flight as Flight
 use Rattle.sc_bucket.specs.contracts.journal.Journal as Journal
-use Rattle.sc_bucket.specs.contracts.replicas.Replicas as Replicas
-use Rattle.sc_bucket.specs.contracts.standing.Standing as Standing
+use Rattle.sc_replicas.specs.contracts.replicas.Replicas as Replicas
+use Rattle.sc_replicas.specs.contracts.standing.Standing as Standing
 use Rattle.sc_cluster.specs.contracts.map.ClusterMap as ClusterMap
 use Rattle.sc_record.specs.contracts.text.Text as Text
 use Rattle.sc_record.specs.contracts.write.Write as Write

@@ -8,7 +8,7 @@ use Rattle.sc_record.specs.declared.entry.Entry.{Entry}
 use Rattle.sc_journal.specs.Legal.{IsLegal}
 use Rattle.sc_journal.proofs.ListLemmas.{slice_get-append_end, slice_get-append_left}
 use Rattle.sc_seen.specs.Board.{IsLegalBoard}
-use Rattle.sc_bucket.proofs.PlaceLemmas.{some_at}
+use Rattle.sc_replicas.proofs.FindLemmas.{some_at}
 use Rattle.sc_lock.specs.Journal.{AreDisjoint, IsLongest, merged_places}
 use Rattle.sc_lock.specs.Tokens.{lock_id, IsPassOf, IsFree, seen, own_places}
 use Rattle.sc_collection.proofs.SlotLemmas.{slice_get-set_same, slice_get-set_other}

@@ -17,7 +17,7 @@ use Rattle.sc_seen.specs.Board.{board_map, IsLegalBoard}
 use Rattle.sc_seen.specs.Seen.{AreLegal}
 use Rattle.sc_seen.proofs.BoardLemmas.{IsLegalBoard-none}
 use Rattle.sc_bucket.specs.declared.bucket.Bucket.{Bucket}
-use Rattle.sc_bucket.proofs.PlaceLemmas.{some_at}
+use Rattle.sc_replicas.proofs.FindLemmas.{some_at}
 use Rattle.sc_keeper.specs.declared.part.Part.{Part}
 use Rattle.sc_keeper.specs.Part.{part_of, keeper_entries}
 use Rattle.sc_lock.specs.Tokens.{LockId, lock_id, lock_name, badge_lock, IsPassOf, own_places, splits_left, IsKeeperOf, IsFreeKeeper, keeper_seen}

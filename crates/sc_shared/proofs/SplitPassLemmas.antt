@@ -9,7 +9,7 @@ use Rattle.sc_journal.specs.Legal.{IsLegal}
 use Rattle.sc_journal.proofs.ListLemmas.{slice_get-append_end, slice_get-append_left}
 use Rattle.sc_seen.specs.Board.{IsLegalBoard}
 use Rattle.sc_seen.specs.Seen.{AreLegal}
-use Rattle.sc_bucket.proofs.PlaceLemmas.{some_at}
+use Rattle.sc_replicas.proofs.FindLemmas.{some_at}
 use Rattle.sc_bucket.proofs.SoundLemmas.{All-slice_get}
 use Rattle.sc_lock.specs.Tokens.{lock_id, IsPassOf, IsFree, seen, own_places, splits_left}
 use Rattle.sc_lock.specs.Calls.{IsNewPassOf}

@@ -20,10 +20,10 @@ use Rattle.sc_cluster.proofs.ListLemmas.{Contains-map}
 use Rattle.sc_cluster.proofs.PairLemmas.{Contains-from_map}
 use Rattle.sc_cluster.proofs.StateLemmas.{forming-begun}
 use Rattle.sc_ulog.specs.declared.mode.Mode.TheVariants.{Active, Buffering}
-use Rattle.sc_bucket.specs.Cores.{is_of_one}
+use Rattle.sc_replicas.specs.Cores.{is_of_one}
 use Rattle.sc_bucket.specs.Sound.{IsSound}
 use Rattle.sc_bucket.specs.declared.bucket.Bucket.{Bucket}
-use Rattle.sc_bucket.proofs.CoreLemmas.{AreApart-from_ascending, is_core-itself}
+use Rattle.sc_replicas.proofs.CoreLemmas.{AreApart-from_ascending, is_core-itself}
 use Rattle.sc_handover.specs.Conditions.{split_of}
 use Rattle.sc_handover.specs.Made.{first_core}
 use Rattle.sc_handover.proofs.PlanLemmas.{sub_above}

@@ -4,7 +4,7 @@ use Rattle.std.specs.List.{range_with_len}
 use Rattle.std.proofs.lemmas.List.{map-append}
 use Rattle.sc_record.specs.declared.slice.SubSlice.{SubSlice}
 use Rattle.sc_record.specs.declared.slice.CoreId.{CoreId}
-use Rattle.sc_bucket.proofs.CoreLemmas.{same_name_by}
+use Rattle.sc_replicas.proofs.CoreLemmas.{same_name_by}
 use Rattle.sc_split.specs.Stages.{follower_of}
 
 -- a further replica of a sub

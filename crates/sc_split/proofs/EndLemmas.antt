@@ -18,7 +18,7 @@ use Rattle.sc_cluster.specs.Changes.{begun_slice}
 use Rattle.sc_cluster.proofs.ListLemmas.{Contains-map, Contains-filter}
 use Rattle.sc_cluster.proofs.PairLemmas.{Contains-from_map}
 use Rattle.sc_cluster.proofs.StateLemmas.{forming-begun}
-use Rattle.sc_bucket.specs.Cores.{slice_keys}
+use Rattle.sc_replicas.specs.Cores.{slice_keys}
 use Rattle.sc_bucket.specs.declared.phase.Phase.TheVariants as phases
 use Rattle.sc_keeper.specs.declared.part.CorePart.{CorePart}
 use Rattle.sc_keeper.specs.declared.part.Part.{Part}

@@ -6,7 +6,7 @@ use Rattle.std.proofs.lemmas.Map.Keys.{IsDistinct-head}
 use Rattle.sc_record.specs.Names.{is_core}
 use Rattle.sc_record.specs.declared.slice.CoreId.{CoreId}
 use Rattle.sc_cluster.proofs.PairLemmas.{Contains-from_map}
-use Rattle.sc_bucket.proofs.CoreLemmas.{is_core-itself}
+use Rattle.sc_replicas.proofs.CoreLemmas.{is_core-itself}
 use Rattle.sc_handover.specs.Made.{feed_limit}
 use Rattle.sc_keeper.specs.declared.part.FeedPart.{FeedPart}
 use Rattle.sc_keeper.specs.declared.part.Part.{Part}

@@ -6,7 +6,7 @@ use Rattle.sc_record.specs.Names.{is_core}
 use Rattle.sc_record.specs.declared.slice.CoreId.{CoreId}
 use Rattle.sc_cluster.specs.declared.plan.SplitPlan.{SplitPlan}
 use Rattle.sc_ulog.specs.declared.mode.Mode.TheVariants.{Active}
-use Rattle.sc_bucket.specs.Cores.{is_of_one}
+use Rattle.sc_replicas.specs.Cores.{is_of_one}
 use Rattle.sc_handover.specs.Conditions.{split_of}
 use Rattle.sc_keeper.specs.declared.part.CorePart.{CorePart}
 use Rattle.sc_keeper.specs.declared.part.FeedPart.{FeedPart}

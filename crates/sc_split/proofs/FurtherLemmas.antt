@@ -17,7 +17,7 @@ use Rattle.sc_cluster.specs.Changes.{begun_slice}
 use Rattle.sc_cluster.proofs.ListLemmas.{Contains-map}
 use Rattle.sc_cluster.proofs.PairLemmas.{Contains-from_map}
 use Rattle.sc_bucket.specs.declared.phase.Phase.TheVariants as phases
-use Rattle.sc_bucket.proofs.CoreLemmas.{is_core-Decides, is_core-itself}
+use Rattle.sc_replicas.proofs.CoreLemmas.{is_core-Decides, is_core-itself}
 use Rattle.sc_bucket.proofs.FollowerLemmas.{IsDistinct-append, All-from_contains}
 use Rattle.sc_handover.specs.Made.{first_core}
 use Rattle.sc_handover.proofs.PlanLemmas.{leader_number, leaders_rise}

@@ -10,8 +10,8 @@ use Rattle.sc_record.specs.Names.{is_core}
 use Rattle.sc_record.specs.declared.slice.CoreId.{CoreId}
 use Rattle.sc_cluster.specs.Slices.{forming}
 use Rattle.sc_ulog.specs.declared.mode.Mode.TheVariants.{Active, Buffering}
-use Rattle.sc_bucket.specs.Cores.{core_number, is_of_one}
-use Rattle.sc_bucket.proofs.CoreLemmas.{is_core-itself}
+use Rattle.sc_replicas.specs.Cores.{core_number, is_of_one}
+use Rattle.sc_replicas.proofs.CoreLemmas.{is_core-itself}
 use Rattle.sc_bucket.proofs.LeftOutLemmas.{apart_too}
 use Rattle.sc_keeper.specs.declared.part.CorePart.{CorePart}
 use Rattle.sc_keeper.specs.declared.part.FeedPart.{FeedPart}

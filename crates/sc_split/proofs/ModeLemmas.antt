@@ -7,7 +7,7 @@ use Rattle.std.proofs.lemmas.Map.Keys.{IsDistinct-head, IsDistinct-tail}
 use Rattle.sc_record.specs.Names.{is_core}
 use Rattle.sc_record.specs.declared.slice.CoreId.{CoreId}
 use Rattle.sc_ulog.specs.declared.mode.Mode.{Mode}
-use Rattle.sc_bucket.proofs.CoreLemmas.{is_core-Decides}
+use Rattle.sc_replicas.proofs.CoreLemmas.{is_core-Decides}
 use Rattle.sc_bucket.proofs.LeftOutLemmas.{apart_too}
 use Rattle.sc_keeper.specs.declared.part.CorePart.{CorePart}
 

@@ -9,8 +9,8 @@ use Rattle.sc_record.specs.declared.slice.CoreId.{CoreId}
 use Rattle.sc_cluster.specs.declared.plan.SplitPlan.{SplitPlan}
 use Rattle.sc_ulog.specs.declared.mode.Mode.{Mode}
 use Rattle.sc_ulog.specs.declared.mode.Mode.TheVariants.{Active, Buffering, Replaying}
-use Rattle.sc_bucket.specs.Cores.{is_of_one}
-use Rattle.sc_bucket.proofs.CoreLemmas.{is_core-Decides, is_core-itself}
+use Rattle.sc_replicas.specs.Cores.{is_of_one}
+use Rattle.sc_replicas.proofs.CoreLemmas.{is_core-Decides, is_core-itself}
 use Rattle.sc_bucket.proofs.LeftOutLemmas.{apart_too}
 use Rattle.sc_cluster.proofs.PairLemmas.{Contains-from_map}
 use Rattle.sc_handover.specs.Conditions.{split_of}

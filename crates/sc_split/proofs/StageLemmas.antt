@@ -14,9 +14,9 @@ use Rattle.sc_cluster.proofs.ListLemmas.{Contains-map, Contains-filter}
 use Rattle.sc_cluster.proofs.PairLemmas.{Contains-from_map}
 use Rattle.sc_cluster.proofs.StateLemmas.{forming-begun}
 use Rattle.sc_ulog.specs.declared.mode.Mode.TheVariants.{Active}
-use Rattle.sc_bucket.specs.Cores.{is_of_one, slice_keys}
+use Rattle.sc_replicas.specs.Cores.{is_of_one, slice_keys}
 use Rattle.sc_bucket.specs.declared.phase.Phase.TheVariants as phases
-use Rattle.sc_bucket.proofs.CoreLemmas.{is_core-Decides}
+use Rattle.sc_replicas.proofs.CoreLemmas.{is_core-Decides}
 use Rattle.sc_handover.specs.Made.{first_core}
 use Rattle.sc_handover.proofs.KeptLemmas.{is_of_one-there}
 use Rattle.sc_keeper.specs.declared.part.CorePart.{CorePart}

@@ -15,7 +15,7 @@ use Rattle.sc_cluster.proofs.ListLemmas.{Contains-map, Contains-filter}
 use Rattle.sc_cluster.proofs.PairLemmas.{Contains-from_map}
 use Rattle.sc_cluster.proofs.StateLemmas.{forming-begun}
 use Rattle.sc_ulog.specs.declared.mode.Mode.TheVariants.{Active}
-use Rattle.sc_bucket.specs.Cores.{slice_keys}
+use Rattle.sc_replicas.specs.Cores.{slice_keys}
 use Rattle.sc_keeper.specs.declared.part.CorePart.{CorePart}
 use Rattle.sc_keeper.specs.declared.part.Part.{Part}
 use Rattle.sc_keeper.specs.Conditions.{MaySwitch}

@@ -16,7 +16,7 @@ use Rattle.sc_cluster.proofs.PairLemmas.{Contains-from_map}
 use Rattle.sc_cluster.proofs.StateLemmas.{forming-begun}
 use Rattle.sc_cluster.proofs.UndoLemmas.{undoes_a_failed_split}
 use Rattle.sc_ulog.specs.declared.mode.Mode.TheVariants.{Active}
-use Rattle.sc_bucket.specs.Cores.{is_of_one}
+use Rattle.sc_replicas.specs.Cores.{is_of_one}
 use Rattle.sc_handover.specs.Conditions.{split_of}
 use Rattle.sc_handover.proofs.KeptLemmas.{All-kept, slice_of_one}
 use Rattle.sc_handover.proofs.PlanLemmas.{sub_above}

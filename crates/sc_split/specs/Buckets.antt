@@ -15,7 +15,7 @@ use Rattle.sc_ulog.specs.declared.mode.Mode.{Mode}
 use Rattle.sc_ulog.specs.declared.mode.Mode.TheVariants.{Active, Buffering}
 use Rattle.sc_journal.specs.Splits.{open_split, entries_of_split, IsFullFor}
 use Rattle.sc_seen.specs.Seen.{Layout}
-use Rattle.sc_bucket.specs.Cores.{is_of_one}
+use Rattle.sc_replicas.specs.Cores.{is_of_one}
 use Rattle.sc_bucket.specs.declared.phase.Phase.TheVariants as phases
 use Rattle.sc_handover.specs.Conditions.{split_of}
 use Rattle.sc_handover.specs.Made.{first_core}

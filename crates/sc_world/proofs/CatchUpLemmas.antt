@@ -16,7 +16,7 @@ use Rattle.sc_cluster.specs.Slices.{is_inactive_state}
 use Rattle.sc_journal.proofs.JournalLemmas.{id_from_is_of, last_write_none}
 use Rattle.sc_journal.proofs.LegalLemmas.{legal_hash}
 use Rattle.sc_journal.specs.Down.{is_down}
-use Rattle.sc_bucket.specs.Cores.{core_key, is_attached, IsCoreWithoutRoom}
+use Rattle.sc_replicas.specs.Cores.{core_key, is_attached, IsCoreWithoutRoom}
 use Rattle.sc_bucket.specs.Pending.{pending}
 use Rattle.sc_bucket.specs.Sound.{Serves, HasLastWrites, AreWritten, HasOrAwaits, AreInRange, IsInRange, IsMarked, IsSound}
 use Rattle.sc_bucket.specs.declared.bucket.Bucket.{Bucket}

@@ -28,13 +28,13 @@ use Rattle.sc_ulog.specs.declared.mode.Mode.TheVariants.{Active, Buffering, Repl
 use Rattle.sc_replica.specs.Core.{Core}
 use Rattle.sc_bucket.specs.Kept.{FeedState}
 use Rattle.sc_record.specs.Names.{key_of_core, is_core}
-use Rattle.sc_bucket.specs.Cores.{core_key, slice_keys, core_number, CoresAscend}
+use Rattle.sc_replicas.specs.Cores.{core_key, slice_keys, core_number, CoresAscend}
 use Rattle.sc_bucket.specs.Pending.{is_feed_of}
 use Rattle.sc_bucket.specs.Sound.{HasJournal, HasCores, AreLedActively}
 use Rattle.sc_bucket.specs.declared.bucket.Bucket.{Bucket}
-use Rattle.sc_bucket.proofs.CoreLemmas.{is_core-Decides, is_core-itself, IsCoreFound, element_from_map, IsLeaderOf-from_key}
+use Rattle.sc_replicas.proofs.CoreLemmas.{is_core-Decides, is_core-itself, IsCoreFound, element_from_map, IsLeaderOf-from_key}
 use Rattle.sc_bucket.proofs.DownLemmas.{follower_key}
-use Rattle.sc_bucket.proofs.FindLemmas.{take-next}
+use Rattle.sc_replicas.proofs.FindLemmas.{take-next}
 use Rattle.sc_bucket.proofs.TakenLemmas.{Contains-slice_get}
 use Rattle.sc_handover.specs.Conditions.{IsInMode, IsUnfed, IsThereActive, CanFeed, CanGrow, CanSwitch}
 use Rattle.sc_world.specs.Checks.{IsRecovering, IsLedActively, IsWholeSlice, MayJoin, IsMissing}

@@ -13,7 +13,7 @@ use Rattle.sc_cluster.proofs.UndoLemmas.{undoes_a_failed_split}
 use Rattle.sc_replica.specs.Core.{Core}
 use Rattle.sc_journal.specs.Journal.{writes, writes_of, last_of, last_write}
 use Rattle.sc_journal.proofs.JournalLemmas.{writes-push_other}
-use Rattle.sc_bucket.specs.Cores.{IsLeaderOf}
+use Rattle.sc_replicas.specs.Cores.{IsLeaderOf}
 use Rattle.sc_bucket.specs.Sound.{Serves, HasLastWrites}
 use Rattle.sc_bucket.specs.declared.bucket.Bucket.{Bucket}
 use Rattle.sc_bucket.specs.declared.phase.Phase.TheVariants as phases

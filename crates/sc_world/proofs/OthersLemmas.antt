@@ -21,16 +21,17 @@ use Rattle.sc_replica.specs.Core.{Core, fed_all, received, replay_limit, replaye
 use Rattle.sc_replica.specs.Deliveries.{received_all, replaying}
 use Rattle.sc_bucket.specs.Kept.{Sent, FeedState}
 use Rattle.sc_record.specs.Names.{is_core}
-use Rattle.sc_bucket.specs.Cores.{core_number, is_of_one, put_by_name, without_room}
+use Rattle.sc_replicas.specs.Cores.{core_number, is_of_one, put_by_name, without_room}
 use Rattle.sc_bucket.specs.Events.{AreSameCores}
 use Rattle.sc_bucket.specs.Flight.{in_flight, arrived}
-use Rattle.sc_bucket.specs.Searchers.{StandingState, standing_of, cut_to}
+use Rattle.sc_replicas.specs.Searchers.{StandingState, standing_of}
+use Rattle.sc_bucket.specs.Searchers.{cut_to}
 use Rattle.sc_bucket.specs.Sound.{may_catch_up, IsFeed, IsSound}
 use Rattle.sc_bucket.specs.declared.bucket.Bucket.{Bucket}
 use Rattle.sc_bucket.specs.declared.phase.Phase.{Phase}
 use Rattle.sc_bucket.specs.declared.phase.Phase.TheVariants as phases
-use Rattle.sc_bucket.specs.declared.standing.Standing.{Standing}
-use Rattle.sc_bucket.proofs.CoreLemmas.{is_core-Decides}
+use Rattle.sc_replicas.specs.declared.standing.Standing.{Standing}
+use Rattle.sc_replicas.proofs.CoreLemmas.{is_core-Decides}
 use Rattle.sc_bucket.proofs.DeliverLemmas.{name-received}
 use Rattle.sc_bucket.proofs.SoundLemmas.{All-slice_get}
 use Rattle.sc_handover.specs.Conditions.{IsInMode, CanBegin, CanGrow}

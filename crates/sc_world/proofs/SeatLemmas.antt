@@ -7,10 +7,10 @@ use Rattle.sc_record.specs.Names.{is_core}
 use Rattle.sc_record.specs.declared.slice.SliceId.{SliceId}
 use Rattle.sc_record.specs.declared.slice.CoreId.{CoreId}
 use Rattle.sc_replica.specs.Core.{Core}
-use Rattle.sc_bucket.specs.Cores.{seated, without_room}
+use Rattle.sc_replicas.specs.Cores.{seated, without_room}
 use Rattle.sc_bucket.specs.Flight.{arrived}
 use Rattle.sc_bucket.specs.Events.{detached}
-use Rattle.sc_bucket.proofs.CoreLemmas.{same_name_by, is_core-Decides}
+use Rattle.sc_replicas.proofs.CoreLemmas.{same_name_by, is_core-Decides}
 use Rattle.sc_handover.specs.Made.{leader_of, empty_core}
 use Rattle.sc_world.specs.Others.{DetachesLeaveOthersAlone, RejoinsLeaveOthersAlone, LeadsLeaveOthersAlone}
 use Rattle.sc_world.proofs.OthersLemmas.{filter-set_apart, filter-map_apart, same_where}

@@ -16,7 +16,7 @@ use Rattle.sc_bucket.specs.declared.bucket.Bucket.{Bucket}
 use Rattle.sc_bucket.specs.declared.accept.Accepted.{Accepted}
 use Rattle.sc_bucket.specs.declared.accept.AcceptFault.{AcceptFault}
 use Rattle.sc_bucket.specs.declared.accept.AcceptFault.TheVariants as faults
-use Rattle.sc_bucket.proofs.FindLemmas.{take-next}
+use Rattle.sc_replicas.proofs.FindLemmas.{take-next}
 use Rattle.sc_handover.specs.Conditions.{CanGrow}
 use Rattle.sc_handover.specs.Events.{Grows}
 use Rattle.sc_world.specs.declared.event.Event.{Event}

@@ -6,7 +6,7 @@ use Rattle.sc_cluster.specs.declared.slice.Slice.{Slice}
 use Rattle.sc_cluster.specs.Slices.{is_forming}
 use Rattle.sc_replica.specs.Core.{Core}
 use Rattle.sc_record.specs.Names.{is_core}
-use Rattle.sc_bucket.specs.Cores.{slice_keys}
+use Rattle.sc_replicas.specs.Cores.{slice_keys}
 use Rattle.sc_bucket.specs.declared.bucket.Bucket.{Bucket}
 use Rattle.sc_bucket.specs.declared.accept.Accepted.{Accepted}
 use Rattle.sc_bucket.specs.declared.accept.AcceptFault.{AcceptFault}

@@ -10,7 +10,7 @@ use Rattle.sc_cluster.specs.declared.slice.Slice.{Slice}
 use Rattle.sc_replica.specs.Core.{Core}
 use Rattle.sc_journal.specs.Journal.{writes_of, last_of, last_write}
 use Rattle.sc_journal.specs.Down.{is_down}
-use Rattle.sc_bucket.specs.Cores.{core_key, IsLeaderOf}
+use Rattle.sc_replicas.specs.Cores.{core_key, IsLeaderOf}
 use Rattle.sc_bucket.specs.Pending.{pending}
 use Rattle.sc_bucket.specs.Sound.{HasLastWrites, IsSound}
 use Rattle.sc_bucket.specs.declared.bucket.Bucket.{Bucket}

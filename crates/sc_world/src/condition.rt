@@ -6,7 +6,7 @@ ghost use Rattle.sc_cluster.specs.Changes.{IsInactive};
 ghost use Rattle.sc_ulog.specs.declared.mode.Mode.TheVariants.{Active};
 ghost use Rattle.sc_replica.specs.Core.{Core};
 ghost use Rattle.sc_journal.specs.Down.{IsFollower};
-ghost use Rattle.sc_bucket.specs.Cores.{CoresAscend, slice_keys};
+ghost use Rattle.sc_replicas.specs.Cores.{CoresAscend, slice_keys};
 ghost use Rattle.sc_bucket.specs.Sound.{HasCores, AreLedActively, IsSound};
 ghost use Rattle.sc_handover.specs.Conditions.{IsInMode, IsUnfed, IsThereActive, CanBegin, CanFeed, CanRejoin, CanLead};
 ghost use Rattle.sc_world.specs.Steps.{Can};

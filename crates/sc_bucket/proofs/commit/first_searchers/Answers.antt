@@ -10,9 +10,9 @@ use Rattle.sc_snapshot.specs.Rows.{AreRows}
 use Rattle.sc_cluster.specs.declared.slice.Slice.{Slice}
 use Rattle.sc_cluster.specs.declared.slice.State.TheVariants as states
 use Rattle.sc_replica.specs.Core.{Core}
-use Rattle.sc_bucket.specs.Cores.{IsNewCore}
+use Rattle.sc_replicas.specs.Cores.{IsNewCore}
 use Rattle.sc_bucket.specs.Searchers.{AreOfEachSlice, AreLed, AreTaken, IsTaken}
-use Rattle.sc_bucket.specs.declared.standing.Standing.{Standing}
+use Rattle.sc_replicas.specs.declared.standing.Standing.{Standing}
 use Rattle.sc_bucket.proofs.SearcherLemmas.{no_rows}
 use Rattle.sc_bucket.proofs.TakenLemmas.{Contains-slice_get, AreOfEachSlice-active}
 use Rattle.sc_bucket.proofs.commit.first_searchers.Goals as goal

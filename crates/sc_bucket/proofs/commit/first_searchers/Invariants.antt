@@ -1,7 +1,7 @@
 -- So far each slice has its searcher.
 use Rattle.std.proofs.Common.{All, List, take}
 use Rattle.sc_replica.specs.Core.{Core}
-use Rattle.sc_bucket.specs.Cores.{IsNewCore}
+use Rattle.sc_replicas.specs.Cores.{IsNewCore}
 use Rattle.sc_bucket.specs.Searchers.{AreOfEachSlice, AreLed, IsTaken}
 use Rattle.sc_bucket.proofs.commit.first_searchers.Given as goal
 

@@ -5,7 +5,7 @@ use Rattle.std.proofs.lemmas.List.{take_all}
 use Rattle.std.proofs.lemmas.List.Elements.{All-push}
 use Rattle.sc_cluster.specs.declared.slice.Slice.{Slice}
 use Rattle.sc_bucket.specs.Searchers.{AreOfEachSlice, AreTaken, IsTaken}
-use Rattle.sc_bucket.specs.declared.standing.Standing.{Standing}
+use Rattle.sc_replicas.specs.declared.standing.Standing.{Standing}
 use Rattle.sc_bucket.proofs.TakenLemmas.{Contains-slice_get, active_from_test, inactive_from_test, AreOfEachSlice-active, AreOfEachSlice-inactive, fewer-before_active}
 use Rattle.sc_bucket.proofs.commit.searchers_at.Goals as goal
 use Rattle.sc_bucket.proofs.commit.searchers_at.Goals.{then-eq+in_ok-searcher_of, else-eq}

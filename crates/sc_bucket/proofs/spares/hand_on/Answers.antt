@@ -2,8 +2,9 @@
 use Rattle.std.proofs.Common.{◌∙◌, ◌++◌, List, map, filter, ap}
 use Rattle.sc_cluster.specs.declared.slice.Slice.{Slice}
 use Rattle.sc_cluster.specs.Slices.{forming}
-use Rattle.sc_bucket.specs.Searchers.{StandingState, standing_of, cut_to}
-use Rattle.sc_bucket.specs.declared.standing.Standing.{Standing}
+use Rattle.sc_replicas.specs.Searchers.{StandingState, standing_of}
+use Rattle.sc_bucket.specs.Searchers.{cut_to}
+use Rattle.sc_replicas.specs.declared.standing.Standing.{Standing}
 use Rattle.sc_bucket.proofs.SpareLemmas.{is_other}
 use Rattle.sc_bucket.proofs.spares.hand_on.Goals as goal
 

@@ -2,8 +2,8 @@
 use Rattle.std.proofs.Common.{◌∙◌, ◌++◌, List, length, map, filter, refl, sym, ap, arith}
 use Rattle.std.proofs.lemmas.List.{append-nil, take_all}
 use Rattle.std.proofs.lemmas.Option.{slice_get_read}
-use Rattle.sc_bucket.specs.Searchers.{standing_of}
-use Rattle.sc_bucket.specs.declared.standing.Standing.{Standing}
+use Rattle.sc_replicas.specs.Searchers.{standing_of}
+use Rattle.sc_replicas.specs.declared.standing.Standing.{Standing}
 use Rattle.sc_bucket.proofs.SpareLemmas.{is_other, others-next}
 use Rattle.sc_bucket.proofs.spares.push_others.Goals as goal
 

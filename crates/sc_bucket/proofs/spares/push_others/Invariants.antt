@@ -1,6 +1,6 @@
 -- So far those of the other slices have their shares.
 use Rattle.std.proofs.Common.{◌≡◌, ◌++◌, map, filter, take}
-use Rattle.sc_bucket.specs.Searchers.{standing_of}
+use Rattle.sc_replicas.specs.Searchers.{standing_of}
 use Rattle.sc_bucket.proofs.SpareLemmas.{is_other}
 use Rattle.sc_bucket.proofs.spares.push_others.Given as goal
 

@@ -4,7 +4,8 @@ use Rattle.std.specs.Option.{option_copied}
 use Rattle.std.proofs.lemmas.List.{append-nil, take_all}
 use Rattle.sc_cluster.specs.declared.slice.Slice.{Slice}
 use Rattle.sc_cluster.specs.Slices.{forming}
-use Rattle.sc_bucket.specs.Searchers.{standing_of, cut_to}
+use Rattle.sc_replicas.specs.Searchers.{standing_of}
+use Rattle.sc_bucket.specs.Searchers.{cut_to}
 use Rattle.sc_bucket.proofs.SpareLemmas.{subs-next}
 use Rattle.sc_bucket.proofs.spares.push_subs.Goals as goal
 

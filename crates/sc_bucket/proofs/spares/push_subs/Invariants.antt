@@ -2,7 +2,8 @@
 use Rattle.std.proofs.Common.{◌≡◌, ◌++◌, map, take}
 use Rattle.sc_cluster.specs.declared.slice.Slice.{Slice}
 use Rattle.sc_cluster.specs.Slices.{forming}
-use Rattle.sc_bucket.specs.Searchers.{standing_of, cut_to}
+use Rattle.sc_replicas.specs.Searchers.{standing_of}
+use Rattle.sc_bucket.specs.Searchers.{cut_to}
 use Rattle.sc_bucket.proofs.spares.push_subs.Given as goal
 
 abbrev pub invariant-loop-at : goal.invariant-loop-at

@@ -3,7 +3,7 @@ use Rattle.std.proofs.Common.{◌≡◌, ◌+◌, ◌≤◌, ◌^◌, List, [], 
 use Rattle.std.proofs.lemmas.List.{map-append, length-append, length-take-le, take_more}
 use Rattle.std.proofs.lemmas.List.Elements.{All-push}
 use Rattle.sc_eval.specs.Criteria.{criterion_of}
-use Rattle.sc_bucket.specs.declared.standing.Searcher.{Searcher}
+use Rattle.sc_replicas.specs.declared.standing.Searcher.{Searcher}
 use Rattle.sc_fanout.specs.Pages.{all_of}
 use Rattle.sc_fanout.specs.Steps.{found_in}
 use Rattle.sc_fanout.specs.Hits.{AreHits, searchers_of}

@@ -5,7 +5,7 @@ use Rattle.std.proofs.Math.Seq.{map-set_same}
 use Rattle.std.proofs.lemmas.List.{append-nil, map-append, length-append, take_all, take_more}
 use Rattle.std.proofs.lemmas.List.Elements.{All-push, All-head, All-tail, All-set}
 use Rattle.sc_eval.specs.Criteria.{criterion_of}
-use Rattle.sc_bucket.specs.declared.standing.Searcher.{Searcher}
+use Rattle.sc_replicas.specs.declared.standing.Searcher.{Searcher}
 use Rattle.sc_fanout.specs.Pages.{all_of}
 use Rattle.sc_fanout.specs.Steps.{found_in}
 use Rattle.sc_fanout.specs.Hits.{AreHits, searchers_of}

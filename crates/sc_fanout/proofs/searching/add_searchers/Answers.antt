@@ -1,7 +1,7 @@
 -- One searcher more is put at the end or passed.
 use Rattle.std.proofs.Common.{◌∷◌, ◌++◌, [], true, false, refl, sym, ap, ◌∙◌, arith, append_assoc}
 use Rattle.std.proofs.lemmas.List.{append-nil}
-use Rattle.sc_bucket.specs.declared.standing.Searcher.{Searcher}
+use Rattle.sc_replicas.specs.declared.standing.Searcher.{Searcher}
 use Rattle.sc_fanout.proofs.TakenLemmas.{taken-more, taken-nearer, taken-all, none-left}
 use Rattle.sc_fanout.proofs.searching.add_searchers.Goals as goal
 

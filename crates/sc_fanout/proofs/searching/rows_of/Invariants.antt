@@ -1,7 +1,7 @@
 -- So far the first searchers.
 use Rattle.std.proofs.Common.{take, All}
 use Rattle.sc_snapshot.specs.Rows.{AreRows}
-use Rattle.sc_bucket.specs.declared.standing.Searcher.{Searcher}
+use Rattle.sc_replicas.specs.declared.standing.Searcher.{Searcher}
 use Rattle.sc_fanout.specs.Steps.{searcher_rows}
 use Rattle.sc_fanout.proofs.searching.rows_of.Given as goal
 

@@ -1,7 +1,7 @@
 -- The first buckets were looked at, and the searchers are those that were taken there.
 use Rattle.std.proofs.Common.{◌≡◌, ◌+◌, map, length, All}
 use Rattle.sc_snapshot.specs.Rows.{AreRows}
-use Rattle.sc_bucket.specs.declared.standing.Searcher.{Searcher}
+use Rattle.sc_replicas.specs.declared.standing.Searcher.{Searcher}
 use Rattle.sc_eval.specs.Criteria.{criterion_of}
 use Rattle.sc_seen.specs.Moments.{view_of}
 use Rattle.sc_collection.specs.Desks.{IsDeskAtRest}

@@ -4,7 +4,7 @@ use Rattle.std.specs.List.{AllZip}
 use Rattle.std.specs.Arc.{arc_value}
 use Rattle.std.proofs.lemmas.List.{map-append, map_more}
 use Rattle.sc_replica.specs.Core.{Core}
-use Rattle.sc_bucket.specs.Cores.{without_room}
+use Rattle.sc_replicas.specs.Cores.{without_room}
 use Rattle.sc_bucket.specs.Kept.{FeedState}
 use Rattle.sc_handover.specs.Made.{first_feed, IsRoomyFor}
 use Rattle.sc_handover.proofs.MadeLemmas.{made_core}

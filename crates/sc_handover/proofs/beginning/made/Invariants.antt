@@ -2,7 +2,7 @@
 use Rattle.std.proofs.Common.{◌≡◌, map, take}
 use Rattle.std.specs.List.{AllZip}
 use Rattle.std.specs.Arc.{arc_value}
-use Rattle.sc_bucket.specs.Cores.{without_room}
+use Rattle.sc_replicas.specs.Cores.{without_room}
 use Rattle.sc_handover.specs.Made.{first_feed, IsRoomyFor}
 use Rattle.sc_handover.proofs.MadeLemmas.{made_core}
 use Rattle.sc_handover.proofs.beginning.made.Given as goal

@@ -10,10 +10,11 @@ use Rattle.sc_cluster.specs.Plans.{IsPlan}
 use Rattle.sc_cluster.specs.Changes.{Change, after}
 use Rattle.sc_replica.specs.Core.{Core}
 use Rattle.sc_bucket.specs.Kept.{FeedState}
-use Rattle.sc_bucket.specs.Cores.{IsLeaderOf}
+use Rattle.sc_replicas.specs.Cores.{IsLeaderOf}
 use Rattle.sc_bucket.specs.Searchers.{AreOfEachSlice, IsTaken, AreTaken}
-use Rattle.sc_bucket.specs.declared.standing.Standing.{Standing}
-use Rattle.sc_bucket.proofs.TakenLemmas.{slice_of, has_searcher}
+use Rattle.sc_replicas.specs.declared.standing.Standing.{Standing}
+use Rattle.sc_replicas.proofs.StandingLemmas.{slice_of}
+use Rattle.sc_bucket.proofs.TakenLemmas.{has_searcher}
 use Rattle.sc_handover.specs.Made.{first_feed}
 use Rattle.sc_handover.proofs.MadeLemmas.{made_core}
 use Rattle.sc_handover.proofs.beginning.prepare.Goals as goal

@@ -3,7 +3,7 @@ use Rattle.std.proofs.Common.{◌∷◌, [], sym, ◌∙◌, subst, arith, ◌<�
 use Rattle.std.specs.Arc.{arc_value}
 use Rattle.std.proofs.lemmas.Option.{same_Some}
 use Rattle.sc_replica.specs.Core.{Core}
-use Rattle.sc_bucket.proofs.PlaceLemmas.{some_at}
+use Rattle.sc_replicas.proofs.FindLemmas.{some_at}
 use Rattle.sc_handover.proofs.RowLemmas.{looked-some, looked-none, room_to_feed, left_at, unfed, FeedsRows-one, IsSound-rows}
 use Rattle.sc_handover.proofs.feed.feed_row.Goals as goal
 

@@ -1,6 +1,6 @@
 -- Each turn delivers what is in flight to one core, and in the end nothing is in flight to a core of a sub.
 use Rattle.std.proofs.Common.{◌<◌, length, arith}
-use Rattle.sc_bucket.proofs.PlaceLemmas.{some_at}
+use Rattle.sc_replicas.proofs.FindLemmas.{some_at}
 use Rattle.sc_handover.proofs.SettleSubsLemmas.{DeliversSome-more, length-some, none_is_to_a_sub, DeliversToSubs-all, quiet_all}
 use Rattle.sc_handover.proofs.switching.deliver_to_subs.Goals as goal
 

@@ -14,11 +14,11 @@ use Rattle.sc_journal.specs.Legal.{MayWrite}
 use Rattle.sc_journal.specs.Outcomes.{IsWriteOf}
 use Rattle.sc_bucket.specs.declared.message.Message.{Message}
 use Rattle.sc_record.specs.Names.{is_core}
-use Rattle.sc_bucket.specs.Cores.{followers, IsLeaderAt}
+use Rattle.sc_replicas.specs.Cores.{followers, IsLeaderAt}
 use Rattle.sc_bucket.specs.Flight.{sent_of}
 use Rattle.sc_bucket.specs.Room.{basis}
 use Rattle.sc_bucket.specs.Accepting.{HasMemory}
-use Rattle.sc_bucket.proofs.CoreLemmas.{name_of, AreApart-from_ascending}
+use Rattle.sc_replicas.proofs.CoreLemmas.{name_of, AreApart-from_ascending}
 use Rattle.sc_bucket.proofs.SendLemmas.{names-sent}
 use Rattle.sc_bucket.proofs.FollowerLemmas.{IsFollower, are_followers, follower_is_there, followers_apart}
 use Rattle.sc_bucket.proofs.AcceptLemmas.{bucket_has_map}

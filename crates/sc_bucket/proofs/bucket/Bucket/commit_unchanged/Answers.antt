@@ -2,7 +2,7 @@
 use Rattle.std.proofs.Common.{◌∙◌, ◌-◌, ◌∷◌, [], ◌++◌, sym, ap, subst}
 use Rattle.sc_record.specs.declared.entry.Entry.TheVariants as entry
 use Rattle.sc_bucket.specs.Events.{Commits}
-use Rattle.sc_bucket.specs.Moving.{AreMoved}
+use Rattle.sc_replicas.specs.Searchers.{AreMoved}
 use Rattle.sc_bucket.specs.Sound.{IsSound}
 use Rattle.sc_bucket.specs.declared.bucket.Bucket.{Bucket}
 use Rattle.sc_bucket.proofs.MovingLemmas.{committed-moved}

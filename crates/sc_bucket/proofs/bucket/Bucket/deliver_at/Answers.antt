@@ -2,7 +2,7 @@
 use Rattle.sc_bucket.specs.Flight.{sent_of}
 use Rattle.std.proofs.Common.{refl}
 use Rattle.std.proofs.lemmas.Option.{slice_get_within}
-use Rattle.sc_bucket.proofs.CoreLemmas.{core_is_found}
+use Rattle.sc_replicas.proofs.CoreLemmas.{core_is_found}
 use Rattle.sc_bucket.proofs.DeliverLemmas.{core_is_there, core_has_room, place_of_core, named_at, IsSound-received, Delivers-received}
 use Rattle.sc_bucket.proofs.bucket.Bucket.deliver_at.Goals as goal
 

@@ -1,7 +1,7 @@
 -- The core is marked, its messages leave the flight, and with the entry that says so the bucket is sound.
 use Rattle.std.proofs.lemmas.Option.{slice_get_within}
 use Rattle.sc_bucket.specs.Events.{Detaches}
-use Rattle.sc_bucket.proofs.CoreLemmas.{core_is_found}
+use Rattle.sc_replicas.proofs.CoreLemmas.{core_is_found}
 use Rattle.sc_bucket.proofs.DeliverLemmas.{place_of_core}
 use Rattle.sc_bucket.proofs.DetachLemmas.{owes_down, with_down, Detaches-marked, IsSound-marked}
 use Rattle.sc_bucket.proofs.bucket.Bucket.detach.Goals as goal

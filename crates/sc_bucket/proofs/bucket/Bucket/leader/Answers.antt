@@ -5,8 +5,8 @@ use Rattle.sc_record.specs.declared.slice.CoreId.{CoreId}
 use Rattle.std.proofs.lemmas.Int.{to_z-of_z}
 use Rattle.std.proofs.lemmas.List.Elements.{All-contains}
 use Rattle.sc_cluster.specs.declared.slice.Slice.{Slice}
-use Rattle.sc_bucket.specs.Cores.{core_key}
-use Rattle.sc_bucket.proofs.CoreLemmas.{leader_is_found, leader_at, IsLeaderAt-within}
+use Rattle.sc_replicas.specs.Cores.{core_key}
+use Rattle.sc_replicas.proofs.CoreLemmas.{leader_is_found, leader_at, IsLeaderAt-within}
 use Rattle.sc_bucket.proofs.bucket.Bucket.leader.Goals as goal
 
 -- the name of a slice's leader

@@ -11,7 +11,8 @@ use Rattle.sc_bucket.specs.Flight.{sent_of}
 use Rattle.sc_bucket.specs.Sound.{IsSound}
 use Rattle.sc_bucket.specs.Events.{IsSameButRoom}
 use Rattle.sc_bucket.specs.Accepting.{HasMemory}
-use Rattle.sc_bucket.proofs.PlaceLemmas.{some_at, same_core_at}
+use Rattle.sc_replicas.proofs.FindLemmas.{some_at}
+use Rattle.sc_bucket.proofs.PlaceLemmas.{same_core_at}
 use Rattle.sc_bucket.proofs.RoomierLemmas.{roomier-itself, same-roomier}
 use Rattle.sc_bucket.proofs.RoomLemmas.{HasMoreRoom, with_parts, spares-with_parts, IsSameButRoom-with_parts, IsSound-with_parts, memory-reserved}
 use Rattle.sc_bucket.proofs.bucket.Bucket.make_room.Goals as goal

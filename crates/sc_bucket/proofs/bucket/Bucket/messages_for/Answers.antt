@@ -10,7 +10,7 @@ use Rattle.sc_record.specs.declared.write.Write.{Write}
 use Rattle.sc_cluster.specs.declared.slice.Slice.{Slice}
 use Rattle.sc_replica.specs.Core.{Core}
 use Rattle.sc_bucket.specs.declared.message.Message.{Message}
-use Rattle.sc_bucket.specs.Cores.{followers}
+use Rattle.sc_replicas.specs.Cores.{followers}
 use Rattle.sc_bucket.specs.Flight.{sent_of, sent_to}
 use Rattle.sc_bucket.proofs.SendLemmas.{takes, followers-more, followers-same}
 use Rattle.sc_bucket.proofs.bucket.Bucket.messages_for.Goals as goal

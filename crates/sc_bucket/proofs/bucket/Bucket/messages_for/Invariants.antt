@@ -1,7 +1,7 @@
 -- So far each core of the slices that take the write got a message, but the leader and those that are down.
 use Rattle.std.proofs.Common.{◌≡◌, length, map, take}
 use Rattle.std.specs.Arc.{arc_value}
-use Rattle.sc_bucket.specs.Cores.{followers}
+use Rattle.sc_replicas.specs.Cores.{followers}
 use Rattle.sc_bucket.specs.Flight.{sent_of, sent_to}
 use Rattle.sc_bucket.proofs.bucket.Bucket.messages_for.Given as goal
 

@@ -4,7 +4,7 @@ use Rattle.sc_cluster.specs.Map.{IsMap}
 use Rattle.sc_bucket.specs.New.{IsNewBucket}
 use Rattle.sc_bucket.specs.declared.bucket.Bucket.{Bucket}
 use Rattle.sc_bucket.specs.declared.phase.Phase.TheVariants as phases
-use Rattle.sc_bucket.proofs.CoreLemmas.{have_leaders}
+use Rattle.sc_replicas.proofs.CoreLemmas.{have_leaders}
 use Rattle.sc_bucket.proofs.NewLemmas.{IsMade, has_room_for, IsSound-new}
 use Rattle.sc_bucket.proofs.SearcherLemmas.{AreLed-from_keys}
 use Rattle.sc_bucket.proofs.bucket.Bucket.new.Goals as goal

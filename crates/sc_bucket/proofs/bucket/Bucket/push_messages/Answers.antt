@@ -1,7 +1,7 @@
 -- One more core of the slice gets a message, where it is not the leader, and not down.
 use Rattle.std.proofs.Common.{◌≡◌, length, map, sym, ap, ◌∙◌, true, false, Vec, Global}
 use Rattle.std.specs.Arc.{arc_value}
-use Rattle.sc_bucket.specs.Cores.{follows}
+use Rattle.sc_replicas.specs.Cores.{follows}
 use Rattle.sc_bucket.specs.declared.message.Message.{Message}
 use Rattle.sc_bucket.specs.Flight.{sent_of}
 use Rattle.sc_bucket.proofs.SendLemmas.{sent_of-is, sent_to-more, sent_to-same}

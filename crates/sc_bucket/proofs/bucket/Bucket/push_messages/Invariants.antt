@@ -2,7 +2,7 @@
 use Rattle.std.proofs.Common.{◌≡◌, ◌++◌, length, map, filter, take}
 use Rattle.std.specs.Arc.{arc_value}
 use Rattle.sc_replica.specs.Core.{Core}
-use Rattle.sc_bucket.specs.Cores.{follows}
+use Rattle.sc_replicas.specs.Cores.{follows}
 use Rattle.sc_bucket.specs.Flight.{sent_of, sent_to}
 use Rattle.sc_bucket.proofs.bucket.Bucket.push_messages.Given as goal
 

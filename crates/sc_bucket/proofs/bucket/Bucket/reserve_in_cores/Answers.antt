@@ -12,7 +12,7 @@ use Rattle.sc_bucket.specs.declared.message.Message.{Message}
 use Rattle.sc_bucket.specs.Kept.{Sent, FeedState}
 use Rattle.sc_bucket.specs.Accepting.{HasMore, HasMoreAt}
 use Rattle.sc_record.specs.Names.{is_core}
-use Rattle.sc_bucket.proofs.CoreLemmas.{AreApart, IsCoreFound, core_is_found, AreApart-from_ascending, AscendByName-same}
+use Rattle.sc_replicas.proofs.CoreLemmas.{AreApart, IsCoreFound, core_is_found, AreApart-from_ascending, AscendByName-same}
 use Rattle.sc_bucket.proofs.RoomierLemmas.{roomier-itself, roomier-then, names-roomier, length-roomier, HasMoreAt-roomier, more_at, message_there, mores-push, whatever}
 use Rattle.sc_bucket.proofs.bucket.Bucket.reserve_in_cores.Goals as goal
 

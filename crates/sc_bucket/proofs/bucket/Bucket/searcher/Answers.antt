@@ -4,8 +4,9 @@ use Rattle.std.specs.Option.{option_copied}
 use Rattle.std.proofs.lemmas.List.Elements.{All-contains}
 use Rattle.sc_cluster.specs.declared.slice.Slice.{Slice}
 use Rattle.sc_snapshot.specs.Rows.{SnapshotState}
-use Rattle.sc_bucket.specs.Searchers.{standing_rows, ShowsCommitted}
-use Rattle.sc_bucket.specs.declared.standing.Standing.{Standing}
+use Rattle.sc_replicas.specs.Searchers.{standing_rows}
+use Rattle.sc_bucket.specs.Searchers.{ShowsCommitted}
+use Rattle.sc_replicas.specs.declared.standing.Standing.{Standing}
 use Rattle.sc_bucket.proofs.TakenLemmas.{Contains-slice_get, active_from_test, inactive_from_test, has_searcher, NoneIsActive-more, NoneIsActive-all}
 use Rattle.sc_bucket.proofs.bucket.Bucket.searcher.Goals as goal
 

@@ -1,7 +1,7 @@
 -- The core of the number is found in its seat; one that is not there yet is to sit in the seat of its number.
 use Rattle.std.proofs.Common.{◌≡◌, ◌<◌, ℕ, sym, subst, arith}
 use Rattle.sc_journal.specs.Seats.{seats}
-use Rattle.sc_bucket.specs.Cores.{HasCore}
+use Rattle.sc_replicas.specs.Cores.{HasCore}
 use Rattle.sc_bucket.proofs.SeatLemmas.{seat_found}
 use Rattle.sc_bucket.proofs.bucket.Bucket.seat_of.Goals as goal
 

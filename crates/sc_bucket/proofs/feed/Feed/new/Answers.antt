@@ -3,7 +3,7 @@ use Rattle.std.proofs.Common.{◌≡◌, ◌∙◌, ◌++◌, ◌∷◌, [], Som
 use Rattle.std.specs.Option.{option_map, option_copied}
 use Rattle.std.specs.Arc.{arc_value}
 use Rattle.sc_snapshot.specs.Rows.{SnapshotState, is_within}
-use Rattle.sc_bucket.proofs.FindLemmas.{filter_take-next}
+use Rattle.sc_replicas.proofs.FindLemmas.{filter_take-next}
 use Rattle.sc_bucket.proofs.feed.Feed.new.Goals as goal
 
 pub loop-at-preserved : goal.loop-at-preserved

@@ -4,7 +4,7 @@ use Rattle.std.specs.Arc.{arc_value}
 use Rattle.std.specs.Option.{option_map}
 use Rattle.sc_snapshot.specs.Rows.{is_within}
 use Rattle.sc_bucket.specs.Kept.{FeedState}
-use Rattle.sc_bucket.proofs.ChangedAtLemmas.{here_at, changed_at, set_at}
+use Rattle.sc_replicas.proofs.ChangedAtLemmas.{here_at, changed_at, set_at}
 use Rattle.sc_bucket.proofs.feeds.Feeds.look.Goals as goal
 
 pub look-requires : goal.look-requires

@@ -5,7 +5,7 @@ use borrow.Author.Tests.{tests}
 use Rattle.sc_record.specs.declared.slice.CoreId.{CoreId}
 use Rattle.sc_bucket.specs.Kept.{FeedState}
 use Rattle.sc_bucket.specs.Pending.{is_feed_of}
-use Rattle.sc_bucket.proofs.FindLemmas.{IsFirstThat, first_from_search}
+use Rattle.sc_replicas.proofs.FindLemmas.{IsFirstThat, first_from_search}
 use Rattle.sc_bucket.proofs.feeds.Feeds.position.Goals as goal
 
 -- what is found, but that it is the first

@@ -6,7 +6,7 @@ use Rattle.sc_bucket.specs.declared.message.Message.{Message}
 use Rattle.sc_bucket.specs.Kept.{FlightState}
 use Rattle.sc_record.specs.Names.{is_core}
 use Rattle.sc_bucket.specs.Flight.{sent_of, is_to}
-use Rattle.sc_bucket.proofs.FindLemmas.{IsFirstThat, first_from_search, first-mapped}
+use Rattle.sc_replicas.proofs.FindLemmas.{IsFirstThat, first_from_search, first-mapped}
 use Rattle.sc_bucket.proofs.flight.Flight.first_to.Goals as goal
 
 pub returns : goal.returns

@@ -28,8 +28,6 @@ mod queries;
 #[cfg(test)]
 mod replicas;
 #[cfg(test)]
-mod requests;
-#[cfg(test)]
 mod segments;
 #[cfg(test)]
 mod sharing;

@@ -16,8 +16,6 @@ mod codings;
 #[cfg(test)]
 mod collections;
 #[cfg(test)]
-mod commands;
-#[cfg(test)]
 mod demo;
 #[cfg(test)]
 mod hosts;

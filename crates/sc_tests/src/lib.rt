@@ -10,8 +10,6 @@
 #[cfg(test)]
 mod arguments;
 #[cfg(test)]
-mod carrying;
-#[cfg(test)]
 mod codings;
 #[cfg(test)]
 mod collections;

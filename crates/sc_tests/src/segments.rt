@@ -1,5 +1,4 @@
-//! `sc_segment`, `sc_keys` and `sc_rows`: the rows of each key, in how many steps they are found, which rows two lists give, and which rows
-//! are live.
+//! `sc_segment`, `sc_keys` and `sc_rows`: the rows of each key, in how many steps they are found, and which rows are live.
 
 ghost use Rattle.std.specs.Prelude.{◌<◌};
 ghost use Rattle.std.specs.Ordering.{nat_cmp};
@@ -9,7 +8,7 @@ ghost use native.Mathlib.Omega.{arith};
 
 use crate::support::assert_same;
 use sc_keys::{Key, Steps};
-use sc_rows::{Kept, LiveBits, ends_of, join, join_start};
+use sc_rows::LiveBits;
 use sc_segment::{Builder, Segment};
 use std::alloc::{AllocError, Global};
 use std::cell::Cell;
@@ -22,10 +21,10 @@ use std::test::Fail;
 // A number as a key, which besides counts by itself how often it is compared: its head tells nothing, so that no head takes a comparison's place.
 #[derive(Drop)]
 #[derive_where(PartialEq, Eq, PartialOrd, Ord, Hash)]
-pub struct CountedKey<'a> {
-    pub number: u32,
+struct CountedKey<'a> {
+    number: u32,
     #[derive_where(skip(EqHashOrd))]
-    pub compared: &'a Cell<u32>,
+    compared: &'a Cell<u32>,
 }
 
 impl Key for CountedKey<'_> {
@@ -56,7 +55,7 @@ impl Key for CountedKey<'_> {
 }
 
 // A segment of these rows, which ascend, and their keys.
-pub fn filled<'a>(
+fn filled<'a>(
     rt: &impl Abort,
     alloc: Global,
     pairs: &[(u32, u32)],
@@ -77,7 +76,7 @@ pub fn filled<'a>(
 }
 
 // The rows, and that the key was compared as often as the segment's number of keys allows.
-pub fn assert_rows<'a, L: Ledger>(
+fn assert_rows<'a, L: Ledger>(
     rt: &impl Abort,
     segment: &Segment<CountedKey<'a>>,
     key: &CountedKey<'a>,
@@ -181,67 +180,6 @@ fn assert_empty<'a, L: Ledger>(
 #[test]
 fn compares_at_most_ten_of_a_thousand_keys(rt: HostRuntime) -> Result<(), Fail> {
     finds_among_many::<Brand>(&rt, rt.alloc(), Blank::new(1))
-}
-
-// The rows that are kept of two lists.
-fn joined(alloc: Global, how: Kept) -> Result<Vec<u32>, AllocError> {
-    join(alloc, how, &[1, 2, 5, 7, 9], &[2, 3, 7, 10])
-}
-
-#[test]
-fn joins_two_lists(rt: HostRuntime) -> Result<(), Fail> {
-    let alloc = rt.alloc();
-    assert_joined(&rt, alloc, Kept::Both, &[2, 7])?;
-    assert_joined(&rt, alloc, Kept::Either, &[1, 2, 3, 5, 7, 9, 10])?;
-    assert_joined(&rt, alloc, Kept::LeftAlone, &[1, 5, 9])?;
-    Ok(())
-}
-
-// These rows are kept of the two lists.
-fn assert_joined(
-    rt: &impl Abort,
-    alloc: Global,
-    how: Kept,
-    rows: &[u32],
-) -> Result<(), AllocError> {
-    assert_same(rt, joined(alloc, how)?.as_slice(), rows);
-    Ok(())
-}
-
-// So many rows are kept of the two lists, and these are the first two of them.
-fn assert_start(
-    rt: &impl Abort,
-    alloc: Global,
-    how: Kept,
-    count: usize,
-    rows: &[u32],
-) -> Result<(), AllocError> {
-    let left: &[u32] = &[1, 2, 5, 7, 9];
-    let right: &[u32] = &[2, 3, 7, 10];
-    let start = join_start(alloc, how, left, right, ends_of(left, right), 2)?;
-    assert_same(rt, start.count, count);
-    assert_same(rt, start.rows.as_slice(), rows);
-    Ok(())
-}
-
-#[test]
-fn counts_and_begins_a_join(rt: HostRuntime) -> Result<(), Fail> {
-    let alloc = rt.alloc();
-    assert_start(&rt, alloc, Kept::Both, 2, &[2, 7])?;
-    assert_start(&rt, alloc, Kept::Either, 7, &[1, 2])?;
-    assert_start(&rt, alloc, Kept::LeftAlone, 3, &[1, 5])?;
-    assert_sparse(&rt, alloc)?;
-    Ok(())
-}
-
-// Marks up to row 10,000 would be more than 512 for each row of both lists.
-fn assert_sparse(rt: &impl Abort, alloc: Global) -> Result<(), AllocError> {
-    let left: &[u32] = &[1, 10000];
-    let right: &[u32] = &[10000];
-    let start = join_start(alloc, Kept::Both, left, right, ends_of(left, right), 1)?;
-    assert_same(rt, start.count, 1);
-    assert_same(rt, start.rows.as_slice(), &[10000]);
-    Ok(())
 }
 
 // The row is one of the four that are cleared.

@@ -49,18 +49,6 @@ fn told<R: Threads + Wait + Sync>(
     format!(in alloc; "{status}\n{lines}")
 }
 
-/// The same where nothing fails.
-fn told_whole<R: Threads + Wait + Sync>(
-    rt: &R,
-    alloc: Global,
-    demo: &Demo,
-) -> Result<String, AllocError>
-    requires { IsDemo demo.now }
-{
-    let crews = demo.workers.saturating_add(1);
-    told(rt, alloc, demo, crews, List::new(alloc))
-}
-
 /// Where nothing fails, a demonstration comes to this.
 fn assert_whole<R: Threads + Wait + Sync + Abort>(
     rt: &R,
@@ -70,9 +58,8 @@ fn assert_whole<R: Threads + Wait + Sync + Abort>(
 ) -> Result<(), AllocError>
     requires { IsDemo demo.now }
 {
-    let found = told_whole(rt, alloc, demo)?;
-    assert_text(rt, found.as_str(), wanted);
-    Ok(())
+    let crews = demo.workers.saturating_add(1);
+    assert_told(rt, alloc, demo, crews, List::new(alloc), wanted)
 }
 
 /// By a station that has so many crews, and where these writes fail, a demonstration comes to this.

@@ -39,7 +39,8 @@ pub struct TcpAcceptor<R: Clock> {
 }
 
 impl<R: Clock + Copy> TcpAcceptor<R> {
-    pub(crate) fn new(clock: R, alloc: Global, port: Option<Arc<Port>>) -> TcpAcceptor<R>
+    /// An acceptor with a share of an open port, or with none, by which accepting fails. How long a client has is told by this clock.
+    pub fn new(clock: R, alloc: Global, port: Option<Arc<Port>>) -> TcpAcceptor<R>
         ensures faults { result.faults ≡ 0 }
         ensures out { result.out ≡ 0 }
     {

@@ -15,7 +15,7 @@
 //! are out, that `accept` never says that no connection will come, and that `close` leaves the trail empty; how long a client has for
 //! so many bytes (`patience`). Of what comes and goes no clause says anything.
 //!
-//! Tested alone, by a worker and its clients in one thread: a request and its reply; that a client gives way to one that waits; that one
+//! Tested alone, in `sc_tests`, by a worker and its clients in one thread: a request and its reply; that a client gives way to one that waits; that one
 //! that says nothing is given up, by a clock that leaps; that a write to a client that is gone fails; that a station opens a port.
 //!
 //! Neither: that the bytes of a stream are those that were sent, that a read waits for a turn and no longer, and what accepting does while
@@ -33,14 +33,13 @@ mod source;
 
 // What workers are given.
 mod acceptor;
-#[cfg(test)]
-mod exchanges;
 mod out;
 mod station;
 
 pub use acceptor::{MAX_TRIES, PAUSE, TcpAcceptor};
 pub use limits::{PATIENCE, PATIENCE_OF_KIBIBYTE, patience};
 pub use out::{CrewsOut, LinksOut};
+pub use port::Port;
 pub use sink::TcpSink;
 pub use source::TcpSource;
 pub use station::TcpStation;

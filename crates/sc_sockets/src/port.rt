@@ -14,7 +14,8 @@ pub struct Port {
 }
 
 impl Port {
-    /// Opens the port of this number.
+    /// Opens the port of this number; where it is 0, the system picks one that is free. Fails where the system refuses it, as where another
+    /// has it.
     pub fn open<R: Net<Listener = TcpListener, Stream = TcpStream>>(
         net: &R,
         number: u16,
@@ -27,13 +28,12 @@ impl Port {
     }
 
     /// The address, with the number that the system picked where 0 was asked for.
-    #[cfg(test)]
     pub fn address(&self) -> io::Result<SocketAddr> {
         self.listener.local_addr()
     }
 
     /// Waits for the next connection and takes it.
-    pub fn accept(&self) -> io::Result<TcpStream> {
+    pub(crate) fn accept(&self) -> io::Result<TcpStream> {
         self.accepting.fetch_add(1, Ordering::SeqCst);
         let accepted = self.listener.accept();
         self.accepting.fetch_sub(1, Ordering::SeqCst);
@@ -41,7 +41,7 @@ impl Port {
     }
 
     /// Whether a connection waits that no worker is about to take. It waits for nothing.
-    pub fn has_waiting(&self) -> bool {
+    pub(crate) fn has_waiting(&self) -> bool {
         self.accepting.load(Ordering::SeqCst) == 0 && is_ready(self.listener.as_raw_fd(), 0)
     }
 }

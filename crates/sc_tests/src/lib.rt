@@ -1,5 +1,5 @@
 //! Tests of what is behaviour and no table: replays, threads, requests that come amid a split, reads and writes that fail in mid-stream,
-//! searches that count their steps, and trees so deep that a recursion would have no stack for them. What a table shows, `sc_examples`
+//! clients that are silent or gone, searches that count their steps, and trees so deep that a recursion would have no stack for them. What a table shows, `sc_examples`
 //! answers from its standard input.
 //!
 //! Each module tests one crate by its public functions, but for `collections`, `sharing`, `splits` and `workers`; `support` has what several
@@ -29,6 +29,8 @@ mod segments;
 mod sharing;
 #[cfg(test)]
 mod snapshots;
+#[cfg(test)]
+mod sockets;
 #[cfg(test)]
 mod splits;
 #[cfg(test)]

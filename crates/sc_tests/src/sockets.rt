@@ -1,11 +1,9 @@
-//! A worker and its clients on a port that the system picks. One thread is all of them.
+//! `sc_sockets`: a worker and its clients on a port that the system picks. One thread is all of them.
 
-use crate::acceptor::TcpAcceptor;
-use crate::port::Port;
-use crate::station::TcpStation;
 use sc_collection::Trail;
 use sc_io::{Sink, Source};
 use sc_session::{Listener, Station};
+use sc_sockets::{Port, TcpAcceptor, TcpStation};
 use std::io;
 use std::io::{ErrorKind, Write};
 use std::net::TcpStream;

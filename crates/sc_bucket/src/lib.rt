@@ -60,6 +60,7 @@ pub use flight::Flight;
 pub use journal::Journal;
 pub use message::Message;
 pub use phase::Phase;
+pub use sc_replicas::{Searcher, Standing};
 pub use spares::hand_on;
 pub use unsettled::Unsettled;
 

@@ -26,3 +26,7 @@ mod tally;
 
 pub use builder::Builder;
 pub use segment::Segment;
+
+// What callers of these name.
+pub use sc_keys::{Key, Steps};
+pub use sc_rows::LiveBits;

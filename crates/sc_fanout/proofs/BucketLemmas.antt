@@ -5,7 +5,7 @@ use Rattle.std.specs.Int.{w32}
 use Rattle.std.proofs.Math.Facts.{sfits_to_z}
 use Rattle.std.proofs.lemmas.Bool.Decides.{not_from_Decides}
 use Rattle.std.proofs.lemmas.List.{take-append-drop}
-use Rattle.std.proofs.lemmas.List.Elements.{All-nil, All-cons, All-head, All-tail, All-contains, All-weaker, All-map, All-from_recursion, Contains-append_left}
+use Rattle.std.proofs.lemmas.List.Elements.{All-nil, All-cons, All-head, All-tail, All-contains, All-weaker, All-from_recursion, Contains-append_left}
 use Rattle.std.proofs.lemmas.List.Sums.{sum_by-cons, sum_by-le-sum_by, length-filter, count_by-le-length}
 use Rattle.sc_hash.specs.Bounds.{bounds, contains}
 use Rattle.sc_hash.specs.Range.{IsWithin}
@@ -40,11 +40,13 @@ use Rattle.sc_replicas.specs.declared.standing.Searcher.{Searcher}
 use Rattle.sc_bucket.proofs.AcceptLemmas.{bucket_has_map}
 use Rattle.sc_bucket.proofs.WriteLemmas.{Contains-find}
 use Rattle.sc_collection.specs.Desks.{IsBucketOf}
-use Rattle.sc_fanout.specs.Pages.{AreFound, all_of}
+use Rattle.sc_finding.specs.Lists.{all_of}
 use Rattle.sc_fanout.specs.Searches.{IsInRoute, IsFoundIn}
-use Rattle.sc_fanout.specs.Steps.{asks_for, is_asked, searcher_rows, found_in, AddsSearchers, IsOfSlice, AreOfSlices, IsJournalOf, AreAsked, HaveTerms}
+use Rattle.sc_finding.specs.SearcherRows.{searcher_rows, found_in, HaveTerms}
+use Rattle.sc_fanout.specs.Steps.{asks_for, is_asked, AddsSearchers, IsOfSlice, AreOfSlices, IsJournalOf, AreAsked}
 use Rattle.sc_fanout.proofs.TakenLemmas.{asks_for-Decides}
-use Rattle.sc_fanout.proofs.ExactlyLemmas.{AreExactly, AreExactly-none, AreExactly-same, AreExactly-append, ascend-once, AscendById-filter}
+use Rattle.sc_finding.proofs.AscendLemmas.{AscendById-filter}
+use Rattle.sc_fanout.proofs.ExactlyLemmas.{AreExactly, AreExactly-none, AreExactly-same, AreExactly-append, ascend-once}
 
 and_parts : (a b : Bool) → (a && b) ≡ true → (a ≡ true) × (b ≡ true)
 and_parts true true both = (refl, refl)
@@ -307,22 +309,6 @@ few-asked layout number journal route searchers asked =
       count_by-le-length (is_asked route) slices,
       asked.is_of.is_map.few,
     )
-
--- what is found may be merged
-pub is-found : (criterion : Criterion) (searcher : Searcher) → AreRows (searcher_rows searcher) → AreFound (found_in criterion searcher)
-is-found criterion searcher are =
-    let keeps = finds searcher.range criterion in
-    record {
-      ascend = AscendById-filter keeps (searcher_rows searcher) are.ascend;
-      bounded = omega (arith, length-filter keeps (searcher_rows searcher), count_by-le-length keeps (searcher_rows searcher), are.bounded);
-    }
-
-pub are-found : (criterion : Criterion) (searchers : List Searcher) → All (λ (searcher : Searcher). AreRows (searcher_rows searcher)) searchers
-    → All AreFound (map (found_in criterion) searchers)
-are-found criterion searchers rows =
-    All-map AreFound (found_in criterion) searchers
-    (All-weaker (λ (searcher : Searcher). AreRows (searcher_rows searcher)) (λ (searcher : Searcher). AreFound (found_in criterion searcher))
-    (is-found criterion) searchers rows)
 
 -- what was taken of a sound bucket
 pub asked : {E V : Type 0} (layout : Layout) (number : ℕ) (bucket : Bucket) (route : Option Range) (old new : List Searcher) (taken : Result V E)

@@ -1,6 +1,6 @@
 -- Lists whose writes are exactly those of which something is true, of each id one at most.
 use Rattle.std.proofs.Common.{◌≡◌, ◌≢◌, ℕ, zero, suc, ◌+◌, ◌<◌, ◌≤◌, Bool, true, false, cond, true≢false, List, [], ◌∷◌, ◌++◌, map, Contains, count_by, refl, sym, ap, subst, ◌∙◌, ◌⊎◌, inl, inr, ⊎_elim, arith, Ordering, Less, Equal, Greater, is_le, is_eq, nat_cmp}
-use Rattle.std.specs.Prelude.{◌↔◌, filter}
+use Rattle.std.specs.Prelude.{◌↔◌}
 use Rattle.std.specs.Cmp.Lexicographic.{slice_cmp, texts_ties}
 use Rattle.std.specs.List.{AllByRecursion}
 use Rattle.std.specs.List.Sorted.{IsStrictlySortedBy}
@@ -15,9 +15,10 @@ use Rattle.sc_record.specs.declared.write.Write.{Write}
 use Rattle.sc_record.specs.Writes.{is_of, AscendById}
 use Rattle.sc_cluster.proofs.ItemLemmas.{find_from_count}
 use Rattle.sc_journal.proofs.JournalLemmas.{is_of_own, id_from_is_of}
-use Rattle.sc_fanout.specs.Pages.{SortsById}
-use Rattle.sc_fanout.specs.Merging.{AscendsBy, goes_before}
-use Rattle.sc_fanout.proofs.OrderLemmas.{ascends-in_order}
+use Rattle.sc_finding.specs.Lists.{SortsById}
+use Rattle.sc_finding.specs.Merging.{AscendsBy, goes_before}
+use Rattle.sc_finding.proofs.AscendLemmas.{IsBelow}
+use Rattle.sc_finding.proofs.OrderLemmas.{ascends-in_order}
 
 -- the writes are exactly those of which this is true, and of each id there is one at most
 pub record AreExactly (P : Write → Type 0) (ws : List Write) : Type 0 where
@@ -78,10 +79,6 @@ AreExactly-append P Q xs ys first second apart = record {
         (zero_or (count_by (is_of id) ys)))
         (zero_or (count_by (is_of id) xs))
 
--- the id comes before the other
-abbrev IsBelow : List ℕ → List ℕ → Type 0
-IsBelow id other = slice_cmp nat_cmp id other ≡ Less
-
 other-id : (id : List ℕ) (w : Write) → bytes_eq id w.id ≡ false → is_of id w ≡ false
 other-id id w is =
     let same = bytes_eq-Decides id w.id in
@@ -107,23 +104,6 @@ ascend-once (w ∷ ws) ascend id =
         (none-below w.id ws (sorted_head (slice_cmp nat_cmp) w.id (map (λ (x : Write). x.id) ws) ascend)) in
         omega (arith, sum_by-cons (weight id) w ws, ap {B = ℕ} (λ b. cond b 1 0) is, none)
     by false is rest = omega (arith, sum_by-cons (weight id) w ws, ap {B = ℕ} (λ b. cond b 1 0) is, rest)
-
-heads-filter : (p : Write → Bool) (id : List ℕ) (ws : List Write) → AllByRecursion (IsBelow id) (map (λ (w : Write). w.id) ws)
-    → AllByRecursion (IsBelow id) (map (λ (w : Write). w.id) (filter p ws))
-heads-filter p id [] all = tt
-heads-filter p id (w ∷ ws) all = by (p w) (heads-filter p id ws all.1) where
-  by : (b : Bool) → AllByRecursion (IsBelow id) (map (λ (x : Write). x.id) (filter p ws))
-      → AllByRecursion (IsBelow id) (map (λ (x : Write). x.id) (cond b (w ∷ filter p ws) (filter p ws)))
-  by true rest = (all.0, rest)
-  by false rest = rest
-
-pub AscendById-filter : (p : Write → Bool) (ws : List Write) → AscendById ws → AscendById (filter p ws)
-unfolding IsStrictlySortedBy
-AscendById-filter p [] ascend = tt
-AscendById-filter p (w ∷ ws) ascend = by (p w) (AscendById-filter p ws ascend.1) where
-  by : (b : Bool) → AscendById (filter p ws) → AscendById (cond b (w ∷ filter p ws) (filter p ws))
-  by true rest = (heads-filter p w.id ws ascend.0, rest)
-  by false rest = rest
 
 less_from : (o : Ordering) → is_le o ≡ true → is_eq o ≡ false → o ≡ Less
 less_from Less h k = refl

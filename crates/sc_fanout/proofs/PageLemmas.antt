@@ -14,10 +14,10 @@ use Rattle.std.proofs.lemmas.List.Sums.{sum_by-cons}
 use Rattle.std.proofs.lemmas.Slice.Eq.{bytes_eq-Decides}
 use Rattle.sc_record.specs.declared.write.Write.{Write}
 use Rattle.sc_fanout.specs.declared.shown.Page.{Page}
-use Rattle.sc_fanout.specs.Pages.{SortsById}
-use Rattle.sc_fanout.specs.Merging.{AscendsBy, goes_before}
+use Rattle.sc_finding.specs.Lists.{SortsById}
+use Rattle.sc_finding.specs.Merging.{AscendsBy, goes_before}
 use Rattle.sc_fanout.specs.Laws.{IsOneOfEachId, PageIsDetermined, PagesFollowOn, ArePages, PagesAreTheWhole}
-use Rattle.sc_fanout.proofs.OrderLemmas.{ascends-in_order}
+use Rattle.sc_finding.proofs.OrderLemmas.{ascends-in_order}
 
 -- 1 where the write is of the id, and else 0
 times : List ℕ → Write → ℕ

@@ -20,11 +20,14 @@ use Rattle.sc_seen.proofs.GoesOnLemmas.{take-prefix, Keeps-none, Keeps-then, Kee
 use Rattle.sc_replicas.specs.declared.standing.Searcher.{Searcher}
 use Rattle.sc_fanout.specs.declared.ask.Ask.{Ask}
 use Rattle.sc_fanout.specs.declared.shown.Page.{Page}
-use Rattle.sc_fanout.specs.Pages.{AreFound, IsPageOf, all_of}
+use Rattle.sc_finding.specs.Lists.{AreFound, all_of}
+use Rattle.sc_fanout.specs.Pages.{IsPageOf}
 use Rattle.sc_fanout.specs.Searches.{IsFoundIn, IsFoundAtOne, LooksAtBuckets, SearchesBuckets, search_of}
-use Rattle.sc_fanout.specs.Steps.{searcher_rows, found_in, AreAsked, LooksAtOne}
+use Rattle.sc_finding.specs.SearcherRows.{searcher_rows, found_in}
+use Rattle.sc_fanout.specs.Steps.{AreAsked, LooksAtOne}
 use Rattle.sc_fanout.proofs.ExactlyLemmas.{AreExactly, AreExactly-none, AreExactly-same, AreExactly-append, AreExactly-sorted}
-use Rattle.sc_fanout.proofs.BucketLemmas.{bucket-exactly, found-number, few-asked, are-found}
+use Rattle.sc_finding.proofs.AscendLemmas.{are-found}
+use Rattle.sc_fanout.proofs.BucketLemmas.{bucket-exactly, found-number, few-asked}
 
 -- the first buckets were looked at, and these stops kept
 pub record Looked (layout : Layout) (old now : View) (count : ℕ) : Type 0 where

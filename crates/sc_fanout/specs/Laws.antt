@@ -4,7 +4,8 @@ use Rattle.std.specs.Arc.{arc_value}
 use Rattle.std.specs.List.{flat_map}
 use Rattle.sc_record.specs.declared.write.Write.{Write}
 use Rattle.sc_fanout.specs.declared.shown.Page.{Page}
-use Rattle.sc_fanout.specs.Pages.{SortsById, IsPageOf}
+use Rattle.sc_finding.specs.Lists.{SortsById}
+use Rattle.sc_fanout.specs.Pages.{IsPageOf}
 
 -- two writes of one id are one write
 abbrev pub IsOneOfEachId : List Write → Type 0

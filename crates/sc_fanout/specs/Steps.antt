@@ -1,6 +1,5 @@
 -- What the steps of a search come to.
-use Rattle.std.specs.Prelude.{◌≡◌, ℕ, ◌&&◌, Bool, true, false, int_le, List, [], ◌∷◌, ◌++◌, length, filter, All, Option, Some, None, ⊤}
-use Rattle.std.specs.Arc.{arc_value}
+use Rattle.std.specs.Prelude.{◌≡◌, ℕ, ◌&&◌, Bool, true, false, int_le, List, [], ◌∷◌, ◌++◌, length, filter, Option, Some, None, ⊤}
 use Rattle.std.specs.List.{AllByRecursion}
 use mathlib.Core.List.{IsPrefix}
 use Rattle.sc_hash.specs.declared.range.Range.{Range}
@@ -10,15 +9,14 @@ use Rattle.sc_record.specs.declared.entry.Entry.{Entry}
 use Rattle.sc_cluster.specs.declared.slice.Slice.{Slice}
 use Rattle.sc_cluster.specs.Slices.{is_active}
 use Rattle.sc_cluster.specs.Map.{IsMap}
-use Rattle.sc_eval.specs.Criteria.{Criterion}
-use Rattle.sc_eval.specs.Matching.{finds}
 use Rattle.sc_journal.specs.Journal.{writes}
 use Rattle.sc_journal.specs.Splits.{map_after}
-use Rattle.sc_journal.specs.Legal.{IsLegal, HasTerms}
+use Rattle.sc_journal.specs.Legal.{IsLegal}
 use Rattle.sc_seen.specs.Seen.{Layout}
 use Rattle.sc_seen.specs.Moments.{View, Keeps}
 use Rattle.sc_bucket.specs.Searchers.{ShowsCommitted}
 use Rattle.sc_replicas.specs.declared.standing.Searcher.{Searcher}
+use Rattle.sc_finding.specs.SearcherRows.{searcher_rows}
 
 -- whether a search looks at slices of this range: it has no route, or some hash is in both
 abbrev pub asks_for : Option Range → Range → Bool
@@ -28,18 +26,6 @@ asks_for (Some route) range = int_le range.min route.max && int_le route.min ran
 -- the slice is active, and the search looks at it
 abbrev pub is_asked : Option Range → Slice → Bool
 is_asked route slice = is_active slice && asks_for route slice.range
-
--- the rows that a searcher looks at
-abbrev pub searcher_rows : Searcher → List Write
-searcher_rows searcher = (arc_value searcher.snapshot).rows
-
--- the rows that a searcher looks at have their terms
-abbrev pub HaveTerms : Searcher → Type 0
-HaveTerms searcher = All (λ (row : Write). HasTerms row.id row.doc row.terms) (searcher_rows searcher)
-
--- what the criterion finds in the searcher's rows
-abbrev pub found_in : Criterion → Searcher → List Write
-found_in criterion searcher = filter (finds searcher.range criterion) (searcher_rows searcher)
 
 -- the searcher is that of the slice
 pub record IsOfSlice (journal : List Entry) (slice : Slice) (searcher : Searcher) : Type 0 where

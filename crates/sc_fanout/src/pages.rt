@@ -2,14 +2,14 @@ ghost use Rattle.std.specs.Prelude.{◌≡◌, ◌+◌, ◌≤◌, List, length,
 ghost use Rattle.std.specs.Arc.{arc_value};
 ghost use Rattle.sc_record.specs.declared.write.Write.{Write};
 ghost use Rattle.sc_eval.specs.Criteria.{criterion_of};
-ghost use Rattle.sc_fanout.specs.Pages.{AreFound, IsPageOf, all_of};
+ghost use Rattle.sc_finding.specs.Lists.{AreFound, all_of};
+ghost use Rattle.sc_fanout.specs.Pages.{IsPageOf};
 ghost use Rattle.sc_bucket.specs.Taking.{lent};
-ghost use Rattle.sc_fanout.specs.Hits.{AreHits, lists_of};
+ghost use Rattle.sc_finding.specs.Hits.{AreHits, lists_of};
 
 use crate::ask::Ask;
-use crate::hits::Hits;
-use crate::merging::first_of_all;
 use crate::shown::Page;
+use sc_finding::{Hits, first_of_all};
 use sc_record::{Cell, List};
 use std::alloc::{AllocError, Global};
 use std::marker::Brand;

@@ -6,14 +6,15 @@ ghost use Rattle.sc_seen.specs.Moments.{view_of};
 ghost use Rattle.sc_collection.specs.Desks.{nothing_out, IsDeskAtRest};
 ghost use Rattle.sc_collection.specs.Kept.{trail_room};
 ghost use Rattle.sc_fanout.specs.Searches.{SearchesBuckets};
-ghost use Rattle.sc_fanout.specs.Steps.{asks_for, is_asked, searcher_rows, AddsSearchers, AreOfSlices, AreAsked, LooksAtOne};
+ghost use Rattle.sc_finding.specs.SearcherRows.{searcher_rows};
+ghost use Rattle.sc_fanout.specs.Steps.{asks_for, is_asked, AddsSearchers, AreOfSlices, AreAsked, LooksAtOne};
 
 use crate::ask::Ask;
 use crate::pages::page;
-use crate::parts::{find_in_parts, parts_for};
 use crate::shown::Page;
 use sc_bucket::Bucket;
 use sc_collection::{Desk, Stop, Trail};
+use sc_finding::{find_in_parts, parts_for};
 use sc_hash::Range;
 use sc_replicas::Searcher;
 use std::alloc::{AllocError, Global};

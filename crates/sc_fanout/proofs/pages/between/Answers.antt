@@ -1,7 +1,7 @@
 -- The places are cut to the end of the cells.
 use Rattle.std.proofs.Common.{arith}
 use Rattle.sc_bucket.specs.Taking.{lent}
-use Rattle.sc_fanout.proofs.HitLemmas.{between-part}
+use Rattle.sc_fanout.proofs.BetweenLemmas.{between-part}
 use Rattle.sc_fanout.proofs.pages.between.Goals as goal
 
 pub returns : goal.returns

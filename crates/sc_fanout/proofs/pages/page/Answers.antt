@@ -2,10 +2,10 @@
 use Rattle.std.proofs.Common.{◌+◌, map, take, drop, sym, ap, ◌∙◌}
 use Rattle.std.proofs.lemmas.List.Sorted.{length_permutation}
 use Rattle.sc_eval.specs.Criteria.{criterion_of}
-use Rattle.sc_fanout.specs.Pages.{IsStartOf, all_of}
+use Rattle.sc_finding.specs.Lists.{IsStartOf, all_of}
 use Rattle.sc_bucket.specs.Taking.{lent}
-use Rattle.sc_fanout.specs.Hits.{lent_in, lists_of}
-use Rattle.sc_fanout.proofs.HitLemmas.{hits-ascend, hits-begin}
+use Rattle.sc_finding.specs.Hits.{lent_in, lists_of}
+use Rattle.sc_finding.proofs.HitLemmas.{hits-ascend, hits-begin}
 use Rattle.sc_fanout.proofs.pages.page.Goals as goal
 
 pub first_of_all-requires-clause-ascend : goal.first_of_all-requires-clause-ascend

@@ -1,6 +1,6 @@
-//! Tests of what is behaviour and no table: replays, threads, requests that come amid a split, reads and writes that fail in mid-stream,
-//! clients that are silent or gone, searches that count their steps, and trees so deep that a recursion would have no stack for them. What a table shows, `sc_examples`
-//! answers from its standard input.
+//! Tests of what no line of a program shows: threads, requests that come amid a split, clients that are silent or gone, calls of the machine
+//! that fail, what a core or a snapshot has that no answer tells, searches that count their steps, and trees so deep that a recursion would
+//! have no stack for them. What lines show, `sc_examples` and `solr_split` answer from their standard input.
 //!
 //! Each module tests one crate by its public functions, but for `collections`, `sharing`, `splits` and `workers`; `support` has what several
 //! share. A table is a text, which a function with no contract gives, so that the prover does not read it in each step of a test. Nothing

@@ -42,7 +42,10 @@ fn deletion(alloc: Global, id: &str, version: i64) -> Result<Cell, Fail>
 /// The version of the id's cell.
 fn version_of(alloc: Global, core: &Replica, id: &str) -> Result<Option<i64>, Fail> {
     let id = Id::new(alloc, id)?;
-    Ok(core.cell(&id).map(|cell| cell.version))
+    match core.cell(&id) {
+        Some(cell) => Ok(Some(cell.version)),
+        None => Ok(None),
+    }
 }
 
 // A follower that is sent the versions v1, v0 and v1 of one id keeps v1.

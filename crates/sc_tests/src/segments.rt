@@ -1,6 +1,6 @@
 //! `sc_segment`, `sc_keys` and `sc_rows`: the rows of each key, in how many steps they are found, and which rows are live.
 
-ghost use Rattle.std.specs.Prelude.{◌<◌};
+ghost use Rattle.std.specs.Prelude.{◌≡◌, ◌<◌};
 ghost use Rattle.std.specs.Ordering.{nat_cmp};
 ghost use Rattle.sc_keys.specs.Fresh.{IsFresh};
 ghost use Rattle.std.proofs.lemmas.Cmp.{on_total, nat_cmp_total};
@@ -62,6 +62,22 @@ fn filled<'a>(
     compared: &'a Cell<u32>,
 ) -> Result<Segment<CountedKey<'a>>, AllocError> {
     let mut builder = Builder::new(alloc);
+    if let Err(refused) = fill(rt, &mut builder, pairs, compared) {
+        drop(builder);
+        return Err(refused);
+    }
+    builder.finish()
+}
+
+// Files these rows, which ascend, under their keys.
+fn fill<'a>(
+    rt: &impl Abort,
+    builder: &mut Builder<CountedKey<'a>>,
+    pairs: &[(u32, u32)],
+    compared: &'a Cell<u32>,
+) -> Result<(), AllocError>
+    requires { builder.old.last_row ≡ 0 }
+{
     let mut last = 0;
     for (row, number) in pairs {
         assert!(rt; last <= *row);
@@ -72,7 +88,7 @@ fn filled<'a>(
         builder.add(*row, key)?;
         last = *row;
     }
-    builder.finish()
+    Ok(())
 }
 
 // The rows, and that the key was compared as often as the segment's number of keys allows.
@@ -133,7 +149,9 @@ fn finds_among_many<L: Ledger>(rt: &impl Abort, alloc: Global, blank: Blank) -> 
     let mut steps = Steps::<L>::new(blank);
     let compared = Cell::new(0);
     let segment = of_many(rt, alloc, &compared)?;
-    assert_each(rt, &segment, &compared, &mut steps)?;
+    let found = assert_each(rt, &segment, &compared, &mut steps);
+    drop(segment);
+    found?;
     assert_empty(rt, alloc, &compared, &mut steps)?;
     Ok(())
 }
@@ -174,6 +192,7 @@ fn assert_empty<'a, L: Ledger>(
         compared,
     };
     assert_rows(rt, &empty, &key, &[], 0, steps);
+    drop(empty);
     Ok(())
 }
 

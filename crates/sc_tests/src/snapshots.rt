@@ -12,9 +12,15 @@ use std::sync::Arc;
 use std::test::Fail;
 
 /// A write of the id: a document without fields, or a deletion.
-fn write(alloc: Global, id: &str, hash: i32, doc: Option<Doc>) -> Result<Cell, Fail> {
+fn write(alloc: Global, id: &str, hash: i32, live: bool) -> Result<Cell, Fail> {
+    let id = Id::new(alloc, id)?;
+    let doc = if live {
+        Some(Doc::new(List::new(alloc)))
+    } else {
+        None
+    };
     let write = Write {
-        id: Id::new(alloc, id)?,
+        id,
         hash,
         version: 1,
         doc,
@@ -30,18 +36,29 @@ fn feed(replica: &mut Replica, write: Cell) -> Result<(), Fail> {
     Ok(())
 }
 
-/// The rows whose hashes are 2 and 3, in the snapshot of a core to which three writes came: of documents `a` and `c`, and of `b`, which was
-/// deleted. Their hashes are 1, 3 and 2.
-fn part_of(rt: &impl Abort, alloc: Global, replica: &mut Replica) -> Result<Snapshot, Fail> {
-    let doc = Doc::new(List::new(alloc));
-    feed(replica, write(alloc, "c", 3, Some(doc))?)?;
-    feed(replica, write(alloc, "b", 2, None)?)?;
-    let doc = Doc::new(List::new(alloc));
-    feed(replica, write(alloc, "a", 1, Some(doc))?)?;
+/// Feeds the core three writes: of documents `a` and `c`, and of `b`, which was deleted. Their hashes are 1, 3 and 2.
+fn feed_three(alloc: Global, replica: &mut Replica) -> Result<(), Fail> {
+    feed(replica, write(alloc, "c", 3, true)?)?;
+    feed(replica, write(alloc, "b", 2, false)?)?;
+    feed(replica, write(alloc, "a", 1, true)?)
+}
+
+/// The snapshot of the core's cells, of which there are three.
+fn whole(rt: &impl Abort, alloc: Global, replica: &Replica) -> Result<Snapshot, Fail> {
     let cells = replica.cells().share(alloc)?;
     assert!(rt; cells.len() == 3);
-    let whole = Snapshot::of(alloc, 3, &cells)?;
-    Ok(whole.within(alloc, &Range { min: 2, max: 3 })?)
+    let whole = Snapshot::of(alloc, 3, &cells);
+    drop(cells);
+    Ok(whole?)
+}
+
+/// The rows of the core whose hashes are 2 and 3, once it was fed the three writes.
+fn part_of(rt: &impl Abort, alloc: Global, replica: &mut Replica) -> Result<Snapshot, Fail> {
+    feed_three(alloc, replica)?;
+    let whole = whole(rt, alloc, replica)?;
+    let part = whole.within(alloc, &Range { min: 2, max: 3 });
+    drop(whole);
+    Ok(part?)
 }
 
 /// These rows of such a core.
@@ -70,5 +87,6 @@ fn assert_part(rt: &impl Abort, part: &Snapshot) {
 fn a_part_has_the_rows_of_its_range(rt: HostRuntime) -> Result<(), Fail> {
     let part = part(&rt, rt.alloc())?;
     assert_part(&rt, &part);
+    drop(part);
     Ok(())
 }

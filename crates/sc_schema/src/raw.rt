@@ -4,14 +4,14 @@ ghost use Rattle.sc_schema.specs.Raw.{AscendByName};
 use sc_record::{List, Text};
 
 /// A document as a request gives it: the members of a JSON object, which ascend by the bytes of their names, each name once.
-#[derive(Debug, Drop)]
+#[derive(Drop)]
 pub struct RawDoc {
     pub fields: List<RawField>,
     pub ghost ascend: { AscendByName fields } by { Prim.hlevel props },
 }
 
 /// A member of a document's object.
-#[derive(Debug, Drop)]
+#[derive(Drop)]
 pub struct RawField {
     pub name: Text,
     pub value: RawValue,

@@ -1,7 +1,7 @@
 use sc_record::{List, Order};
 
 /// What a request to update sets (Solr Reference Guide, "Indexing with Update Handlers", "Optimistic Concurrency").
-#[derive(Clone, Copy, Debug, PartialEq, Eq)]
+#[derive(Clone, Copy)]
 pub struct Flags {
     /// What was written can be found by a search once the update is answered.
     pub commit: bool,
@@ -12,7 +12,7 @@ pub struct Flags {
 }
 
 /// The orders of one update, in order.
-#[derive(Debug, Drop)]
+#[derive(Drop)]
 pub struct Batch {
     pub orders: List<Order>,
     pub flags: Flags,

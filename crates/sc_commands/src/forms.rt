@@ -14,7 +14,7 @@ use serde_json::Value;
 use std::alloc::Global;
 
 /// What a command does with the document of a value.
-#[derive(Clone, Copy, Debug, PartialEq, Eq)]
+#[derive(Clone, Copy)]
 pub(crate) enum Action {
     Add,
     Delete,
@@ -64,21 +64,40 @@ fn object_commands(alloc: Global, mut value: Value) -> Result<Commands, FormFaul
         (λ found. found.commit ≡ commands.asks_commit (view value)) }
     ensures err { IfErr result (IsFormFault (commands.commands_of (view value))) }
 {
-    if !has_keys(&value, &["add", "delete", "commit"]) {
+    let found = take_commands(alloc, &mut value);
+    drop(value);
+    found
+}
+
+/// Takes what an object of commands asks for out of it.
+fn take_commands(alloc: Global, value: &mut Value) -> Result<Commands, FormFault>
+    ensures ok { IfOk result (λ found. commands.commands_of (view value.old)
+        ≡ Ok (listed actions.Add found.adds.items ++ listed actions.Delete found.deletes.items)) }
+    ensures commit { IfOk result
+        (λ found. found.commit ≡ commands.asks_commit (view value.old)) }
+    ensures err { IfErr result (IsFormFault (commands.commands_of (view value.old))) }
+{
+    if !has_keys(value, &["add", "delete", "commit"]) {
         return Err(FormFault::Shape { at: 0 });
     }
-    let adds = adds_at(alloc, take_member(&mut value, "add"))?;
-    let deletes = match deletes_at(alloc, take_member(&mut value, "delete")) {
+    let adds = adds_at(alloc, take_member(value, "add"))?;
+    let deletes = match deletes_at(alloc, take_member(value, "delete")) {
         Ok(deletes) => deletes,
-        Err(FormFault::Shape { at }) => return Err(FormFault::Shape {
-            at: adds.len() + at,
-        }),
-        Err(fault) => return Err(fault),
+        Err(FormFault::Shape { at }) => {
+            let before = adds.len();
+            drop(adds);
+            return Err(FormFault::Shape { at: before + at });
+        }
+        Err(fault) => {
+            drop(adds);
+            return Err(fault);
+        }
     };
-    let Some(commit) = commit_at(&value) else {
-        return Err(FormFault::Shape {
-            at: adds.len() + deletes.len(),
-        });
+    let Some(commit) = commit_at(value) else {
+        let at = adds.len() + deletes.len();
+        drop(adds);
+        drop(deletes);
+        return Err(FormFault::Shape { at });
     };
     Ok(Commands {
         adds,
@@ -160,13 +179,25 @@ fn added_doc(mut value: Value) -> Option<Value>
     ensures { MatchOption result (commands.added_doc (view value) ≡ None)
         (λ doc. commands.added_doc (view value) ≡ Some (command_of actions.Add (view doc))) }
 {
-    if !has_keys(&value, &["doc", "commitWithin", "overwrite"]) || !overwrites(&value) {
+    let doc = take_doc(&mut value);
+    drop(value);
+    doc
+}
+
+/// Takes the document out of an object that adds one.
+fn take_doc(value: &mut Value) -> Option<Value>
+    ensures { MatchOption result (commands.added_doc (view value.old) ≡ None)
+        (λ doc. commands.added_doc (view value.old) ≡ Some (command_of actions.Add (view doc))) }
+{
+    if !has_keys(value, &["doc", "commitWithin", "overwrite"]) || !overwrites(value) {
         return None;
     }
-    match take_member(&mut value, "doc") {
-        Some(doc) if doc.is_object() => Some(doc),
-        _ => None,
+    let doc = take_member(value, "doc")?;
+    if doc.is_object() {
+        return Some(doc);
     }
+    drop(doc);
+    None
 }
 
 /// Whether the key `overwrite` is left out, or true.
@@ -190,6 +221,7 @@ fn deletes_of(alloc: Global, value: Value) -> Result<Vec<Value>, FormFault>
         Value::Array(items) => all_ids(items),
         one => {
             if !names_one(&one) {
+                drop(one);
                 return Err(FormFault::Shape { at: 0 });
             }
             alone(alloc, one)
@@ -236,7 +268,10 @@ fn all_objects(items: Vec<Value>) -> Result<Vec<Value>, FormFault>
 {
     match objects(items.as_slice()) {
         Ok(()) => Ok(items),
-        Err(at) => Err(FormFault::Shape { at }),
+        Err(at) => {
+            drop(items);
+            Err(FormFault::Shape { at })
+        }
     }
 }
 
@@ -264,7 +299,10 @@ fn all_ids(items: Vec<Value>) -> Result<Vec<Value>, FormFault>
 {
     match ids(items.as_slice()) {
         Ok(()) => Ok(items),
-        Err(at) => Err(FormFault::Shape { at }),
+        Err(at) => {
+            drop(items);
+            Err(FormFault::Shape { at })
+        }
     }
 }
 

@@ -53,8 +53,9 @@ fn with_docs(
     ensures fault { IfErr result (IsDocumentFault (updates.orders_of (added_docs docs.items))) }
 {
     for document in docs {
-        let order = check_doc(alloc, &document)?;
-        orders.push(order)?;
+        let checked = check_doc(alloc, &document);
+        drop(document);
+        orders.push(checked?)?;
     }
     Ok(orders)
 }
@@ -72,8 +73,9 @@ fn with_orders(
     ensures fault { IfErr result (IsDocumentFault (updates.orders_of (listed action values.items))) }
 {
     for value in values {
-        let order = order_of(alloc, &value, action)?;
-        orders.push(order)?;
+        let made = order_of(alloc, &value, action);
+        drop(value);
+        orders.push(made?)?;
     }
     Ok(orders)
 }
@@ -86,7 +88,9 @@ fn order_of(alloc: Global, value: &Value, action: Action) -> Result<Order, DocFa
         (IsDocumentFault (updates.order_of (command_of action (view value.now)))) }
 {
     let document = document_of(alloc, value)?;
-    let order = check_doc(alloc, &document)?;
+    let checked = check_doc(alloc, &document);
+    drop(document);
+    let order = checked?;
     match action {
         Action::Add => Ok(order),
         Action::Delete => Ok(deletion(order)),
@@ -124,10 +128,12 @@ fn id_alone(alloc: Global, value: &Value) -> Result<RawDoc, AllocError>
     ensures { IfOk result (λ document. document.fields
         ≡ record { name = codes "id"; value = Plain (One (one_of (view value.now))) } ∷ []) }
 {
+    let name = Text::new(alloc, "id")?;
+    let one = raw_one(alloc, value)?;
     let mut fields = List::new(alloc);
     fields.push(RawField {
-        name: Text::new(alloc, "id")?,
-        value: RawValue::Plain(RawFlat::One(raw_one(alloc, value)?)),
+        name,
+        value: RawValue::Plain(RawFlat::One(one)),
     })?;
     Ok(RawDoc { fields })
 }

@@ -111,6 +111,7 @@ fn read_value(alloc: Global, value: Value, flags: &Flags) -> Result<Batch, Comma
         Err(FormFault::Memory) => return Err(CommandFault::Memory),
     };
     if commands.adds.len() + commands.deletes.len() > MAX_ORDERS {
+        drop(commands);
         return Err(CommandFault::TooMany);
     }
     let commit = commands.commit;

@@ -22,7 +22,7 @@ use std::alloc::{AllocError, Global};
 const MOST_IDS: usize = 4096;
 
 /// Why a request is refused before any journal is looked at.
-#[derive(Debug, Drop)]
+#[derive(Drop)]
 pub(crate) enum Refused {
     /// No such path.
     NotFound,
@@ -41,7 +41,7 @@ pub(crate) enum Refused {
 }
 
 /// What a request asks for, or why it is refused.
-#[derive(Debug, Drop)]
+#[derive(Drop)]
 pub(crate) enum Asked {
     Refused(Refused),
     /// The orders of a batch, and a commit.

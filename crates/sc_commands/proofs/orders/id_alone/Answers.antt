@@ -9,6 +9,6 @@ use Rattle.sc_commands.proofs.orders.id_alone.Goals as goal
 
 pub invariant_of-result : goal.invariant_of-result
 invariant_of-result c =
-    let field : RawField = record { name = c.in_ok-new.field-0; value = Plain (One c.in_ok-raw_one.field-0) } in
+    let field : RawField = record { name = c.in_ok-name.name; value = Plain (One c.in_ok-one.one) } in
     let put = c.in_ok-push.ensures.ok ∙ ap (λ (fields : List RawField). fields ++ field ∷ []) c.new-fields.ensures in
     record { ascend = subst AscendByName (sym put) (alone_ascends field) }

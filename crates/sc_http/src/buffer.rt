@@ -16,7 +16,7 @@ const FIRST_ROOM: usize = 4096;
 pub(crate) const ROOM: usize = MAX_HEAD + 4096;
 
 /// Bytes that were read and not yet given out.
-#[derive(Debug, Drop)]
+#[derive(Drop)]
 pub(crate) struct Buffer {
     bytes: Vec<u8>,
     /// The place of the first byte that was not given out.

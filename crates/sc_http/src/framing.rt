@@ -13,7 +13,7 @@ use httparse::spans::HeaderSpan;
 const MAX_BODY: u64 = 16_777_216;
 
 /// How the end of a body is known (RFC 9112, section 6).
-#[derive(Clone, Copy, Debug, PartialEq, Eq)]
+#[derive(Clone, Copy)]
 pub(crate) enum Framing {
     /// The body has so many bytes.
     OfLength(usize),
@@ -22,7 +22,7 @@ pub(crate) enum Framing {
 }
 
 /// Why the end of a body can't be known.
-#[derive(Clone, Copy, Debug, PartialEq, Eq)]
+#[derive(Clone, Copy)]
 pub(crate) enum LengthError {
     Malformed,
     TooLarge,

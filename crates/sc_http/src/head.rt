@@ -27,7 +27,7 @@ const MAX_LINES: usize = 128;
 const FEW_LINES: usize = 16;
 
 /// What a head says, as far as it is kept.
-#[derive(Debug, Drop)]
+#[derive(Drop)]
 pub(crate) struct Head {
     pub method: Method,
     pub path: Text,

@@ -2,7 +2,7 @@ ghost use Rattle.std.specs.Prelude.{◌≡◌, ◌≤◌, ◌↔◌, IsTrue, fol
 ghost use Rattle.sc_http.specs.HeadEnd.{next_progress};
 
 /// How far the search for the end of a head has come: a head ends at the first empty line after some text.
-#[derive(Clone, Copy, Debug)]
+#[derive(Clone, Copy)]
 pub(crate) enum HeadProgress {
     /// In the line ends before the head's text, which belong to it.
     Before,

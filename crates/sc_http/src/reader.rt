@@ -20,7 +20,7 @@ use std::marker::Model;
 
 /// Reads the requests of a connection, one after another. Contracts see the bytes that it took from
 /// its source and has not given out as part of a request.
-#[derive(Debug, Drop)]
+#[derive(Drop)]
 pub struct Reader {
     buffer: Buffer,
 }

@@ -4,7 +4,7 @@ use crate::end::MessageEnd;
 use std::alloc::AllocError;
 
 /// Why no more bytes came.
-#[derive(Debug, Clone, Copy, PartialEq, Eq)]
+#[derive(Clone, Copy)]
 pub(crate) enum Stopped {
     /// The input ended.
     Ended,

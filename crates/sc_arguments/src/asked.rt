@@ -39,7 +39,7 @@ const DEFAULT_SEED: u64 = 1;
 const DEFAULT_COUNT: u64 = 1000;
 
 /// What the arguments ask for.
-#[derive(Clone, Copy, Debug, PartialEq, Eq)]
+#[derive(Clone, Copy, Debug)]
 pub enum Asked {
     /// To serve one connection over standard input and output.
     Script(Script),
@@ -50,7 +50,7 @@ pub enum Asked {
 }
 
 /// How one connection is served.
-#[derive(Clone, Copy, Debug, PartialEq, Eq)]
+#[derive(Clone, Copy, Debug)]
 pub struct Script {
     /// How the collection is laid out.
     pub shape: Shape,
@@ -59,7 +59,7 @@ pub struct Script {
 }
 
 /// How the connections to a port are served.
-#[derive(Clone, Copy, Debug, PartialEq, Eq)]
+#[derive(Clone, Copy, Debug)]
 pub struct Server {
     /// How the collection is laid out.
     pub shape: Shape,
@@ -74,7 +74,7 @@ pub struct Server {
 }
 
 /// A workload that several workers make beside a split.
-#[derive(Clone, Copy, Debug, PartialEq, Eq)]
+#[derive(Clone, Copy, Debug)]
 pub struct Demo {
     /// The seed of the workload.
     pub seed: u64,
@@ -116,7 +116,11 @@ fn script_of(alloc: Global, words: &[String]) -> Result<Option<Script>, AllocErr
     ensures shape { IfOk result (λ script. IfSome script (λ one. IsShape one.shape)) }
 {
     match options_of(alloc, Command::Script, words)? {
-        Some(found) => Ok(script_in(&found)),
+        Some(found) => {
+            let script = script_in(&found);
+            drop(found);
+            Ok(script)
+        }
         None => Ok(None),
     }
 }
@@ -139,7 +143,11 @@ fn server_of(alloc: Global, words: &[String]) -> Result<Option<Server>, AllocErr
     ensures range { IfOk result (λ server. IfSome server (λ one. asked.IsServer one)) }
 {
     match options_of(alloc, Command::Serve, words)? {
-        Some(found) => Ok(server_in(&found)),
+        Some(found) => {
+            let server = server_in(&found);
+            drop(found);
+            Ok(server)
+        }
         None => Ok(None),
     }
 }
@@ -173,7 +181,11 @@ fn demo_of(alloc: Global, words: &[String]) -> Result<Option<Demo>, AllocError>
     ensures range { IfOk result (λ demo. IfSome demo (λ one. asked.IsDemo one)) }
 {
     match options_of(alloc, Command::Demo, words)? {
-        Some(found) => Ok(demo_in(&found)),
+        Some(found) => {
+            let demo = demo_in(&found);
+            drop(found);
+            Ok(demo)
+        }
         None => Ok(None),
     }
 }

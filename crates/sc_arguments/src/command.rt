@@ -5,7 +5,7 @@ ghost use Rattle.sc_arguments.specs.Arguments.{option_names};
 ghost use Rattle.sc_arguments.specs.Found.{option_name};
 
 /// What the program can be told to do.
-#[derive(Clone, Copy, Debug, PartialEq, Eq)]
+#[derive(Clone, Copy)]
 pub(crate) enum Command {
     /// Serve one connection over standard input and output.
     Script,

@@ -7,7 +7,7 @@ use std::alloc::Global;
 use thiserror::Error;
 
 /// Why a body has no value.
-#[derive(Clone, Copy, Debug, PartialEq, Eq, Error)]
+#[derive(Clone, Copy, Debug, Error)]
 pub enum JsonFault {
     /// The body is not UTF-8 or no JSON text, its arrays and objects are in one another more than 127 deep, or it has a
     /// number that no finite float is near.

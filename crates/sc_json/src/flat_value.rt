@@ -15,7 +15,7 @@ use sc_schema::{RawFlat, RawOne};
 use std::alloc::{AllocError, AllocFailed, Global};
 
 /// Why a text is not read as flat documents.
-#[derive(Debug, Drop)]
+#[derive(Drop)]
 pub(crate) enum Unread {
     /// It is none of this form.
     Other,

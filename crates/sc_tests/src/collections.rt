@@ -119,6 +119,7 @@ fn commit<R: Wait, N: Home>(
     let mut trail = Trail::new(alloc)?;
     let mut desk = Shared::<R, N>::new(rt, collection, passes);
     let fault = commit_all(alloc, &mut desk, &mut trail);
+    drop(trail);
     let passes = passes_of(collection, desk);
     if fault.is_some() {
         return Err(AllocError);

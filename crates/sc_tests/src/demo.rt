@@ -45,8 +45,11 @@ fn told<R: Threads + Wait + Sync>(
     let mut station = MemStation::new(alloc, crews_of(alloc, crews)?, List::new(alloc))?;
     let mut sink = MemSink::new(alloc, lines);
     let status = run_demo(rt, alloc, demo, &mut sink, &mut station);
+    drop(station);
     let lines = std::str::from_utf8(sink.bytes.as_slice()).unwrap_or("");
-    format!(in alloc; "{status}\n{lines}")
+    let told = format!(in alloc; "{status}\n{lines}");
+    drop(sink);
+    told
 }
 
 /// Where nothing fails, a demonstration comes to this.

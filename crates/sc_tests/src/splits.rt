@@ -60,9 +60,9 @@ fn exchange<R: Threads + Sync, D: Desk, P: Pace>(
     requires { D.out desk.old ≡ nothing_out }
     ensures { D.out desk.new ≡ nothing_out }
 {
+    let mut trail = Trail::new(alloc)?;
     let mut source = source_of(alloc, request)?;
     let mut sink = MemSink::new(alloc, List::new(alloc));
-    let mut trail = Trail::new(alloc)?;
     let _ = serve(
         rt,
         alloc,
@@ -74,7 +74,11 @@ fn exchange<R: Threads + Sync, D: Desk, P: Pace>(
         &mut sink,
         &mut trail,
     );
-    body_of(alloc, sink.bytes.as_slice())
+    let body = body_of(alloc, sink.bytes.as_slice());
+    drop(sink);
+    drop(source);
+    drop(trail);
+    body
 }
 
 /// A source that gives this request, where `|` stands for each end of a line.
@@ -140,11 +144,11 @@ fn send_each<R: Threads + Wait + Sync, D: Desk>(
 
 /// Takes the next of these visits, if it comes at this step.
 fn next_at<'a>(visits: &mut VecDeque<Visit<'a>>, step: SplitStep) -> Option<Visit<'a>> {
-    if visits.front().is_some_and(|visit| visit.step == step) {
-        visits.pop_front()
-    } else {
-        None
-    }
+    let comes = match visits.front() {
+        Some(visit) => visit.step == step,
+        None => false,
+    };
+    if comes { visits.pop_front() } else { None }
 }
 
 /// The body of the answer to a visit, as a line.

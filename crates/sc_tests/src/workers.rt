@@ -188,12 +188,15 @@ fn served<R: Threads + Wait + Sync>(
     let mut station = MemStation::new(alloc, crews, opens)?;
     let mut sink = MemSink::new(alloc, lines);
     let status = run_server(rt, alloc, &server, &mut sink, &mut station);
-    told_in_all(
+    let told = told_in_all(
         alloc,
         status,
         sink.bytes.as_slice(),
         station.back.as_slice(),
-    )
+    );
+    drop(sink);
+    drop(station);
+    told
 }
 
 /// The status, what the server wrote of itself, and what was written to the connections of the crews that are back.
@@ -260,8 +263,13 @@ fn slow_and_quick(alloc: Global) -> Result<Vec<OneLink>, AllocError> {
     let second = new_mark(alloc)?;
     let waits_for = Arc::try_clone(&second)?;
     let slow = slow_crew(alloc, waits_for)?;
-    let quick = crew_that_posts(alloc, r#"[{"id":"abc","t_s":"y"}]"#, None, second)?;
-    Ok(Vec::from_array(alloc, [slow, quick])?)
+    match crew_that_posts(alloc, r#"[{"id":"abc","t_s":"y"}]"#, None, second) {
+        Ok(quick) => Ok(Vec::from_array(alloc, [slow, quick])?),
+        Err(refused) => {
+            drop(slow);
+            Err(refused)
+        }
+    }
 }
 
 /// The first of the two.

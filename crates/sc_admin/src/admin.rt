@@ -3,7 +3,7 @@ use sc_record::Text;
 use std::alloc::Global;
 
 /// What is asked of the collection.
-#[derive(Debug, Drop)]
+#[derive(Drop)]
 pub enum Admin {
     /// To split the shard of this name, by this cut.
     Split { shard: Text, cut: Cut },
@@ -14,7 +14,7 @@ pub enum Admin {
 }
 
 /// Why a request asks for nothing that may be asked.
-#[derive(Debug, Drop)]
+#[derive(Drop)]
 pub enum AdminFault {
     /// The first parameter that has no such value, by its name.
     BadParam(Text),
@@ -23,7 +23,7 @@ pub enum AdminFault {
 }
 
 /// What a parameter `action` names.
-#[derive(Clone, Copy, Debug, PartialEq, Eq)]
+#[derive(Clone, Copy)]
 pub(crate) enum Action {
     Split,
     Status,

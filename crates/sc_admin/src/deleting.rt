@@ -23,7 +23,7 @@ use std::alloc::Global;
 
 /// What a deletion came to. After `HostFault` the shard is gone, each of its other cores was asked to stop, and the core of this name is
 /// the first of which that failed. After each other refusal all is as it was.
-#[derive(Debug, Drop)]
+#[derive(Drop)]
 pub enum DeleteEnd {
     /// The shard is gone, and its cores are stopped.
     Done,

@@ -159,9 +159,9 @@ module _ (layout : Layout) (course : DeleteCourse) (old new : View) (it : Delete
     pub is_delete : (shard : List ℕ) (outside_old outside_new : Outside) (end : DeleteEnd)
         → FromNowOn new.seen (λ later. IsDeleteAnswered layout later shard first course end)
         → StopsCores layout.nodes course outside_old outside_new end → CountsGoUp outside_old outside_new
-        → outside_new.start_faults ≡ outside_old.start_faults → outside_new.stops ≡ outside_old.stops
+        → outside_new.start_faults ≡ outside_old.start_faults → outside_new.stops ≡ outside_old.stops → outside_new.reach ≡ outside_old.reach
         → IsDelete layout shard (delete_moment old outside_old) (delete_moment new outside_new) end
-    is_delete shard outside_old outside_new end answered outside counts no_start no_pace = record {
+    is_delete shard outside_old outside_new end answered outside counts no_start no_pace no_reach = record {
       first = first;
       course = course;
       lock = refl;
@@ -176,6 +176,7 @@ module _ (layout : Layout) (course : DeleteCourse) (old new : View) (it : Delete
       counts = counts;
       no_start = no_start;
       no_pace = no_pace;
+      no_reach = no_reach;
     }
 
 -- a deletion that the board refused is answered so

@@ -1,5 +1,5 @@
 -- A slice may be dropped from buckets at rest where the board may note it, and then they are at rest as the board says.
-use Rattle.std.proofs.Common.{◌≡◌, ℕ, ◌≤◌, List, [], ◌∷◌, ◌++◌, Some, None, sym, ap, ◌∙◌, subst, arith}
+use Rattle.std.proofs.Common.{◌≡◌, ℕ, ◌≤◌, List, [], ◌∷◌, ◌++◌, length, drop, Some, None, sym, ap, ◌∙◌, subst, arith}
 use Rattle.std.specs.Prelude.{All, Contains}
 use Rattle.std.proofs.lemmas.List.Elements.{All-filter}
 use Rattle.sc_record.specs.declared.slice.SliceId.{SliceId}
@@ -15,7 +15,6 @@ use Rattle.sc_seen.specs.Seen.{Layout}
 use Rattle.sc_seen.specs.declared.board.BoardEntry.{BoardEntry}
 use Rattle.sc_seen.specs.declared.board.BoardEntry.TheVariants as board
 use Rattle.sc_seen.proofs.BoardLemmas.{board_map-push, running_where}
-use Rattle.sc_seen.proofs.RoundLemmas.{GoTogether-more}
 use Rattle.sc_board.specs.declared.board.Board.{Board}
 use Rattle.sc_board.specs.Boards.{IsSoundBoard}
 use Rattle.sc_board.specs.Splits.{slice_named, IsOfNamed}
@@ -25,6 +24,7 @@ use Rattle.sc_keeper.specs.declared.part.CorePart.{CorePart}
 use Rattle.sc_keeper.specs.Conditions.{MayDrop}
 use Rattle.sc_collection.specs.Desks.{Keeping, IsAtRest, AreAtRest}
 use Rattle.sc_collection.specs.Known.{Known, OfBuckets}
+use Rattle.sc_collection.proofs.RestLemmas.{GoTogether-since, since-more}
 use Rattle.sc_admin.specs.Dropping.{IsDroppedIn, DropsSlice, with_board}
 
 -- no split runs where a slice may be dropped
@@ -41,19 +41,20 @@ may_at_rest layout first entries keeping slice same may rest b low below =
     (at.idle, subst (λ (slices : List Slice). IsInactive slices slice) (ap (λ (f : List Slice). board_map f entries) same ∙ sym at.map_is) may.1)
 
 -- a bucket from which the slice was dropped is at rest as the board says then
-at_rest_dropped : (first : List Slice) (entries given : List BoardEntry) (old new : Known) (slice : SliceId) (b : ℕ)
-    → given ≡ entries ++ board.Dropped slice ∷ [] → IsAtRest entries (board_map first entries) (old.keeping.part b) (old.keeping.own b)
-    → IsDroppedIn slice old new b → IsAtRest given (board_map first given) (new.keeping.part b) (new.keeping.own b)
-at_rest_dropped first entries given old new slice b noted was is = record {
+at_rest_dropped : (opened : ℕ) (first : List Slice) (entries given : List BoardEntry) (old new : Known) (slice : SliceId) (b : ℕ)
+    → given ≡ entries ++ board.Dropped slice ∷ [] → IsAtRest opened entries (board_map first entries) (old.keeping.part b) (old.keeping.own b)
+    → IsDroppedIn slice old new b → IsAtRest opened given (board_map first given) (new.keeping.part b) (new.keeping.own b)
+at_rest_dropped opened first entries given old new slice b noted was is = record {
   map_is = is.part.map_is ∙ ap (λ (slices : List Slice). after slices (Change.Dropped slice)) was.map_is
       ∙ sym (board_map-push first entries (board.Dropped slice)) ∙ ap (board_map first) (sym noted);
   idle = is.part.phase_is ∙ was.idle;
   active = subst (All (λ (core : CorePart). core.mode ≡ Active)) (sym is.part.cores_are)
       (All-filter _ (λ (core : CorePart). core.mode ≡ Active) (old.keeping.part b).cores was.active);
   unfed = is.part.feeds_are ∙ was.unfed;
-  together = subst (λ (es : List BoardEntry). GoTogether es (new.keeping.own b)) (sym noted)
-      (subst (GoTogether (entries ++ board.Dropped slice ∷ [])) (sym is.own)
-      (GoTogether-more (Round.dropped slice) entries (old.keeping.own b) was.together));
+  since = subst (λ (es : List BoardEntry). opened ≤ length es) (sym noted) (since-more opened entries (board.Dropped slice ∷ []) was.since);
+  together = subst (λ (es : List BoardEntry). GoTogether (drop opened es) (new.keeping.own b)) (sym noted)
+      (subst (GoTogether (drop opened (entries ++ board.Dropped slice ∷ []))) (sym is.own)
+      (GoTogether-since opened (Round.dropped slice) entries (old.keeping.own b) was.since was.together));
 }
 
 -- so are all
@@ -62,7 +63,7 @@ pub rest_dropped : (layout : Layout) (entries given : List BoardEntry) (old new 
     → OfBuckets 0 layout.buckets (IsDroppedIn slice old new) → AreAtRest layout given new.keeping
 rest_dropped layout entries given old new slice noted rest dropped b below =
     let low : 0 ≤ b = omega arith in
-    at_rest_dropped layout.first entries given old new slice b noted (rest b below) (dropped b low below)
+    at_rest_dropped layout.opened.board layout.first entries given old new slice b noted (rest b below) (dropped b low below)
 
 -- the slice of this name was dropped, by its id
 pub drops_slice : {K : Type 0} (layout : Layout) (shard : List ℕ) (it : Board K) (id : SliceId) (found : Slice) (old new : Known)

@@ -97,3 +97,4 @@ pub record IsDelete (layout : Layout) (shard : List ℕ) (old new : DeleteMoment
   pub counts : CountsGoUp old.outside new.outside
   pub no_start : new.outside.start_faults ≡ old.outside.start_faults
   pub no_pace : new.outside.stops ≡ old.outside.stops
+  pub no_reach : new.outside.reach ≡ old.outside.reach

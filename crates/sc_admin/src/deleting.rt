@@ -52,9 +52,9 @@ pub fn delete<D: Desk, H: Hosts>(
     requires room { length trail.old.stops < trail_room }
     ensures delete { (stops : ℕ) → IsDelete (D.layout desk.old) shard.now
         (delete_moment (view_of (D.seen desk.old) trail.old.stops)
-        (outside_of (H.started hosts.old) (H.start_faults hosts.old) (H.stop_faults hosts.old) stops))
+        (outside_of (H.started hosts.old) (H.start_faults hosts.old) (H.stop_faults hosts.old) stops (H.reached hosts.old)))
         (delete_moment (view_of (D.seen desk.new) trail.new.stops)
-        (outside_of (H.started hosts.new) (H.start_faults hosts.new) (H.stop_faults hosts.new) stops))
+        (outside_of (H.started hosts.new) (H.start_faults hosts.new) (H.stop_faults hosts.new) stops (H.reached hosts.new)))
         result }
     ensures layout { D.layout desk.new ≡ D.layout desk.old }
     ensures rest { IsDeskAtRest (D.layout desk.new) (D.out desk.new) (D.seen desk.new) }
@@ -102,10 +102,11 @@ fn drop_on_board<D: Desk>(
 fn stopped<H: Hosts>(hosts: &mut H, cores: List<Host>) -> DeleteEnd
     ensures stopped { (nodes : ℕ) (slice : Slice) (stops : ℕ) → cores ≡ cores_of_slice nodes slice
         → StopsCores nodes (dropped slice)
-        (outside_of (H.started hosts.old) (H.start_faults hosts.old) (H.stop_faults hosts.old) stops)
-        (outside_of (H.started hosts.new) (H.start_faults hosts.new) (H.stop_faults hosts.new) stops) result }
+        (outside_of (H.started hosts.old) (H.start_faults hosts.old) (H.stop_faults hosts.old) stops (H.reached hosts.old))
+        (outside_of (H.started hosts.new) (H.start_faults hosts.new) (H.stop_faults hosts.new) stops (H.reached hosts.new)) result }
     ensures no_fall { H.stop_faults hosts.old ≤ H.stop_faults hosts.new }
     ensures other_count { H.start_faults hosts.new ≡ H.start_faults hosts.old }
+    ensures reached { H.reached hosts.new ≡ H.reached hosts.old }
 {
     match stop_cores(hosts, cores.as_slice()) {
         Some(at) => DeleteEnd::HostFault {

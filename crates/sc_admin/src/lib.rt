@@ -8,7 +8,8 @@
 //! Proved: `read_admin` is the definition `asked_admin` of the list of parameters, and a cut that it reads has as many parts as one may;
 //! `status_body` and `split_body` are the texts of `specs/Status` and `specs/Splits`; `delete` went as `IsDelete` of `specs/Deletes` says:
 //! the board refused it, by the first cause, and all is as it was, or the slice of that name was dropped from each bucket and from the
-//! board, at one stop of it, and then each of its cores was stopped, or stopping one failed and a core of the slice is named.
+//! board, at one stop of it, and then each of its cores was stopped, or stopping one failed and a core of the slice is named;
+//! reaching no node failed.
 //!
 //! Tested alone: nothing.
 //!

@@ -13,12 +13,15 @@ use Rattle.sc_seen.specs.declared.board.BoardEntry.{BoardEntry}
 use Rattle.sc_seen.specs.Board.{board_map, BoardHasRoom, BoardIsFull}
 use Rattle.sc_board.specs.Splits.{AskedSplit, BoardBasis, IsRunningOf, IsOfNamed, IsTooSmallFor, AreNotOf, MayBeCut, IsCutCause, MaySplit, slice_named, parts_of, Prevents, fault_order, IsFirstCause, IsRefusalBy}
 use Rattle.sc_board.specs.Drops.{PreventsDrop, drop_order_of, IsFirstDropCause}
+use Rattle.sc_board.specs.Leads.{PreventsLead, lead_order_of, IsFirstLeadCause}
 use Rattle.sc_board.specs.declared.cut.Cut.{Cut}
 use Rattle.sc_board.specs.declared.cut.Cut.TheVariants as cuts
 use Rattle.sc_board.specs.declared.fault.BoardFault.{BoardFault}
 use Rattle.sc_board.specs.declared.fault.BoardFault.TheVariants as faults
 use Rattle.sc_board.specs.declared.fault.DropFault.{DropFault}
 use Rattle.sc_board.specs.declared.fault.DropFault.TheVariants as drops
+use Rattle.sc_board.specs.declared.fault.LeadFault.{LeadFault}
+use Rattle.sc_board.specs.declared.fault.LeadFault.TheVariants as leads
 
 -- no split is open where no slice is being made
 not_running : (slices : List Slice) (name : List ℕ) → forming slices ≡ [] → IsRunningOf slices name → ⊥
@@ -189,6 +192,54 @@ module _ (slices : List Slice) (name : List ℕ) where
       let here = of_this slices name slice (λ (s : Slice). (s.state ≡ state) × (state ≢ states.Inactive)) named held in
       here.1 (sym here.0 ∙ inactive)
   no_drop_cause slice named idle inactive drops.Memory held = held
+
+-- ---- of a leader
+module _ (basis : BoardBasis) (entries : List BoardEntry) (name : List ℕ) where
+  pub unknown_lead : slice_named (board_map basis.first entries) name ≡ None → IsFirstLeadCause basis entries name leads.UnknownShard
+  unknown_lead none = record { holds = none; first = λ other before. absurd (omega arith) }
+
+  pub running_lead : (shard : List ℕ) (slice : Slice) → slice_named (board_map basis.first entries) name ≡ Some slice
+      → IsRunningOf (board_map basis.first entries) shard → IsFirstLeadCause basis entries name (leads.Running shard)
+  running_lead shard slice named running = record { holds = running; first = earlier } where
+    earlier : (other : LeadFault) → lead_order_of other < 1 → PreventsLead basis entries name other → ⊥
+    earlier leads.UnknownShard before none = not_unknown (board_map basis.first entries) name slice named none
+    earlier (leads.Running other) before is = absurd (omega arith)
+    earlier (leads.NotActive state) before is = absurd (omega arith)
+    earlier leads.LogFull before is = absurd (omega arith)
+    earlier leads.Memory before is = is
+
+  pub not_active_lead : (state : State) (slice : Slice) → slice_named (board_map basis.first entries) name ≡ Some slice
+      → forming (board_map basis.first entries) ≡ [] → slice.state ≡ state → state ≢ states.Active
+      → IsFirstLeadCause basis entries name (leads.NotActive state)
+  not_active_lead state slice named idle is other_state = record { holds = (slice, named, (is, other_state)); first = earlier } where
+    earlier : (other : LeadFault) → lead_order_of other < 2 → PreventsLead basis entries name other → ⊥
+    earlier leads.UnknownShard before none = not_unknown (board_map basis.first entries) name slice named none
+    earlier (leads.Running shard) before running = not_running (board_map basis.first entries) shard idle running
+    earlier (leads.NotActive state) before is = absurd (omega arith)
+    earlier leads.LogFull before is = absurd (omega arith)
+    earlier leads.Memory before is = is
+
+  module _ (slice : Slice) (may : MaySplit (board_map basis.first entries) name slice) where
+    -- none of the first three holds
+    not_led_slice : (other : LeadFault) → lead_order_of other < 3 → PreventsLead basis entries name other → ⊥
+    not_led_slice leads.UnknownShard before none = not_unknown (board_map basis.first entries) name slice may.named none
+    not_led_slice (leads.Running shard) before running = not_running (board_map basis.first entries) shard may.idle running
+    not_led_slice (leads.NotActive state) before held =
+        let here = of_this (board_map basis.first entries) name slice (λ (s : Slice). (s.state ≡ state) × (state ≢ states.Active))
+        may.named held in
+        here.1 (sym here.0 ∙ may.active)
+    not_led_slice leads.LogFull before is = absurd (omega arith)
+    not_led_slice leads.Memory before is = is
+
+    pub full_lead : BoardIsFull 1 basis.limit basis.first entries → IsFirstLeadCause basis entries name leads.LogFull
+    full_lead full = record { holds = full; first = not_led_slice }
+
+    pub no_lead_cause : BoardHasRoom 1 basis.limit basis.first entries → (cause : LeadFault) → PreventsLead basis entries name cause → ⊥
+    no_lead_cause room leads.UnknownShard held = not_led_slice leads.UnknownShard (omega arith) held
+    no_lead_cause room (leads.Running shard) held = not_led_slice (leads.Running shard) (omega arith) held
+    no_lead_cause room (leads.NotActive state) held = not_led_slice (leads.NotActive state) (omega arith) held
+    no_lead_cause room leads.LogFull held = omega arith
+    no_lead_cause room leads.Memory held = held
 
 -- ---- a plan
 -- what is so of the plan that is given

@@ -1,9 +1,10 @@
 -- The slice of a name, which its id finds too.
-use Rattle.std.proofs.Common.{◌≡◌, ◌≢◌, ◌∙◌, ℕ, zero, suc, ℤ, Bool, true, false, cond, List, [], ◌∷◌, length, length-append, find, Option, Some, None, Bor, MatchOption, All, Contains, refl, sym, ap, arith}
+use Rattle.std.proofs.Common.{◌≡◌, ◌≢◌, ◌∙◌, ℕ, zero, suc, ◌+◌, ℤ, Bool, true, false, cond, List, [], ◌∷◌, ◌++◌, length, length-append, take, slice_get, find, Option, Some, None, Bor, MatchOption, All, Contains, refl, sym, ap, subst, arith}
 use Rattle.std.specs.Option.{option_copied, option_map}
 use Rattle.std.specs.Str.{bytes_eq}
-use Rattle.std.proofs.lemmas.Option.{none-some, same_Some}
-use Rattle.std.proofs.lemmas.List.Elements.{All-contains}
+use Rattle.std.proofs.lemmas.Option.{none-some, same_Some, slice_get_within, get_or_from_slice_get}
+use Rattle.std.proofs.lemmas.List.{take_more}
+use Rattle.std.proofs.lemmas.List.Elements.{All-contains, All-push}
 use Rattle.sc_record.specs.declared.slice.SliceId.{SliceId}
 use Rattle.sc_cluster.specs.declared.slice.Slice.{Slice}
 use Rattle.sc_cluster.specs.Cut.{part, first_parts}
@@ -23,6 +24,16 @@ found_there {A} p (y ∷ ys) x found = by (p y) found (found_there p ys x) where
 
 pub named_there : (slices : List Slice) (name : List ℕ) (slice : Slice) → slice_named slices name ≡ Some slice → Contains slices slice
 named_there slices name slice = found_there (λ (one : Slice). bytes_eq one.name name) slices slice
+
+-- one more of the first slices hasn't the id either
+pub none_more : (slices : List Slice) (id : SliceId) (at : ℕ) (slice : Slice) → slice_get slices at ≡ Some slice → slice.id ≢ id
+    → All (λ (other : Slice). other.id ≢ id) (take at slices) → All (λ (other : Slice). other.id ≢ id) (take (at + 1) slices)
+none_more slices id at slice is differs none =
+    let P : Slice → Type 0 = λ other. other.id ≢ id in
+    let longer : take (at + 1) slices ≡ take at slices ++ slice ∷ [] =
+    take_more slices at slice (slice_get_within slices at slice is)
+    ∙ ap (λ (s : Slice). take at slices ++ s ∷ []) (get_or_from_slice_get slices at slice slice is) in
+    subst (All P) (sym longer) (All-push P (take at slices) slice none differs)
 
 -- two slices of one id are one
 pub same_by_id : (slices : List Slice) (one other : Slice) → IsMap slices → Contains slices one → Contains slices other

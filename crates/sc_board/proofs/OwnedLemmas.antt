@@ -18,6 +18,7 @@ one_more before start place (board.Recovering parent) at = inl at
 one_more before start place (board.Done parent) at = let none : None ≡ Some place = at in absurd (cc)
 one_more before start place (board.Failed parent) at = let none : None ≡ Some place = at in absurd (cc)
 one_more before start place (board.Dropped slice) at = inl at
+one_more before start place (board.Led slice replica) at = inl at
 
 -- the split that runs after some entries began by one of them, or ran before them
 began : (before : Option ℕ) (start place : ℕ) (entries : List BoardEntry) → running_from before start entries ≡ Some place

@@ -1,8 +1,9 @@
 -- A board stays sound, whatever is noted on it.
-use Rattle.std.proofs.Common.{◌≡◌, ◌∙◌, ℕ, ◌+◌, ◌-◌, ◌^◌, ◌<◌, ◌≤◌, ◌⊎◌, inl, inr, true, false, not, List, [], ◌∷◌, ◌++◌, length, max, Option, Some, None, All, refl, sym, ap, subst, arith, length-append}
-use Rattle.std.specs.Prelude.{is_some, MatchOption}
-use Rattle.std.proofs.lemmas.Option.{none-some, same_Some}
-use Rattle.std.specs.List.{fold, count_by}
+use Rattle.std.proofs.Common.{◌≡◌, ◌≢◌, ◌∙◌, ℕ, ◌+◌, ◌-◌, ◌^◌, ◌<◌, ◌≤◌, true, false, not, List, [], ◌∷◌, ◌++◌, length, max, Option, Some, None, All, Contains, refl, sym, ap, subst, arith, length-append}
+use Rattle.std.specs.Prelude.{is_some, MatchOption, replicate, take, slice_get, slice_set}
+use Rattle.std.proofs.lemmas.Option.{same_Some, slice_get_within}
+use Rattle.std.proofs.lemmas.List.{length-map}
+use Rattle.std.specs.List.{fold, count_by, remove}
 use Rattle.sc_record.specs.declared.slice.SliceId.{SliceId}
 use Rattle.sc_cluster.specs.Limits.{most_slices}
 use Rattle.sc_cluster.specs.declared.plan.SplitPlan.{SplitPlan}
@@ -10,22 +11,22 @@ use Rattle.sc_cluster.specs.declared.slice.State.TheVariants as states
 use Rattle.sc_cluster.specs.declared.slice.Slice.{Slice}
 use Rattle.sc_cluster.specs.Slices.{is_forming_state, is_inactive_state, is_forming, forming, is_inactive, greatest_id}
 use Rattle.sc_cluster.specs.Map.{IsMap}
-use Rattle.sc_cluster.specs.Changes.{after, IsBeingSplit}
+use Rattle.sc_cluster.specs.Changes.{Change, after, IsBeingSplit}
 use Rattle.sc_cluster.proofs.ListLemmas.{filter-none}
 use Rattle.sc_cluster.proofs.CountLemmas.{count_by-none}
-use Rattle.std.proofs.lemmas.List.Elements.{All-weaker}
-use Rattle.sc_journal.specs.Journal.{last_of}
+use Rattle.std.proofs.lemmas.List.Elements.{All-contains, All-weaker}
 use Rattle.sc_journal.specs.Limits.{greatest_journal}
-use Rattle.sc_journal.proofs.ListLemmas.{last_of_cases}
 use Rattle.sc_seen.specs.declared.board.BoardEntry.{BoardEntry}
 use Rattle.sc_seen.specs.declared.board.BoardEntry.TheVariants as board
-use Rattle.sc_seen.specs.Board.{board_change_of, board_map, running_split, owed_after, board_owed, BoardHasRoom, MayNote, IsLegalBoard}
-use Rattle.sc_seen.proofs.BoardLemmas.{board_map-push, running_split-push, owed_by_split-push, owed_by_split, MayNote_end, IsLegalBoard-none, IsLegalBoard-push, IsLegalBoard-prefix, may_go_on_begun, may_go_on_recovered, not_open, same_parent, Stands, rests_where_idle, running_where, owed_where_open, board_is_map, board_stands, board_ids, board_owed-begun, board_owed-recovering, board_owed-done, board_owed-failed, board_owed-dropped}
+use Rattle.sc_seen.specs.Board.{after_entry, board_map, running_split, owed_after, board_owed, BoardHasRoom, MayNote, IsLegalBoard}
+use Rattle.sc_seen.proofs.BoardLemmas.{board_map-push, running_split-push, owed_by_split, IsLegalBoard-none, IsLegalBoard-push, not_open, same_parent, Stands, running_where, owed_where_open, board_is_map, board_stands, board_ids, board_owed-begun, board_owed-recovering, board_owed-done, board_owed-failed, board_owed-dropped, board_owed-led}
 use Rattle.sc_board.specs.Boards.{IsSoundBoard}
+use Rattle.sc_board.specs.Leaders.{leader_of, leaders_after}
 use Rattle.sc_board.specs.Events.{Notes}
 use Rattle.sc_board.specs.Kept.{BoardJournalState}
 use Rattle.sc_board.specs.declared.board.Board.{Board}
 use Rattle.sc_board.specs.declared.running.Running.{Running}
+use Rattle.sc_board.proofs.LeaderLemmas.{leaders_first, leaders-begun, leaders-recovering, leaders-done, leaders-failed, leaders-dropped, leaders-led}
 
 -- ---- what follows
 pub sound_map : {K : Type 0} (it : Board K) → IsSoundBoard it → IsMap it.map
@@ -47,9 +48,9 @@ sound_keepers it sound idle =
 
 -- ---- a new board
 pub sound_new : {K : Type 0} (it : Board K) → IsMap it.first → All (λ (slice : Slice). slice.state ≡ states.Active) it.first
-    → greatest_id it.first < most_slices → it.limit ≤ greatest_journal → it.journal.entries ≡ [] → it.map ≡ it.first → it.owed ≡ 0
-    → is_some it.keepers ≡ true → IsSoundBoard it
-sound_new it is_map active ids limit none same owed there = record {
+    → greatest_id it.first < most_slices → it.limit ≤ greatest_journal → it.journal.entries ≡ [] → it.map ≡ it.first
+    → it.leaders ≡ replicate (length it.map) 1 → it.owed ≡ 0 → is_some it.keepers ≡ true → IsSoundBoard it
+sound_new it is_map active ids limit none same ones owed there = record {
   first_map = is_map;
   first_idle = filter-none is_forming it.first (All-weaker (λ (slice : Slice). slice.state ≡ states.Active)
       (λ slice. is_forming slice ≡ false) (λ slice is. ap is_forming_state is) it.first active);
@@ -57,6 +58,8 @@ sound_new it is_map active ids limit none same owed there = record {
   limited = limit;
   legal = subst (IsLegalBoard it.first) (sym none) (IsLegalBoard-none it.first);
   map_is = same ∙ ap (board_map it.first) (sym none);
+  leaders_are = ones ∙ ap (λ (slices : List Slice). replicate (length slices) 1) same ∙ leaders_first it.first
+      ∙ ap (leaders_after it.first) (sym none);
   owed_is =
       let inactive : count_by is_inactive it.first ≡ 0 = count_by-none is_inactive it.first
       (All-weaker (λ (slice : Slice). slice.state ≡ states.Active) (λ slice. is_inactive slice ≡ false)
@@ -81,6 +84,7 @@ sound_roomier it journal n sound is =
       limited = sound.limited;
       legal = subst (IsLegalBoard it.first) (sym same) sound.legal;
       map_is = sound.map_is ∙ ap (board_map it.first) (sym same);
+      leaders_are = sound.leaders_are ∙ ap (leaders_after it.first) (sym same);
       owed_is = sound.owed_is ∙ ap (board_owed it.first) (sym same);
       room = let count = ap length same in let within = sound.room in omega (arith, count, within);
       memory = let memory = sound.memory in omega (arith, room, memory);
@@ -90,19 +94,22 @@ sound_roomier it journal n sound is =
 -- ---- an entry more
 sound_noted : {K : Type 0} (old : Board K) (one : BoardEntry) (new : Board K) → IsSoundBoard old
     → MayNote old.first old.journal.entries one → Notes old one new
+    → new.leaders ≡ leaders_after old.first (old.journal.entries ++ one ∷ [])
     → new.owed ≡ board_owed old.first (old.journal.entries ++ one ∷ [])
     → length old.journal.entries + 1 + new.owed ≤ old.limit → new.owed ≤ new.journal.room
     → is_some new.keepers ≡ not (is_some (running_split (old.journal.entries ++ one ∷ []))) → IsSoundBoard new
-sound_noted old one new sound may notes owed within memory keepers = record {
+sound_noted old one new sound may notes leaders owed within memory keepers = record {
   first_map = subst IsMap (sym notes.first_is) sound.first_map;
   first_idle = ap forming notes.first_is ∙ sound.first_idle;
   first_ids = let same = ap greatest_id notes.first_is in let ids = sound.first_ids in omega (arith, same, ids);
   limited = let same = notes.limit_is in let limited = sound.limited in omega (arith, same, limited);
   legal = subst (λ first. IsLegalBoard first new.journal.entries) (sym notes.first_is)
       (subst (IsLegalBoard old.first) (sym notes.entries) (IsLegalBoard-push old.first old.journal.entries one sound.legal may));
-  map_is = notes.map_is ∙ ap (λ slices. after slices (board_change_of one)) sound.map_is
+  map_is = notes.map_is ∙ ap (λ slices. after_entry slices one) sound.map_is
       ∙ sym (board_map-push old.first old.journal.entries one) ∙ ap (board_map old.first) (sym notes.entries)
       ∙ ap (λ first. board_map first new.journal.entries) (sym notes.first_is);
+  leaders_are = leaders ∙ ap (leaders_after old.first) (sym notes.entries)
+      ∙ ap (λ first. leaders_after first new.journal.entries) (sym notes.first_is);
   owed_is = owed ∙ ap (board_owed old.first) (sym notes.entries)
       ∙ ap (λ first. board_owed first new.journal.entries) (sym notes.first_is);
   room =
@@ -121,27 +128,32 @@ runs_after entries one running is = ap (λ (r : Option ℕ). not (is_some r)) (s
 
 pub sound_begun : {K : Type 0} (old : Board K) (plan : SplitPlan) (new : Board K) → IsSoundBoard old
     → MayNote old.first old.journal.entries (board.Begun plan) → Notes old (board.Begun plan) new
+    → new.leaders ≡ old.leaders ++ replicate (length plan.subs) 1
     → BoardHasRoom 4 old.limit old.first old.journal.entries → new.owed ≡ old.owed + 3 → new.owed ≤ new.journal.room
     → new.keepers ≡ None → IsSoundBoard new
-sound_begun old plan new sound may notes room owed memory out =
+sound_begun old plan new sound may notes leaders room owed memory out =
     let one : BoardEntry = board.Begun plan in
     let more = board_owed-begun old.first old.journal.entries plan (sound_stands old sound) may in
     let was = sound.owed_is in
     let is : new.owed ≡ board_owed old.first (old.journal.entries ++ one ∷ []) = omega (arith, more, was, owed) in
-    sound_noted old one new sound may notes is (omega (arith, was, owed, room)) memory
+    sound_noted old one new sound may notes
+    (leaders ∙ ap (λ (ns : List ℕ). ns ++ replicate (length plan.subs) 1) sound.leaders_are
+    ∙ sym (leaders-begun old.first old.journal.entries plan sound.first_map sound.legal may))
+    is (omega (arith, was, owed, room)) memory
     (ap is_some out ∙ runs_after old.journal.entries one (Some (length old.journal.entries)) (running_split-push old.journal.entries one))
 
 -- an entry that was owed
 sound_less : {K : Type 0} (old : Board K) (one : BoardEntry) (new : Board K) (n : ℕ) → IsSoundBoard old
     → MayNote old.first old.journal.entries one → Notes old one new
+    → new.leaders ≡ leaders_after old.first (old.journal.entries ++ one ∷ [])
     → board_owed old.first (old.journal.entries ++ one ∷ []) + n ≡ board_owed old.first old.journal.entries → 1 ≤ n
     → new.owed ≡ old.owed - n → new.journal.room ≡ old.journal.room - 1
     → is_some new.keepers ≡ not (is_some (running_split (old.journal.entries ++ one ∷ []))) → IsSoundBoard new
-sound_less old one new n sound may notes less some owed room keepers =
+sound_less old one new n sound may notes leaders less some owed room keepers =
     let was = sound.owed_is in
     let within = sound.room in
     let memory = sound.memory in
-    sound_noted old one new sound may notes (omega (arith, less, was, owed)) (omega (arith, within, owed, some, less, was))
+    sound_noted old one new sound may notes leaders (omega (arith, less, was, owed)) (omega (arith, within, owed, some, less, was))
     (omega (arith, memory, owed, some, room)) keepers
 
 -- the split that is running goes on
@@ -153,43 +165,96 @@ stays old one new sound same goes =
 
 pub sound_recovering : {K : Type 0} (old : Board K) (parent : SliceId) (new : Board K) → IsSoundBoard old
     → MayNote old.first old.journal.entries (board.Recovering parent) → Notes old (board.Recovering parent) new
-    → new.owed ≡ old.owed - 1 → new.journal.room ≡ old.journal.room - 1 → new.keepers ≡ old.keepers → IsSoundBoard new
-sound_recovering old parent new sound may notes owed room same =
+    → new.leaders ≡ old.leaders → new.owed ≡ old.owed - 1 → new.journal.room ≡ old.journal.room - 1 → new.keepers ≡ old.keepers → IsSoundBoard new
+sound_recovering old parent new sound may notes leaders owed room same =
     let one : BoardEntry = board.Recovering parent in
     sound_less old one new 1 sound may notes
+    (leaders ∙ sound.leaders_are ∙ sym (leaders-recovering old.first old.journal.entries parent))
     (board_owed-recovering old.first old.journal.entries parent (sound_stands old sound) may) (omega arith) owed room
     (stays old one new sound same (running_split-push old.journal.entries one))
 
 pub sound_done : {K : Type 0} (old : Board K) (parent : SliceId) (new : Board K) (keepers : K) → IsSoundBoard old
     → MayNote old.first old.journal.entries (board.Done parent) → Notes old (board.Done parent) new
-    → new.owed ≡ old.owed - 1 → new.journal.room ≡ old.journal.room - 1 → new.keepers ≡ Some keepers → IsSoundBoard new
-sound_done old parent new keepers sound may notes owed room back =
+    → new.leaders ≡ old.leaders → new.owed ≡ old.owed - 1 → new.journal.room ≡ old.journal.room - 1 → new.keepers ≡ Some keepers → IsSoundBoard new
+sound_done old parent new keepers sound may notes leaders owed room back =
     let one : BoardEntry = board.Done parent in
     let slices = board_is_map old.first old.journal.entries sound.first_map sound.legal in
     sound_less old one new 1 sound may notes
+    (leaders ∙ sound.leaders_are ∙ sym (leaders-done old.first old.journal.entries parent))
     (board_owed-done old.first old.journal.entries parent slices (sound_stands old sound) may) (omega arith) owed room
     (ap is_some back ∙ runs_after old.journal.entries one None (running_split-push old.journal.entries one))
 
 pub sound_failed : {K : Type 0} (old : Board K) (parent : SliceId) (new : Board K) (keepers : K) → IsSoundBoard old
     → MayNote old.first old.journal.entries (board.Failed parent) → Notes old (board.Failed parent) new
-    → 1 ≤ owed_by_split old.journal.entries
+    → new.leaders ≡ take (length new.map) old.leaders → 1 ≤ owed_by_split old.journal.entries
     → new.owed ≡ old.owed - owed_by_split old.journal.entries → new.journal.room ≡ old.journal.room - 1
     → new.keepers ≡ Some keepers → IsSoundBoard new
-sound_failed old parent new keepers sound may notes some owed room back =
+sound_failed old parent new keepers sound may notes leaders some owed room back =
     let one : BoardEntry = board.Failed parent in
+    let slices : new.map ≡ after (board_map old.first old.journal.entries) (Change.Failed parent) =
+    notes.map_is ∙ ap (λ s. after s (Change.Failed parent)) sound.map_is in
     sound_less old one new (owed_by_split old.journal.entries) sound may notes
+    (leaders ∙ ap (λ (s : List Slice). take (length s) old.leaders) slices
+    ∙ ap (take (length (after (board_map old.first old.journal.entries) (Change.Failed parent)))) sound.leaders_are
+    ∙ sym (leaders-failed old.first old.journal.entries parent sound.legal (sound_stands old sound) may))
     (board_owed-failed old.first old.journal.entries parent) some owed room
     (ap is_some back ∙ runs_after old.journal.entries one None (running_split-push old.journal.entries one))
 
-pub sound_dropped : {K : Type 0} (old : Board K) (slice : SliceId) (new : Board K) → IsSoundBoard old
+-- a slice stands at a place of the board's map
+abbrev pub IsAt : {K : Type 0} → Board K → ℕ → SliceId → Type 0
+IsAt it at id = (slice : Slice) × (slice_get it.map at ≡ Some slice) × (slice.id ≡ id)
+
+pub sound_dropped : {K : Type 0} (old : Board K) (slice : SliceId) (at : ℕ) (new : Board K) → IsSoundBoard old → IsAt old at slice
     → MayNote old.first old.journal.entries (board.Dropped slice) → Notes old (board.Dropped slice) new
-    → new.owed ≡ old.owed - 1 → new.journal.room ≡ old.journal.room - 1 → new.keepers ≡ old.keepers → IsSoundBoard new
-sound_dropped old slice new sound may notes owed room same =
+    → new.leaders ≡ remove old.leaders at → new.owed ≡ old.owed - 1 → new.journal.room ≡ old.journal.room - 1 → new.keepers ≡ old.keepers → IsSoundBoard new
+sound_dropped old slice at new sound (there, is, named) may notes leaders owed room same =
     let one : BoardEntry = board.Dropped slice in
     let slices = board_is_map old.first old.journal.entries sound.first_map sound.legal in
     sound_less old one new 1 sound may notes
+    (leaders ∙ ap (λ (ns : List ℕ). remove ns at) sound.leaders_are
+    ∙ sym (leaders-dropped old.first old.journal.entries slice at there slices
+    (subst (λ s. slice_get s at ≡ Some there) sound.map_is is) named))
     (board_owed-dropped old.first old.journal.entries slice slices may) (omega arith) owed room
     (stays old one new sound same (running_split-push old.journal.entries one))
+
+pub sound_led : {K : Type 0} (old : Board K) (slice : SliceId) (replica at : ℕ) (new : Board K) → IsSoundBoard old → IsAt old at slice
+    → MayNote old.first old.journal.entries (board.Led slice replica) → Notes old (board.Led slice replica) new
+    → new.leaders ≡ slice_set old.leaders at replica → BoardHasRoom 1 old.limit old.first old.journal.entries → new.owed ≡ old.owed
+    → old.owed + 1 ≤ old.journal.room → new.journal.room ≡ old.journal.room - 1 → new.keepers ≡ old.keepers → IsSoundBoard new
+sound_led old slice replica at new sound (there, is, named) may notes leaders fits owed memory room same =
+    let one : BoardEntry = board.Led slice replica in
+    let was = sound.owed_is in
+    let slices = board_is_map old.first old.journal.entries sound.first_map sound.legal in
+    let as_before = board_owed-led old.first old.journal.entries slice replica in
+    sound_noted old one new sound may notes
+    (leaders ∙ ap (λ (ns : List ℕ). slice_set ns at replica) sound.leaders_are
+    ∙ sym (leaders-led old.first old.journal.entries slice replica at there slices
+    (subst (λ s. slice_get s at ≡ Some there) sound.map_is is) named))
+    (omega (arith, owed, was, as_before)) (omega (arith, owed, was, fits)) (omega (arith, owed, memory, room))
+    (stays old one new sound same (running_split-push old.journal.entries one))
+
+-- what is found of a slice that is there is its place
+abbrev IsPlaceOf : {K : Type 0} → Board K → SliceId → Option ℕ → Type 0
+IsPlaceOf it id found = MatchOption found (All (λ (slice : Slice). slice.id ≢ id) it.map) (λ at. IsAt it at id)
+
+pub place_there : {K : Type 0} (it : Board K) (found : Option ℕ) (id : SliceId) (slice : Slice) → IsSoundBoard it → IsPlaceOf it id found
+    → Contains (board_map it.first it.journal.entries) slice → slice.id ≡ id → is_some found ≡ true
+place_there it None id slice sound none there named =
+    absurd (All-contains (λ (other : Slice). other.id ≢ id) it.map slice none
+    (subst (λ s. Contains s slice) (sym sound.map_is) there) named)
+place_there it (Some at) id slice sound is there named = refl
+
+pub place_is : {K : Type 0} (it : Board K) (found : Option ℕ) (at : ℕ) (id : SliceId) → IsPlaceOf it id found → found ≡ Some at → IsAt it at id
+place_is it found at id is place = subst (IsPlaceOf it id) place is
+
+-- a slice of the map has a leader
+pub leader_there : {K : Type 0} (it : Board K) (at : ℕ) (id : SliceId) → IsSoundBoard it → IsAt it at id → at < length it.leaders
+leader_there it at id sound (there, is, named) =
+    let slices = board_map it.first it.journal.entries in
+    let within = slice_get_within it.map at there is in
+    let count = ap length sound.map_is in
+    let leaders = ap length sound.leaders_are in
+    omega (arith, within, count, leaders, length-map slices (λ (slice : Slice). leader_of it.journal.entries slice.id))
 
 -- what may be dropped may be dropped from the map as it is kept; and so for the others
 pub owed_is_some : {K : Type 0} (old : Board K) (one : BoardEntry) → IsSoundBoard old
@@ -254,62 +319,6 @@ some_owed_failed it parent sound may =
     let was = sound.owed_is in
     let memory = sound.memory in
     (omega (arith, was, less, some), omega (arith, was, less, some, memory))
-
--- ---- by the last entry
--- what a journal ends with
-ends_with : (entries : List BoardEntry) (one : BoardEntry) → last_of entries ≡ Some one
-    → (init : List BoardEntry) × (entries ≡ init ++ one ∷ [])
-ends_with entries one last = by (last_of_cases entries) where
-  by : ((entries ≡ []) × (last_of entries ≡ None))
-      ⊎ ((init : List BoardEntry) × (x : BoardEntry) × (entries ≡ init ++ x ∷ []) × (last_of entries ≡ Some x))
-      → (init : List BoardEntry) × (entries ≡ init ++ one ∷ [])
-  by (inl (none, is)) = absurd (none-some one (sym is ∙ last))
-  by (inr (init, x, is, some)) = (init, is ∙ ap (λ e. init ++ e ∷ []) (same_Some x one (sym some ∙ last)))
-
-pub begun_last : {K : Type 0} (it : Board K) (plan : SplitPlan) → IsSoundBoard it
-    → last_of it.journal.entries ≡ Some (board.Begun plan)
-    → IsBeingSplit it.map plan.parent × (3 ≡ fold owed_after 0 it.journal.entries)
-begun_last it plan sound last =
-    let ends = ends_with it.journal.entries (board.Begun plan) last in
-    let init = ends.0 in
-    let may = may_go_on_begun it.first init plan sound.first_map (subst (IsLegalBoard it.first) ends.1 sound.legal) in (
-      subst (λ s. IsBeingSplit s plan.parent) (ap (board_map it.first) (sym ends.1) ∙ sym sound.map_is) may.0,
-      sym (ap owed_by_split ends.1 ∙ owed_by_split-push init (board.Begun plan)),
-    )
-
-pub recovering_last : {K : Type 0} (it : Board K) (parent : SliceId) → IsSoundBoard it
-    → last_of it.journal.entries ≡ Some (board.Recovering parent)
-    → IsBeingSplit it.map parent × (2 ≡ fold owed_after 0 it.journal.entries)
-recovering_last it parent sound last =
-    let ends = ends_with it.journal.entries (board.Recovering parent) last in
-    let init = ends.0 in
-    let may = may_go_on_recovered it.first init parent (subst (IsLegalBoard it.first) ends.1 sound.legal) in (
-      subst (λ s. IsBeingSplit s parent) (ap (board_map it.first) (sym ends.1) ∙ sym sound.map_is) may.0,
-      sym (ap owed_by_split ends.1 ∙ owed_by_split-push init (board.Recovering parent)),
-    )
-
-pub done_last : {K : Type 0} (it : Board K) (parent : SliceId) → last_of it.journal.entries ≡ Some (board.Done parent)
-    → running_split it.journal.entries ≡ None
-done_last it parent last =
-    let ends = ends_with it.journal.entries (board.Done parent) last in
-    ap running_split ends.1 ∙ running_split-push ends.0 (board.Done parent)
-
-pub failed_last : {K : Type 0} (it : Board K) (parent : SliceId) → last_of it.journal.entries ≡ Some (board.Failed parent)
-    → running_split it.journal.entries ≡ None
-failed_last it parent last =
-    let ends = ends_with it.journal.entries (board.Failed parent) last in
-    ap running_split ends.1 ∙ running_split-push ends.0 (board.Failed parent)
-
-pub dropped_last : {K : Type 0} (it : Board K) (slice : SliceId) → IsSoundBoard it
-    → last_of it.journal.entries ≡ Some (board.Dropped slice) → running_split it.journal.entries ≡ None
-dropped_last it slice sound last =
-    let one : BoardEntry = board.Dropped slice in
-    let ends = ends_with it.journal.entries one last in
-    let init = ends.0 in
-    let legal : IsLegalBoard it.first (init ++ one ∷ []) = subst (IsLegalBoard it.first) ends.1 sound.legal in
-    let may = MayNote_end it.first init one legal in
-    let stands = board_stands it.first init sound.first_map sound.first_idle (IsLegalBoard-prefix it.first init (one ∷ []) legal) in
-    ap running_split ends.1 ∙ running_split-push init one ∙ (rests_where_idle it.first init stands may.0).0
 
 -- ---- ids
 -- where there is room for a split, the ids of its slices are below 2^32

@@ -1,8 +1,7 @@
 -- What a call changes of a board, and that all else stays.
 use Rattle.std.specs.Prelude.{◌≡◌, [], ◌∷◌, ◌++◌, Some, None, Result, IfOk, IfErr, OnOk, OnErr}
 use Rattle.sc_cluster.specs.declared.plan.SplitPlan.{SplitPlan}
-use Rattle.sc_cluster.specs.Changes.{after}
-use Rattle.sc_seen.specs.Board.{board_change_of}
+use Rattle.sc_seen.specs.Board.{after_entry}
 use Rattle.sc_seen.specs.declared.board.BoardEntry.{BoardEntry}
 use Rattle.sc_seen.specs.declared.board.BoardEntry.TheVariants as board
 use Rattle.sc_board.specs.declared.board.Board.{Board}
@@ -10,12 +9,12 @@ use Rattle.sc_board.specs.declared.fault.BoardFault.{BoardFault}
 use Rattle.sc_board.specs.Boards.{IsSoundBoard}
 use Rattle.sc_board.specs.Splits.{AskedSplit, Prevents, IsRefusal, IsPlanOf, board_basis}
 
--- the entry comes to the end of the journal, and changes the map
+-- the entry comes to the end of the journal, and changes the map where it stands for a change
 pub record Notes {K : Type 0} (old : Board K) (one : BoardEntry) (new : Board K) : Type 0 where
   pub first_is : new.first ≡ old.first
   pub limit_is : new.limit ≡ old.limit
   pub entries : new.journal.entries ≡ old.journal.entries ++ one ∷ []
-  pub map_is : new.map ≡ after old.map (board_change_of one)
+  pub map_is : new.map ≡ after_entry old.map one
 
 -- nothing was changed but room in memory
 pub record IsSameBoardButRoom {K : Type 0} (old new : Board K) : Type 0 where
@@ -23,6 +22,7 @@ pub record IsSameBoardButRoom {K : Type 0} (old new : Board K) : Type 0 where
   pub limit_is : new.limit ≡ old.limit
   pub entries : new.journal.entries ≡ old.journal.entries
   pub map_is : new.map ≡ old.map
+  pub leaders_are : new.leaders ≡ old.leaders
   pub owed_is : new.owed ≡ old.owed
   pub keepers_are : new.keepers ≡ old.keepers
 

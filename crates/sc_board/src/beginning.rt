@@ -98,8 +98,8 @@ impl<K: Drop> Board<K> {
         }
     }
 
-    // Puts the entry that begins the split of the plan into the journal, with room for those that it makes owed, and hands out the
-    // keepers. After an error the board is as it was, but for room in memory.
+    // Puts the entry that begins the split of the plan into the journal, with room for those that it makes owed, has the first replica
+    // of each sub lead it, and hands out the keepers. After an error the board is as it was, but for room in memory.
     fn put_begun(&mut self, alloc: Global, plan: &SplitPlan) -> Result<K, AllocError>
         requires sound { IsSoundBoard self.old }
         requires may { MayNote self.old.first self.old.journal.entries (BoardEntry.Begun plan.now) }
@@ -112,7 +112,9 @@ impl<K: Drop> Board<K> {
     {
         let noted = plan.clone_in(alloc)?;
         self.journal.reserve(self.owed as usize + 4)?;
+        let leaders = self.leaders.with_first(alloc, plan.subs.len())?;
         self.map.begin(plan)?;
+        self.leaders = leaders;
         self.owed += 3;
         self.journal.append(BoardEntry::Begun { plan: noted });
         Ok(self.keepers.take().unwrap())

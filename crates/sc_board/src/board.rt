@@ -6,6 +6,7 @@ ghost use Rattle.sc_cluster.specs.Slices.{greatest_id};
 ghost use Rattle.sc_journal.specs.Limits.{greatest_journal};
 
 use crate::journal::BoardJournal;
+use crate::leaders::Leaders;
 use sc_cluster::{ClusterMap, Slice};
 use sc_record::CloneIn;
 use std::alloc::{AllocError, Global};
@@ -18,6 +19,8 @@ pub struct Board<K> {
     pub first: ClusterMap,
     /// The map after its journal.
     pub map: ClusterMap,
+    /// The replica that leads each slice of the map, in its order.
+    pub leaders: Leaders,
     pub journal: BoardJournal,
     /// How many entries the journal may have.
     pub limit: u64,
@@ -54,9 +57,11 @@ impl<K: Drop> Board<K> {
     {
         let map = first.clone_in(alloc)?;
         let _ = first.get(0); // by it the proof knows that it is a map
+        let leaders = Leaders::first(alloc, map.len())?;
         Ok(Board {
             first,
             map,
+            leaders,
             journal: BoardJournal::new(alloc),
             limit,
             owed: 0,

@@ -44,6 +44,8 @@ impl<K: Drop> Board<K> {
         ensures noted { Notes self.old (BoardEntry.Dropped slice) self.new }
         ensures keepers { self.new.keepers ≡ self.old.keepers }
     {
+        let at = self.place_of(slice).unwrap();
+        self.leaders.remove(at);
         self.map.dropped(slice);
         self.owed -= 1;
         self.journal.append(BoardEntry::Dropped { slice });

@@ -69,6 +69,36 @@ impl From<AllocError> for DropFault {
     }
 }
 
+/// Why no other leader of a slice can be noted. The board is as it was, but for room in memory.
+#[derive(Debug, Drop, Error)]
+pub enum LeadFault {
+    /// No slice has the name.
+    #[error("unknown shard")]
+    UnknownShard,
+    /// A split runs, of the slice of this name.
+    #[error("split of {shard} is running")]
+    Running { shard: Text },
+    /// The slice is in this state.
+    #[error("shard is {}", state_name(*.state))]
+    NotActive { state: State },
+    /// The journal has no room for the entry that says so.
+    #[error("update log is full")]
+    LogFull,
+    #[error("out of memory")]
+    Memory,
+}
+
+impl From<AllocError> for LeadFault {
+    ghost use Rattle.std.specs.Prelude.{◌≡◌};
+    ghost use Rattle.sc_board.specs.declared.fault.LeadFault.TheVariants as faults;
+
+    ghost from_gives = { λ _ fault. fault ≡ faults.Memory };
+
+    fn from(_: AllocError) -> LeadFault {
+        LeadFault::Memory
+    }
+}
+
 // What Solr calls the state.
 fn state_name(state: State) -> &'static str {
     match state {

@@ -54,6 +54,7 @@ impl<K: Drop> Board<K> {
         let running = self.running().unwrap();
         let parent = running.parent;
         self.map.failed(parent);
+        self.leaders.cut(self.map.len());
         self.owed -= running.owed;
         self.journal.append(BoardEntry::Failed { parent });
         self.keepers = Some(keepers);

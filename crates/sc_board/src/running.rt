@@ -39,6 +39,7 @@ impl<K: Drop> Board<K> {
             Some(BoardEntry::Done { .. }) => None,
             Some(BoardEntry::Failed { .. }) => None,
             Some(BoardEntry::Dropped { .. }) => None,
+            Some(BoardEntry::Led { .. }) => None,
             None => None,
         }
     }

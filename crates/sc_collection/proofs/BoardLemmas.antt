@@ -1,16 +1,17 @@
 -- What a hold and a give of the board leave of a desk for one thread.
-use Rattle.std.proofs.Common.{◌≡◌, ◌≢◌, ◌⊎◌, inl, inr, ℕ, Bool, true, false, cond, List, [], ◌∷◌, ◌++◌, Option, Some, None, refl, sym, ap, ◌∙◌, subst, arith}
+use Rattle.std.proofs.Common.{◌≡◌, ◌≢◌, ◌⊎◌, inl, inr, ◌≤◌, ℕ, false, cond, List, [], ◌∷◌, ◌++◌, length, Option, Some, None, refl, sym, ap, ◌∙◌, subst, arith}
 use Rattle.std.specs.Prelude.{◌==◌, if◌then◌else◌}
 use Rattle.std.proofs.lemmas.Bool.Decides.{nat_tests}
 use Rattle.sc_cluster.specs.declared.slice.Slice.{Slice}
 use Rattle.sc_seen.specs.declared.board.BoardEntry.{BoardEntry}
 use Rattle.sc_seen.specs.Board.{IsLegalBoard}
-use Rattle.sc_seen.specs.Seen.{Seen, AreLegal}
+use Rattle.sc_seen.specs.Seen.{opened_at, Seen, AreLegal}
 use Rattle.sc_board.specs.declared.board.Board.{Board}
 use Rattle.sc_board.specs.Boards.{IsSoundBoard}
-use Rattle.sc_collection.specs.Desks.{Held, Keeping, KeepsOn, StillFit, IsBoardOf, MayReplaceBoard, SeesBoardGiven, AreAtRest, place_added}
+use Rattle.sc_collection.specs.Desks.{Keeping, KeepsOn, StillFit, IsBoardOf, MayReplaceBoard, SeesBoardGiven, AreAtRest, place_added}
 use Rattle.sc_collection.specs.Alone.{AloneState, desk_of, layout_alone, out_alone, board_out_of, journal_of, entries_in, entries_alone, places, pass_places, seen_alone, keeping_alone, KeepersAreOut, IsHome, IsDesk}
 use Rattle.sc_collection.specs.declared.alone.Alone.TheInside.{Inside}
+use Rattle.std.proofs.lemmas.List.{length_push}
 use Rattle.sc_collection.proofs.PlaceLemmas.{places_added}
 use Rattle.sc_collection.proofs.DeskLemmas.{desk_is_legal, own_of_board, out_of_desk}
 use Rattle.sc_collection.proofs.HoldLemmas.{value_of}
@@ -51,7 +52,8 @@ module _ (desk : AloneState) (is : IsDesk desk) (board : Board (Unit {0})) (ther
     seen_by entries = record {
       journals = λ lock. journal_of desk lock;
       board = entries;
-      own = λ lock. if lock == desk.layout.buckets then places entries else pass_places (journal_of desk lock);
+      own = λ lock. if lock == desk.layout.buckets then places desk.layout.opened.board entries
+          else pass_places (opened_at desk.layout.opened lock) (journal_of desk lock);
     }
 
   legal : IsLegalBoard desk.layout.first board.journal.entries
@@ -66,7 +68,7 @@ module _ (desk : AloneState) (is : IsDesk desk) (board : Board (Unit {0})) (ther
     empty = is.empty;
     is_out = λ held at. let out = is.is_out held at in record { slot = out.slot; kept = out.kept };
     home = λ one at. absurd (cc);
-    away = λ none. (board.journal.entries, refl, legal);
+    away = λ none. (board.journal.entries, refl, legal, home.since);
   }
 
 -- the board is taken back
@@ -77,9 +79,24 @@ module _ (desk : AloneState) (is : IsDesk desk) (entries : List BoardEntry) (out
         ap (λ (one : Option (Board (Unit {0}))). entries_in one desk.board_out) (board_is_away desk is entries out)
         ∙ ap (entries_in None) out
 
+    -- it had the entries that it had when the collection was opened
+    since : desk.layout.opened.board ≤ length entries
+    since =
+        let was = is.away (board_is_away desk is entries out) in
+        let both : Some entries ≡ Some was.0 = sym out ∙ was.1 in
+        let same : was.0 ≡ entries = cc in
+        subst (λ (all : List BoardEntry). desk.layout.opened.board ≤ length all) same was.3
+
+    since_given : MayReplaceBoard desk.layout (seen_alone desk) entries board.journal.entries
+        → desk.layout.opened.board ≤ length board.journal.entries
+    since_given (inl same) = subst (λ (all : List BoardEntry). desk.layout.opened.board ≤ length all) (sym same) since
+    since_given (inr (one, is_one, own)) =
+        subst (λ (all : List BoardEntry). desk.layout.opened.board ≤ length all) (sym is_one) (omega (arith, since, length_push entries one))
+
     pub with_board_is_desk : IsSoundBoard board → IsBoardOf desk.layout board.first board.limit
+        → MayReplaceBoard desk.layout (seen_alone desk) entries board.journal.entries
         → (board.keepers ≡ Some tt → AreAtRest desk.layout board.journal.entries (keeping_alone desk)) → IsDesk (with_board desk board)
-    with_board_is_desk sound is_of rest = record {
+    with_board_is_desk sound is_of may rest = record {
       count = is.count;
       buckets = is.buckets;
       nodes = is.nodes;
@@ -87,7 +104,7 @@ module _ (desk : AloneState) (is : IsDesk desk) (entries : List BoardEntry) (out
       empty = is.empty;
       is_out = λ held at. let was = is.is_out held at in record { slot = was.slot; kept = was.kept };
       home = λ one at. subst (IsHome (with_board desk board)) (same at)
-          (record { sound = sound; is_of = is_of; rest = rest; none_out = refl });
+          (record { sound = sound; is_of = is_of; since = since_given may; rest = rest; none_out = refl });
       away = λ none. absurd (cc);
     } where
       same : {one : Board (Unit {0})} → Some board ≡ Some one → board ≡ one
@@ -99,9 +116,9 @@ module _ (desk : AloneState) (is : IsDesk desk) (entries : List BoardEntry) (out
       board = refl;
       journals = λ lock. refl;
       own =
-          own_of_board (with_board desk board) ∙ places_added entries board.journal.entries (adds may)
+          own_of_board (with_board desk board) ∙ places_added desk.layout.opened.board entries board.journal.entries since (adds may)
           ∙ ap (λ (before : List ℕ). before ++ place_added entries board.journal.entries)
-          (ap places (sym entries_were) ∙ sym (own_of_board desk));
+          (ap (places desk.layout.opened.board) (sym entries_were) ∙ sym (own_of_board desk));
       others_own = λ lock other. others lock other;
     } where
       adds : MayReplaceBoard desk.layout (seen_alone desk) entries board.journal.entries
@@ -112,8 +129,11 @@ module _ (desk : AloneState) (is : IsDesk desk) (entries : List BoardEntry) (out
       others : (lock : ℕ) → lock ≢ desk.layout.buckets → (seen_alone (with_board desk board)).own lock ≡ (seen_alone desk).own lock
       others lock other =
           let no : (lock == desk.layout.buckets) ≡ false = grind (arith, nat_tests) in
-          ap (λ b. cond b (places board.journal.entries) (pass_places (journal_of desk lock))) no
-          ∙ sym (ap (λ b. cond b (places (entries_alone desk)) (pass_places (journal_of desk lock))) no)
+          ap (λ b. cond b (places desk.layout.opened.board board.journal.entries) (passes lock)) no
+          ∙ sym (ap (λ b. cond b (places desk.layout.opened.board (entries_alone desk)) (passes lock)) no)
+        where
+          passes : ℕ → List ℕ
+          passes number = pass_places (opened_at desk.layout.opened number) (journal_of desk number)
 
 -- what a hold of the board leaves
 pub record IsBoardHold (desk new : AloneState) (board : Board (Unit {0})) : Type 0 where
@@ -194,7 +214,7 @@ board_is_given desk new entries board is out sound is_of may rest after =
     })
   where
     back : IsDesk (with_board desk board)
-    back = with_board_is_desk desk is entries out board sound is_of rest
+    back = with_board_is_desk desk is entries out board sound is_of may rest
 
     fits : board.keepers ≡ None → {one : Board (Unit {0})} → Some board ≡ Some one → one.keepers ≡ None
     fits none {one} there = let same : board ≡ one = cc in subst (λ (b : Board (Unit {0})). b.keepers ≡ None) same none
@@ -205,14 +225,14 @@ pub given_of_fields : (fields : Inside) (more : List (Unit {0} × Board (Unit {0
     → value_of fields ≡ desk → IsDesk (value_of fields) → desk.board_out ≡ Some entries → IsSoundBoard board
     → IsBoardOf desk.layout board.first board.limit → MayReplaceBoard desk.layout (seen_alone desk) entries board.journal.entries
     → (board.keepers ≡ Some tt → AreAtRest desk.layout board.journal.entries (keeping_alone desk)) → more ≡ []
-    → IsBoardGive desk (desk_of (layout_alone fields.slots.items fields.nodes fields.first fields.limit) fields.slots.items
+    → IsBoardGive desk (desk_of (layout_alone fields.slots.items fields.nodes fields.first fields.limit fields.opened) fields.slots.items
     (out_alone fields.out.items) (Some board) (board_out_of more)) board
 given_of_fields fields more desk entries board view is out sound is_of may rest history =
     board_is_given desk (after more) entries board (subst IsDesk view is) out sound is_of may rest
     (ap after history ∙ ap (λ (old : AloneState). with_board old board) view)
   where
     after : List (Unit {0} × Board (Unit {0})) → AloneState
-    after items = desk_of (layout_alone fields.slots.items fields.nodes fields.first fields.limit) fields.slots.items
+    after items = desk_of (layout_alone fields.slots.items fields.nodes fields.first fields.limit fields.opened) fields.slots.items
         (out_alone fields.out.items) (Some board) (board_out_of items)
 
 -- the board is there, by the fields of the desk
@@ -225,7 +245,7 @@ there_by_fields fields desk view is none =
 pub held_of_fields : (fields : Inside) (more : List (Unit {0} × Board (Unit {0}))) (left : Option (Board (Unit {0}))) (desk : AloneState)
     (board : Board (Unit {0}))
     → value_of fields ≡ desk → IsDesk (value_of fields) → fields.board ≡ Some board → left ≡ None → more ≡ (tt, board) ∷ []
-    → IsBoardHold desk (desk_of (layout_alone fields.slots.items fields.nodes fields.first fields.limit) fields.slots.items
+    → IsBoardHold desk (desk_of (layout_alone fields.slots.items fields.nodes fields.first fields.limit fields.opened) fields.slots.items
     (out_alone fields.out.items) left (board_out_of more)) board
 held_of_fields fields more left desk board view is there none history =
     board_is_held desk (after left more) board (subst IsDesk view is) (ap (λ (d : AloneState). d.board) (sym view) ∙ there)
@@ -233,5 +253,5 @@ held_of_fields fields more left desk board view is there none history =
     ∙ ap (λ (old : AloneState). without_board old board.journal.entries) view)
   where
     after : Option (Board (Unit {0})) → List (Unit {0} × Board (Unit {0})) → AloneState
-    after one items = desk_of (layout_alone fields.slots.items fields.nodes fields.first fields.limit) fields.slots.items
+    after one items = desk_of (layout_alone fields.slots.items fields.nodes fields.first fields.limit fields.opened) fields.slots.items
         (out_alone fields.out.items) one (board_out_of items)

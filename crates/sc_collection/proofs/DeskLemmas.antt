@@ -1,5 +1,5 @@
 -- What is true of a desk for one thread as it stands.
-use Rattle.std.proofs.Common.{◌≡◌, ◌≢◌, ◌⊎◌, inl, inr, ◌≤◌, ◌<◌, ℕ, Bool, true, false, cond, eqb, List, [], ◌∷◌, length, Option, Some, None, slice_get, refl, sym, ap, ◌∙◌, subst, arith}
+use Rattle.std.proofs.Common.{◌≡◌, ◌≢◌, ◌⊎◌, inl, inr, ◌≤◌, ◌<◌, ℕ, Bool, true, false, cond, eqb, List, [], ◌∷◌, Option, Some, None, slice_get, refl, sym, ap, ◌∙◌, subst, arith}
 use Rattle.std.specs.Prelude.{◌==◌}
 use Rattle.std.proofs.lemmas.Bool.{eqb-true, eqb-false}
 use Rattle.std.proofs.lemmas.Bool.Decides.{nat_tests}
@@ -9,12 +9,12 @@ use Rattle.sc_cluster.specs.declared.slice.Slice.{Slice}
 use Rattle.sc_journal.specs.Legal.{IsLegal}
 use Rattle.sc_seen.specs.declared.board.BoardEntry.{BoardEntry}
 use Rattle.sc_seen.specs.Board.{IsLegalBoard, board_map}
-use Rattle.sc_seen.specs.Seen.{Layout, AreLegal}
+use Rattle.sc_seen.specs.Seen.{opened_at, Layout, AreLegal}
 use Rattle.sc_bucket.specs.declared.bucket.Bucket.{Bucket}
 use Rattle.sc_keeper.specs.declared.part.Part.{Part}
 use Rattle.sc_board.specs.declared.board.Board.{Board}
 use Rattle.sc_collection.specs.Desks.{Out, Held, Keeping, KeepsOn, IsAtRest, AreAtRest}
-use Rattle.sc_collection.specs.Alone.{AloneState, bucket_in, bucket_at, journal_in, journal_of, entries_in, entries_alone, pass_places, places, seen_alone, keeping_alone, KeepersAreOut, IsKept, IsDesk}
+use Rattle.sc_collection.specs.Alone.{AloneState, bucket_in, bucket_at, journal_in, journal_of, entries_in, entries_alone, pass_places, places, seen_alone, IsKept, IsDesk}
 
 -- two numbers are equal, or they are not
 pub same_or_other : (a b : ℕ) → (a ≡ b) ⊎ (a ≢ b)
@@ -72,23 +72,25 @@ desk_is_legal desk is = record {
 
 -- of a bucket the places of its passes' entries are one's own
 pub own_of_bucket : (desk : AloneState) (lock : ℕ) → lock < desk.layout.buckets
-    → (seen_alone desk).own lock ≡ pass_places (journal_of desk lock)
+    → (seen_alone desk).own lock ≡ pass_places (opened_at desk.layout.opened lock) (journal_of desk lock)
 own_of_bucket desk lock below =
     let other : (lock == desk.layout.buckets) ≡ false = grind (arith, nat_tests) in
-    ap (λ b. cond b (places (entries_alone desk)) (pass_places (journal_of desk lock))) other
+    ap (λ b. cond b (places desk.layout.opened.board (entries_alone desk)) (pass_places (opened_at desk.layout.opened lock) (journal_of desk lock))) other
 
 -- and of the board all are
-pub own_of_board : (desk : AloneState) → (seen_alone desk).own desk.layout.buckets ≡ places (entries_alone desk)
+pub own_of_board : (desk : AloneState)
+    → (seen_alone desk).own desk.layout.buckets ≡ places desk.layout.opened.board (entries_alone desk)
 own_of_board desk =
     let same : (desk.layout.buckets == desk.layout.buckets) ≡ true = grind (arith, nat_tests) in
-    ap (λ b. cond b (places (entries_alone desk)) (pass_places (journal_of desk desk.layout.buckets))) same
+    ap (λ b. cond b (places desk.layout.opened.board (entries_alone desk))
+    (pass_places (opened_at desk.layout.opened desk.layout.buckets) (journal_of desk desk.layout.buckets))) same
 
 -- buckets are at rest as long as what is kept of them stays
 pub AreAtRest-kept : (layout : Layout) (entries : List BoardEntry) (old new : Keeping) → KeepsOn old new
     → AreAtRest layout entries old → AreAtRest layout entries new
 AreAtRest-kept layout entries old new keeps rest number inside =
-    subst (λ (part : Part). IsAtRest entries slices part (new.own number)) (sym (keeps.part number))
-    (subst (λ (own : List Entry). IsAtRest entries slices (old.part number) own) (sym (keeps.own number)) (rest number inside))
+    subst (λ (part : Part). IsAtRest layout.opened.board entries slices part (new.own number)) (sym (keeps.part number))
+    (subst (λ (own : List Entry). IsAtRest layout.opened.board entries slices (old.part number) own) (sym (keeps.own number)) (rest number inside))
   where
     slices : List Slice
     slices = board_map layout.first entries

@@ -1,19 +1,18 @@
 -- What a give of a bucket leaves of a desk for one thread.
-use Rattle.std.proofs.Common.{◌≡◌, ◌≢◌, ◌⊎◌, inl, inr, ◌<◌, ℕ, Bool, cond, List, [], ◌++◌, length, get_or, set, Option, Some, None, slice_get, refl, sym, ap, ◌∙◌, subst, arith}
+use Rattle.std.proofs.Common.{◌≡◌, ◌≢◌, ◌⊎◌, inl, inr, ◌≤◌, ◌<◌, ℕ, Bool, true, false, cond, List, [], ◌++◌, length, drop, get_or, set, Option, Some, None, slice_get, refl, sym, ap, ◌∙◌, subst}
 use Rattle.std.specs.Prelude.{◌==◌}
 use Rattle.std.proofs.lemmas.List.{length-set}
 use Rattle.std.proofs.lemmas.Option.{slice_get_read, slice_get_within}
 use Rattle.sc_record.specs.declared.entry.Entry.{Entry}
-use Rattle.sc_seen.specs.Seen.{Layout, AreLegal}
+use Rattle.sc_seen.specs.Seen.{opened_at, Layout, AreLegal}
 use Rattle.sc_bucket.specs.declared.bucket.Bucket.{Bucket}
-use Rattle.sc_keeper.specs.declared.part.Part.{Part}
-use Rattle.sc_keeper.specs.Part.{part_of, keeper_entries}
+use Rattle.sc_keeper.specs.Part.{keeper_entries}
 use Rattle.sc_keeper.proofs.PassLemmas.{part-step, step_adds_no_keeper_entry, keeper_adds_no_pass_entry}
 use Rattle.sc_board.specs.declared.board.Board.{Board}
 use Rattle.sc_collection.specs.Desks.{Held, KeepsOn, StillFit, KeepsGiven, MayReplace, KeeperMayReplace, SeesGiven, SeesKeeperGiven, AreAtRest, place_added}
-use Rattle.sc_collection.specs.Alone.{AloneState, desk_of, layout_alone, out_alone, board_out_of, bucket_in, bucket_at, journal_in, journal_of, part_of_slot, entries_alone, places, pass_places, seen_alone, keeping_alone, KeepersAreOut, IsKept, IsHome, IsDesk, MayStand, taken_back}
+use Rattle.sc_collection.specs.Alone.{AloneState, desk_of, layout_alone, out_alone, board_out_of, bucket_in, bucket_at, journal_in, journal_of, part_of_slot, entries_alone, places, pass_places, seen_alone, keeping_alone, KeepersAreOut, IsKept, IsHome, IsDesk, KeepsPart, MayStand, taken_back}
 use Rattle.sc_collection.specs.declared.alone.Alone.TheInside.{Inside}
-use Rattle.sc_collection.proofs.PlaceLemmas.{step_places, keeper_places, keeper_adds_own}
+use Rattle.sc_collection.proofs.PlaceLemmas.{step_places, keeper_places, keeper_adds_own, step_keeps_own, adds_longer}
 use Rattle.sc_collection.proofs.SlotLemmas.{slice_get-set_same, slice_get-set_other}
 use Rattle.sc_collection.proofs.DeskLemmas.{same_or_other, desk_is_legal, own_of_bucket, AreAtRest-kept, out_is_at, out_within}
 use Rattle.sc_collection.proofs.HoldLemmas.{value_of}
@@ -60,19 +59,25 @@ module _ (desk : AloneState) (is : IsDesk desk) (held : Held) (bucket : Bucket) 
   journal_other : (lock : ℕ) → lock ≢ held.number → journal_of (taken_back desk held.number bucket) lock ≡ journal_of desk lock
   journal_other lock other = ap journal_in (back_at_other lock other)
 
+  abbrev from : ℕ
+  from = opened_at desk.layout.opened held.number
+
+  since : from ≤ length held.bucket.journal.entries
+  since = (is.is_out held there).kept.since
+
   below : held.number < desk.layout.buckets
   below = out_within desk is held there
 
   own_other : (lock : ℕ) → lock ≢ held.number → (seen_alone (taken_back desk held.number bucket)).own lock ≡ (seen_alone desk).own lock
   own_other lock other =
-      ap (λ (journal : List Entry). cond (lock == desk.layout.buckets) (places (entries_alone desk)) (pass_places journal))
-      (journal_other lock other)
+      ap (λ (journal : List Entry). cond (lock == desk.layout.buckets) (places desk.layout.opened.board (entries_alone desk))
+      (pass_places (opened_at desk.layout.opened lock) journal)) (journal_other lock other)
 
-  own_back : (seen_alone (taken_back desk held.number bucket)).own held.number ≡ pass_places bucket.journal.entries
-  own_back = own_of_bucket (taken_back desk held.number bucket) held.number below ∙ ap pass_places journal_back
+  own_back : (seen_alone (taken_back desk held.number bucket)).own held.number ≡ pass_places from bucket.journal.entries
+  own_back = own_of_bucket (taken_back desk held.number bucket) held.number below ∙ ap (pass_places from) journal_back
 
-  own_was : (seen_alone desk).own held.number ≡ pass_places held.bucket.journal.entries
-  own_was = own_of_bucket desk held.number below ∙ ap pass_places journal_was
+  own_was : (seen_alone desk).own held.number ≡ pass_places from held.bucket.journal.entries
+  own_was = own_of_bucket desk held.number below ∙ ap (pass_places from) journal_was
 
   pub taken_back_sees : MayReplace desk.layout held bucket
       → SeesGiven held bucket (seen_alone desk) (seen_alone (taken_back desk held.number bucket))
@@ -82,7 +87,7 @@ module _ (desk : AloneState) (is : IsDesk desk) (held : Held) (bucket : Bucket) 
     board = refl;
     own =
         own_back
-        ∙ step_places held.bucket.journal.entries bucket.journal.entries (step_adds_no_keeper_entry held.bucket bucket may.step)
+        ∙ step_places from held.bucket.journal.entries bucket.journal.entries since (step_adds_no_keeper_entry held.bucket bucket may.step)
         ∙ ap (λ (before : List ℕ). before ++ place_added held.bucket.journal.entries bucket.journal.entries) (sym own_was);
     others_own = own_other;
   }
@@ -100,18 +105,21 @@ module _ (desk : AloneState) (is : IsDesk desk) (held : Held) (bucket : Bucket) 
     own lock (inl same) =
         subst (λ (n : ℕ). (seen_alone (taken_back desk held.number bucket)).own n ≡ (seen_alone desk).own n) (sym same)
         (own_back
-        ∙ keeper_places held.bucket.journal.entries bucket.journal.entries (keeper_adds_no_pass_entry held.bucket bucket may.event)
+        ∙ keeper_places from held.bucket.journal.entries bucket.journal.entries since
+        (keeper_adds_no_pass_entry held.bucket bucket may.event)
         ∙ sym own_was)
     own lock (inr other) = own_other lock other
 
-  -- where its part is as it was, so is all that keepers keep
-  pub taken_back_keeps : part_of bucket ≡ part_of held.bucket → KeepsOn (keeping_alone desk) (keeping_alone (taken_back desk held.number bucket))
+  -- where what its keeper keeps is as it was, so is all that keepers keep
+  pub taken_back_keeps : KeepsPart from held.bucket bucket → KeepsOn (keeping_alone desk) (keeping_alone (taken_back desk held.number bucket))
   taken_back_keeps same = record { part = λ lock. part lock (same_or_other lock held.number); own = λ lock. own lock (same_or_other lock held.number) } where
     part_at : part_of_slot (bucket_at (taken_back desk held.number bucket) held.number) ≡ part_of_slot (bucket_at desk held.number)
-    part_at = ap part_of_slot back_at ∙ same ∙ ap part_of_slot (sym was_at)
+    part_at = ap part_of_slot back_at ∙ same.part ∙ ap part_of_slot (sym was_at)
 
-    own_at : keeper_entries (journal_of (taken_back desk held.number bucket) held.number) ≡ keeper_entries (journal_of desk held.number)
-    own_at = ap keeper_entries journal_back ∙ ap (λ (one : Part). one.entries) same ∙ ap keeper_entries (sym journal_was)
+    own_at : keeper_entries (drop from (journal_of (taken_back desk held.number bucket) held.number))
+        ≡ keeper_entries (drop from (journal_of desk held.number))
+    own_at = ap (λ (journal : List Entry). keeper_entries (drop from journal)) journal_back ∙ same.own
+        ∙ ap (λ (journal : List Entry). keeper_entries (drop from journal)) (sym journal_was)
 
     part : (lock : ℕ) → (lock ≡ held.number) ⊎ (lock ≢ held.number)
         → part_of_slot (bucket_at (taken_back desk held.number bucket) lock) ≡ part_of_slot (bucket_at desk lock)
@@ -120,23 +128,27 @@ module _ (desk : AloneState) (is : IsDesk desk) (held : Held) (bucket : Bucket) 
     part lock (inr other) = ap part_of_slot (back_at_other lock other)
 
     own : (lock : ℕ) → (lock ≡ held.number) ⊎ (lock ≢ held.number)
-        → keeper_entries (journal_of (taken_back desk held.number bucket) lock) ≡ keeper_entries (journal_of desk lock)
+        → (keeping_alone (taken_back desk held.number bucket)).own lock ≡ (keeping_alone desk).own lock
     own lock (inl is_it) =
-        subst (λ (n : ℕ). keeper_entries (journal_of (taken_back desk held.number bucket) n) ≡ keeper_entries (journal_of desk n)) (sym is_it) own_at
-    own lock (inr other) = ap keeper_entries (journal_other lock other)
+        subst (λ (n : ℕ). (keeping_alone (taken_back desk held.number bucket)).own n ≡ (keeping_alone desk).own n) (sym is_it) own_at
+    own lock (inr other) =
+        ap (λ (journal : List Entry). keeper_entries (drop (opened_at desk.layout.opened lock) journal)) (journal_other lock other)
 
   -- what they keep once a keeper gave it back
   pub taken_back_keeps_given : KeeperMayReplace desk.layout held bucket
       → KeepsGiven held bucket (keeping_alone desk) (keeping_alone (taken_back desk held.number bucket))
   taken_back_keeps_given may =
-      let adds = keeper_adds_own held.bucket.journal.entries bucket.journal.entries (keeper_adds_no_pass_entry held.bucket bucket may.event) in
+      let adds =
+      keeper_adds_own from held.bucket.journal.entries bucket.journal.entries since (keeper_adds_no_pass_entry held.bucket bucket may.event) in
       record {
         part = ap part_of_slot back_at;
         others = λ lock other. ap part_of_slot (back_at_other lock other);
         made = adds.0;
         added = adds.1;
-        own = ap keeper_entries journal_back ∙ adds.2 ∙ ap (λ (before : List Entry). keeper_entries before ++ adds.0) (sym journal_was);
-        others_own = λ lock other. ap keeper_entries (journal_other lock other);
+        own = ap (λ (journal : List Entry). keeper_entries (drop from journal)) journal_back ∙ adds.2
+            ∙ ap (λ (before : List Entry). keeper_entries (drop from before) ++ adds.0) (sym journal_was);
+        others_own = λ lock other.
+            ap (λ (journal : List Entry). keeper_entries (drop (opened_at desk.layout.opened lock) journal)) (journal_other lock other);
       }
 
   pub taken_back_is_desk : MayStand desk held bucket → IsDesk (taken_back desk held.number bucket)
@@ -172,28 +184,50 @@ module _ (desk : AloneState) (is : IsDesk desk) (held : Held) (bucket : Bucket) 
     home board at was = record {
       sound = was.sound;
       is_of = was.is_of;
+      since = was.since;
       rest = λ has. by has may.keeps;
       none_out = was.none_out;
     } where
-      by : board.keepers ≡ Some tt → KeepersAreOut desk ⊎ (part_of bucket ≡ part_of held.bucket)
+      by : board.keepers ≡ Some tt → KeepersAreOut desk ⊎ KeepsPart from held.bucket bucket
           → AreAtRest desk.layout board.journal.entries (keeping_alone (taken_back desk held.number bucket))
       by has (inl out) = let none : None ≡ Some tt = sym (out board at) ∙ has in absurd (cc)
       by has (inr same) =
           AreAtRest-kept desk.layout board.journal.entries (keeping_alone desk) (keeping_alone (taken_back desk held.number bucket))
           (taken_back_keeps same) (was.rest has)
 
--- a bucket may stand where a holder may give it back
-pub may_stand : (desk : AloneState) (held : Held) (bucket : Bucket) → MayReplace desk.layout held bucket → MayStand desk held bucket
-may_stand desk held bucket may = record {
-  kept = record { sound = may.sound; is_of = may.is_of };
-  keeps = inr (part-step held.bucket bucket may.step);
+-- after an event of the bucket's own what its keeper keeps is as it was
+step_keeps : (from : ℕ) (layout : Layout) (held : Held) (bucket : Bucket) → from ≤ length held.bucket.journal.entries
+    → MayReplace layout held bucket → KeepsPart from held.bucket bucket
+step_keeps from layout held bucket since may = record {
+  part = part-step held.bucket bucket may.step;
+  own = step_keeps_own from held.bucket.journal.entries bucket.journal.entries since (step_adds_no_keeper_entry held.bucket bucket may.step);
 }
 
--- and where its keeper may, of whom somebody else has the keepers than the desk
-pub may_stand_kept : (desk : AloneState) (held : Held) (bucket : Bucket) → KeepersAreOut desk → KeeperMayReplace desk.layout held bucket
+-- a bucket may stand where a holder may give it back
+pub may_stand : (desk : AloneState) (held : Held) (bucket : Bucket) → IsDesk desk → desk.out ≡ Some held → MayReplace desk.layout held bucket
     → MayStand desk held bucket
-may_stand_kept desk held bucket out may = record {
-  kept = record { sound = may.sound; is_of = may.is_of };
+may_stand desk held bucket is there may =
+    let since = (is.is_out held there).kept.since in
+    record {
+      kept = record {
+        sound = may.sound;
+        is_of = may.is_of;
+        since = adds_longer false (opened_at desk.layout.opened held.number) held.bucket.journal.entries bucket.journal.entries since
+            (step_adds_no_keeper_entry held.bucket bucket may.step);
+      };
+      keeps = inr (step_keeps (opened_at desk.layout.opened held.number) desk.layout held bucket since may);
+    }
+
+-- and where its keeper may, of whom somebody else has the keepers than the desk
+pub may_stand_kept : (desk : AloneState) (held : Held) (bucket : Bucket) → IsDesk desk → desk.out ≡ Some held → KeepersAreOut desk
+    → KeeperMayReplace desk.layout held bucket → MayStand desk held bucket
+may_stand_kept desk held bucket is there out may = record {
+  kept = record {
+    sound = may.sound;
+    is_of = may.is_of;
+    since = adds_longer true (opened_at desk.layout.opened held.number) held.bucket.journal.entries bucket.journal.entries
+        (is.is_out held there).kept.since (keeper_adds_no_pass_entry held.bucket bucket may.event);
+  };
   keeps = inl out;
 }
 
@@ -229,7 +263,7 @@ pub put_back_of_fields : (fields : Inside) (more : List ((ℕ × Bool) × Bucket
     (slot : Option Bucket)
     → value_of fields ≡ desk → IsDesk (value_of fields) → desk.out ≡ Some held → held.number ≡ number → (IsDesk desk → MayStand desk held bucket)
     → slot ≡ Some bucket → more ≡ []
-    → IsPutBack desk (desk_of (layout_alone (set fields.slots.items number slot) fields.nodes fields.first fields.limit)
+    → IsPutBack desk (desk_of (layout_alone (set fields.slots.items number slot) fields.nodes fields.first fields.limit fields.opened)
     (set fields.slots.items number slot) (out_alone more) fields.board (board_out_of fields.board_out.items)) number bucket
 put_back_of_fields fields more desk number bucket held slot view is there same may full history = record {
   is = is_desk;
@@ -245,7 +279,7 @@ put_back_of_fields fields more desk number bucket held slot view is there same m
   with_layout layout now items = desk_of layout now (out_alone items) fields.board (board_out_of fields.board_out.items)
 
   after : List (Option Bucket) → AloneState
-  after now = with_layout (layout_alone now fields.nodes fields.first fields.limit) now more
+  after now = with_layout (layout_alone now fields.nodes fields.first fields.limit fields.opened) now more
 
   is_desk : IsDesk desk
   is_desk = subst IsDesk view is
@@ -253,8 +287,10 @@ put_back_of_fields fields more desk number bucket held slot view is there same m
   by_fields : after (set slots number slot) ≡ taken_back desk number bucket
   by_fields =
       ap (λ (one : Option Bucket). after (set slots number one)) full
-      ∙ ap (with_layout (layout_alone (set slots number (Some bucket)) fields.nodes fields.first fields.limit) (set slots number (Some bucket))) history
-      ∙ ap (λ (n : ℕ). with_layout (record { buckets = n; nodes = fields.nodes; first = fields.first; limit = fields.limit })
+      ∙ ap (with_layout (layout_alone (set slots number (Some bucket)) fields.nodes fields.first fields.limit fields.opened)
+      (set slots number (Some bucket))) history
+      ∙ ap (λ (n : ℕ). with_layout
+      (record { buckets = n; nodes = fields.nodes; first = fields.first; limit = fields.limit; opened = fields.opened })
       (set slots number (Some bucket)) []) (length-set slots number (Some bucket))
       ∙ ap (λ (old : AloneState). taken_back old number bucket) view
 
@@ -275,9 +311,13 @@ put_is_give desk new held number bucket is there same may after =
       sees = taken_back_sees desk is held bucket there may;
       out = refl;
       board_out = refl;
-      legal = desk_is_legal (taken_back desk held.number bucket) (taken_back_is_desk desk is held bucket there (may_stand desk held bucket may));
+      legal = desk_is_legal (taken_back desk held.number bucket) (taken_back_is_desk desk is held bucket there (may_stand desk held bucket is there may));
       layout = refl;
-      keepers = λ out. (out, taken_back_keeps desk is held bucket there (part-step held.bucket bucket may.step));
+      keepers = λ out. (
+        out,
+        taken_back_keeps desk is held bucket there
+            (step_keeps (opened_at desk.layout.opened held.number) desk.layout held bucket (is.is_out held there).kept.since may),
+      );
     })
 
 -- what a keeper's give leaves
@@ -302,7 +342,7 @@ put_is_keeper_give desk new held number bucket is there same out may after =
       out = refl;
       board_out = refl;
       legal = desk_is_legal (taken_back desk held.number bucket)
-          (taken_back_is_desk desk is held bucket there (may_stand_kept desk held bucket out may));
+          (taken_back_is_desk desk is held bucket there (may_stand_kept desk held bucket is there out may));
       layout = refl;
     })
 

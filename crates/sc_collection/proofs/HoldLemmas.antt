@@ -1,11 +1,11 @@
 -- What a hold of a bucket leaves of a desk for one thread.
-use Rattle.std.proofs.Common.{◌≡◌, ◌≢◌, ◌⊎◌, inl, inr, ◌<◌, ℕ, Bool, List, [], ◌∷◌, length, get_or, set, Option, Some, None, slice_get, refl, sym, ap, ◌∙◌, subst}
+use Rattle.std.proofs.Common.{◌≡◌, ◌≢◌, ◌⊎◌, inl, inr, ◌<◌, ℕ, Bool, List, [], ◌∷◌, length, drop, get_or, set, Option, Some, None, slice_get, refl, sym, ap, ◌∙◌, subst}
 use Rattle.std.proofs.Math.Path.{fun_ext}
 use Rattle.std.specs.Prelude.{◌==◌, if◌then◌else◌, IsSome}
 use Rattle.std.proofs.lemmas.List.{length-set, append-nil}
 use Rattle.std.proofs.lemmas.Option.{slice_get_read, slice_get_within}
 use mathlib.Core.List.{IsPrefix}
-use Rattle.sc_seen.specs.Seen.{Layout, Seen, AreLegal}
+use Rattle.sc_seen.specs.Seen.{opened_at, Layout, Seen, AreLegal}
 use Rattle.sc_bucket.specs.declared.bucket.Bucket.{Bucket}
 use Rattle.sc_keeper.specs.Part.{part_of, keeper_entries}
 use Rattle.sc_board.specs.declared.board.Board.{Board}
@@ -49,7 +49,7 @@ module _ (desk : AloneState) (is : IsDesk desk) (held : Held)
   pub handed_out_keeps : KeepsOn (keeping_alone desk) (keeping_alone (handed_out desk held))
   handed_out_keeps = record {
     part = λ lock. ap part_of_slot (handed_out_at lock);
-    own = λ lock. ap (λ (one : Option Bucket). keeper_entries (journal_in one)) (handed_out_at lock);
+    own = λ lock. ap (λ (one : Option Bucket). keeper_entries (drop (opened_at desk.layout.opened lock) (journal_in one))) (handed_out_at lock);
   }
 
   pub handed_out_seen : seen_alone (handed_out desk held) ≡ seen_alone desk
@@ -58,7 +58,8 @@ module _ (desk : AloneState) (is : IsDesk desk) (held : Held)
     seen_by buckets = record {
       journals = λ lock. journal_in (buckets lock);
       board = entries_alone desk;
-      own = λ lock. if lock == desk.layout.buckets then places (entries_alone desk) else pass_places (journal_in (buckets lock));
+      own = λ lock. if lock == desk.layout.buckets then places desk.layout.opened.board (entries_alone desk)
+          else pass_places (opened_at desk.layout.opened lock) (journal_in (buckets lock));
     }
 
   pub handed_out_is_desk : IsDesk (handed_out desk held)
@@ -98,6 +99,7 @@ module _ (desk : AloneState) (is : IsDesk desk) (held : Held)
     home board was = record {
       sound = was.sound;
       is_of = was.is_of;
+      since = was.since;
       rest = λ there. AreAtRest-kept desk.layout board.journal.entries (keeping_alone desk) (keeping_alone (handed_out desk held))
           handed_out_keeps (was.rest there);
       none_out = was.none_out;
@@ -105,8 +107,8 @@ module _ (desk : AloneState) (is : IsDesk desk) (held : Held)
 
 -- the value of a desk's fields
 abbrev pub value_of : Inside → AloneState
-value_of fields = desk_of (layout_alone fields.slots.items fields.nodes fields.first fields.limit) fields.slots.items (out_alone fields.out.items)
-    fields.board (board_out_of fields.board_out.items)
+value_of fields = desk_of (layout_alone fields.slots.items fields.nodes fields.first fields.limit fields.opened) fields.slots.items
+    (out_alone fields.out.items) fields.board (board_out_of fields.board_out.items)
 
 -- where nothing is out, each slot has its bucket
 pub slot_is_full : (fields : Inside) (desk : AloneState) (number : ℕ) (read : Option Bucket)
@@ -145,7 +147,7 @@ pub taken_of_fields : (fields : Inside) (more : List ((ℕ × Bool) × Bucket)) 
     → value_of fields ≡ desk → IsDesk (value_of fields) → desk.out ≡ None → held.number < desk.layout.buckets
     → read ≡ get_or fields.slots.items held.number read → taken ≡ read → taken ≡ Some held.bucket → slot ≡ None
     → more ≡ ((held.number, held.by_keeper), held.bucket) ∷ []
-    → IsTaken desk (desk_of (layout_alone (set fields.slots.items held.number slot) fields.nodes fields.first fields.limit)
+    → IsTaken desk (desk_of (layout_alone (set fields.slots.items held.number slot) fields.nodes fields.first fields.limit fields.opened)
     (set fields.slots.items held.number slot) (out_alone more) fields.board (board_out_of fields.board_out.items)) held
 taken_of_fields fields more desk held read taken slot view is none within at same some empty history = record {
   is = is_desk;
@@ -160,7 +162,7 @@ taken_of_fields fields more desk held read taken slot view is none within at sam
   with_layout layout now items = desk_of layout now (out_alone items) fields.board (board_out_of fields.board_out.items)
 
   after : List (Option Bucket) → List ((ℕ × Bool) × Bucket) → AloneState
-  after now items = with_layout (layout_alone now fields.nodes fields.first fields.limit) now items
+  after now items = with_layout (layout_alone now fields.nodes fields.first fields.limit fields.opened) now items
 
   is_desk : IsDesk desk
   is_desk = subst IsDesk view is
@@ -177,7 +179,8 @@ taken_of_fields fields more desk held read taken slot view is none within at sam
   by_fields : after (set slots held.number slot) more ≡ handed_out desk held
   by_fields =
       ap (λ (one : Option Bucket). after (set slots held.number one) more) empty ∙ ap (after (set slots held.number None)) history
-      ∙ ap (λ (n : ℕ). with_layout (record { buckets = n; nodes = fields.nodes; first = fields.first; limit = fields.limit })
+      ∙ ap (λ (n : ℕ). with_layout
+      (record { buckets = n; nodes = fields.nodes; first = fields.first; limit = fields.limit; opened = fields.opened })
       (set slots held.number None) (((held.number, held.by_keeper), held.bucket) ∷ [])) (length-set slots held.number None)
       ∙ ap (λ (old : AloneState). handed_out old held) view
 

@@ -12,3 +12,5 @@ pub mod ReplaceLemmas
 pub mod KeeperReplaceLemmas
 pub mod StopLemmas
 pub mod CommitLemmas
+pub mod RestLemmas
+pub mod DownLemmas

@@ -1,12 +1,12 @@
 -- What a desk for one thread keeps, what is seen of it, and what is true of it.
-use Rattle.std.specs.Prelude.{◌≡◌, ◌⊎◌, ◌≤◌, ℕ, Bool, All, ◌==◌, not, if◌then◌else◌, List, [], ◌∷◌, length, map, filter, set, slice_get, Option, Some, None}
+use Rattle.std.specs.Prelude.{◌≡◌, ◌⊎◌, ◌≤◌, ℕ, Bool, All, ◌==◌, not, if◌then◌else◌, List, [], ◌∷◌, length, map, filter, drop, set, slice_get, Option, Some, None}
 use Rattle.std.specs.List.{enumerate_from, range_with_len}
 use Rattle.sc_record.specs.declared.entry.Entry.{Entry}
 use Rattle.sc_router.specs.Route.{IsBucketCount}
 use Rattle.sc_cluster.specs.declared.slice.Slice.{Slice}
 use Rattle.sc_seen.specs.declared.board.BoardEntry.{BoardEntry}
 use Rattle.sc_seen.specs.Board.{IsLegalBoard}
-use Rattle.sc_seen.specs.Seen.{Layout, Seen}
+use Rattle.sc_seen.specs.Seen.{opened_at, Opened, Layout, Seen}
 use Rattle.sc_bucket.specs.declared.bucket.Bucket.{Bucket}
 use Rattle.sc_bucket.specs.declared.phase.Phase.TheVariants as phases
 use Rattle.sc_bucket.specs.Sound.{IsSound}
@@ -26,9 +26,10 @@ pub record AloneState : Type 0 where
   pub board : Option (Board (Unit {0}))
   pub board_out : Option (List BoardEntry)
 
--- how a desk is laid out, by its slots, its number of nodes, the map with which each bucket began, and its limit
-abbrev pub layout_alone : List (Option Bucket) → ℕ → List Slice → ℕ → Layout
-layout_alone slots nodes first limit = record { buckets = length slots; nodes = nodes; first = first; limit = limit }
+-- how a desk is laid out, by its slots, its number of nodes, the map with which each bucket began, its limit, and what was opened
+abbrev pub layout_alone : List (Option Bucket) → ℕ → List Slice → ℕ → Opened → Layout
+layout_alone slots nodes first limit opened =
+    record { buckets = length slots; nodes = nodes; first = first; limit = limit; opened = opened }
 
 -- the bucket that is out, by a history that has nothing else
 abbrev pub out_alone : List ((ℕ × Bool) × Bucket) → Option Held
@@ -79,35 +80,42 @@ journal_of desk number = journal_in (bucket_at desk number)
 abbrev pub entries_alone : AloneState → List BoardEntry
 entries_alone desk = entries_in desk.board desk.board_out
 
--- the places of entries, from 0 on
-abbrev pub places : {A : Type 0} → List A → List ℕ
-places entries = range_with_len 0 (length entries)
+-- the places of entries, from this one on
+abbrev pub places : {A : Type 0} → ℕ → List A → List ℕ
+places from entries = range_with_len from (length (drop from entries))
 
--- the places of a journal's entries that a bucket's keeper alone does not make
-abbrev pub pass_places : List Entry → List ℕ
-pass_places journal = map (λ (one : ℕ × Entry). one.0) (filter (λ (one : ℕ × Entry). not (is_of_keeper one.1)) (enumerate_from 0 journal))
+-- the places, from this one on, of a journal's entries that a bucket's keeper alone does not make
+abbrev pub pass_places : ℕ → List Entry → List ℕ
+pass_places from journal =
+    map (λ (one : ℕ × Entry). one.0) (filter (λ (one : ℕ × Entry). not (is_of_keeper one.1)) (enumerate_from from (drop from journal)))
 
--- what is seen of a desk for one thread: all that happened. All entries are one's own but those of the keepers.
+-- What is seen of a desk for one thread: all that happened. All entries are one's own but those of the keepers and those that were there
+-- when the collection was opened.
 abbrev pub seen_alone : AloneState → Seen
 seen_alone desk = record {
   journals = λ lock. journal_of desk lock;
   board = entries_alone desk;
-  own = λ lock. if lock == desk.layout.buckets then places (entries_alone desk) else pass_places (journal_of desk lock);
+  own = λ lock. if lock == desk.layout.buckets then places desk.layout.opened.board (entries_alone desk)
+      else pass_places (opened_at desk.layout.opened lock) (journal_of desk lock);
 }
 
 -- what the keepers of its buckets keep: the part of each bucket as it is, or as it was when it was handed out, and the entries of it
--- that its keeper made
+-- that its keeper made since the collection was opened
 abbrev pub keeping_alone : AloneState → Keeping
-keeping_alone desk = record { part = λ number. part_of_slot (bucket_at desk number); own = λ number. keeper_entries (journal_of desk number) }
+keeping_alone desk = record {
+  part = λ number. part_of_slot (bucket_at desk number);
+  own = λ number. keeper_entries (drop (opened_at desk.layout.opened number) (journal_of desk number));
+}
 
 -- somebody else has the keepers: the board is out, or it has not got them
 abbrev pub KeepersAreOut : AloneState → Type 0
 KeepersAreOut desk = (board : Board (Unit {0})) → desk.board ≡ Some board → board.keepers ≡ None
 
--- the bucket is sound, and the one of this number
+-- the bucket is sound, and the one of this number; it has the entries that it had when the collection was opened
 pub record IsKept (layout : Layout) (number : ℕ) (bucket : Bucket) : Type 0 where
   pub sound : IsSound bucket
   pub is_of : IsBucketOf layout number bucket
+  pub since : opened_at layout.opened number ≤ length bucket.journal.entries
 
 -- the slot has a bucket that began with this map and this limit, on which nothing happened yet
 pub record IsNewSlot (first : List Slice) (limit : ℕ) (slot : Option Bucket) : Type 0 where
@@ -132,10 +140,12 @@ pub record IsOut (desk : AloneState) (held : Held) : Type 0 where
   pub slot : slice_get desk.slots held.number ≡ Some None
   pub kept : IsKept desk.layout held.number held.bucket
 
--- The board is not out. It is sound, and the collection's; and where it has the keepers, each bucket is as it says.
+-- The board is not out. It is sound, and the collection's, with the entries that it had when that was opened; and where it has the
+-- keepers, each bucket is as it says.
 pub record IsHome (desk : AloneState) (board : Board (Unit {0})) : Type 0 where
   pub sound : IsSoundBoard board
   pub is_of : IsBoardOf desk.layout board.first board.limit
+  pub since : desk.layout.opened.board ≤ length board.journal.entries
   pub rest : board.keepers ≡ Some tt → AreAtRest desk.layout board.journal.entries (keeping_alone desk)
   pub none_out : desk.board_out ≡ None
 
@@ -151,6 +161,7 @@ pub record IsDesk (desk : AloneState) : Type 0 where
   pub is_out : (held : Held) → desk.out ≡ Some held → IsOut desk held
   pub home : (board : Board (Unit {0})) → desk.board ≡ Some board → IsHome desk board
   pub away : desk.board ≡ None → (entries : List BoardEntry) × (desk.board_out ≡ Some entries) × IsLegalBoard desk.layout.first entries
+      × (desk.layout.opened.board ≤ length entries)
 
 -- the desk once this bucket was handed out
 abbrev pub handed_out : AloneState → Held → AloneState
@@ -160,8 +171,13 @@ handed_out desk held = record desk { slots = set desk.slots held.number None; ou
 abbrev pub taken_back : AloneState → ℕ → Bucket → AloneState
 taken_back desk number bucket = record desk { slots = set desk.slots number (Some bucket); out = None }
 
+-- the part of the bucket is as it was, and so are the entries from this place on that its keeper made
+pub record KeepsPart (from : ℕ) (old new : Bucket) : Type 0 where
+  pub part : part_of new ≡ part_of old
+  pub own : keeper_entries (drop from new.journal.entries) ≡ keeper_entries (drop from old.journal.entries)
+
 -- The bucket may be put into the place of the one that was handed out: it is the one of its number, and somebody else has the keepers
--- or its part is as it was.
+-- or what its keeper keeps is as it was.
 pub record MayStand (desk : AloneState) (held : Held) (bucket : Bucket) : Type 0 where
   pub kept : IsKept desk.layout held.number bucket
-  pub keeps : KeepersAreOut desk ⊎ (part_of bucket ≡ part_of held.bucket)
+  pub keeps : KeepersAreOut desk ⊎ KeepsPart (opened_at desk.layout.opened held.number) held.bucket bucket

@@ -1,5 +1,5 @@
 -- What a desk says of the buckets and of the board that it hands out, and asks of those that it takes back.
-use Rattle.std.specs.Prelude.{◌≡◌, ◌≢◌, ◌<◌, ◌⊎◌, ℕ, Bool, true, false, List, [], ◌∷◌, ◌++◌, length, nat_lt, if◌then◌else◌, Option, Some, None, All, Contains}
+use Rattle.std.specs.Prelude.{◌≡◌, ◌≢◌, ◌<◌, ◌≤◌, ◌⊎◌, ℕ, Bool, true, false, List, [], ◌∷◌, ◌++◌, length, drop, nat_lt, if◌then◌else◌, Option, Some, None, All, Contains}
 use Rattle.std.specs.List.{AllByRecursion}
 use Rattle.sc_record.specs.declared.write.Write.{Write}
 use Rattle.sc_record.specs.declared.entry.Entry.{Entry}
@@ -101,7 +101,8 @@ MayReplaceBoard layout seen held given =
     (given ≡ held) ⊎ ((one : BoardEntry) × (given ≡ held ++ one ∷ [])
     × ((place : ℕ) → running_split held ≡ Some place → Contains (seen.own layout.buckets) place))
 
--- what the keepers of all buckets keep: the part of each bucket, by its number, and the entries that its keeper made
+-- what the keepers of all buckets keep: the part of each bucket, by its number, and the entries that its keeper made since the
+-- collection was opened
 pub record Keeping : Type 0 where
   pub part : ℕ → Part
   pub own : ℕ → List Entry
@@ -125,18 +126,19 @@ pub record KeepsGiven (held : Held) (given : Bucket) (old new : Keeping) : Type 
   pub others_own : (number : ℕ) → number ≢ held.number → new.own number ≡ old.own number
 
 -- Where no split runs, a bucket is as the board says: it has the board's map, no split is open in it, each core is active and none is
--- fed. The entries that its keeper made are those that go with the board's, and no other.
-pub record IsAtRest (entries : List BoardEntry) (slices : List Slice) (part : Part) (own : List Entry) : Type 0 where
+-- fed. The entries that its keeper made go with those that the board got since the collection was opened.
+pub record IsAtRest (opened : ℕ) (entries : List BoardEntry) (slices : List Slice) (part : Part) (own : List Entry) : Type 0 where
   pub map_is : part.map ≡ slices
   pub idle : part.phase ≡ phases.Idle
   pub active : All (λ (core : CorePart). core.mode ≡ Active) part.cores
   pub unfed : part.feeds ≡ []
-  pub together : GoTogether entries own
+  pub since : opened ≤ length entries
+  pub together : GoTogether (drop opened entries) own
 
 -- so is each bucket of the collection
 abbrev pub AreAtRest : Layout → List BoardEntry → Keeping → Type 0
 AreAtRest layout entries keeping = (number : ℕ) → number < layout.buckets
-    → IsAtRest entries (board_map layout.first entries) (keeping.part number) (keeping.own number)
+    → IsAtRest layout.opened.board entries (board_map layout.first entries) (keeping.part number) (keeping.own number)
 
 -- a desk is at rest: nothing is out, and what was seen is legal
 pub record IsDeskAtRest (layout : Layout) (out : Out) (seen : Seen) : Type 0 where

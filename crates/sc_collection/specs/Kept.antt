@@ -17,9 +17,11 @@ request_limit = 1000
 abbrev pub stop_limit : ℕ
 stop_limit = 65536
 
--- the most stops of one request: two for each order of an update, and one for each bucket
+-- The most stops of one request, which is the greatest sum of all that one may do: an update's orders, of five stops each (the write, three
+-- cores noted as down, the settling); a sweep, which looks at each bucket first, and then at as many ids as an update may have, each at one
+-- stop or deleted at five; and the commit of each bucket.
 abbrev pub stops_of_request : ℕ
-stops_of_request = 2 * order_limit + most_buckets
+stops_of_request = 10 * order_limit + 2 * most_buckets
 
 -- how many stops a trail has room for: those after which no further request is taken, and those of one request more
 abbrev pub trail_room : ℕ

@@ -1,6 +1,9 @@
--- How a desk hands out the buckets of a collection and its board, what a commit of all buckets leaves, and what a trail keeps.
+-- How a desk hands out the buckets of a collection and its board, what a commit of all buckets leaves, which nodes of cores that were
+-- noted as down could not be reached, and what a trail keeps.
 pub mod Kept
 pub mod Packed
+pub mod Downs
+pub mod Opening
 pub mod Shapes
 pub mod Desks
 pub mod Handing

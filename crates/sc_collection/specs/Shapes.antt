@@ -1,10 +1,10 @@
 -- Which shapes a collection may have, and how it is laid out by one.
-use Rattle.std.specs.Prelude.{◌≡◌, ◌==◌, ◌&&◌, Bool, true, nat_le, ℕ, ◌+◌, ◌-◌, ◌*◌, ◌^◌, []}
+use Rattle.std.specs.Prelude.{◌≡◌, ◌==◌, ◌&&◌, Bool, true, nat_le, ℕ, ◌+◌, ◌-◌, ◌*◌, ◌^◌, [], length}
 use Rattle.std.specs.List.{list_any, range_with_len}
 use Rattle.sc_router.specs.Route.{most_bucket_bits}
 use Rattle.sc_cluster.specs.Map.{AreFirst}
 use Rattle.sc_journal.specs.Limits.{least_journal, greatest_journal}
-use Rattle.sc_seen.specs.Seen.{Layout, Seen}
+use Rattle.sc_seen.specs.Seen.{Opened, opened_at, Layout, Seen}
 use Rattle.sc_collection.specs.declared.shape.Shape.{Shape}
 
 -- the least limit of a journal: that of a bucket, and an entry for each replica of a shard above the first
@@ -47,8 +47,8 @@ pub record HasShape (shape : Shape) (layout : Layout) : Type 0 where
   pub first : AreFirst shape.shards shape.replicas shape.nodes layout.first
   pub limit : layout.limit ≡ shape.log_limit
 
--- nothing happened yet
-pub record SeesNothing (seen : Seen) : Type 0 where
-  pub journals : (lock : ℕ) → seen.journals lock ≡ []
-  pub board : seen.board ≡ []
+-- Nothing happened since the collection was opened: each journal has the entries that it had then, and none is one's own.
+pub record SeesOpened (opened : Opened) (seen : Seen) : Type 0 where
+  pub journals : (lock : ℕ) → length (seen.journals lock) ≡ opened_at opened lock
+  pub board : length seen.board ≡ opened.board
   pub own : (lock : ℕ) → seen.own lock ≡ []

@@ -9,9 +9,11 @@ ghost use Rattle.sc_seen.specs.Board.{running_split};
 ghost use Rattle.sc_board.specs.Boards.{IsSoundBoard};
 ghost use Rattle.sc_collection.specs.Desks.{Held, IsBoardOf, MayReplaceBoard, StillFit, AreAtRest};
 ghost use Rattle.sc_collection.specs.Handing.{TakesBackBoard, desk_state};
-ghost use Rattle.sc_collection.specs.Shapes.{IsShape, HasShape, SeesNothing};
+ghost use Rattle.sc_seen.specs.Seen.{nothing_opened};
+ghost use Rattle.sc_collection.specs.Shapes.{IsShape, HasShape, SeesOpened};
 
 use crate::desk::Desk;
+use crate::opened::OpenedWith;
 use crate::shape::Shape;
 use crate::slot::Slot;
 use http_server::Log;
@@ -35,6 +37,8 @@ pub struct Alone {
     first: ClusterMap,
     /// How many entries each journal may have.
     limit: u64,
+    /// How many each had when the collection was opened.
+    opened: OpenedWith,
     /// The board; none while it is out.
     board: Option<Board<()>>,
     /// The bucket that is out, with its number and whether its keeper has it, and nothing else. It takes no memory.
@@ -48,9 +52,9 @@ impl Model for Alone {
 
     ghost Value = { AloneState };
 
-    ghost view = { λ a. desk_of (layout_alone a.slots.items a.nodes a.first a.limit) a.slots.items (out_alone a.out.items) a.board (board_out_of a.board_out.items) };
+    ghost view = { λ a. desk_of (layout_alone a.slots.items a.nodes a.first a.limit a.opened) a.slots.items (out_alone a.out.items) a.board (board_out_of a.board_out.items) };
 
-    ghost invariant = { λ a. IsDesk (desk_of (layout_alone a.slots.items a.nodes a.first a.limit) a.slots.items (out_alone a.out.items) a.board (board_out_of a.board_out.items)) };
+    ghost invariant = { λ a. IsDesk (desk_of (layout_alone a.slots.items a.nodes a.first a.limit a.opened) a.slots.items (out_alone a.out.items) a.board (board_out_of a.board_out.items)) };
 }
 
 // A bucket in each of so many slots, each with an empty journal.
@@ -78,7 +82,8 @@ impl Alone {
     pub fn new(alloc: Global, shape: &Shape) -> Result<Alone, AllocError>
         requires { IsShape shape.now }
         ensures layout { IfOk result (λ desk. HasShape shape.now desk.layout) }
-        ensures seen { IfOk result (λ desk. SeesNothing (seen_alone desk)) }
+        ensures opened { IfOk result (λ desk. desk.layout.opened ≡ nothing_opened) }
+        ensures seen { IfOk result (λ desk. SeesOpened desk.layout.opened (seen_alone desk)) }
         ensures out { IfOk result (λ desk. desk.out ≡ None) }
         ensures board_out { IfOk result (λ desk. desk.board_out ≡ None) }
     {
@@ -89,6 +94,7 @@ impl Alone {
             nodes: shape.nodes,
             first,
             limit: shape.log_limit,
+            opened: OpenedWith::nothing(),
             board: Some(board),
             out: Log::new(),
             board_out: Log::new(),

@@ -17,7 +17,7 @@ pub trait Parts {
     /// The part of the bucket of this number, as its keeper left it; none where these keepers do not tell.
     ghost parts: { Self → ℕ → Option Part };
 
-    /// The entries that the keeper of the bucket of this number made.
+    /// The entries that the keeper of the bucket of this number made since the collection was opened.
     ghost own: { Self → ℕ → List Entry };
 }
 

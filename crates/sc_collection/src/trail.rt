@@ -14,8 +14,8 @@ const MAX_REQUESTS: u32 = 1_000;
 /// The number of stops after which a connection takes no further request.
 const MAX_STOPS: usize = 65_536;
 
-/// The most stops of one request: two for each order of an update, and one for each bucket.
-const STOPS_OF_REQUEST: usize = 2 * MAX_ORDERS + MOST_BUCKETS;
+/// The most stops of one request.
+const STOPS_OF_REQUEST: usize = 10 * MAX_ORDERS + 2 * MOST_BUCKETS;
 
 /// How many stops a trail has room for: those after which a connection takes no further request, and those of one request more.
 const TRAIL_ROOM: usize = MAX_STOPS + STOPS_OF_REQUEST;

@@ -4,7 +4,7 @@ use Rattle.std.specs.List.{flat_map, range_with_len, items_where_true, position}
 use Rattle.sc_cluster.specs.declared.slice.Slice.{Slice}
 use Rattle.sc_cluster.specs.Slices.{core_name, node_of}
 use Rattle.sc_io.specs.declared.hosts.Host.{Host}
-use Rattle.sc_io.specs.Hosts.{is_core_on, with_core, without_core}
+use Rattle.sc_io.specs.Hosts.{is_core_on, with_core, without_core, Reached}
 
 -- replica k, from 1, of a slice of this name, whose replica 1 is on this node, among so many nodes
 abbrev pub core_at : (nodes : ℕ) → (name : List ℕ) → (node k : ℕ) → Host
@@ -44,23 +44,25 @@ abbrev pub IsNew : List Host → Host → Type 0
 IsNew cores core = All (λ host. is_core_on core.node core.core host ≡ false) cores
 
 -- what stands outside of a collection: the cores that are started, where the hosts tell them, how often starting and stopping one
--- has failed, and how often the pace has said stop
+-- has failed, how often the pace has said stop, and which nodes weren't reached, and how often
 pub record Outside : Type 0 where
   pub started : Option (List Host)
   pub start_faults : ℕ
   pub stop_faults : ℕ
   pub stops : ℕ
+  pub reach : Reached
 
 -- what stands outside, by these
-abbrev pub outside_of : Option (List Host) → (start_faults stop_faults stops : ℕ) → Outside
-outside_of started start_faults stop_faults stops =
-    record { started = started; start_faults = start_faults; stop_faults = stop_faults; stops = stops }
+abbrev pub outside_of : Option (List Host) → (start_faults stop_faults stops : ℕ) → Reached → Outside
+outside_of started start_faults stop_faults stops reach =
+    record { started = started; start_faults = start_faults; stop_faults = stop_faults; stops = stops; reach = reach }
 
 -- no count of what stands outside falls
 pub record CountsGoUp (old new : Outside) : Type 0 where
   pub starting : old.start_faults ≤ new.start_faults
   pub stopping : old.stop_faults ≤ new.stop_faults
   pub pace : old.stops ≤ new.stops
+  pub reaching : old.reach.faults ≤ new.reach.faults
 
 -- each of these cores was started, in order, no call failed, and none was stopped
 pub record StartsCores (cores : List Host) (old new : Outside) : Type 0 where
@@ -68,6 +70,7 @@ pub record StartsCores (cores : List Host) (old new : Outside) : Type 0 where
   pub start_faults : new.start_faults ≡ old.start_faults
   pub stop_faults : new.stop_faults ≡ old.stop_faults
   pub stops : new.stops ≡ old.stops
+  pub reach : new.reach ≡ old.reach
 
 -- Each core of the first map was started, slice by slice, and no call failed.
 abbrev pub StartsFirst : (nodes : ℕ) → List Slice → (old new : Outside) → Type 0

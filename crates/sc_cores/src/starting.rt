@@ -13,6 +13,7 @@ pub fn start_cores<H: Hosts>(hosts: &mut H, cores: &[Host]) -> Result<(), Failed
     ensures cause { OnErr result (H.start_faults hosts.old < H.start_faults hosts.new) }
     ensures no_fall { H.start_faults hosts.old ≤ H.start_faults hosts.new }
     ensures other_count { H.stop_faults hosts.new ≡ H.stop_faults hosts.old }
+    ensures reached { H.reached hosts.new ≡ H.reached hosts.old }
 {
     for core in cores {
         hosts.start_core(core.node, core.core.as_str())?;
@@ -28,6 +29,7 @@ pub fn stop_cores<H: Hosts>(hosts: &mut H, cores: &[Host]) -> Option<usize>
     ensures each { StopsEach cores.now (H.started hosts.old) (H.started hosts.new) (H.stop_faults hosts.old) (H.stop_faults hosts.new) result }
     ensures no_fall { H.stop_faults hosts.old ≤ H.stop_faults hosts.new }
     ensures other_count { H.start_faults hosts.new ≡ H.start_faults hosts.old }
+    ensures reached { H.reached hosts.new ≡ H.reached hosts.old }
 {
     let mut failed = None;
     for at in 0..cores.len() {

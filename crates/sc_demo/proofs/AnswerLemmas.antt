@@ -3,6 +3,7 @@ use Rattle.std.proofs.Common.{◌≡◌, ◌≢◌, ◌∙◌, ◌⊎◌, inl, i
 use Rattle.std.specs.Prelude.{filter, filter_map, ◌==◌}
 use Rattle.std.specs.List.{AllByRecursion, AllZip, cons_option, flat_map, All}
 use Rattle.std.specs.Str.{bytes_eq}
+use Rattle.std.proofs.ByRecursion.{All-append}
 use Rattle.std.proofs.lemmas.Bool.{cases_eq}
 use Rattle.std.proofs.lemmas.Bool.Decides.{nat_tests}
 use Rattle.std.proofs.lemmas.List.Elements.{filter_map-append}
@@ -10,6 +11,7 @@ use Rattle.std.proofs.lemmas.Slice.Eq.{bytes_eq-Decides}
 use Rattle.sc_record.specs.declared.document.Field.{Field}
 use Rattle.sc_record.specs.declared.order.Change.{Change}
 use Rattle.sc_record.specs.declared.order.Change.TheVariants as changes
+use Rattle.sc_record.specs.declared.slice.CoreId.{CoreId}
 use Rattle.sc_record.specs.declared.entry.Entry.{Entry}
 use Rattle.sc_record.specs.declared.entry.Entry.TheVariants as entry
 use Rattle.sc_record.specs.declared.write.Write.{Write}
@@ -18,7 +20,7 @@ use Rattle.sc_schema.specs.Documents.{OrderContent, content_of}
 use Rattle.sc_journal.specs.Journal.{write_at, is_settled, last_write}
 use Rattle.sc_journal.specs.Outcomes.{Outcome, accepted, conflict, partial, log_full, out_of_memory, IsOutcome, Makes}
 use Rattle.sc_seen.specs.Seen.{Layout, Seen, basis_of, journal_at}
-use Rattle.sc_seen.specs.Batches.{OrderAnswer, IsOrderAnswer, HasStops, order_stops}
+use Rattle.sc_seen.specs.Batches.{OrderAnswer, IsOrderAnswer, IsDownStop, HasStops, order_stops}
 use Rattle.sc_seen.specs.declared.stop.Stop.{Stop}
 use Rattle.sc_workload.specs.Laws.{on_document}
 use Rattle.sc_demo.specs.Together.{IsWriteOfOrder, left_by}
@@ -30,17 +32,17 @@ use Rattle.sc_demo.proofs.StopLemmas.{at_stop}
 abbrev pub MadeNone : Seen → Stop → Type 0
 MadeNone seen stop = cond stop.made (write_at (seen.journals stop.lock) stop.place) None ≡ None
 
--- An order's first stop made its write, and its second one none.
+-- An order's first stop made its write, and those after it none.
 pub record HasWritten (layout : Layout) (seen : Seen) (answer : OrderAnswer) : Type 0 where
   pub first : Stop
-  pub second : Stop
-  pub stops : answer.stops ≡ first ∷ second ∷ []
+  pub later : List Stop
+  pub stops : answer.stops ≡ first ∷ later
   pub lock : first.lock ≡ bucket_of answer.order.id layout.buckets
   pub made : first.made ≡ true
   pub write : Write
   pub found : write_at (seen.journals first.lock) first.place ≡ Some write
   pub is : IsWriteOfOrder write (content_of answer.order)
-  pub quiet : MadeNone seen second
+  pub quiet : AllByRecursion (MadeNone seen) later
 
 -- what a prefix of a journal ends before stands at that place
 place_taken : {A : Type 0} (xs : List A) (p : ℕ) → (slice_get xs (length (take p xs)) ≡ None) ⊎ (length (take p xs) ≡ p)
@@ -67,12 +69,24 @@ document_left last (changes.Whole fields) doc plain makes = makes
 document_left last (changes.Parts parts) doc plain makes = absurd plain
 document_left last changes.Delete doc plain makes = makes
 
-settles_none : (seen : Seen) (first second : Stop) → (second.made ≡ true → slice_get (seen.journals second.lock) second.place ≡ Some (entry.Settled first.place))
-    → MadeNone seen second
-settles_none seen first second settles = by second.made refl where
-  by : (b : Bool) → second.made ≡ b → cond b (write_at (seen.journals second.lock) second.place) None ≡ None
+settles_none : (seen : Seen) (first last : Stop) → (last.made ≡ true → slice_get (seen.journals last.lock) last.place ≡ Some (entry.Settled first.place))
+    → MadeNone seen last
+settles_none seen first last settles = by last.made refl where
+  by : (b : Bool) → last.made ≡ b → cond b (write_at (seen.journals last.lock) last.place) None ≡ None
   by true made = let is = settles made in simp is refl
   by false made = refl
+
+downs_none : (seen : Seen) (down : Stop) (core : CoreId) → slice_get (seen.journals down.lock) down.place ≡ Some (entry.Down core)
+    → MadeNone seen down
+downs_none seen down core is = by down.made where
+  by : (b : Bool) → cond b (write_at (seen.journals down.lock) down.place) None ≡ None
+  by true = simp is refl
+  by false = refl
+
+all_downs_none : (seen : Seen) (first : Stop) (downs : List Stop) → AllByRecursion (IsDownStop seen first) downs → AllByRecursion (MadeNone seen) downs
+all_downs_none seen first [] each = tt
+all_downs_none seen first (down ∷ downs) each =
+    (downs_none seen down each.0.core each.0.made_is, all_downs_none seen first downs each.1)
 
 pub has_written : (layout : Layout) (seen : Seen) (answer : OrderAnswer) → IsWholeOrDelete answer.order.change → IsOrderAnswer layout seen answer
     → IsAccepted answer.outcome → HasWritten layout seen answer
@@ -83,17 +97,18 @@ has_written layout seen answer plain is one = by answer.outcome is.outcome is.st
       let write = so.2.0 in
       record {
         first = is.first;
-        second = has.1.0;
-        stops = has.1.1;
+        later = has.downs ++ has.last ∷ [];
+        stops = has.stops_are;
         lock = is.lock;
-        made = has.0;
+        made = has.made;
         write = write;
         found = write_taken (seen.journals is.first.lock) is.first.place write so.2.1;
         is = record {
           id = so.2.2.id;
           document = document_left (last_write (journal_at seen is.first) answer.order.id) answer.order.change write.doc plain so.2.2.document;
         };
-        quiet = settles_none seen is.first has.1.0 has.1.2.made_is;
+        quiet = All-append (MadeNone seen) has.downs (has.last ∷ []) (all_downs_none seen is.first has.downs has.each)
+            (settles_none seen is.first has.last has.settling.made_is, tt);
       }
   by (conflict version) so has sure = absurd sure
   by (partial name) so has sure = absurd sure
@@ -118,6 +133,12 @@ module _ (seen : Seen) (g : ℕ → ℕ → Option Write) (silent : (lock place 
     by : (stop.lock ≡ lock) ⊎ (stop.lock ≢ lock) → at_stop (g lock) lock stop ≡ None
     by (inl same) = nowhere (stop.lock == lock) (λ is. subst (λ (l : ℕ). cond stop.made (g l stop.place) None ≡ None) same (made stop.lock stop.made quiet))
     by (inr different) = nowhere (stop.lock == lock) (λ is. absurd (different (there is)))
+
+  pub none_found_at_all : (lock : ℕ) (stops : List Stop) → AllByRecursion (MadeNone seen) stops → filter_map (at_stop (g lock) lock) stops ≡ []
+  none_found_at_all lock [] quiet = refl
+  none_found_at_all lock (stop ∷ stops) quiet =
+      ap (λ (o : Option Write). cons_option o (filter_map (at_stop (g lock) lock) stops)) (none_found lock stop quiet.0)
+      ∙ none_found_at_all lock stops quiet.1
 
 -- ---- the writes on one document
 -- the write, where it is of the document of an id
@@ -160,10 +181,10 @@ module _ (layout : Layout) (seen : Seen) (id : List ℕ) where
   writes_by lock stops = filter_map (at_stop (write_on lock) lock) stops
 
   module _ (lock : ℕ) (answer : OrderAnswer) (has : HasWritten layout seen answer) where
-    both_stops : writes_by lock answer.stops ≡ cons_option (at_stop (write_on lock) lock has.first) []
-    both_stops =
+    all_stops : writes_by lock answer.stops ≡ cons_option (at_stop (write_on lock) lock has.first) []
+    all_stops =
         ap (writes_by lock) has.stops
-        ∙ ap (λ o. cons_option (at_stop (write_on lock) lock has.first) (cons_option o [])) (none_found seen write_on on_silent lock has.second has.quiet)
+        ∙ ap (cons_option (at_stop (write_on lock) lock has.first)) (none_found_at_all seen write_on on_silent lock has.later has.quiet)
 
     at_first : (l : ℕ) (b : Bool) → has.first.lock ≡ l → bytes_eq answer.order.id id ≡ b → cond has.first.made (write_on l has.first.place) None ≡ cond b (Some has.write) None
     at_first l b same is =
@@ -176,21 +197,21 @@ module _ (layout : Layout) (seen : Seen) (id : List ℕ) where
     none_elsewhere : has.first.lock ≢ lock → writes_by lock answer.stops ≡ []
     none_elsewhere different =
         let nope : (has.first.lock == lock) ≡ false = grind (arith, nat_tests) in
-        both_stops ∙ ap (λ t. cons_option (cond t (cond has.first.made (write_on lock has.first.place) None) None) []) nope
+        all_stops ∙ ap (λ t. cons_option (cond t (cond has.first.made (write_on lock has.first.place) None) None) []) nope
 
     none_of_others : bytes_eq answer.order.id id ≡ false → writes_by lock answer.stops ≡ []
     none_of_others is = by (cases_eq has.first.lock lock) where
       by : (has.first.lock ≡ lock) ⊎ (has.first.lock ≢ lock) → writes_by lock answer.stops ≡ []
       by (inl same) =
           let sure : (has.first.lock == lock) ≡ true = grind (arith, nat_tests) in
-          both_stops ∙ ap (λ t. cons_option (cond t (cond has.first.made (write_on lock has.first.place) None) None) []) sure
+          all_stops ∙ ap (λ t. cons_option (cond t (cond has.first.made (write_on lock has.first.place) None) None) []) sure
           ∙ ap (λ o. cons_option o []) (at_first lock false same is)
       by (inr different) = none_elsewhere different
 
     one_here : has.first.lock ≡ lock → bytes_eq answer.order.id id ≡ true → writes_by lock answer.stops ≡ has.write ∷ []
     one_here same is =
         let sure : (has.first.lock == lock) ≡ true = grind (arith, nat_tests) in
-        both_stops ∙ ap (λ t. cons_option (cond t (cond has.first.made (write_on lock has.first.place) None) None) []) sure
+        all_stops ∙ ap (λ t. cons_option (cond t (cond has.first.made (write_on lock has.first.place) None) None) []) sure
         ∙ ap (λ o. cons_option o []) (at_first lock true same is)
 
     its_lock : bytes_eq answer.order.id id ≡ true → has.first.lock ≡ bucket_of id layout.buckets

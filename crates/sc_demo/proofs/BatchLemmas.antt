@@ -4,13 +4,15 @@ use Rattle.std.specs.Prelude.{filter_map, pos}
 use Rattle.std.specs.List.{AllByRecursion, cons_option}
 use Rattle.std.specs.Prelude.{slice_get}
 use Rattle.std.proofs.lemmas.Option.{same_Some}
-use Rattle.std.proofs.lemmas.List.{take-append-drop, length-map, nil_from_length}
+use Rattle.std.proofs.Math.Seq.{take-append_seam}
+use Rattle.std.proofs.lemmas.List.{take-append-drop, length-map, length_push, nil_from_length}
 use mathlib.Core.List.{IsPrefix}
 use Rattle.sc_record.specs.Versions.{meets}
 use Rattle.sc_record.specs.declared.order.Order.{Order}
 use Rattle.sc_record.specs.declared.order.Change.{Change}
 use Rattle.sc_record.specs.declared.order.Change.TheVariants as changes
 use Rattle.sc_record.specs.declared.entry.Entry.{Entry}
+use Rattle.sc_io.specs.Hosts.{Reached}
 use Rattle.sc_schema.specs.Documents.{OrderContent, content_of}
 use Rattle.sc_commands.specs.declared.batch.Batch.{Batch}
 use Rattle.sc_commands.specs.declared.batch.Flags.{Flags}
@@ -19,13 +21,12 @@ use Rattle.sc_journal.specs.Journal.{found, last_of, last_write}
 use Rattle.sc_journal.specs.Outcomes.{Outcome, accepted, conflict, partial, log_full, out_of_memory, IsOutcome, IsMet, refused as refused_by}
 use Rattle.sc_journal.specs.Splits.{Basis, IsFullFor}
 use Rattle.sc_seen.specs.Seen.{Layout, Seen, SeesMore, Extends, basis_of, journal_at}
-use Rattle.sc_seen.specs.Moments.{moment_of}
-use Rattle.sc_seen.specs.Batches.{OrderAnswer, IsOrderAnswer, AnswersOrders, GoOn, HasStops, WritesOnce, goes_on, ack_of, acknowledged, ack_made, order_stops}
+use Rattle.sc_seen.specs.Batches.{OrderAnswer, IsOrderAnswer, AnswersOrders, GoOn, HasStops, WritesOnce, goes_on, ack_of, acknowledged, ack_made, order_stops, stops_between, down_stops}
 use Rattle.sc_seen.specs.Commits.{CommitAnswer, CommitOutcome, committed_now, commit_stops, worst}
 use Rattle.sc_seen.specs.declared.stop.Stop.{Stop}
 use Rattle.sc_seen.proofs.GoesOnLemmas.{SeesMore-self}
 use Rattle.sc_update.specs.declared.end.BatchEnd.{BatchEnd}
-use Rattle.sc_update.specs.Updated.{UpdateEnd, finished, refused, ran_out as update_ran_out, IsUpdated, OrdersEnd, CommitsAsked, CommitsEnd, Ends, reported, commit_fault, order_fault}
+use Rattle.sc_update.specs.Updated.{update_moment, UpdateEnd, finished, refused, ran_out as update_ran_out, IsUpdated, OrdersEnd, CommitsAsked, CommitsEnd, Ends, reported, commit_fault, order_fault}
 use Rattle.sc_demo.specs.declared.made.Written.{Written}
 use Rattle.sc_demo.specs.Writing.{AreAllAccepted, CameNearLimit, IsAccepted, IsPlain, IsPlainOrder, IsWholeOrDelete, MakesOrders, WritingState, ran_out, writing}
 
@@ -94,6 +95,29 @@ all_accepted layout seen [] plain goes = tt
 all_accepted layout seen (answer ∷ answers) plain goes =
     (goes_on_accepted layout seen answer plain.0 goes.0, all_accepted layout seen answers plain.1 goes.1)
 
+-- ---- no core was noted as down
+-- the stops between the first and the last are those at which cores were noted
+between_are : (first last : Stop) (downs stops : List Stop) → stops ≡ first ∷ downs ++ last ∷ [] → stops_between stops ≡ downs
+between_are first last downs stops is =
+    let count : length (first ∷ downs ++ last ∷ []) - 2 ≡ length downs = omega (arith, length_push downs last) in
+    ap stops_between is ∙ ap (λ (n : ℕ). take n (downs ++ last ∷ [])) count ∙ take-append_seam downs (last ∷ [])
+
+-- none of the answers noted one
+abbrev NoteNone : List OrderAnswer → Type 0
+NoteNone answers = AllByRecursion (λ (answer : OrderAnswer). stops_between answer.stops ≡ []) answers
+
+-- neither of two lists has anything where both together have nothing
+none_of_both : (one other : List Stop) → one ++ other ≡ [] → (one ≡ []) × (other ≡ [])
+none_of_both [] other none = (refl, none)
+none_of_both (x ∷ one) other none = absurd (cc)
+
+note_none : (answers : List OrderAnswer) → down_stops answers ≡ [] → NoteNone answers
+note_none [] none = tt
+note_none (answer ∷ answers) none =
+    let both = none_of_both (stops_between answer.stops) (down_stops answers) none in
+    (both.0, note_none answers both.1)
+
+-- ---- stops and acknowledgements
 -- how many stops an answer has, and how many acknowledgements
 record HasCounts (answer : OrderAnswer) (stops acks : ℕ) : Type 0 where
   stops_are : length answer.stops ≡ stops
@@ -102,13 +126,15 @@ record HasCounts (answer : OrderAnswer) (stops acks : ℕ) : Type 0 where
 abbrev IsOneOrTwo : OrderAnswer → Type 0
 IsOneOrTwo answer = (IsAccepted answer.outcome × HasCounts answer 2 1) ⊎ HasCounts answer 1 0
 
-counts : (seen : Seen) (answer : OrderAnswer) (first : Stop) → HasStops seen answer.outcome answer.stops first → IsOneOrTwo answer
-counts seen answer first has = by answer.outcome refl has where
+counts : (seen : Seen) (answer : OrderAnswer) (first : Stop) → stops_between answer.stops ≡ [] → HasStops seen answer.outcome answer.stops first
+    → IsOneOrTwo answer
+counts seen answer first none has = by answer.outcome refl has where
   by : (outcome : Outcome) → answer.outcome ≡ outcome → HasStops seen outcome answer.stops first → IsOneOrTwo answer
-  by (accepted version) is (made, settled) = inl (
+  by (accepted version) is settled = inl (
     subst IsAccepted (sym is) tt,
     record {
-      stops_are = ap length settled.1;
+      stops_are = ap length settled.stops_are ∙ ap (λ (downs : List Stop). length (first ∷ downs ++ settled.last ∷ []))
+          (sym (between_are first settled.last settled.downs answer.stops settled.stops_are) ∙ none);
       acks_are = λ more. ap (λ (outcome : Outcome). length (cons_option (acknowledged answer.order.id outcome) (filter_map ack_of more))) is ∙ omega arith;
     },
   )
@@ -148,15 +174,15 @@ last_one answer has =
     let own = has.stops_are in
     omega (arith, stops, acks, own)
 
-counted : (layout : Layout) (seen : Seen) (answers : List OrderAnswer) → AllByRecursion (IsOrderAnswer layout seen) answers
+counted : (layout : Layout) (seen : Seen) (answers : List OrderAnswer) → NoteNone answers → AllByRecursion (IsOrderAnswer layout seen) answers
     → AllByRecursion (IsPlainAnswer layout seen) answers → GoOn false (take (length answers - 1) answers) → AreCounted answers
-counted layout seen [] each plain goes = refl
-counted layout seen (answer ∷ []) each plain goes = by (counts seen answer each.0.first each.0.stops) where
+counted layout seen [] none each plain goes = refl
+counted layout seen (answer ∷ []) none each plain goes = by (counts seen answer each.0.first none.0 each.0.stops) where
   by : IsOneOrTwo answer → AreCounted (answer ∷ [])
   by (inl (is, has)) = two_more answer [] has refl
   by (inr has) = last_one answer has
-counted layout seen (answer ∷ next ∷ answers) each plain goes =
-    by (counts seen answer each.0.first each.0.stops) (counted layout seen (next ∷ answers) each.1 plain.1 (subst (λ n. GoOn false (take n (next ∷ answers))) later goes_more.1)) where
+counted layout seen (answer ∷ next ∷ answers) none each plain goes =
+    by (counts seen answer each.0.first none.0 each.0.stops) (counted layout seen (next ∷ answers) none.1 each.1 plain.1 (subst (λ n. GoOn false (take n (next ∷ answers))) later goes_more.1)) where
       sooner : length (answer ∷ next ∷ answers) - 1 ≡ suc (length answers)
       sooner = omega arith
 
@@ -192,10 +218,10 @@ accepted_goes (partial name) is ends = is
 accepted_goes log_full is ends = is
 accepted_goes out_of_memory is ends = is
 
--- an update of a batch of a workload
+-- an update of a batch of a workload, whose hosts did not fail to reach a node
 module _ {C : Type 0} (gives : C → ℕ → C → Type 0) (layout : Layout) (batch : Batch) (old new : WritingState C) (stops : List Stop) (end : BatchEnd)
-    (plain : IsPlain batch)
-    (updated : IsUpdated gives layout batch (moment_of old.seen [] old.clock) (moment_of new.seen stops new.clock) end) where
+    (reach : Reached) (plain : IsPlain batch)
+    (updated : IsUpdated gives layout batch (update_moment old.seen [] old.clock reach) (update_moment new.seen stops new.clock reach) end) where
   answers_are : AnswersOrders layout new.seen batch.flags.fail_on_conflict batch.orders updated.answers
   answers_are = updated.answered new.seen (SeesMore-self new.seen)
 
@@ -228,10 +254,13 @@ module _ {C : Type 0} (gives : C → ℕ → C → Type 0) (layout : Layout) (ba
   stops_are : stops ≡ order_stops updated.answers
   stops_are = updated.keeps.kept ∙ no_more_stops
 
+  none_noted : down_stops updated.answers ≡ []
+  none_noted = nil_from_length (down_stops updated.answers) (omega (arith, updated.notes.count, updated.notes.few))
+
   pub accepted_counted : length stops / 2 ≡ length (filter_map ack_of updated.answers)
   accepted_counted =
       ap (λ (all : List Stop). length all / 2) stops_are
-      ∙ counted layout new.seen updated.answers answers_are.each plain_answers
+      ∙ counted layout new.seen updated.answers (note_none updated.answers none_noted) answers_are.each plain_answers
       (subst (λ (b : Bool). GoOn b (take (length updated.answers - 1) updated.answers)) lenient answers_are.go_on)
 
   in_turn_whole : length updated.answers ≡ length batch.orders → map (λ (answer : OrderAnswer). answer.order) updated.answers ≡ batch.orders

@@ -7,8 +7,8 @@ use Rattle.std.proofs.lemmas.Option.{same_Some, slice_get_within}
 use Rattle.sc_cores.specs.Cores.{cores_of_map, StartsCores, StartsFirst}
 use Rattle.sc_io.specs.declared.hosts.Host.{Host}
 use Rattle.sc_io.specs.Pieces.{AddsPrefix}
-use Rattle.sc_seen.specs.Seen.{Seen}
-use Rattle.sc_collection.specs.Shapes.{HasShape, SeesNothing}
+use Rattle.sc_seen.specs.Seen.{nothing_opened, Seen}
+use Rattle.sc_collection.specs.Shapes.{HasShape, SeesOpened}
 use Rattle.sc_session.specs.declared.station.Crew.{Crew}
 use Rattle.sc_session.specs.Stations.{AreAsBefore}
 use Rattle.sc_split.specs.declared.end.SplitEnd.{SplitEnd}
@@ -223,7 +223,8 @@ module _ {C H P L : Type 0} (reports : MakerReports C H P) (demo : Demo) (before
       host_ends fails silent = with_causes (IsDemoEnd.host_fails (fails_to_start fails silent))
 
       module _ (began : List (Maker R C H P L)) (starts : FirstMakerStarts reports (cores_of_map demo_shape.nodes (layout_of locks).first) enlisted began)
-          (have : HaveMade reports began new) (shape : HasShape demo_shape (layout_of locks)) (memory : list_any (λ (maker : Maker R C H P L). ran_out_in maker.made) new ≡ false) where
+          (have : HaveMade reports began new) (shape : HasShape demo_shape (layout_of locks)) (opened : (layout_of locks).opened ≡ nothing_opened)
+          (memory : list_any (λ (maker : Maker R C H P L). ran_out_in maker.made) new ≡ false) where
         -- it is a run of this maker
         record IsRunOf (number : ℕ) (maker : Maker R C H P L) (run : MakerRun C H P L) : Type 0 where
           is : IsMakerRun (record { reports = reports; layout = layout_of locks }) demo before after number run
@@ -300,7 +301,7 @@ module _ {C H P L : Type 0} (reports : MakerReports C H P) (demo : Demo) (before
               first = starts_first;
               hosts = same_hosts;
               rest = ap (λ (m : Maker R C H P L). m.crew) begins;
-              new = subst (λ (passes : Passes). SeesNothing (seen_of passes)) passes_are is_enlisted.new.nothing;
+              new = subst (λ (passes : Passes). SeesOpened (layout_of locks).opened (seen_of passes)) passes_are is_enlisted.new.seen;
               made = makes_its;
               listener = has.listener;
               memory = sym (ap ran_out_in has.did_is) ∙ none_passes (λ (m : Maker R C H P L). ran_out_in m.made) new number maker memory at_maker;
@@ -333,6 +334,7 @@ module _ {C H P L : Type 0} (reports : MakerReports C H P) (demo : Demo) (before
             let same = same_map seen_by_maker (λ (one : MakerRun C H P L). one.after) IsRunOf new runs all_runs.1 after_each in
             record {
               shape = shape;
+              opened = opened;
               count = all_runs.1.count ∙ have.count ∙ starts.is.count ∙ count;
               each = λ number one at.
                   let within = slice_get_within runs number one at in
@@ -384,7 +386,7 @@ module _ {C H P L : Type 0} (reports : MakerReports C H P) (demo : Demo) (before
 
       -- how it ended, by what its makers made and by what was told
       module _ (cores : List Host) (cores_are : cores ≡ cores_of_map demo_shape.nodes (layout_of locks).first) (shape : HasShape demo_shape (layout_of locks))
-          (all : Seen) (story : IsOneStory (layout_of locks) (map seen_by_maker new) all) (own : (lock : ℕ) → all.own lock ≡ own_of_all (map seen_by_maker new) lock)
+          (opened : (layout_of locks).opened ≡ nothing_opened) (all : Seen) (story : IsOneStory (layout_of locks) (map seen_by_maker new) all) (own : (lock : ℕ) → all.own lock ≡ own_of_all (map seen_by_maker new) lock)
           (is_demo : IsDemo demo) where
         silent_of : told_of after.written after.write_faults ≡ told_of before.written before.write_faults → WritesNothing before after
         silent_of same = record { written = ap (λ (told : Told). told.written) same; write_faults = ap (λ (told : Told). told.faults) same }
@@ -397,7 +399,7 @@ module _ {C H P L : Type 0} (reports : MakerReports C H P) (demo : Demo) (before
         told_ends accepted split made (TellsReport.lines_fail report is fault part) =
             with_causes (IsDemoEnd.lines_fail (record {
               report = report;
-              is = demonstrates made.began (subst (λ (ones : List Host). FirstMakerStarts reports ones enlisted made.began) cores_are made.starts) made.have shape made.told.memory
+              is = demonstrates made.began (subst (λ (ones : List Host). FirstMakerStarts reports ones enlisted made.began) cores_are made.starts) made.have shape opened made.told.memory
                   all story own is_demo accepted split made.told report is;
               fault = fault;
               part = part;
@@ -405,7 +407,7 @@ module _ {C H P L : Type 0} (reports : MakerReports C H P) (demo : Demo) (before
         told_ends accepted split made (TellsReport.tells report is whole same) =
             with_causes (IsDemoEnd.tells (record {
               report = report;
-              is = demonstrates made.began (subst (λ (ones : List Host). FirstMakerStarts reports ones enlisted made.began) cores_are made.starts) made.have shape made.told.memory
+              is = demonstrates made.began (subst (λ (ones : List Host). FirstMakerStarts reports ones enlisted made.began) cores_are made.starts) made.have shape opened made.told.memory
                   all story own is_demo accepted split made.told report is;
               told = whole;
               write_faults = same;

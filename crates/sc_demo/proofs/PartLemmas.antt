@@ -13,7 +13,7 @@ use Rattle.sc_seen.specs.Batches.{OrderAnswer, IsOrderAnswer, WritesOnce, ack_of
 use Rattle.sc_seen.specs.Commits.{CommitAnswer}
 use Rattle.sc_seen.specs.declared.board.BoardEntry.{BoardEntry}
 use Rattle.sc_seen.specs.declared.stop.Stop.{Stop}
-use Rattle.sc_collection.specs.Shapes.{SeesNothing}
+use Rattle.sc_collection.specs.Shapes.{SeesOpened}
 use Rattle.sc_cores.specs.Cores.{Outside}
 use Rattle.sc_board.specs.declared.fault.BoardFault.{BoardFault}
 use Rattle.sc_board.specs.declared.fault.BoardFault.TheVariants as faults
@@ -55,7 +55,7 @@ all_written layout all (answer ∷ answers) plain are accepted =
 
 module _ {C : Type 0} (gives : C → ℕ → C → Type 0) (layout : Layout) (old new all : Seen) (clock next : C) (workload : Workload) (worker workers : ℕ)
     (written : Written) (makes : MakesOrders gives layout (writing old clock) (writing new next) (worker_orders workload worker workers) written)
-    (nothing : SeesNothing old) (more : SeesMore new all) where
+    (nothing : SeesOpened layout.opened old) (more : SeesMore new all) where
   pub adds_writes : AddsWrites layout all new written makes.answers
   adds_writes = record {
     own = λ lock within. makes.extends.own lock within
@@ -134,7 +134,7 @@ notes_done layout all first (given_up plan false) old new end is cause = sym (ca
 notes_done layout all first (done plan answers) old new end is cause = sym (ap is_done_end is.2)
 
 pub adds_notes : (layout : Layout) (old new all : Seen) (outside next : Outside) (end : SplitEnd)
-    → SplitsFirst layout (situation old outside) (situation new next) end → SeesNothing old → SeesMore new all → AddsNotes layout all new end
+    → SplitsFirst layout (situation old outside) (situation new next) end → SeesOpened layout.opened old → SeesMore new all → AddsNotes layout all new end
 adds_notes layout old new all outside next end split nothing more =
     let is = split.is in
     let answered = is.answered all more in

@@ -1,9 +1,9 @@
 -- What a demonstration leaves, and what it tells.
 use Rattle.std.specs.Prelude.{◌≡◌, ◌≢◌, ◌⊎◌, ◌↔◌, ◌≤◌, ◌<◌, ◌+◌, ◌++◌, ℕ, false, List, length, map, codes, slice_get, Option, Some, IfSome}
 use Rattle.sc_io.specs.Pieces.{AddsPrefix}
-use Rattle.sc_seen.specs.Seen.{Layout, Seen}
+use Rattle.sc_seen.specs.Seen.{nothing_opened, Layout, Seen}
 use Rattle.sc_session.specs.declared.station.Crew.{Crew}
-use Rattle.sc_collection.specs.Shapes.{HasShape, SeesNothing}
+use Rattle.sc_collection.specs.Shapes.{HasShape, SeesOpened}
 use Rattle.sc_split.specs.declared.end.SplitEnd.{SplitEnd}
 use Rattle.sc_arguments.specs.declared.asked.Demo.{Demo}
 use Rattle.sc_arguments.specs.Arguments.{demo_shape}
@@ -50,15 +50,16 @@ module _ {C H P L : Type 0} (common : MakerSetting C H P) (demo : Demo) (before 
         (common.reports.outside run.began.hosts run.began.pace)
     pub hosts : number ≢ 0 → run.began.hosts ≡ run.given.hosts
     pub rest : run.began ≡ record run.given { hosts = run.began.hosts }
-    pub new : SeesNothing run.before
+    pub new : SeesOpened common.layout.opened run.before
     pub made : MakesTask common demo (task_at demo number) (making run.before run.began) (making run.after run.back) run.did
     pub listener : run.back.listener ≡ run.began.listener
     pub memory : has_run_out run.did ≡ false
 
-  -- All makers worked over one collection, in which nothing had happened: what they have seen of each journal are beginnings of what all of
+  -- All makers worked over one new collection, in which nothing had happened: what they have seen of each journal are beginnings of what all of
   -- them have seen together, no two of them made the same entry, and theirs are those of all.
   pub record RunsDemo (runs : List (MakerRun C H P L)) (all : Seen) : Type 0 where
     pub shape : HasShape demo_shape common.layout
+    pub opened : common.layout.opened ≡ nothing_opened
     pub count : length runs ≡ makers_of demo
     pub each : (number : ℕ) (run : MakerRun C H P L) → slice_get runs number ≡ Some run → IsMakerRun number run
     pub story : IsOneStory common.layout (map (λ (run : MakerRun C H P L). run.after) runs) all

@@ -30,7 +30,7 @@ pub fn run_demo<R: Threads + Wait + Sync, W: Sink, T: Station>(
     ensures ends { EndsDemo
         (record {
           gives = T.C.gives;
-          outside = λ hosts pace. outside_of (T.H.started hosts) (T.H.start_faults hosts) (T.H.stop_faults hosts) (T.P.stops pace);
+          outside = λ hosts pace. outside_of (T.H.started hosts) (T.H.start_faults hosts) (T.H.stop_faults hosts) (T.P.stops pace) (T.H.reached hosts);
         })
         demo.now
         (record {

@@ -42,7 +42,7 @@ impl<'a, R: Wait, C: Clock, H: Hosts, P: Pace, L> Maker<'a, R, C, H, P, L> {
         ensures made { HasMade
             (record {
               gives = C.gives;
-              outside = λ hosts pace. outside_of (H.started hosts) (H.start_faults hosts) (H.stop_faults hosts) (P.stops pace);
+              outside = λ hosts pace. outside_of (H.started hosts) (H.start_faults hosts) (H.stop_faults hosts) (P.stops pace) (H.reached hosts);
             })
             self.old self.new }
     {
@@ -58,7 +58,7 @@ fn run_at<N: Home, R: Wait, C: Clock, H: Hosts, P: Pace, L>(maker: &mut Maker<R,
     ensures made { HasMade
         (record {
           gives = C.gives;
-          outside = λ hosts pace. outside_of (H.started hosts) (H.start_faults hosts) (H.stop_faults hosts) (P.stops pace);
+          outside = λ hosts pace. outside_of (H.started hosts) (H.start_faults hosts) (H.stop_faults hosts) (P.stops pace) (H.reached hosts);
         })
         maker.old maker.new }
 {
@@ -96,7 +96,7 @@ fn make<D: Desk, C: Clock, H: Hosts, P: Pace>(
         (record {
           reports = record {
             gives = C.gives;
-            outside = λ hosts pace. outside_of (H.started hosts) (H.start_faults hosts) (H.stop_faults hosts) (P.stops pace);
+            outside = λ hosts pace. outside_of (H.started hosts) (H.start_faults hosts) (H.stop_faults hosts) (P.stops pace) (H.reached hosts);
           };
           layout = D.layout desk.old;
         })

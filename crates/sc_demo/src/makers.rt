@@ -90,7 +90,7 @@ pub fn make_all<
     ensures makes { MakesAll
         (record {
           gives = C.gives;
-          outside = λ hosts pace. outside_of (H.started hosts) (H.start_faults hosts) (H.stop_faults hosts) (P.stops pace);
+          outside = λ hosts pace. outside_of (H.started hosts) (H.start_faults hosts) (H.stop_faults hosts) (P.stops pace) (H.reached hosts);
         })
         cores.now makers.old makers.new result }
     ensures home { (collection : Locks) → All (IsMakerReady collection) makers.old → All (IsMakerHome collection) makers.new }
@@ -117,7 +117,7 @@ fn work_all<
     ensures made { HaveMade
         (record {
           gives = C.gives;
-          outside = λ hosts pace. outside_of (H.started hosts) (H.start_faults hosts) (H.stop_faults hosts) (P.stops pace);
+          outside = λ hosts pace. outside_of (H.started hosts) (H.start_faults hosts) (H.stop_faults hosts) (P.stops pace) (H.reached hosts);
         })
         makers.old makers.new }
     ensures home { (collection : Locks) → All (IsMakerReady collection) makers.old → All (IsMakerHome collection) makers.new }
@@ -133,7 +133,7 @@ fn work_all<
             ensures { IsMakerHome maker.old.collection.now maker.new × HasMade
                 (record {
                   gives = C.gives;
-                  outside = λ hosts pace. outside_of (H.started hosts) (H.start_faults hosts) (H.stop_faults hosts) (P.stops pace);
+                  outside = λ hosts pace. outside_of (H.started hosts) (H.start_faults hosts) (H.stop_faults hosts) (P.stops pace) (H.reached hosts);
                 })
                 maker.old maker.new }
         { maker.run() },

@@ -23,11 +23,11 @@ pub fn split_first<D: Desk, H: Hosts, P: Pace>(
     ensures split { SplitsFirst (D.layout desk.old)
         (record {
           seen = D.seen desk.old;
-          outside = outside_of (H.started hosts.old) (H.start_faults hosts.old) (H.stop_faults hosts.old) (P.stops pace.old);
+          outside = outside_of (H.started hosts.old) (H.start_faults hosts.old) (H.stop_faults hosts.old) (P.stops pace.old) (H.reached hosts.old);
         })
         (record {
           seen = D.seen desk.new;
-          outside = outside_of (H.started hosts.new) (H.start_faults hosts.new) (H.stop_faults hosts.new) (P.stops pace.new);
+          outside = outside_of (H.started hosts.new) (H.start_faults hosts.new) (H.stop_faults hosts.new) (P.stops pace.new) (H.reached hosts.new);
         })
         result }
     ensures layout { D.layout desk.new ≡ D.layout desk.old }

@@ -10,7 +10,7 @@ ghost use Rattle.sc_demo.specs.Writing.{IsShare, MakesOrders, IsPlain, ArePlain,
 use crate::made::Written;
 use sc_collection::{Desk, Trail};
 use sc_commands::Batch;
-use sc_io::Clock;
+use sc_io::{Clock, Never};
 use sc_update::{BatchFault, update};
 use sc_workload::orders;
 use std::alloc::Global;
@@ -90,9 +90,9 @@ fn write_batch<D: Desk, C: Clock>(
     ensures rest { IsDeskAtRest (D.layout desk.new) (D.out desk.new) (D.seen desk.new) }
 {
     trail.clear();
-    let end = update(alloc, desk, clock, trail, batch);
+    let end = update(alloc, desk, clock, &mut Never, trail, batch);
     Written {
-        // An order that is accepted has two stops, and one that is refused has one and ends its batch.
+        // No node is away, so an order that is accepted has two stops; one that is refused has one and ends its batch.
         accepted: (trail.len() / 2) as u32,
         memory: ran_out(&end.fault),
     }

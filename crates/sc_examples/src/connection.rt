@@ -61,7 +61,7 @@ fn shape_of(words: &[&str]) -> Shape
 /// Hosts on which the cores of a new collection are started.
 fn hosts_of(alloc: Global, desk: &Alone) -> Result<MemHosts, AllocError> {
     let cores = cores_of_map(alloc, desk.nodes(), desk.first())?;
-    let mut hosts = MemHosts::new(alloc, List::new(alloc));
+    let mut hosts = MemHosts::new(alloc, List::new(alloc))?;
     match start_cores(&mut hosts, cores.as_slice()) {
         Ok(()) => Ok(hosts),
         Err(_) => Err(AllocError),
@@ -81,8 +81,7 @@ pub fn set_fails(alloc: Global, hosts: &mut MemHosts, words: &[&str]) -> Result<
     for at in 1..words.len() {
         fails.push(hosts.calls.saturating_add(number(words, at)))?;
     }
-    hosts.fails = fails;
-    Ok(())
+    hosts.set_fails(fails)
 }
 
 /// Has the pace say stop at the further call whose number the line `stops N` says, and at no other; the next call has the number 0.

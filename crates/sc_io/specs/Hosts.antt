@@ -1,5 +1,5 @@
--- What starting and stopping a core does to the cores that are started.
-use Rattle.std.specs.Prelude.{ℕ, ◌==◌, Bool, not, ◌&&◌, List, [], ◌∷◌, ◌++◌, codes, filter, if◌then◌else◌}
+-- What starting and stopping a core does to the cores that are started, and what a node that can't be reached leaves.
+use Rattle.std.specs.Prelude.{◌≡◌, ℕ, ◌<◌, ◌==◌, Option, Some, IfSome, Bool, not, ◌&&◌, List, [], ◌∷◌, ◌++◌, codes, filter, if◌then◌else◌}
 use Rattle.std.specs.Fmt.{decimal}
 use Rattle.std.specs.List.{list_any}
 use Rattle.std.specs.Str.{bytes_eq}
@@ -17,6 +17,20 @@ with_core node core cores =
 -- the cores without this one
 abbrev pub without_core : ℕ → List ℕ → List Host → List Host
 without_core node core cores = filter (λ host. not (is_core_on node core host)) cores
+
+-- how often reaching a node has failed, and the nodes that weren't reached, in order, where the hosts tell them
+pub record Reached : Type 0 where
+  pub faults : ℕ
+  pub nodes : Option (List ℕ)
+
+-- reaching this node failed: the count rose, and where the hosts tell the nodes this one comes last
+pub record FailsToReach (node : ℕ) (old new : Reached) : Type 0 where
+  pub rises : old.faults < new.faults
+  pub told : IfSome old.nodes (λ nodes. new.nodes ≡ Some (nodes ++ node ∷ []))
+
+-- the name, in the working folder, of what says that a node is down: `down-2`
+abbrev pub down_name : ℕ → List ℕ
+down_name node = codes "down-" ++ decimal node
 
 -- the lines of a core's `core.properties` (Solr Reference Guide, "Core Discovery")
 abbrev pub core_properties : ℕ → List ℕ → List ℕ

@@ -1,9 +1,11 @@
 ghost use Rattle.std.specs.Prelude.{◌≡◌, ◌+◌, None, IfOk, OnOk, OnErr};
 ghost use Rattle.std.specs.String.{string_bytes};
-ghost use Rattle.sc_io.specs.Hosts.{core_properties};
+ghost use Rattle.sc_io.specs.Hosts.{core_properties, down_name};
 
 use crate::fault::{Failed, Faults};
 use crate::hosts::Hosts;
+use arrayvec::ArrayString;
+use itoa::Buffer;
 use std::alloc::{AllocError, Global};
 use std::io::ErrorKind;
 use std::rt::Files;
@@ -11,12 +13,14 @@ use std::{fs, io};
 
 /// The machine's hosts, which contracts see no list of. A started core has the folder `cores/<core>` below the folder that the
 /// program runs in, and in it the file `core.properties` with the lines `name=<core>`, `collection=docs` and `node=<node>`.
-/// A core that has the file is started already, and one without the folder is stopped.
+/// A core that has the file is started already, and one without the folder is stopped. A node is away while anything is named
+/// `down-<node>` in the folder that the program runs in, and where that can't be told.
 #[derive(Drop)]
 pub struct FolderHosts<R: Files> {
     pub runtime: R,
     pub faults: Faults,
     pub stop_faults: Faults,
+    pub reach_faults: Faults,
     alloc: Global,
 }
 
@@ -25,11 +29,13 @@ impl<R: Files> FolderHosts<R> {
         ensures runtime { result.runtime ≡ runtime }
         ensures faults { result.faults ≡ 0 }
         ensures stop_faults { result.stop_faults ≡ 0 }
+        ensures reach_faults { result.reach_faults ≡ 0 }
     {
         FolderHosts {
             runtime,
             faults: Faults::none(),
             stop_faults: Faults::none(),
+            reach_faults: Faults::none(),
             alloc,
         }
     }
@@ -42,10 +48,13 @@ impl<R: Files> Hosts for FolderHosts<R> {
 
     ghost stop_faults = { λ s. s.stop_faults };
 
+    ghost reached = { λ s. record { faults = s.reach_faults; nodes = None } };
+
     fn start_core(&mut self, node: u32, core: &str) -> Result<(), Failed>
         ensures steady { OnOk result (self.new.faults ≡ self.old.faults) }
         ensures cause { OnErr result (self.new.faults ≡ self.old.faults + 1) }
         ensures other_count { self.new.stop_faults ≡ self.old.stop_faults }
+        ensures reached { self.new.reach_faults ≡ self.old.reach_faults }
     {
         if make_core(&self.runtime, self.alloc, node, core).is_err() {
             self.faults.rise();
@@ -58,9 +67,23 @@ impl<R: Files> Hosts for FolderHosts<R> {
         ensures steady { OnOk result (self.new.stop_faults ≡ self.old.stop_faults) }
         ensures cause { OnErr result (self.new.stop_faults ≡ self.old.stop_faults + 1) }
         ensures other_count { self.new.faults ≡ self.old.faults }
+        ensures reached { self.new.reach_faults ≡ self.old.reach_faults }
     {
         if remove_core(&self.runtime, self.alloc, core).is_err() {
             self.stop_faults.rise();
+            return Err(Failed);
+        }
+        Ok(())
+    }
+
+    fn reach(&mut self, node: u32) -> Result<(), Failed>
+        ensures steady { OnOk result (self.new.reach_faults ≡ self.old.reach_faults) }
+        ensures cause { OnErr result (self.new.reach_faults ≡ self.old.reach_faults + 1) }
+        ensures starts { self.new.faults ≡ self.old.faults }
+        ensures stops { self.new.stop_faults ≡ self.old.stop_faults }
+    {
+        if is_away(&self.runtime, node) {
+            self.reach_faults.rise();
             return Err(Failed);
         }
         Ok(())
@@ -89,6 +112,24 @@ fn core_properties(alloc: Global, node: u32, core: &str) -> Result<String, Alloc
     ensures { IfOk result (λ lines. string_bytes lines ≡ core_properties node core.now) }
 {
     Ok(format!(in alloc; "name={core}\ncollection=docs\nnode={node}\n")?)
+}
+
+// A node is said to be down, or it can't be told. It takes no memory, so that no want of it makes a node that is there seem away.
+fn is_away<R: Files>(runtime: &R, node: u32) -> bool {
+    match fs::exists(runtime, down_name(node).as_str()) {
+        Ok(down) => down,
+        Err(_) => true,
+    }
+}
+
+// The name of what says that the node is down.
+fn down_name(node: u32) -> ArrayString<16>
+    ensures { result.bytes ≡ down_name node }
+{
+    let mut name = ArrayString::new();
+    name.push_str("down-");
+    name.push_str(Buffer::new().format(node));
+    name
 }
 
 // Takes away the core's file and its folder.

@@ -1,4 +1,4 @@
-ghost use Rattle.std.specs.Prelude.{◌≡◌, ◌↔◌, ◌+◌, ◌-◌, ◌^◌, [], min, Some, IsTrue, IsFalse, IsErr, OnOk, OnErr, Contains, if◌then◌else◌};
+ghost use Rattle.std.specs.Prelude.{◌≡◌, ◌↔◌, ◌+◌, ◌-◌, ◌^◌, [], ◌∷◌, ◌++◌, length, min, Some, IsTrue, IsFalse, IsErr, IfOk, OnOk, OnErr, Contains, if◌then◌else◌};
 ghost use Rattle.std.specs.List.{list_any};
 ghost use Rattle.sc_io.specs.Hosts.{is_core_on, with_core, without_core};
 
@@ -44,10 +44,11 @@ fn remove_core(node: u32, core: &str, cores: List<Host>) -> List<Host>
     List::from_vec(cores)
 }
 
-/// Hosts that keep the list of the cores that are started, in the order in which they were started. The calls, of both
-/// kinds together, whose numbers, counted from 0, are in `fails` fail, and so does a start that finds no memory. `calls` is the
-/// number of the next call; at 2^64 - 1 it stands still, and each call from there on has that number. `faults` counts the
-/// failures of `start_core`.
+/// Hosts that keep the list of the cores that are started, in the order in which they were started, and that of the nodes that
+/// weren't reached. The calls, of all three kinds together, whose numbers, counted from 0, are in `fails` fail, and so does a start
+/// that finds no memory; only where there is no room to note its node does a `reach` of such a number not fail. `calls` is the number
+/// of the next call; at 2^64 - 1 it stands still, and each call from there on has that number. `faults` counts the failures of
+/// `start_core`.
 #[derive(Debug, Drop)]
 pub struct MemHosts {
     pub started: List<Host>,
@@ -55,26 +56,50 @@ pub struct MemHosts {
     pub calls: u64,
     pub faults: Faults,
     pub stop_faults: Faults,
+    pub reach_faults: Faults,
+    /// The nodes that weren't reached, in order.
+    pub unreached: List<u32>,
     alloc: Global,
+    pub ghost told: { length unreached ≡ reach_faults },
 }
 
 impl MemHosts {
-    /// Hosts of which no core is started yet. They take no memory before the first start.
-    pub fn new(alloc: Global, fails: List<u64>) -> MemHosts
-        ensures started { result.started ≡ [] }
-        ensures fails { result.fails ≡ fails }
-        ensures calls { result.calls ≡ 0 }
-        ensures faults { result.faults ≡ 0 }
-        ensures stop_faults { result.stop_faults ≡ 0 }
+    /// Hosts of which no core is started yet, and that were asked for no node, with room for a node for each of these numbers. An
+    /// error means out of memory.
+    pub fn new(alloc: Global, fails: List<u64>) -> Result<MemHosts, AllocError>
+        ensures started { IfOk result (λ hosts. hosts.started ≡ []) }
+        ensures fails { IfOk result (λ hosts. hosts.fails ≡ fails) }
+        ensures calls { IfOk result (λ hosts. hosts.calls ≡ 0) }
+        ensures faults { IfOk result (λ hosts. hosts.faults ≡ 0) }
+        ensures stop_faults { IfOk result (λ hosts. hosts.stop_faults ≡ 0) }
+        ensures unreached { IfOk result (λ hosts. hosts.unreached ≡ []) }
     {
-        MemHosts {
+        let unreached = Vec::with_capacity(alloc, fails.len())?;
+        Ok(MemHosts {
             started: List::new(alloc),
             fails,
             calls: 0,
             faults: Faults::none(),
             stop_faults: Faults::none(),
+            reach_faults: Faults::none(),
+            unreached: List::from_vec(unreached),
             alloc,
-        }
+        })
+    }
+
+    /// Has the calls of these numbers fail, and no others, and makes room for a node more for each of them. An error means out of
+    /// memory.
+    pub fn set_fails(&mut self, fails: List<u64>) -> Result<(), AllocError>
+        ensures ok { OnOk result (self.new ≡ record self.old { fails = fails }) }
+        ensures err { OnErr result (self.new ≡ self.old) }
+    {
+        let empty = List::new(self.alloc);
+        let mut unreached = mem::replace(&mut self.unreached, empty).into_vec();
+        let reserved = unreached.reserve(fails.len());
+        self.unreached = List::from_vec(unreached);
+        reserved?;
+        self.fails = fails;
+        Ok(())
     }
 }
 
@@ -85,12 +110,15 @@ impl Hosts for MemHosts {
 
     ghost stop_faults = { λ s. s.stop_faults };
 
+    ghost reached = { λ s. record { faults = s.reach_faults; nodes = Some s.unreached } };
+
     fn start_core(&mut self, node: u32, core: &str) -> Result<(), Failed>
         ensures whole { OnOk result (self.new.started ≡ with_core node core.now self.old.started) }
         ensures failed { OnErr result (self.new.started ≡ self.old.started) }
         ensures steady { OnOk result (self.new.faults ≡ self.old.faults) }
         ensures cause { OnErr result (self.new.faults ≡ self.old.faults + 1) }
         ensures other_count { self.new.stop_faults ≡ self.old.stop_faults }
+        ensures reached { self.new.unreached ≡ self.old.unreached }
 
         ensures fails { Contains self.old.fails self.old.calls → IsErr result }
         ensures counted { self.new.calls ≡ min (self.old.calls + 1) (2 ^ 64 - 1) }
@@ -113,6 +141,7 @@ impl Hosts for MemHosts {
         ensures steady { OnOk result (self.new.stop_faults ≡ self.old.stop_faults) }
         ensures cause { OnErr result (self.new.stop_faults ≡ self.old.stop_faults + 1) }
         ensures other_count { self.new.faults ≡ self.old.faults }
+        ensures reached { self.new.unreached ≡ self.old.unreached }
 
         ensures fails { IsErr result ↔ Contains self.old.fails self.old.calls }
         ensures counted { self.new.calls ≡ min (self.old.calls + 1) (2 ^ 64 - 1) }
@@ -126,6 +155,26 @@ impl Hosts for MemHosts {
         }
         let cores = mem::replace(&mut self.started, List::new(self.alloc));
         self.started = remove_core(node, core, cores);
+        Ok(())
+    }
+
+    fn reach(&mut self, node: u32) -> Result<(), Failed>
+        ensures ok { OnOk result (self.new.unreached ≡ self.old.unreached) }
+        ensures told { OnErr result (self.new.unreached ≡ self.old.unreached ++ node ∷ []) }
+        ensures cores { self.new.started ≡ self.old.started }
+        ensures starts { self.new.faults ≡ self.old.faults }
+        ensures stops { self.new.stop_faults ≡ self.old.stop_faults }
+
+        ensures fails { IsErr result → Contains self.old.fails self.old.calls }
+        ensures counted { self.new.calls ≡ min (self.old.calls + 1) (2 ^ 64 - 1) }
+        ensures kept_fails { self.new.fails ≡ self.old.fails }
+    {
+        let call = self.calls;
+        self.calls = call.saturating_add(1);
+        if self.fails.as_slice().contains(&call) && self.unreached.push(node).is_ok() {
+            self.reach_faults.rise();
+            return Err(Failed);
+        }
         Ok(())
     }
 }

@@ -163,7 +163,7 @@ impl Clock for Fixed {
     }
 }
 
-/// A source with no bytes, a sink that drops what it is given, hosts that keep no list, and a pace that always goes on. It never
+/// A source with no bytes, a sink that drops what it is given, hosts that keep no list and reach each node, and a pace that always goes on. It never
 /// fails.
 #[derive(Debug, Clone, Copy, PartialEq, Eq)]
 pub struct Never;
@@ -203,6 +203,8 @@ impl Hosts for Never {
 
     ghost stop_faults = { λ _. 0 };
 
+    ghost reached = { λ _. record { faults = 0; nodes = None } };
+
     fn start_core(&mut self, _: u32, _: &str) -> Result<(), Failed>
         ensures { result ≡ Ok tt }
     {
@@ -210,6 +212,12 @@ impl Hosts for Never {
     }
 
     fn stop_core(&mut self, _: u32, _: &str) -> Result<(), Failed>
+        ensures { result ≡ Ok tt }
+    {
+        Ok(())
+    }
+
+    fn reach(&mut self, _: u32) -> Result<(), Failed>
         ensures { result ≡ Ok tt }
     {
         Ok(())

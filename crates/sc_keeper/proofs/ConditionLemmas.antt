@@ -1,8 +1,8 @@
--- An event of a split may come to a bucket exactly where it may by the bucket's part.
+-- An event of the keeper may come to a bucket exactly where it may by the bucket's part, and by whether a core is down.
 use Rattle.std.proofs.Common.{◌≡◌, ◌∙◌, ◌↔◌, ℕ, true, false, List, [], ◌∷◌, get_or, map, All, Contains, refl, sym, ap, subst, arith}
 use Rattle.std.proofs.lemmas.List.{length-map, get_or-map}
 use Rattle.std.proofs.lemmas.List.Elements.{All-contains, All-map, All-weaker, Contains-get_or}
-use Rattle.sc_record.specs.Names.{is_core}
+use Rattle.sc_record.specs.Names.{is_core, key_of_core}
 use Rattle.sc_record.specs.declared.slice.SliceId.{SliceId}
 use Rattle.sc_record.specs.declared.slice.SubSlice.{SubSlice}
 use Rattle.sc_record.specs.declared.slice.CoreId.{CoreId}
@@ -14,15 +14,16 @@ use Rattle.sc_ulog.specs.declared.mode.Mode.{Mode}
 use Rattle.sc_ulog.specs.declared.mode.Mode.TheVariants.{Active, Buffering, Replaying}
 use Rattle.sc_replica.specs.Core.{Core}
 use Rattle.sc_replicas.specs.Cores.{core_key, slice_keys}
+use Rattle.sc_journal.specs.Down.{is_down}
 use Rattle.sc_bucket.specs.Sound.{IsSound}
 use Rattle.sc_bucket.specs.declared.bucket.Bucket.{Bucket}
 use Rattle.sc_replicas.proofs.CoreLemmas.{IsLeaderOf-from_key}
-use Rattle.sc_handover.specs.Conditions.{IsInMode, IsThereActive, CanBegin, CanFeed, CanStartReplay, CanReplay, CanBeReady, CanGrow, CanSwitch, CanAbort, CanDrop}
+use Rattle.sc_handover.specs.Conditions.{IsInMode, IsUnfed, IsThereActive, CanBegin, CanFeed, CanStartReplay, CanReplay, CanBeReady, CanGrow, CanSwitch, CanAbort, CanDrop, CanRejoin, CanLead}
 use Rattle.sc_handover.proofs.LastWriteLemmas.{same_from_key}
 use Rattle.sc_keeper.specs.declared.part.CorePart.{CorePart}
 use Rattle.sc_keeper.specs.declared.part.FeedPart.{FeedPart}
 use Rattle.sc_keeper.specs.Part.{part_of_core, part_of_feed, part_of}
-use Rattle.sc_keeper.specs.Conditions.{IsThereInMode, IsActiveAt, MayBegin, MayFeed, MayStartReplay, MayReplay, MayBeReady, MayGrow, MaySwitch, MayAbort, MayDrop}
+use Rattle.sc_keeper.specs.Conditions.{IsThereInMode, HasNoFeed, IsActiveAt, MayBegin, MayFeed, MayStartReplay, MayReplay, MayBeReady, MayGrow, MaySwitch, MayAbort, MayDrop, MayRejoin, MayLead}
 
 -- what is true of what is made of each element is true of each
 All-from_map : {A B : Type 0} (P : B → Type 0) (f : A → B) (xs : List A) → All P (map f xs) → All (λ (x : A). P (f x)) xs
@@ -55,6 +56,13 @@ active_at b key = (by_bucket, by_part) where
   by_part (part, there, named, is) =
       let (core, inside, same) = Contains-from_map part_of_core b.replicas part there in
       (core, inside, ap (λ (p : CorePart). (p.name.slice.0, p.name.replica)) same ∙ named, ap (λ (p : CorePart). p.mode) same ∙ is)
+
+-- a core without a feed has none by the part
+unfed : (b : Bucket) (name : CoreId) → IsUnfed b name ↔ HasNoFeed (part_of b) name
+unfed b name = (
+  All-map (λ (p : FeedPart). is_core name p.core ≡ false) part_of_feed b.feeds,
+  All-from_map (λ (p : FeedPart). is_core name p.core ≡ false) part_of_feed b.feeds,
+)
 
 -- a split may begin
 pub begins_by_part : (b : Bucket) (parent : SliceId) (subs : List SubSlice) → CanBegin b parent subs ↔ MayBegin (part_of b) parent subs
@@ -90,12 +98,10 @@ feeds_by_part b name = (by_bucket, by_part) where
 pub starts_replay_by_part : (b : Bucket) (name : CoreId) → CanStartReplay b name ↔ MayStartReplay (part_of b) name
 starts_replay_by_part b name = (by_bucket, by_part) where
   by_bucket : CanStartReplay b name → MayStartReplay (part_of b) name
-  by_bucket (there, unfed) =
-      ((in_mode b name Buffering).0 there, All-map (λ (p : FeedPart). is_core name p.core ≡ false) part_of_feed b.feeds unfed)
+  by_bucket (there, none) = ((in_mode b name Buffering).0 there, (unfed b name).0 none)
 
   by_part : MayStartReplay (part_of b) name → CanStartReplay b name
-  by_part (there, unfed) =
-      ((in_mode b name Buffering).1 there, All-from_map (λ (p : FeedPart). is_core name p.core ≡ false) part_of_feed b.feeds unfed)
+  by_part (there, none) = ((in_mode b name Buffering).1 there, (unfed b name).1 none)
 
 -- a core may replay a piece
 pub replays_by_part : (b : Bucket) (name : CoreId) → CanReplay b name ↔ MayReplay (part_of b) name
@@ -191,3 +197,51 @@ aborts_by_part b parent = (λ can. can, λ may. may)
 -- a slice may be dropped
 pub drops_by_part : (b : Bucket) (slice : SliceId) → CanDrop b slice ↔ MayDrop (part_of b) slice
 drops_by_part b slice = (λ can. can, λ may. may)
+
+-- a core may rejoin
+pub rejoins_by_part : (b : Bucket) (name : CoreId)
+    → CanRejoin b name ↔ (MayRejoin (part_of b) name × (is_down b.journal.entries (key_of_core name) ≡ true))
+rejoins_by_part b name = (by_bucket, by_part) where
+  by_bucket : CanRejoin b name → MayRejoin (part_of b) name × (is_down b.journal.entries (key_of_core name) ≡ true)
+  by_bucket can = (
+    record {
+      idle = can.idle;
+      follower = can.follower;
+      active = (in_mode b name Active).0 can.active;
+      unfed = (unfed b name).0 can.unfed;
+    },
+    can.down,
+  )
+
+  by_part : MayRejoin (part_of b) name × (is_down b.journal.entries (key_of_core name) ≡ true) → CanRejoin b name
+  by_part (may, down) = record {
+    idle = may.idle;
+    follower = may.follower;
+    down = down;
+    active = (in_mode b name Active).1 may.active;
+    unfed = (unfed b name).1 may.unfed;
+  }
+
+-- a core may take the lead
+pub leads_by_part : (b : Bucket) (name : CoreId)
+    → CanLead b name ↔ (MayLead (part_of b) name × (is_down b.journal.entries (key_of_core name) ≡ false))
+leads_by_part b name = (by_bucket, by_part) where
+  by_bucket : CanLead b name → MayLead (part_of b) name × (is_down b.journal.entries (key_of_core name) ≡ false)
+  by_bucket can = (
+    record {
+      idle = can.idle;
+      follower = can.follower;
+      active = (in_mode b name Active).0 can.active;
+      unfed = (unfed b name).0 can.unfed;
+    },
+    can.up,
+  )
+
+  by_part : MayLead (part_of b) name × (is_down b.journal.entries (key_of_core name) ≡ false) → CanLead b name
+  by_part (may, up) = record {
+    idle = may.idle;
+    follower = may.follower;
+    up = up;
+    active = (in_mode b name Active).1 may.active;
+    unfed = (unfed b name).1 may.unfed;
+  }

@@ -30,7 +30,7 @@ use Rattle.sc_bucket.specs.declared.bucket.Bucket.{Bucket}
 use Rattle.sc_bucket.specs.declared.phase.Phase.{Phase}
 use Rattle.sc_bucket.proofs.SoundLemmas.{set-kept}
 use Rattle.sc_bucket.proofs.TakenLemmas.{Contains-slice_get}
-use Rattle.sc_handover.specs.Conditions.{CanReplay}
+use Rattle.sc_handover.specs.Conditions.{IsInMode, CanReplay}
 use Rattle.sc_handover.specs.Made.{first_core, empty_core, cells_now, first_feed, feed_limit, piece_of, moved_on, settled_sub}
 use Rattle.sc_handover.specs.Events.{Begins, HasSameRest, FeedsPiece, StartsReplay, ReplaysPiece, GetsReady, Grows, Switches, LosesSlices, Aborts, Drops}
 use Rattle.sc_handover.proofs.LastWriteLemmas.{same_from_key}
@@ -41,11 +41,11 @@ use Rattle.sc_keeper.specs.Events.{made_core, PartBegins, KeepsPartRest, PartFee
 use Rattle.sc_keeper.proofs.PartLemmas.{parts_of, parts-same_cores, part-fed_all, part-received_where, parts-arrived, keeper_entries-own}
 
 -- the parts of the feeds
-abbrev feeds_of : List FeedState → List FeedPart
+abbrev pub feeds_of : List FeedState → List FeedPart
 feeds_of feeds = map part_of_feed feeds
 
 -- what is made of an element at a place
-found-map : {A B : Type 0} (f : A → B) (xs : List A) (k : ℕ) (x : A) → slice_get xs k ≡ Some x → slice_get (map f xs) k ≡ Some (f x)
+pub found-map : {A B : Type 0} (f : A → B) (xs : List A) (k : ℕ) (x : A) → slice_get xs k ≡ Some x → slice_get (map f xs) k ≡ Some (f x)
 found-map f xs k x found = slice_get-map f xs k ∙ ap (option_map f) found
 
 -- what is made of each element but one
@@ -114,7 +114,7 @@ starts_replay_of_part old new name started = record {
 }
 
 -- two parts of cores that are alike in all are one
-same_part : (one other : CorePart) → one.name ≡ other.name → one.number ≡ other.number → one.mode ≡ other.mode → one.left ≡ other.left
+pub same_part : (one other : CorePart) → one.name ≡ other.name → one.number ≡ other.number → one.mode ≡ other.mode → one.left ≡ other.left
     → one ≡ other
 same_part one other name number mode left = λ i. record { name = name i; number = number i; mode = mode i; left = left i }
 
@@ -170,13 +170,13 @@ last_piece core is_done replays done =
     by false none last = few (leb (length core.buffer) replay_limit) refl last
 
 -- the core at a place is in the mode in which the core of its name is
-replays_at : (b : Bucket) (name : CoreId) (at : ℕ) (core : Core) → IsSound b → CanReplay b name → slice_get b.replicas at ≡ Some core
-    → core.core ≡ name → core.mode ≡ Replaying
-replays_at b name at core sound (known, inside, named, replays) there is =
+pub mode_at : (b : Bucket) (name : CoreId) (mode : Mode) (at : ℕ) (core : Core) → IsSound b → IsInMode b name mode
+    → slice_get b.replicas at ≡ Some core → core.core ≡ name → core.mode ≡ mode
+mode_at b name mode at core sound (known, inside, named, in_mode) there is =
     let same : core ≡ known =
     same_from_key b.replicas core known sound.cores.ascend (Contains-slice_get b.replicas at core there) inside
     (ap (λ (id : CoreId). (id.slice.0, id.replica)) (is ∙ sym named)) in
-    ap (λ (c : Core). c.mode) same ∙ replays
+    ap (λ (c : Core). c.mode) same ∙ in_mode
 
 -- a core replays a piece
 pub replays_part : (old new : Bucket) (name : CoreId) (is_done : Bool) → IsSound old → CanReplay old name
@@ -200,7 +200,7 @@ replays_part old new name is_done sound can piece = record {
   core = piece.changed.core
 
   replays : core.mode ≡ Replaying
-  replays = replays_at old name piece.changed.core_at core sound can piece.changed.core_found piece.changed.core_is
+  replays = mode_at old name Replaying piece.changed.core_at core sound can piece.changed.core_found piece.changed.core_is
 
 -- the leaders of the subs are made
 pub gets_part_ready : (old new : Bucket) (parent : SliceId) → GetsReady old parent new → PartGetsReady (part_of old) parent (part_of new)

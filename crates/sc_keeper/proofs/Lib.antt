@@ -3,3 +3,4 @@ pub mod PartLemmas
 pub mod PassLemmas
 pub mod ConditionLemmas
 pub mod EventLemmas
+pub mod SeatLemmas

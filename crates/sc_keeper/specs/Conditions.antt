@@ -1,4 +1,4 @@
--- When each event of a split may come to a bucket, by its part alone.
+-- When each of the keeper's events may come to a bucket, by its part alone; for a core that rejoins or takes the lead but for whether it is down.
 use Rattle.std.specs.Prelude.{◌≡◌, ◌≤◌, ◌<◌, ℕ, List, [], Some, true, false, All, Contains}
 use Rattle.sc_record.specs.Names.{is_core}
 use Rattle.sc_record.specs.declared.slice.SliceId.{SliceId}
@@ -11,6 +11,7 @@ use Rattle.sc_cluster.specs.Changes.{IsInactive}
 use Rattle.sc_ulog.specs.declared.mode.Mode.{Mode}
 use Rattle.sc_ulog.specs.declared.mode.Mode.TheVariants.{Active, Buffering, Replaying}
 use Rattle.sc_replicas.specs.Cores.{slice_keys}
+use Rattle.sc_journal.specs.Down.{IsFollower}
 use Rattle.sc_bucket.specs.declared.phase.Phase.TheVariants as phases
 use Rattle.sc_handover.specs.Conditions.{split_of}
 use Rattle.sc_keeper.specs.declared.part.CorePart.{CorePart}
@@ -76,3 +77,14 @@ MayAbort part parent = split_of part.phase ≡ Some parent
 -- drop_shard: no split is open, and the slice is inactive
 abbrev pub MayDrop : Part → SliceId → Type 0
 MayDrop part slice = (part.phase ≡ phases.Idle) × IsInactive part.map slice
+
+-- rejoin, of a core that is down: no split is open, and the core is a follower of an active slice, is active, and has no feed
+pub record MayRejoin (part : Part) (name : CoreId) : Type 0 where
+  pub idle : part.phase ≡ phases.Idle
+  pub follower : IsFollower part.map name
+  pub active : IsThereInMode part name Active
+  pub unfed : HasNoFeed part name
+
+-- take_lead, of a core that is not down: the same
+abbrev pub MayLead : Part → CoreId → Type 0
+MayLead = MayRejoin

@@ -1,4 +1,4 @@
--- What each event of a split makes of a bucket's part, and that all else of the part stays.
+-- What each of the keeper's events makes of a bucket's part, and that all else of the part stays.
 use Rattle.std.specs.Prelude.{◌≡◌, ℕ, ◌+◌, ◌-◌, Bool, nat_lt, nat_le, if◌then◌else◌, List, [], ◌∷◌, ◌++◌, map, filter, slice_get, slice_set, Some}
 use Rattle.std.specs.List.{remove}
 use Rattle.sc_record.specs.declared.slice.SliceId.{SliceId}
@@ -12,7 +12,7 @@ use Rattle.sc_replica.specs.Core.{replay_limit}
 use Rattle.sc_replicas.specs.Cores.{core_number, is_of_one}
 use Rattle.sc_bucket.specs.declared.phase.Phase.{Phase}
 use Rattle.sc_bucket.specs.declared.phase.Phase.TheVariants as phases
-use Rattle.sc_handover.specs.Made.{first_core, feed_limit}
+use Rattle.sc_handover.specs.Made.{leader_of, first_core, feed_limit}
 use Rattle.sc_keeper.specs.declared.part.CorePart.{CorePart}
 use Rattle.sc_keeper.specs.declared.part.FeedPart.{FeedPart}
 use Rattle.sc_keeper.specs.declared.part.Part.{Part}
@@ -125,3 +125,29 @@ PartAborts old parent new = PartLosesSlices old (Change.Failed parent) (entry.Fa
 -- an inactive slice leaves the map
 abbrev pub PartDrops : Part → SliceId → Part → Type 0
 PartDrops old slice new = PartLosesSlices old (Change.Dropped slice) (entry.Dropped slice) old.phase old.feeds new
+
+-- The core of this name rejoins: it is a new one with its number, buffers what comes, and its feed comes last.
+pub record PartRejoins (old : Part) (name : CoreId) (new : Part) : Type 0 where
+  pub map_is : new.map ≡ old.map
+  pub phase_is : new.phase ≡ old.phase
+  pub changed : ChangesPartCore old name (λ core. record (made_core name) { number = core.number }) new
+  pub rows : ℕ
+  pub feeds_are : new.feeds ≡ old.feeds ++ made_feed rows name ∷ []
+  pub entries_are : new.entries ≡ old.entries ++ entry.Up name ∷ []
+
+-- The core in the seat of this name takes the lead: the numbers of the two seats change places, and all else of them stays.
+pub record PartLeads (old : Part) (name : CoreId) (new : Part) : Type 0 where
+  pub map_is : new.map ≡ old.map
+  pub phase_is : new.phase ≡ old.phase
+  pub leader_at : ℕ
+  pub leader : CorePart
+  pub leader_found : slice_get old.cores leader_at ≡ Some leader
+  pub leader_is : leader.name ≡ leader_of name.slice
+  pub core_at : ℕ
+  pub core : CorePart
+  pub core_found : slice_get old.cores core_at ≡ Some core
+  pub core_is : core.name ≡ name
+  pub cores_are : new.cores
+      ≡ slice_set (slice_set old.cores leader_at (record leader { number = core.number })) core_at (record core { number = leader.number })
+  pub feeds_are : new.feeds ≡ old.feeds
+  pub entries_are : new.entries ≡ old.entries ++ entry.Led name ∷ []

@@ -1,19 +1,22 @@
 -- Laws of a bucket's part: what keeps it, when its keeper's events may come by it, and what they make of it.
 use Rattle.std.specs.Prelude.{◌≡◌, ◌⊎◌, ◌↔◌, Bool, true, false, List, [], ◌∷◌, ◌++◌, All}
+use Rattle.sc_record.specs.Names.{key_of_core}
 use Rattle.sc_record.specs.declared.slice.SliceId.{SliceId}
 use Rattle.sc_record.specs.declared.slice.SubSlice.{SubSlice}
 use Rattle.sc_record.specs.declared.slice.CoreId.{CoreId}
 use Rattle.sc_record.specs.declared.entry.Entry.{Entry}
 use Rattle.sc_cluster.specs.declared.slice.Slice.{Slice}
+use Rattle.sc_journal.specs.Down.{is_down}
 use Rattle.sc_bucket.specs.Events.{IsStep, IsSameButRoom, DeliversAllTo}
 use Rattle.sc_bucket.specs.Sound.{IsSound}
 use Rattle.sc_bucket.specs.declared.bucket.Bucket.{Bucket}
 use Rattle.sc_handover.specs.AnyEvent.{IsKeeperEvent}
-use Rattle.sc_handover.specs.Conditions.{CanBegin, CanFeed, CanStartReplay, CanReplay, CanBeReady, CanGrow, CanSwitch, CanAbort, CanDrop}
+use Rattle.sc_handover.specs.Conditions.{CanBegin, CanFeed, CanStartReplay, CanReplay, CanBeReady, CanGrow, CanSwitch, CanAbort, CanDrop, CanRejoin, CanLead}
 use Rattle.sc_handover.specs.Events.{Begins, FeedsPiece, StartsReplay, ReplaysPiece, GetsReady, Grows, Switches, Aborts, Drops}
+use Rattle.sc_handover.specs.Seats.{Rejoins, TakesLead}
 use Rattle.sc_keeper.specs.Part.{is_of_keeper, keeper_entries, part_of}
-use Rattle.sc_keeper.specs.Conditions.{MayBegin, MayFeed, MayStartReplay, MayReplay, MayBeReady, MayGrow, MaySwitch, MayAbort, MayDrop}
-use Rattle.sc_keeper.specs.Events.{PartBegins, PartFeeds, PartStartsReplay, PartReplays, PartGetsReady, PartGrows, PartSwitches, PartAborts, PartDrops}
+use Rattle.sc_keeper.specs.Conditions.{MayBegin, MayFeed, MayStartReplay, MayReplay, MayBeReady, MayGrow, MaySwitch, MayAbort, MayDrop, MayRejoin, MayLead}
+use Rattle.sc_keeper.specs.Events.{PartBegins, PartFeeds, PartStartsReplay, PartReplays, PartGetsReady, PartGrows, PartSwitches, PartAborts, PartDrops, PartRejoins, PartLeads}
 
 -- what a bucket's own events do, which any holder does, leaves its part as it was
 abbrev pub PassesKeepTheParts : Type 0
@@ -80,7 +83,18 @@ AbortsByThePart = (b : Bucket) (parent : SliceId) → CanAbort b parent ↔ MayA
 abbrev pub DropsByThePart : Type 0
 DropsByThePart = (b : Bucket) (slice : SliceId) → CanDrop b slice ↔ MayDrop (part_of b) slice
 
--- so each event of a split may come to a bucket exactly where it may by the bucket's part
+-- a core may rejoin exactly where it may by the part and is down
+abbrev pub RejoinsByThePart : Type 0
+RejoinsByThePart = (b : Bucket) (name : CoreId)
+    → CanRejoin b name ↔ (MayRejoin (part_of b) name × (is_down b.journal.entries (key_of_core name) ≡ true))
+
+-- a core may take the lead exactly where it may by the part and is not down
+abbrev pub LeadsByThePart : Type 0
+LeadsByThePart = (b : Bucket) (name : CoreId)
+    → CanLead b name ↔ (MayLead (part_of b) name × (is_down b.journal.entries (key_of_core name) ≡ false))
+
+-- So each of the keeper's events may come to a bucket exactly where it may by the bucket's part, and, where a core rejoins or takes
+-- the lead, by whether that core is down.
 pub record EventsComeByThePart : Type 0 where
   pub begin : BeginsByThePart
   pub feed : FeedsByThePart
@@ -91,6 +105,8 @@ pub record EventsComeByThePart : Type 0 where
   pub switch : SwitchesByThePart
   pub abort : AbortsByThePart
   pub drop : DropsByThePart
+  pub rejoin : RejoinsByThePart
+  pub lead : LeadsByThePart
 
 -- as a split begins of a bucket, so it begins of the bucket's part
 abbrev pub BeginsThePart : Type 0
@@ -132,7 +148,16 @@ AbortsThePart = (old new : Bucket) (parent : SliceId) → Aborts old parent new 
 abbrev pub DropsThePart : Type 0
 DropsThePart = (old new : Bucket) (slice : SliceId) → Drops old slice new → PartDrops (part_of old) slice (part_of new)
 
--- so each event of a split makes of a bucket's part what is said of it
+-- as a core rejoins, so it does by the part
+abbrev pub RejoinsThePart : Type 0
+RejoinsThePart = (old new : Bucket) (name : CoreId) → Rejoins old name new → PartRejoins (part_of old) name (part_of new)
+
+-- as a core of a sound bucket takes the lead, where it may, so it does by the part
+abbrev pub LeadsThePart : Type 0
+LeadsThePart = (old new : Bucket) (name : CoreId) → IsSound old → CanLead old name → TakesLead old name new
+    → PartLeads (part_of old) name (part_of new)
+
+-- so each of the keeper's events makes of a bucket's part what is said of it
 pub record EventsChangeThePart : Type 0 where
   pub begin : BeginsThePart
   pub feed : FeedsThePart
@@ -143,3 +168,5 @@ pub record EventsChangeThePart : Type 0 where
   pub switch : SwitchesThePart
   pub abort : AbortsThePart
   pub drop : DropsThePart
+  pub rejoin : RejoinsThePart
+  pub lead : LeadsThePart

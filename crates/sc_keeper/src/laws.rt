@@ -17,12 +17,12 @@ pub fn journals_tell_the_keepers_entries()
     ensures between { NoneCameOfTheKeeper }
 {}
 
-/// When each event of a split may come to a bucket, by its part alone.
+/// When each of the keeper's events may come to a bucket, by its part, and by whether the core is down that rejoins or takes the lead.
 pub fn parts_tell_when_events_may_come()
     ensures { EventsComeByThePart }
 {}
 
-/// What each event of a split makes of a bucket's part.
+/// What each of the keeper's events makes of a bucket's part.
 pub fn events_change_the_parts()
     ensures { EventsChangeThePart }
 {}

@@ -23,7 +23,9 @@ pub data Refusal : Type 0 where
   partial : (name : List ℕ) → Refusal
   conflict : (id : List ℕ) (expected actual : ℤ) → Refusal
   log_full : Refusal
+  log_failed : Refusal
   bad_query : (at : ℕ) → Refusal
+  too_many_matches : Refusal
   bad_param : (name : List ℕ) → Refusal
   unknown_shard : Refusal
   running : (shard : List ℕ) → Refusal
@@ -33,6 +35,10 @@ pub data Refusal : Type 0 where
   too_many_slices : Refusal
   host_fault : (core : List ℕ) → Refusal
   stopped : Refusal
+  unknown_core : Refusal
+  core_is_leader : Refusal
+  no_candidate : Refusal
+  behind : (bucket : ℕ) → Refusal
   memory : Refusal
 
 -- the status of a refusal
@@ -53,7 +59,9 @@ refusal_status (wrong_value name) = 400
 refusal_status (partial name) = 400
 refusal_status (conflict id expected actual) = 409
 refusal_status log_full = 507
+refusal_status log_failed = 500
 refusal_status (bad_query at) = 400
+refusal_status too_many_matches = 400
 refusal_status (bad_param name) = 400
 refusal_status unknown_shard = 400
 refusal_status (running shard) = 409
@@ -63,6 +71,10 @@ refusal_status bad_ranges = 400
 refusal_status too_many_slices = 400
 refusal_status (host_fault core) = 500
 refusal_status stopped = 500
+refusal_status unknown_core = 400
+refusal_status core_is_leader = 400
+refusal_status no_candidate = 400
+refusal_status (behind bucket) = 409
 refusal_status memory = 503
 
 -- the message of a refusal
@@ -84,7 +96,9 @@ message_of (partial name) = codes "field '" ++ name ++ codes "' can't take this 
 message_of (conflict id expected actual) =
     codes "version conflict for " ++ (id ++ (codes " expected=" ++ (signed_decimal expected ++ (codes " actual=" ++ signed_decimal actual))))
 message_of log_full = codes "update log is full"
+message_of log_failed = codes "update log failed"
 message_of (bad_query at) = codes "bad query at " ++ decimal at
+message_of too_many_matches = codes "query matches more than " ++ decimal order_limit ++ codes " documents"
 message_of (bad_param name) = codes "bad parameter '" ++ name ++ codes "'"
 message_of unknown_shard = codes "unknown shard"
 message_of (running shard) = codes "split of " ++ shard ++ codes " is running"
@@ -94,4 +108,8 @@ message_of bad_ranges = codes "ranges do not cover the shard"
 message_of too_many_slices = codes "more than " ++ decimal most_slices ++ codes " shards"
 message_of (host_fault core) = codes "host failed on core " ++ core
 message_of stopped = codes "split was stopped"
+message_of unknown_core = codes "unknown core"
+message_of core_is_leader = codes "core is a leader"
+message_of no_candidate = codes "no replica can lead"
+message_of (behind bucket) = codes "replica is behind in bucket " ++ decimal bucket
 message_of memory = codes "out of memory"

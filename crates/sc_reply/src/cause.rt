@@ -50,10 +50,14 @@ pub enum Cause<'a> {
     },
     /// A journal has no room.
     LogFull,
+    /// What stands in the journals was not written to the update log on disk.
+    LogFailed,
     /// A query that can't be read, from this byte of its text on.
     BadQuery {
         at: u32,
     },
+    /// A deletion by query, of more documents than one may delete.
+    TooManyMatches,
     /// A parameter that has no such value.
     BadParam {
         name: &'a str,
@@ -80,6 +84,16 @@ pub enum Cause<'a> {
     },
     /// The split was stopped before its end.
     Stopped,
+    /// No core of the name.
+    UnknownCore,
+    /// The core leads its slice.
+    CoreIsLeader,
+    /// None of the slice's followers is on a node that answers.
+    NoCandidate,
+    /// The follower that would lead is down in this bucket.
+    Behind {
+        bucket: u32,
+    },
     /// Memory ran out.
     Memory,
 }
@@ -99,18 +113,22 @@ impl<'a> Cause<'a> {
             | Cause::WrongValue { .. }
             | Cause::Partial { .. }
             | Cause::BadQuery { .. }
+            | Cause::TooManyMatches
             | Cause::BadParam { .. }
             | Cause::UnknownShard
             | Cause::ShardState { .. }
             | Cause::RangeTooSmall
             | Cause::BadRanges
-            | Cause::TooManySlices => 400,
+            | Cause::TooManySlices
+            | Cause::UnknownCore
+            | Cause::CoreIsLeader
+            | Cause::NoCandidate => 400,
             Cause::NotFound => 404,
             Cause::MethodNotAllowed => 405,
             Cause::EncodedBody => 415,
             Cause::NoLength => 411,
-            Cause::Conflict { .. } | Cause::Running { .. } => 409,
-            Cause::HostFault { .. } | Cause::Stopped => 500,
+            Cause::Conflict { .. } | Cause::Running { .. } | Cause::Behind { .. } => 409,
+            Cause::HostFault { .. } | Cause::Stopped | Cause::LogFailed => 500,
             Cause::Memory => 503,
             Cause::LogFull => 507,
         }
@@ -139,7 +157,14 @@ impl<'a> Cause<'a> {
                 actual,
             } => conflict(alloc, id, *expected, *actual),
             Cause::LogFull => Text::new(alloc, "update log is full"),
+            Cause::LogFailed => Text::new(alloc, "update log failed"),
             Cause::BadQuery { at } => numbered(alloc, "bad query at ", *at),
+            Cause::TooManyMatches => limited(
+                alloc,
+                "query matches more than ",
+                MAX_ORDERS,
+                " documents",
+            ),
             Cause::BadParam { name } => quoted(alloc, "bad parameter '", name, "'"),
             Cause::UnknownShard => Text::new(alloc, "unknown shard"),
             Cause::Running { shard } => quoted(alloc, "split of ", shard, " is running"),
@@ -149,6 +174,10 @@ impl<'a> Cause<'a> {
             Cause::TooManySlices => limited(alloc, "more than ", MOST_SLICES, " shards"),
             Cause::HostFault { core } => ending(alloc, "host failed on core ", core),
             Cause::Stopped => Text::new(alloc, "split was stopped"),
+            Cause::UnknownCore => Text::new(alloc, "unknown core"),
+            Cause::CoreIsLeader => Text::new(alloc, "core is a leader"),
+            Cause::NoCandidate => Text::new(alloc, "no replica can lead"),
+            Cause::Behind { bucket } => numbered(alloc, "replica is behind in bucket ", *bucket),
             Cause::Memory => Text::new(alloc, "out of memory"),
         }
     }

@@ -1,4 +1,4 @@
--- After an accepted order's second stop the write of the first is settled.
+-- After an accepted order's last stop the write of the first is settled.
 use Rattle.std.proofs.Common.{◌≡◌, ℕ, ◌+◌, Bool, true, false, cond, List, [], ◌∷◌, ◌++◌, take, get_or, slice_get, Some, refl, ap, ◌∙◌}
 use Rattle.std.specs.Prelude.{◌||◌, not}
 use Rattle.std.proofs.lemmas.Bool.{eq-eqb}
@@ -7,7 +7,7 @@ use Rattle.std.proofs.lemmas.Option.{slice_get_within, get_or_from_slice_get}
 use Rattle.sc_record.specs.declared.entry.Entry.{Entry}
 use Rattle.sc_record.specs.declared.entry.Entry.TheVariants as entry
 use Rattle.sc_journal.specs.Journal.{is_settled}
-use Rattle.sc_seen.specs.BatchLaws.{SecondStopsSettle}
+use Rattle.sc_seen.specs.BatchLaws.{LastStopsSettle}
 use Rattle.sc_journal.proofs.SettledLemmas.{is_settled-push}
 
 or-true : (b : Bool) → (b || true) ≡ true
@@ -31,13 +31,13 @@ there : (b : Bool) → false ≡ not b → b ≡ true
 there true is = refl
 there false is = absurd (cc)
 
-pub second_settles : SecondStopsSettle
-second_settles seen first second settling = by second.made settling.made settling.made_is where
+pub last_settles : LastStopsSettle
+last_settles seen first last settling = by last.made settling.made settling.made_is where
   journal : List Entry
-  journal = seen.journals second.lock
+  journal = seen.journals last.lock
 
-  by : (made : Bool) → made ≡ not (is_settled (take second.place journal) first.place)
-      → (made ≡ true → slice_get journal second.place ≡ Some (entry.Settled first.place))
-      → is_settled (take (cond made (second.place + 1) second.place) journal) first.place ≡ true
-  by true unsettled made = settled-with journal second.place first.place (made refl)
-  by false unsettled made = there (is_settled (take second.place journal) first.place) unsettled
+  by : (made : Bool) → made ≡ not (is_settled (take last.place journal) first.place)
+      → (made ≡ true → slice_get journal last.place ≡ Some (entry.Settled first.place))
+      → is_settled (take (cond made (last.place + 1) last.place) journal) first.place ≡ true
+  by true unsettled made = settled-with journal last.place first.place (made refl)
+  by false unsettled made = there (is_settled (take last.place journal) first.place) unsettled

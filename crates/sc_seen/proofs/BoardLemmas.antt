@@ -1,10 +1,11 @@
 -- What a legal journal of the board makes of the slices, which split runs after it, and what it has still to get.
-use Rattle.std.proofs.Common.{◌≡◌, ◌∙◌, ℕ, ◌+◌, ◌*◌, ◌^◌, ◌≤◌, ◌<◌, ◌⊎◌, inl, inr, Bool, true, false, cond, List, [], ◌∷◌, ◌++◌, length, map, Option, Some, None, All, Contains, refl, sym, ap, subst, arith, length-append, zero-add}
-use Rattle.std.specs.Prelude.{◌↔◌}
+use Rattle.std.proofs.Common.{◌≡◌, ◌∙◌, ℕ, ◌+◌, ◌*◌, ◌≤◌, ◌⊎◌, inl, inr, Bool, true, cond, List, [], ◌∷◌, ◌++◌, length, map, Option, Some, None, All, refl, sym, ap, subst, arith, length-append, zero-add}
+use Rattle.std.specs.Prelude.{◌↔◌, IfSome}
 use Rattle.std.proofs.Math.Path.{fun_ext}
-use Rattle.std.specs.List.{fold, count_by, sum_by, enumerate_from, filter}
-use Rattle.std.proofs.lemmas.List.{append-nil, append_assoc, map-append}
-use Rattle.std.proofs.lemmas.List.Elements.{All-contains, All-map, All-same, All-weaker, filter_passes}
+use Rattle.std.specs.List.{fold, count_by, enumerate_from, filter_map, cons_option}
+use Rattle.std.specs.Option.{option_map_or}
+use Rattle.std.proofs.lemmas.List.{append-nil, append_assoc}
+use Rattle.std.proofs.lemmas.List.Elements.{All-contains, All-map, All-same, All-weaker, filter_passes, filter_map-append}
 use Rattle.std.proofs.lemmas.List.Sums.{fold-append, sum_by-cons}
 use Rattle.sc_record.specs.declared.slice.SliceId.{SliceId}
 use Rattle.sc_record.specs.declared.entry.Entry.{Entry}
@@ -25,22 +26,33 @@ use Rattle.sc_cluster.proofs.BegunLemmas.{All-forming_begun}
 use Rattle.sc_cluster.proofs.MapLemmas.{change_is_map, begun_is_split, recovering_is_split, switched_is_idle, failed_is_idle, dropped_is_idle}
 use Rattle.sc_cluster.proofs.HistoryLemmas.{has_one_parent}
 use Rattle.sc_cluster.proofs.UndoLemmas.{counts_ids_up, undoes_a_failed_split, may_leave_recovery_out}
-use Rattle.sc_journal.specs.Limits.{greatest_journal}
 use Rattle.sc_journal.proofs.ListLemmas.{split_last, append-cons, enumerate_from-append}
 use Rattle.sc_journal.proofs.SplitLemmas.{after_all-append}
 use Rattle.sc_journal.proofs.OwedLemmas.{owed_by_slices-push_begun, owed_by_slices-push_switched, owed_by_slices-push_failed, owed_by_slices-push_dropped}
 use Rattle.sc_seen.specs.declared.board.BoardEntry.{BoardEntry}
 use Rattle.sc_seen.specs.declared.board.BoardEntry.TheVariants as board
-use Rattle.sc_seen.specs.Board.{board_change_of, board_map, running_after, running_split, owed_after, board_owed, AreRecovering, MayNote, IsLegalBoard}
+use Rattle.sc_seen.specs.Board.{board_change_of, after_entry, board_map, running_after, running_split, owed_after, board_owed, AreRecovering, MayNote, IsLegalBoard}
 use Rattle.sc_seen.specs.BoardLaws.{BoardGrowsByWhatMayCome, HasLegalBoardPrefixes, BoardsKeepAMap, IsRunningSplit, BoardsRunOneSplit, BoardsGoOn, BoardsCountIdsUp, FailedLeavesTheMap, BoardsOweEntries}
 
--- ---- one entry more
--- the map after it
+-- ---- entries more
+-- the map after them is made of that before them
+pub board_map-append : (first : List Slice) (entries more : List BoardEntry)
+    → board_map first (entries ++ more) ≡ board_map (board_map first entries) more
+board_map-append first entries more =
+    ap (after_all first) (filter_map-append board_change_of entries more)
+    ∙ after_all-append first (filter_map board_change_of entries) (filter_map board_change_of more)
+
+-- the map after a change that there may be
+after_one : (slices : List Slice) (change : Option Change)
+    → after_all slices (cons_option change []) ≡ option_map_or (after slices) change slices
+after_one slices None = refl
+after_one slices (Some change) = refl
+
+-- the map after one entry more
 pub board_map-push : (first : List Slice) (entries : List BoardEntry) (one : BoardEntry)
-    → board_map first (entries ++ one ∷ []) ≡ after (board_map first entries) (board_change_of one)
+    → board_map first (entries ++ one ∷ []) ≡ after_entry (board_map first entries) one
 board_map-push first entries one =
-    ap (after_all first) (map-append board_change_of entries (one ∷ []))
-    ∙ after_all-append first (map board_change_of entries) (board_change_of one ∷ [])
+    board_map-append first entries (one ∷ []) ∙ after_one (board_map first entries) (board_change_of one)
 
 -- the split that is running after it
 pub running_split-push : (entries : List BoardEntry) (one : BoardEntry)
@@ -60,12 +72,13 @@ owed_by_split-push entries one = fold-append owed_after 0 entries (one ∷ [])
 
 -- what may be noted may happen to the map
 pub may_change : (first : List Slice) (before : List BoardEntry) (one : BoardEntry) → MayNote first before one
-    → MayChange (board_map first before) (board_change_of one)
+    → IfSome (board_change_of one) (MayChange (board_map first before))
 may_change first before (board.Begun plan) may = may
 may_change first before (board.Recovering parent) may = may
 may_change first before (board.Done parent) may = may.0
 may_change first before (board.Failed parent) may = may
 may_change first before (board.Dropped slice) may = may
+may_change first before (board.Led slice replica) may = tt
 
 -- ---- legal journals
 pub IsLegalBoard-none : (first : List Slice) → IsLegalBoard first []
@@ -216,6 +229,14 @@ Stands-dropped first entries slice may stands =
     (ap forming (board_map-push first entries one) ∙ dropped_is_idle (board_map first entries) slice may.0)
     (owed_by_split-push entries one ∙ idle.1)
 
+Stands-led : (first : List Slice) (entries : List BoardEntry) (slice : SliceId) (replica : ℕ)
+    → MayNote first entries (board.Led slice replica) → Stands first entries → Stands first (entries ++ board.Led slice replica ∷ [])
+Stands-led first entries slice replica may stands =
+    let one : BoardEntry = board.Led slice replica in
+    let idle = rests_where_idle first entries stands may.idle in
+    rests (running_split-push entries one ∙ idle.0) (ap forming (board_map-push first entries one) ∙ may.idle)
+    (owed_by_split-push entries one ∙ idle.1)
+
 Stands-push : (first : List Slice) (entries : List BoardEntry) (one : BoardEntry) → IsMap (board_map first entries)
     → MayNote first entries one → Stands first entries → Stands first (entries ++ one ∷ [])
 Stands-push first entries (board.Begun plan) is_map may stands = Stands-begun first entries plan is_map may
@@ -223,13 +244,19 @@ Stands-push first entries (board.Recovering parent) is_map may stands = Stands-r
 Stands-push first entries (board.Done parent) is_map may stands = Stands-done first entries parent
 Stands-push first entries (board.Failed parent) is_map may stands = Stands-failed first entries parent
 Stands-push first entries (board.Dropped slice) is_map may stands = Stands-dropped first entries slice may stands
+Stands-push first entries (board.Led slice replica) is_map may stands = Stands-led first entries slice replica may stands
 
 -- ---- what a legal journal makes of the slices
+IsMap-after : (slices : List Slice) (change : Option Change) → IsMap slices → IfSome change (MayChange slices)
+    → IsMap (option_map_or (after slices) change slices)
+IsMap-after slices None is_map may = is_map
+IsMap-after slices (Some change) is_map may = change_is_map slices change is_map may
+
 IsMap-push : (first : List Slice) (entries : List BoardEntry) (one : BoardEntry) → MayNote first entries one
     → IsMap (board_map first entries) → IsMap (board_map first (entries ++ one ∷ []))
 IsMap-push first entries one may is_map =
     subst IsMap (sym (board_map-push first entries one))
-    (change_is_map (board_map first entries) (board_change_of one) is_map (may_change first entries one may))
+    (IsMap-after (board_map first entries) (board_change_of one) is_map (may_change first entries one may))
 
 pub board_is_map : (first : List Slice) (entries : List BoardEntry) → IsMap first → IsLegalBoard first entries
     → IsMap (board_map first entries)
@@ -322,9 +349,10 @@ subs_are_few slices (Change.Switched parent) may = omega arith
 subs_are_few slices (Change.Failed parent) may = omega arith
 subs_are_few slices (Change.Dropped slice) may = omega arith
 
-ids_up : (slices : List Slice) (change : Change) → MayChange slices change
-    → greatest_id (after slices change) ≤ greatest_id slices + most_slices
-ids_up slices change may =
+ids_up : (slices : List Slice) (change : Option Change) → IfSome change (MayChange slices)
+    → greatest_id (option_map_or (after slices) change slices) ≤ greatest_id slices + most_slices
+ids_up slices None may = omega arith
+ids_up slices (Some change) may =
     omega (arith, counts_ids_up slices (change ∷ []) (may, tt), sum_by-cons subs_begun change [], subs_are_few slices change may)
 
 pub board_ids : (first : List Slice) (entries : List BoardEntry) → IsLegalBoard first entries
@@ -347,10 +375,7 @@ failed_leaves_the_map first entries plan may =
     let slices = board_map first entries in
     let parent = plan.parent in
     let undone = undoes_a_failed_split slices parent plan.subs may in
-    let more : List BoardEntry → List Slice = λ later. board_map slices later in
-    let at : (later : List BoardEntry) → board_map first (entries ++ later) ≡ board_map slices later =
-    λ later. ap (after_all first) (map-append board_change_of entries later)
-    ∙ after_all-append first (map board_change_of entries) (map board_change_of later) in
+    let at : (later : List BoardEntry) → board_map first (entries ++ later) ≡ board_map slices later = board_map-append first entries in
     let begun = after slices (Change.Begun parent plan.subs) in
     (at _ ∙ undone, at _ ∙ may_leave_recovery_out begun parent (Change.Failed parent) refl ∙ undone)
 
@@ -401,7 +426,7 @@ inactive-recovering slices =
 -- what is owed after an entry, by its split and by the inactive slices
 board_owed-push : (first : List Slice) (entries : List BoardEntry) (one : BoardEntry)
     → board_owed first (entries ++ one ∷ [])
-    ≡ owed_after (owed_by_split entries) one + count_by is_inactive (after (board_map first entries) (board_change_of one))
+    ≡ owed_after (owed_by_split entries) one + count_by is_inactive (after_entry (board_map first entries) one)
 board_owed-push first entries one =
     let split = owed_by_split-push entries one in
     let slices = ap (count_by is_inactive) (board_map-push first entries one) in
@@ -462,8 +487,12 @@ board_owed-dropped first entries slice is_map may =
     let less = inactive-dropped (board_map first entries) slice is_map may.1 in
     omega (arith, board_owed-push first entries (board.Dropped slice), less)
 
+pub board_owed-led : (first : List Slice) (entries : List BoardEntry) (slice : SliceId) (replica : ℕ)
+    → board_owed first (entries ++ board.Led slice replica ∷ []) ≡ board_owed first entries
+board_owed-led first entries slice replica = board_owed-push first entries (board.Led slice replica)
+
 pub boards_owe_entries : BoardsOweEntries
-boards_owe_entries first entries plan slice is_map idle legal =
+boards_owe_entries first entries plan slice replica is_map idle legal =
     let stands = board_stands first entries is_map idle legal in
     let slices = board_is_map first entries is_map legal in (
       board_owed-begun first entries plan stands,
@@ -474,4 +503,5 @@ boards_owe_entries first entries plan slice is_map idle legal =
           let push = board_owed-failed first entries slice in
           omega arith,
       board_owed-dropped first entries slice slices,
+      λ may. board_owed-led first entries slice replica,
     )

@@ -5,7 +5,7 @@ use Rattle.sc_seen.specs.Seen.{Seen, place_after}
 use Rattle.sc_seen.specs.Batches.{IsSettling}
 use Rattle.sc_seen.specs.declared.stop.Stop.{Stop}
 
--- whether it made an entry or not, after an accepted order's second stop the write of the first is settled
-abbrev pub SecondStopsSettle : Type 0
-SecondStopsSettle = (seen : Seen) (first second : Stop) → IsSettling seen first second
-    → is_settled (take (place_after second) (seen.journals second.lock)) first.place ≡ true
+-- whether it made an entry or not, after an accepted order's last stop the write of the first is settled
+abbrev pub LastStopsSettle : Type 0
+LastStopsSettle = (seen : Seen) (first last : Stop) → IsSettling seen first last
+    → is_settled (take (place_after last) (seen.journals last.lock)) first.place ≡ true

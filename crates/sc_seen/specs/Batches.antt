@@ -1,10 +1,11 @@
 -- What the orders of one request are answered, by the journals that were seen.
-use Rattle.std.specs.Prelude.{◌≡◌, ◌<◌, ℕ, ◌-◌, Bool, true, false, not, ◌&&◌, nat_lt, List, [], ◌∷◌, length, map, take, if◌then◌else◌, Option, Some, None, filter_map, slice_get}
+use Rattle.std.specs.Prelude.{◌≡◌, ◌≤◌, ◌<◌, ℕ, ◌-◌, Bool, true, false, not, ◌&&◌, nat_lt, List, [], ◌∷◌, ◌++◌, length, map, take, drop, if◌then◌else◌, Option, Some, None, filter_map, slice_get}
 use Rattle.std.specs.List.{flat_map, AllByRecursion}
 use mathlib.Core.List.{IsPrefix}
 use Rattle.std.specs.Option.{option_map}
 use Rattle.sc_record.specs.Versions.{shown_version}
 use Rattle.sc_record.specs.declared.write.Write.{Write}
+use Rattle.sc_record.specs.declared.slice.CoreId.{CoreId}
 use Rattle.sc_record.specs.declared.ack.Ack.{Ack}
 use Rattle.sc_record.specs.declared.entry.Entry.TheVariants as entry
 use Rattle.sc_record.specs.declared.order.Order.{Order}
@@ -23,17 +24,39 @@ pub record OrderAnswer : Type 0 where
   pub stops : List Stop
   pub outcome : Outcome
 
--- An accepted order's second stop: it comes after the first. It made an entry exactly where the write of the first was not
+-- An accepted order's last stop: it comes after the first. It made an entry exactly where the write of the first was not
 -- settled before it, and that entry settles the write.
-pub record IsSettling (seen : Seen) (first second : Stop) : Type 0 where
-  pub lock : second.lock ≡ first.lock
-  pub later : first.place < second.place
-  pub made : second.made ≡ not (is_settled (journal_at seen second) first.place)
-  pub made_is : second.made ≡ true → slice_get (seen.journals second.lock) second.place ≡ Some (entry.Settled first.place)
+pub record IsSettling (seen : Seen) (first last : Stop) : Type 0 where
+  pub lock : last.lock ≡ first.lock
+  pub later : first.place < last.place
+  pub made : last.made ≡ not (is_settled (journal_at seen last) first.place)
+  pub made_is : last.made ≡ true → slice_get (seen.journals last.lock) last.place ≡ Some (entry.Settled first.place)
 
--- an accepted order has a stop at which its write was made, and one at which that was settled; another has one stop
+-- how many cores one order notes as down at most
+abbrev pub most_downs : ℕ
+most_downs = 3
+
+-- the stop's entry, which the hold made, says of a core that it is down; it comes after the write of the first stop
+pub record IsDownStop (seen : Seen) (first down : Stop) : Type 0 where
+  pub core : CoreId
+  pub lock : down.lock ≡ first.lock
+  pub later : first.place < down.place
+  pub made : down.made ≡ true
+  pub made_is : slice_get (seen.journals down.lock) down.place ≡ Some (entry.Down core)
+
+-- the stops of an accepted order: that of its write, those at which it noted cores as down, and the one at which the write is settled
+pub record HasSettled (seen : Seen) (stops : List Stop) (first : Stop) : Type 0 where
+  pub made : first.made ≡ true
+  pub downs : List Stop
+  pub last : Stop
+  pub stops_are : stops ≡ first ∷ downs ++ last ∷ []
+  pub few : length downs ≤ most_downs
+  pub each : AllByRecursion (IsDownStop seen first) downs
+  pub settling : IsSettling seen first last
+
+-- an accepted order has a stop at which its write was made, and a last one at which that was settled; another has one stop
 abbrev pub HasStops : Seen → Outcome → List Stop → Stop → Type 0
-HasStops seen (accepted version) stops first = (first.made ≡ true) × ((second : Stop) × (stops ≡ first ∷ second ∷ []) × IsSettling seen first second)
+HasStops seen (accepted version) stops first = HasSettled seen stops first
 HasStops seen (conflict version) stops first = (first.made ≡ false) × (stops ≡ first ∷ [])
 HasStops seen (partial name) stops first = (first.made ≡ false) × (stops ≡ first ∷ [])
 HasStops seen log_full stops first = (first.made ≡ false) × (stops ≡ first ∷ [])
@@ -102,6 +125,14 @@ accepted_deletes answers = filter_map delete_of answers
 -- the stops of answers, in order
 abbrev pub order_stops : List OrderAnswer → List Stop
 order_stops answers = flat_map (λ (answer : OrderAnswer). answer.stops) answers
+
+-- of the stops of one order those at which it noted cores as down: all but the first and the last
+abbrev pub stops_between : List Stop → List Stop
+stops_between stops = take (length stops - 2) (drop 1 stops)
+
+-- the stops of answers at which cores were noted as down, in order
+abbrev pub down_stops : List OrderAnswer → List Stop
+down_stops answers = flat_map (λ (answer : OrderAnswer). stops_between answer.stops) answers
 
 -- the timestamps of answers, in order
 abbrev pub order_timestamps : List OrderAnswer → List ℕ

@@ -1,9 +1,6 @@
 -- Laws of the board's journals, above their definitions.
-use Rattle.std.specs.Prelude.{◌≡◌, ◌≤◌, ◌<◌, ◌↔◌, ℕ, ◌+◌, ◌*◌, ◌^◌, Bool, true, false, List, [], ◌∷◌, ◌++◌, length, Some, None}
-use Rattle.std.specs.List.{AllByRecursion}
+use Rattle.std.specs.Prelude.{◌≡◌, ◌≤◌, ◌<◌, ◌↔◌, ℕ, ◌+◌, ◌*◌, ◌^◌, List, [], ◌∷◌, ◌++◌, length, Some, None}
 use Rattle.sc_record.specs.declared.slice.SliceId.{SliceId}
-use Rattle.sc_record.specs.declared.entry.Entry.{Entry}
-use Rattle.sc_record.specs.declared.entry.Entry.TheVariants as entry
 use Rattle.sc_cluster.specs.declared.plan.SplitPlan.{SplitPlan}
 use Rattle.sc_cluster.specs.declared.slice.Slice.{Slice}
 use Rattle.sc_cluster.specs.Limits.{most_slices}
@@ -14,7 +11,6 @@ use Rattle.sc_journal.specs.Limits.{greatest_journal}
 use Rattle.sc_seen.specs.declared.board.BoardEntry.{BoardEntry}
 use Rattle.sc_seen.specs.declared.board.BoardEntry.TheVariants as board
 use Rattle.sc_seen.specs.Board.{board_map, running_split, board_owed, MayNote, IsLegalBoard}
-use Rattle.sc_seen.specs.Rounds.{GoTogether}
 
 -- a journal with no entries is legal, and so is a legal one with an entry more that may come after it
 abbrev pub BoardGrowsByWhatMayCome : Type 0
@@ -72,10 +68,10 @@ FailedLeavesTheMap = (first : List Slice) (entries : List BoardEntry) (plan : Sp
     ≡ board_map first entries)
 
 -- what a board owes after an entry: a split that begins makes it owe three entries more, each entry of it that comes takes one of
--- them off, and where it fails what is left of them; and one that drops a slice takes one off
+-- them off, and where it fails what is left of them; one that drops a slice takes one off; and one that says who leads owes as before
 abbrev pub BoardsOweEntries : Type 0
-BoardsOweEntries = (first : List Slice) (entries : List BoardEntry) (plan : SplitPlan) (slice : SliceId) → IsMap first
-    → forming first ≡ [] → IsLegalBoard first entries
+BoardsOweEntries = (first : List Slice) (entries : List BoardEntry) (plan : SplitPlan) (slice : SliceId) (replica : ℕ)
+    → IsMap first → forming first ≡ [] → IsLegalBoard first entries
     → (MayNote first entries (board.Begun plan)
     → board_owed first (entries ++ board.Begun plan ∷ []) ≡ board_owed first entries + 3)
     × (MayNote first entries (board.Recovering slice)
@@ -86,14 +82,5 @@ BoardsOweEntries = (first : List Slice) (entries : List BoardEntry) (plan : Spli
     → board_owed first (entries ++ board.Failed slice ∷ []) + 2 ≤ board_owed first entries)
     × (MayNote first entries (board.Dropped slice)
     → board_owed first (entries ++ board.Dropped slice ∷ []) + 1 ≡ board_owed first entries)
-
--- the entry says of a core that it is up again, or that it leads
-abbrev pub changes_cores : Entry → Bool
-changes_cores (entry.Up core) = true
-changes_cores (entry.Led core) = true
-changes_cores _ = false
-
--- where the entries that a bucket's keeper made go with the board's, none of them says so of a core
-abbrev pub RoundsChangeNoCores : Type 0
-RoundsChangeNoCores = (entries : List BoardEntry) (own : List Entry) → GoTogether entries own
-    → AllByRecursion (λ (one : Entry). changes_cores one ≡ false) own
+    × (MayNote first entries (board.Led slice replica)
+    → board_owed first (entries ++ board.Led slice replica ∷ []) ≡ board_owed first entries)

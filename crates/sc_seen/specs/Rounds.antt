@@ -1,5 +1,5 @@
 -- How the entries that a bucket's keeper made go with those of the board.
-use Rattle.std.specs.Prelude.{◌≡◌, Bool, true, false, List, [], ◌∷◌}
+use Rattle.std.specs.Prelude.{◌≡◌, Bool, true, false, not, List, [], ◌∷◌, filter}
 use Rattle.std.specs.List.{flat_map}
 use Rattle.sc_record.specs.declared.slice.SliceId.{SliceId}
 use Rattle.sc_record.specs.declared.entry.Entry.{Entry}
@@ -31,7 +31,24 @@ bucket_entries (failed plan recovered true) = entry.Begun plan.parent plan.subs 
 bucket_entries (failed plan recovered false) = []
 bucket_entries (dropped slice) = entry.Dropped slice ∷ []
 
--- The entries that a bucket's keeper made are those that go with the board's, and no other: of each split that was done Begun and
--- Switched, of each that failed Begun and Failed or nothing, and of each slice that was dropped Dropped.
+-- the entry of a bucket says of a core that it is up again, or that it leads
+abbrev pub changes_cores : Entry → Bool
+changes_cores (entry.Up core) = true
+changes_cores (entry.Led core) = true
+changes_cores _ = false
+
+-- the entry of a bucket goes with those of the board: it says nothing of who serves
+abbrev pub is_of_rounds : Entry → Bool
+is_of_rounds one = not (changes_cores one)
+
+-- the entry of the board goes with those of the buckets: it doesn't say who leads
+abbrev pub notes_rounds : BoardEntry → Bool
+notes_rounds (board.Led slice replica) = false
+notes_rounds _ = true
+
+-- The entries that a bucket's keeper made are those that go with the board's, and no other but those that say of a core that it is up
+-- again or leads: of each split that was done Begun and Switched, of each that failed Begun and Failed or nothing, and of each slice
+-- that was dropped Dropped. Those of the board that say who leads go with none.
 abbrev pub GoTogether : List BoardEntry → List Entry → Type 0
-GoTogether entries own = (rounds : List Round) × (entries ≡ flat_map board_entries rounds) × (own ≡ flat_map bucket_entries rounds)
+GoTogether entries own = (rounds : List Round) × (filter notes_rounds entries ≡ flat_map board_entries rounds)
+    × (filter is_of_rounds own ≡ flat_map bucket_entries rounds)

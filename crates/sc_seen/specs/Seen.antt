@@ -1,5 +1,5 @@
 -- What is seen of a collection: the journals of its buckets, that of its board, and which of their entries are one's own.
-use Rattle.std.specs.Prelude.{◌≡◌, ◌≤◌, ◌<◌, ℕ, ◌+◌, ◌==◌, Bool, true, false, List, [], ◌∷◌, ◌++◌, length, map, filter, take, slice_get, if◌then◌else◌, ⊤}
+use Rattle.std.specs.Prelude.{◌≡◌, ◌≤◌, ◌<◌, ℕ, ◌+◌, ◌==◌, Bool, true, false, List, [], ◌∷◌, ◌++◌, length, get_or, map, filter, take, slice_get, if◌then◌else◌, ⊤}
 use Rattle.std.specs.List.{AllByRecursion}
 use Rattle.std.specs.Option.{option_map_or}
 use mathlib.Core.List.{IsPrefix}
@@ -12,13 +12,27 @@ use Rattle.sc_seen.specs.declared.board.BoardEntry.TheVariants as board
 use Rattle.sc_seen.specs.Board.{IsLegalBoard}
 use Rattle.sc_seen.specs.declared.stop.Stop.{Stop}
 
--- how a collection is laid out, which nothing changes: its buckets, its nodes, the map with which each bucket began, and how many
--- entries a journal may have
+-- how many entries each bucket's journal, by the bucket's number, and the board's had when the collection was opened: those are nobody's own
+pub record Opened : Type 0 where
+  pub journals : List ℕ
+  pub board : ℕ
+
+-- how many the journal that a lock guards had; where none is told it had none
+abbrev pub opened_at : Opened → ℕ → ℕ
+opened_at opened lock = get_or opened.journals lock 0
+
+-- a collection that is new: no journal had an entry
+abbrev pub nothing_opened : Opened
+nothing_opened = record { journals = []; board = 0 }
+
+-- how a collection is laid out, which nothing changes: its buckets, its nodes, the map with which each bucket began, how many
+-- entries a journal may have, and how many there were when it was opened
 pub record Layout : Type 0 where
   pub buckets : ℕ
   pub nodes : ℕ
   pub first : List Slice
   pub limit : ℕ
+  pub opened : Opened
 
 -- what each bucket's journal is based on
 abbrev pub basis_of : Layout → Basis
@@ -61,10 +75,11 @@ pub record IsStopWithin (layout : Layout) (seen : Seen) (stop : Stop) : Type 0 w
   pub lock : stop.lock ≤ layout.buckets
   pub place : place_after stop ≤ entries_at layout seen stop.lock
 
--- an entry of the board that a stop makes: that a split began, or that a slice was dropped
+-- an entry of the board that a stop makes: that a split began, that a slice was dropped, or that a replica leads
 abbrev pub is_noted : BoardEntry → Bool
 is_noted (board.Begun plan) = true
 is_noted (board.Dropped slice) = true
+is_noted (board.Led slice replica) = true
 is_noted _ = false
 
 -- of these places of the board those whose entry a stop makes

@@ -1,8 +1,8 @@
 //! A law of the orders of one request, above their definitions.
 
-ghost use Rattle.sc_seen.specs.BatchLaws.{SecondStopsSettle};
+ghost use Rattle.sc_seen.specs.BatchLaws.{LastStopsSettle};
 
 /// Whatever was seen.
-pub fn second_stops_settle()
-    ensures { SecondStopsSettle }
+pub fn last_stops_settle()
+    ensures { LastStopsSettle }
 {}

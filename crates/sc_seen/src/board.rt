@@ -1,7 +1,7 @@
 use sc_cluster::SplitPlan;
 use sc_record::SliceId;
 
-/// One entry of the board's journal, which says how the splits of the collection went.
+/// One entry of the board's journal, which says how the splits of the collection went, and which replicas lead.
 #[derive(Debug, Drop)]
 pub enum BoardEntry {
     /// A split of this plan began.
@@ -14,4 +14,6 @@ pub enum BoardEntry {
     Failed { parent: SliceId },
     /// An inactive slice is gone.
     Dropped { slice: SliceId },
+    /// From here on this replica leads the slice. Replicas are counted from 1, and the first of a slice leads before any such entry.
+    Led { slice: SliceId, replica: u8 },
 }

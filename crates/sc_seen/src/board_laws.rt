@@ -1,6 +1,6 @@
 //! Laws of the board's journals, above their definitions.
 
-ghost use Rattle.sc_seen.specs.BoardLaws.{BoardGrowsByWhatMayCome, HasLegalBoardPrefixes, BoardsKeepAMap, BoardsRunOneSplit, BoardsGoOn, BoardsCountIdsUp, FailedLeavesTheMap, BoardsOweEntries, RoundsChangeNoCores};
+ghost use Rattle.sc_seen.specs.BoardLaws.{BoardGrowsByWhatMayCome, HasLegalBoardPrefixes, BoardsKeepAMap, BoardsRunOneSplit, BoardsGoOn, BoardsCountIdsUp, FailedLeavesTheMap, BoardsOweEntries};
 
 /// Whatever the board's journal gets, each entry where it may come.
 pub fn boards_stay_legal()
@@ -20,9 +20,4 @@ pub fn boards_keep_a_map()
 /// How many entries a legal journal of the board has still to get.
 pub fn boards_owe_entries()
     ensures { BoardsOweEntries }
-{}
-
-/// No entry of a bucket's keeper that goes with the board's says that a core is up again or leads.
-pub fn rounds_change_no_cores()
-    ensures { RoundsChangeNoCores }
 {}

@@ -7,6 +7,8 @@ use Rattle.std.proofs.Crossing.{crosses}
 use Rattle.atomic_table.proofs.badge.Badge.TheSendSync as badge
 use Rattle.atomic_table.proofs.owned.Table.TheSendSync as table
 use Rattle.atomic_table.proofs.shared.Seat.TheSendSync as seat
+use Rattle.http_server.proofs.log.Log.TheSendSync as log
+use Rattle.sc_board.specs.contracts.leaders.Leaders as Leaders
 use Rattle.sc_bucket.specs.contracts.bucket.Bucket as Bucket
 use Rattle.sc_bucket.specs.contracts.feeds.Feeds as Feeds
 use Rattle.sc_bucket.specs.contracts.flight.Flight as Flight
@@ -14,6 +16,7 @@ use Rattle.sc_bucket.specs.contracts.journal.Journal as Journal
 use Rattle.sc_replicas.specs.contracts.replicas.Replicas as Replicas
 use Rattle.sc_replicas.specs.contracts.standing.Standing as Standing
 use Rattle.sc_cluster.specs.contracts.map.ClusterMap as ClusterMap
+use Rattle.sc_collection.specs.contracts.opened.OpenedWith as OpenedWith
 use Rattle.sc_record.specs.contracts.text.Text as Text
 use Rattle.sc_record.specs.contracts.write.Write as Write
 use Rattle.sc_shared.specs.contracts.board.KeptBoard as KeptBoard
@@ -81,8 +84,16 @@ bucket_send =
 numbered_send : IsSend (Numbered.the_field).row
 numbered_send = let a = bucket_send in search (crosses, sendable) depth 100 fits 20000
 
+leaders_send : IsSend (Leaders.the_field).row
+leaders_send = search (crosses, sendable) depth 100 fits 20000
+
+opened_send : IsSend (OpenedWith.the_field).row
+opened_send = search (log.the_send, crosses, sendable) depth 100 fits 20000
+
 board_send : IsSend (KeptBoard.the_field).row
-board_send = let a = numbered_send in search (seat.the_send, badge.the_send, crosses, sendable) depth 100 fits 20000
+board_send =
+    let a = numbered_send in let b = map_send in let c = leaders_send in let d = opened_send in
+    search (seat.the_send, badge.the_send, crosses, sendable) depth 100 fits 20000
 
 map_sync : IsSync (ClusterMap.the_field).row
 map_sync = let a = text_sync in search (crosses, sendable) depth 100 fits 20000

@@ -4,7 +4,7 @@ use Rattle.std.specs.Vec.{with_items}
 use Rattle.std.proofs.lemmas.List.{with_items_is}
 use Rattle.sc_cores.specs.Cores.{cores_of_map}
 use Rattle.sc_io.specs.declared.hosts.Host.{Host}
-use Rattle.sc_seen.specs.Seen.{Seen}
+use Rattle.sc_seen.specs.Seen.{nothing_opened, Seen}
 use Rattle.sc_collection.specs.Shapes.{HasShape}
 use Rattle.sc_session.specs.declared.station.Crew.{Crew}
 use Rattle.sc_session.specs.Stations.{AreAsBefore}
@@ -125,13 +125,13 @@ module _ {C H P L S W : Type 0} (reports : Reports C H P L S W) (server : Server
 
     -- all workers had their crews
     pub all_given : (cores : List Host) (line : List ℕ) (all : Seen) {status : ℕ} → HasShape server.shape (layout_of locks)
-        → cores ≡ cores_of_map server.shape.nodes (layout_of locks).first → line ≡ listening_line server.port → length enlisted ≡ server.workers
+        → (layout_of locks).opened ≡ nothing_opened → cores ≡ cores_of_map server.shape.nodes (layout_of locks).first → line ≡ listening_line server.port → length enlisted ≡ server.workers
         → length new ≡ length enlisted → IsOneStory (layout_of locks) (map seen_by_worker new) all
         → ServesAll reports cores line (serving enlisted (told_of before.written before.write_faults))
         (serving new (told_of after.written after.write_faults)) status
         → EndsServer reports server before after status
-    all_given cores line all shape cores_are line_is count still story served =
+    all_given cores line all shape opened_none cores_are line_is count still story served =
         ends reports server locks before after enlisted new (are server locks before after opened now enlisted new same has done still)
-        (back server locks before after opened now enlisted new same has done still) cores line all shape cores_are line_is count story
+        (back server locks before after opened now enlisted new same has done still) cores line all shape opened_none cores_are line_is count story
         (subst (AreGivenAndBack before after) count (crews server locks before after opened now enlisted new same has done still))
         (open_faults server locks before after opened now enlisted new same has done still) served

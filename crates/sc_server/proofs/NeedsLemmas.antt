@@ -1,10 +1,12 @@
 -- Passes stay new as others are split off them, and the numbers of a server are in their ranges.
-use Rattle.std.proofs.Common.{◌≡◌, ◌≤◌, ◌∙◌, ℕ, Bool, true, ◌&&◌, arith}
+use Rattle.std.proofs.Common.{◌≡◌, ◌≤◌, ◌∙◌, ℕ, Bool, true, ◌&&◌, List, length, ap, arith}
 use Rattle.std.specs.Prelude.{nat_le}
 use Rattle.std.proofs.lemmas.Bool.{and_parts}
 use Rattle.std.proofs.lemmas.Bool.Decides.{nat_tests}
 use Rattle.std.proofs.lemmas.List.Elements.{All-weaker}
+use Rattle.sc_record.specs.declared.entry.Entry.{Entry}
 use Rattle.sc_lock.specs.Tokens.{splits_left}
+use Rattle.sc_seen.specs.declared.board.BoardEntry.{BoardEntry}
 use Rattle.sc_collection.specs.Shapes.{is_shape, IsShape, is_in_range}
 use Rattle.sc_arguments.specs.declared.asked.Server.{Server}
 use Rattle.sc_arguments.specs.Arguments.{most_connections, greatest_port, most_workers, IsServer}
@@ -47,10 +49,11 @@ pub still_new : (locks : Locks) (old new : Passes) → AreNew locks old → AreP
     → AreNew locks new
 still_new locks old new is are same = record {
   are = are;
-  nothing = record {
-    journals = λ lock. same.journals lock ∙ is.nothing.journals lock;
-    board = same.board ∙ is.nothing.board;
-    own = λ lock. same.own lock ∙ is.nothing.own lock;
+  opened = is.opened;
+  seen = record {
+    journals = λ lock. ap (λ (journal : List Entry). length journal) (same.journals lock) ∙ is.seen.journals lock;
+    board = ap (λ (entries : List BoardEntry). length entries) same.board ∙ is.seen.board;
+    own = λ lock. same.own lock ∙ is.seen.own lock;
   };
 }
 
@@ -59,9 +62,10 @@ pub new_too : (locks : Locks) (old other : Passes) → AreNew locks old → AreP
     → AreNew locks other
 new_too locks old other is are others = record {
   are = are;
-  nothing = record {
-    journals = λ lock. others.journals lock ∙ is.nothing.journals lock;
-    board = others.board ∙ is.nothing.board;
+  opened = is.opened;
+  seen = record {
+    journals = λ lock. ap (λ (journal : List Entry). length journal) (others.journals lock) ∙ is.seen.journals lock;
+    board = ap (λ (entries : List BoardEntry). length entries) others.board ∙ is.seen.board;
     own = others.own;
   };
 }

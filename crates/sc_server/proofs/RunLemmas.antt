@@ -4,8 +4,8 @@ use Rattle.std.proofs.lemmas.Bool.{cases_eq}
 use Rattle.std.proofs.lemmas.Option.{same_Some, slice_get_within}
 use Rattle.sc_cores.specs.Cores.{cores_of_map, StartsCores, StartsFirst}
 use Rattle.sc_io.specs.declared.hosts.Host.{Host}
-use Rattle.sc_seen.specs.Seen.{Seen}
-use Rattle.sc_collection.specs.Shapes.{HasShape, SeesNothing}
+use Rattle.sc_seen.specs.Seen.{nothing_opened, Seen}
+use Rattle.sc_collection.specs.Shapes.{HasShape, SeesOpened}
 use Rattle.sc_session.specs.declared.station.Crew.{Crew}
 use Rattle.sc_session.specs.Working.{IsWorked}
 use Rattle.sc_shared.specs.declared.passes.Passes.{Passes}
@@ -176,7 +176,7 @@ module _ {R C H P L S W : Type 0} (reports : Reports C H P L S W) (server : Serv
           first = starts_first;
           hosts = same_hosts;
           rest = crew_is;
-          new = subst (λ (passes : Passes). SeesNothing (seen_of passes)) passes_are is_enlisted.new.nothing;
+          new = subst (λ (passes : Passes). SeesOpened (layout_of locks).opened (seen_of passes)) passes_are is_enlisted.new.seen;
           worked = has_worked;
         };
         after_is = ap seen_with has.after_is;
@@ -204,14 +204,15 @@ module _ {R C H P L S W : Type 0} (reports : Reports C H P L S W) (server : Serv
         (same_any (λ (worker : Worker R C H P L). ended_by_fault worker.end) (λ (run : WorkerRun C H P L). has_failed run.end) IsRunOf new runs
         all_runs.1 (λ number worker run is. ap ended_by_fault is.end_is))
 
-    pub runs_server : (all : Seen) → HasShape server.shape (layout_of locks) → length enlisted ≡ server.workers
+    pub runs_server : (all : Seen) → HasShape server.shape (layout_of locks) → (layout_of locks).opened ≡ nothing_opened → length enlisted ≡ server.workers
         → IsOneStory (layout_of locks) (map seen_by_worker new) all → AreGivenAndBack before after server.workers → after.open_faults ≡ before.open_faults
         → IfSome before.written (λ old. after.written ≡ Some (old ++ listening_line server.port)) → after.write_faults ≡ before.write_faults
         → RunsServer reports server before after runs
     unfolding runs all_runs
-    runs_server all shape count story crews open_faults line faults = record {
+    runs_server all shape opened count story crews open_faults line faults = record {
       layout = layout_of locks;
       shape = shape;
+      opened = opened;
       count = all_runs.1.count ∙ have.count ∙ starts.is.count ∙ count;
       each = λ number run at.
           let within = slice_get_within runs number run at in
@@ -228,6 +229,7 @@ module _ {R C H P L S W : Type 0} (reports : Reports C H P L S W) (server : Serv
 
   -- how the server ended, by how its workers ended
   module _ (cores : List Host) (line : List ℕ) (all : Seen) (shape : HasShape server.shape (layout_of locks))
+      (opened : (layout_of locks).opened ≡ nothing_opened)
       (cores_are : cores ≡ cores_of_map server.shape.nodes (layout_of locks).first) (line_is : line ≡ listening_line server.port)
       (count : length enlisted ≡ server.workers) (story : IsOneStory (layout_of locks) (map seen_by_worker new) all)
       (crews : AreGivenAndBack before after server.workers) (open_faults : after.open_faults ≡ before.open_faults) where
@@ -244,7 +246,7 @@ module _ {R C H P L S W : Type 0} (reports : Reports C H P L S W) (server : Serv
         let written = subst (λ (bytes : List ℕ). IfSome before.written (λ old. after.written ≡ Some (old ++ bytes))) line_is told in
         subst (IsEnd reports server before after) (sym (same_status began server.shape.nodes shape.nodes begins have))
         (IsEnd.runs (runs began server.shape.nodes shape.nodes begins have)
-        (runs_server began server.shape.nodes shape.nodes begins have all shape count story crews open_faults written faults))
+        (runs_server began server.shape.nodes shape.nodes begins have all shape opened count story crews open_faults written faults))
 
     pub ends : {status : ℕ} → ServesAll reports cores line (serving enlisted (record { written = before.written; faults = before.write_faults }))
         (serving new (record { written = after.written; faults = after.write_faults })) status → EndsServer reports server before after status

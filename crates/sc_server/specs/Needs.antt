@@ -2,7 +2,8 @@
 use Rattle.std.specs.Prelude.{◌≡◌, ◌++◌, ℕ, List, length, codes, string_bytes, All}
 use Rattle.std.specs.Fmt.{decimal}
 use Rattle.sc_cores.specs.Cores.{cores_of_map}
-use Rattle.sc_collection.specs.Shapes.{HasShape, SeesNothing}
+use Rattle.sc_seen.specs.Seen.{nothing_opened}
+use Rattle.sc_collection.specs.Shapes.{HasShape, SeesOpened}
 use Rattle.sc_session.specs.Listening.{nothing_kept}
 use Rattle.sc_shared.specs.declared.passes.Passes.{Passes}
 use Rattle.sc_shared.specs.Passes.{seen_of}
@@ -16,10 +17,11 @@ use Rattle.sc_server.specs.declared.needs.Needs.{Needs}
 abbrev pub listening_line : ℕ → List ℕ
 listening_line port = codes "listening " ++ decimal port ++ codes "\n"
 
--- passes of the collection behind these locks, which have seen nothing
+-- the collection behind these locks is new, and the passes are of it and have seen nothing
 pub record AreNew (locks : Locks) (passes : Passes) : Type 0 where
   pub are : ArePasses locks passes
-  pub nothing : SeesNothing (seen_of passes)
+  pub opened : (layout_of locks).opened ≡ nothing_opened
+  pub seen : SeesOpened (layout_of locks).opened (seen_of passes)
 
 -- what one worker needs: new passes, and an empty trail
 pub record IsKit (locks : Locks) (kit : Kit) : Type 0 where

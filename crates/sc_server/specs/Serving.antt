@@ -3,12 +3,12 @@ use Rattle.std.specs.Prelude.{◌≡◌, ◌≢◌, ◌⊎◌, ◌↔◌, ◌≤
 use Rattle.std.specs.List.{list_any}
 use Rattle.sc_cores.specs.Cores.{StartsFirst}
 use Rattle.sc_io.specs.Pieces.{AddsPrefix}
-use Rattle.sc_seen.specs.Seen.{Layout, Seen, SeesMore, AreLegal}
+use Rattle.sc_seen.specs.Seen.{nothing_opened, Layout, Seen, SeesMore, AreLegal}
 use Rattle.sc_lock.specs.Journal.{AreDisjoint}
 use Rattle.sc_session.specs.declared.station.Crew.{Crew}
 use Rattle.sc_session.specs.declared.worker.WorkEnd.{WorkEnd}
 use Rattle.sc_session.specs.Working.{IsWorked}
-use Rattle.sc_collection.specs.Shapes.{HasShape, SeesNothing}
+use Rattle.sc_collection.specs.Shapes.{HasShape, SeesOpened}
 use Rattle.sc_arguments.specs.declared.asked.Server.{Server}
 use Rattle.sc_server.specs.Reports.{Reports, WorkerCrew, with_moment, without_moment, clock_gives, setting, beside}
 use Rattle.sc_server.specs.Working.{has_failed}
@@ -106,7 +106,7 @@ module _ {C H P L S W : Type 0} (common : WorkerSetting C H P L S W) where
         (common.reports.outside run.began.hosts run.began.pace)
     pub hosts : number ≢ 0 → run.began.hosts ≡ run.given.hosts
     pub rest : run.began ≡ record (with_moment server.clock run.given) { hosts = run.began.hosts }
-    pub new : SeesNothing run.before
+    pub new : SeesOpened common.layout.opened run.before
     pub worked : IsWorked (clock_gives common.reports) (setting common.reports common.layout) server.max_connections
         (beside common.reports run.before run.began) (beside common.reports run.after run.back) run.end
 
@@ -130,11 +130,12 @@ module _ {C H P L S W : Type 0} (reports : Reports C H P L S W) where
     pub fault : before.write_faults < after.write_faults
     pub part : IfSome before.written (λ old. AddsPrefix old (listening_line server.port) after.written)
 
-  -- All workers of a server worked over one collection of its shape, in which nothing had happened: what they have seen of each journal are
+  -- All workers of a server worked over one new collection of its shape, in which nothing had happened: what they have seen of each journal are
   -- beginnings of one, and no two of them made the same entry. The line was written before, and the port didn't fail.
   pub record RunsServer (server : Server) (before after : Front C H P L) (runs : List (WorkerRun C H P L)) : Type 0 where
     pub layout : Layout
     pub shape : HasShape server.shape layout
+    pub opened : layout.opened ≡ nothing_opened
     pub count : length runs ≡ server.workers
     pub each : (number : ℕ) (run : WorkerRun C H P L) → slice_get runs number ≡ Some run
         → IsWorkerRun (record { reports = reports; layout = layout }) server before after number run

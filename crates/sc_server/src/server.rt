@@ -40,7 +40,7 @@ pub fn run_server<R: Threads + Wait + Sync, W: Sink, T: Station>(
     ensures ends { EndsServer
         (record {
           gives = T.C.gives;
-          outside = λ hosts pace. outside_of (T.H.started hosts) (T.H.start_faults hosts) (T.H.stop_faults hosts) (T.P.stops pace);
+          outside = λ hosts pace. outside_of (T.H.started hosts) (T.H.start_faults hosts) (T.H.stop_faults hosts) (T.P.stops pace) (T.H.reached hosts);
           coming = T.L.coming;
           taken = T.L.taken;
           faults = T.L.faults;
@@ -180,7 +180,7 @@ fn serve_all<
     ensures ends { ServesAll
         (record {
           gives = C.gives;
-          outside = λ hosts pace. outside_of (H.started hosts) (H.start_faults hosts) (H.stop_faults hosts) (P.stops pace);
+          outside = λ hosts pace. outside_of (H.started hosts) (H.start_faults hosts) (H.stop_faults hosts) (P.stops pace) (H.reached hosts);
           coming = L.coming;
           taken = L.taken;
           faults = L.faults;
@@ -221,7 +221,7 @@ fn work_all<
     ensures worked { HaveWorked
         (record {
           gives = C.gives;
-          outside = λ hosts pace. outside_of (H.started hosts) (H.start_faults hosts) (H.stop_faults hosts) (P.stops pace);
+          outside = λ hosts pace. outside_of (H.started hosts) (H.start_faults hosts) (H.stop_faults hosts) (P.stops pace) (H.reached hosts);
           coming = L.coming;
           taken = L.taken;
           faults = L.faults;
@@ -245,7 +245,7 @@ fn work_all<
             ensures { IsReady worker.old.collection.now worker.new × HasWorked
                 (record {
                   gives = C.gives;
-                  outside = λ hosts pace. outside_of (H.started hosts) (H.start_faults hosts) (H.stop_faults hosts) (P.stops pace);
+                  outside = λ hosts pace. outside_of (H.started hosts) (H.start_faults hosts) (H.stop_faults hosts) (P.stops pace) (H.reached hosts);
                   coming = L.coming;
                   taken = L.taken;
                   faults = L.faults;

@@ -42,7 +42,7 @@ impl<'a, R: Threads + Wait + Sync, C: Clock, H: Hosts, P: Pace, L: Listener> Wor
         ensures worked { HasWorked
             (record {
               gives = C.gives;
-              outside = λ hosts pace. outside_of (H.started hosts) (H.start_faults hosts) (H.stop_faults hosts) (P.stops pace);
+              outside = λ hosts pace. outside_of (H.started hosts) (H.start_faults hosts) (H.stop_faults hosts) (P.stops pace) (H.reached hosts);
               coming = L.coming;
               taken = L.taken;
               faults = L.faults;
@@ -68,7 +68,7 @@ fn run_at<N: Home, R: Threads + Wait + Sync, C: Clock, H: Hosts, P: Pace, L: Lis
     ensures worked { HasWorked
         (record {
           gives = C.gives;
-          outside = λ hosts pace. outside_of (H.started hosts) (H.start_faults hosts) (H.stop_faults hosts) (P.stops pace);
+          outside = λ hosts pace. outside_of (H.started hosts) (H.start_faults hosts) (H.stop_faults hosts) (P.stops pace) (H.reached hosts);
           coming = L.coming;
           taken = L.taken;
           faults = L.faults;

@@ -26,6 +26,7 @@ answered_at_once gives layout asked now answer answered = record {
   keeps = Keeps-none layout now.view;
   given = refl;
   no_command_is = refl;
+  no_order_is = refl;
   answered = λ later more. answered later;
   once = λ later more. refl;
 }
@@ -82,6 +83,7 @@ by_no_clock gives layout asked old new clock old_stops new_stops answer a = reco
   keeps = a.keeps;
   given = subst (λ (timestamps : List ℕ). GivesTimestamps gives clock timestamps clock) (sym (none_given a.trace.timestamps a.given)) refl;
   no_command_is = a.no_command_is;
+  no_order_is = a.no_order_is;
   answered = a.answered;
   once = a.once;
 }

@@ -10,11 +10,12 @@ use Rattle.sc_cores.specs.Cores.{Outside}
 use Rattle.sc_journal.specs.Journal.{write_at}
 use Rattle.sc_seen.specs.Seen.{Layout, Seen, SeesMore, EndAtLast, ComeInOrder, place_after, stops_at, entries_at}
 use Rattle.sc_seen.specs.Moments.{View, Moment}
-use Rattle.sc_seen.specs.Batches.{ack_made, ack_written}
+use Rattle.sc_seen.specs.Batches.{OrderAnswer, ack_made, ack_written}
 use Rattle.sc_seen.specs.Commits.{commit_stops}
 use Rattle.sc_seen.specs.declared.stop.Stop.{Stop}
 use Rattle.sc_board.specs.declared.cut.Cut.{Cut}
 use Rattle.sc_board.specs.Splits as board
+use Rattle.sc_collection.proofs.DownLemmas.{NotesDowns-none}
 use Rattle.sc_update.proofs.UpdateLemmas.{commits_unmade}
 use Rattle.sc_split.specs.Splits.{SplitMoment, Course, refused, given_up, done, split_stops, HasCause, IsAnswered, IsSplit}
 use Rattle.sc_split.specs.declared.end.SplitEnd.{SplitEnd}
@@ -23,7 +24,7 @@ use Rattle.sc_admin.specs.Commands.{pieces_of, split, status, delete}
 use Rattle.sc_admin.specs.Deletes.{IsDelete, delete_moment}
 use Rattle.sc_admin.specs.declared.deleting.DeleteEnd.{DeleteEnd}
 use Rattle.sc_session.specs.Requests.{Asked, command}
-use Rattle.sc_session.specs.Commands.{CommandEnd, situation, moment_at, KeepsRest, LeavesSplit, LeavesDelete, Leaves}
+use Rattle.sc_session.specs.Commands.{CommandEnd, ended_stops, situation, moment_at, ReachesFor, KeepsRest, LeavesSplit, LeavesDelete, Leaves}
 use Rattle.sc_session.specs.Answers.{Answer, replied, ran_out, Trace, read_trace, split_trace, delete_trace, status_reply, split_answer, delete_answer, ShowsBoard, EndsSplit, EndsDelete, IsAnswer}
 use Rattle.sc_session.specs.States.{World}
 use Rattle.sc_session.specs.Answering.{AnswersOfBuckets, AnswersAsked, IsAnswerOf, ShowsStatus}
@@ -32,6 +33,10 @@ use Rattle.sc_session.specs.Answering.{AnswersOfBuckets, AnswersAsked, IsAnswerO
 abbrev pub world_at : {C : Type 0} → View → C → Outside → World C
 world_at view clock outside = record { moment = record { view = view; clock = clock }; outside = outside }
 
+-- a request without orders left all that is outside as it was
+reaches_none : (layout : Layout) (old new : Seen) (outside : Outside) → ReachesFor layout [] (situation old outside) (situation new outside)
+reaches_none layout old new outside = record { rest = refl; none = λ none. refl; downs = NotesDowns-none layout new outside.reach }
+
 -- what was asked of the buckets alone left the rest as it was
 pub of_buckets : {C : Type 0} (gives : C → ℕ → C → Type 0) (layout : Layout) (asked : Asked) (old new : Moment C) (outside : Outside) (answer : Answer)
     → AnswersOfBuckets gives layout asked old new answer
@@ -39,20 +44,21 @@ pub of_buckets : {C : Type 0} (gives : C → ℕ → C → Type 0) (layout : Lay
 of_buckets gives layout asked old new outside answer a = record {
   trace = a.trace;
   extends = a.keeps.goes.extends;
-  last = a.keeps.goes.last;
+  last = subst (λ (end : CommandEnd). EndAtLast layout new.view.seen (ended_stops end a.trace.stops)) (sym a.no_command_is) a.keeps.goes.last;
   kept = a.keeps.kept;
   given = a.given;
   answered = a.answered;
   once = a.once;
-  leaves = subst (λ (end : CommandEnd). Leaves layout a.trace.stops end (situation old.view.seen outside) (situation new.view.seen outside)) (sym a.no_command_is) rest;
+  leaves = subst (λ (end : CommandEnd). Leaves layout a.trace.answers a.trace.stops end (situation old.view.seen outside) (situation new.view.seen outside)) (sym a.no_command_is) rest;
 }
   where
-    rest : KeepsRest layout a.trace.stops (situation old.view.seen outside) (situation new.view.seen outside)
+    rest : KeepsRest layout a.trace.answers a.trace.stops (situation old.view.seen outside) (situation new.view.seen outside)
     rest = record {
       stays = a.keeps.goes.stays;
       board = λ none. a.keeps.goes.board;
       board_own = a.keeps.goes.board_own;
-      outside = refl;
+      reach = subst (λ (answers : List OrderAnswer). ReachesFor layout answers (situation old.view.seen outside) (situation new.view.seen outside)) (sym a.no_order_is)
+          (reaches_none layout old.view.seen new.view.seen outside);
     }
 
 -- a stop of the board is the last of no bucket
@@ -108,12 +114,12 @@ status_answered gives layout old new clock outside answer shows = record {
     some : stop ∷ [] ≡ [] → ⊥
     some none = cc
 
-    rest : KeepsRest layout (stop ∷ []) (situation old.seen outside) (situation new.seen outside)
+    rest : KeepsRest layout [] (stop ∷ []) (situation old.seen outside) (situation new.seen outside)
     rest = record {
       stays = λ lock below none. shows.stays lock;
       board = λ none. absurd (some (sym (at_board layout stop shows.lock) ∙ none));
       board_own = shows.board_own;
-      outside = refl;
+      reach = reaches_none layout old.seen new.seen outside;
     }
 
     here : ShowsBoard layout (read_trace (stop ∷ [])) stop
@@ -178,6 +184,7 @@ split_answered gives layout shard cut old new clock end answer is told = record 
       buckets = is.buckets;
       outside = is.outside;
       counts = is.counts;
+      no_reach = is.no_reach;
     }
 
     ends : (later : Seen) → SeesMore new.view.seen later → EndsSplit layout later shard (pieces_of cut) trace end
@@ -226,6 +233,7 @@ deletion_answered gives layout shard old new before after clock end answer is to
       counts = is.counts;
       no_start = is.no_start;
       no_pace = is.no_pace;
+      no_reach = is.no_reach;
     }
 
     ends : (later : Seen) → SeesMore new.seen later → EndsDelete layout later shard trace end

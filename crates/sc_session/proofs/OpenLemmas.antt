@@ -108,10 +108,10 @@ push layout old (y ∷ exchanges) between x new are is same = (are.0, push layou
 
 -- what one more left, after what those left
 push_rest : (layout : Layout) (old : Situation) (exchanges : List Exchange) (between : Situation) (x : Exchange) (new : Situation) → LeaveRest layout old exchanges between
-    → Leaves layout x.trace.stops x.trace.command between new → situation_after x ≡ new → LeaveRest layout old (exchanges ++ x ∷ []) new
+    → Leaves layout x.trace.answers x.trace.stops x.trace.command between new → situation_after x ≡ new → LeaveRest layout old (exchanges ++ x ∷ []) new
 push_rest layout old [] between x new are leaves same = (
-  subst (λ (now : Situation). Leaves layout x.trace.stops x.trace.command now (situation_after x)) are
-      (subst (λ (now : Situation). Leaves layout x.trace.stops x.trace.command between now) (sym same) leaves),
+  subst (λ (now : Situation). Leaves layout x.trace.answers x.trace.stops x.trace.command now (situation_after x)) are
+      (subst (λ (now : Situation). Leaves layout x.trace.answers x.trace.stops x.trace.command between now) (sym same) leaves),
   sym same,
 )
 push_rest layout old (y ∷ exchanges) between x new are leaves same = (are.0, push_rest layout (situation_after y) exchanges between x new are.1 leaves same)

@@ -177,8 +177,8 @@ module _ (layout : Layout) (id : List ℕ) (some_bucket : 0 < layout.buckets) wh
           → IsMade layout now later id version
       by first at_bucket came has =
           let here : first.lock ≡ lock = at_bucket ∙ ap (λ i. bucket_of i layout.buckets) own in
-          let there : Contains one.stops first = subst (λ (ss : List Stop). Contains ss first) (sym has.1.1) (0, omega arith, refl) in
-          let after : place_after first ≡ first.place + 1 = ap (λ b. cond b (first.place + 1) first.place) has.0 in
+          let there : Contains one.stops first = subst (λ (ss : List Stop). Contains ss first) (sym has.stops_are) (0, omega arith, refl) in
+          let after : place_after first ≡ first.place + 1 = ap (λ b. cond b (first.place + 1) first.place) has.made in
           let fits : place_after first ≤ entries_at layout now first.lock = (within first there).place in
           let seen_there : first.place < entries_at layout now lock =
           subst (λ n. first.place < entries_at layout now n) here (omega (arith, after, fits)) in

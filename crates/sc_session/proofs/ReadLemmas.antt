@@ -55,6 +55,7 @@ got_with layout id old new found answer is answered = record {
   keeps = is.keeps;
   given = refl;
   no_command_is = refl;
+  no_order_is = refl;
   answered = answered;
   once = λ later more. unmade layout later (is.stop ∷ []) (is.reads.made, tt);
 }
@@ -116,6 +117,7 @@ are_got_with layout ids old new found answer are answered = record {
   keeps = are.keeps;
   given = refl;
   no_command_is = refl;
+  no_order_is = refl;
   answered = answered;
   once = λ later more. unmade layout later are.stops (reads_unmade layout ids are.stops are.reads);
 }
@@ -168,6 +170,7 @@ searched_with layout ask made old new found answer is answered = record {
   keeps = is.keeps;
   given = refl;
   no_command_is = refl;
+  no_order_is = refl;
   answered = answered;
   once = λ later more. unmade layout later is.stops (recursion_from_All (λ (stop : Stop). stop.made ≡ false) is.stops is.looks.made);
 }

@@ -25,7 +25,7 @@ use Rattle.sc_split.specs.Splits.{SplitMoment, split_moment, Course, refused, gi
 use Rattle.sc_session.specs.Requests as requests
 use Rattle.sc_session.specs.Requests.{update, get, get_ids, select, command, asked}
 use Rattle.sc_session.specs.Answers.{Answer, replied, ran_out, Trace, IsAnswer, EndsSplit, read_trace}
-use Rattle.sc_session.specs.Commands.{CommandEnd, no_command, split_ended, delete_ended, Situation, moment_at, Leaves, LeavesSplit}
+use Rattle.sc_session.specs.Commands.{CommandEnd, no_command, split_ended, delete_ended, ended_stops, Situation, moment_at, Leaves, LeavesSplit}
 use Rattle.sc_session.specs.Connection.{Exchange, situation_after, IsExchange, AreExchanges, LeaveRest, exchanges_of}
 use Rattle.sc_session.specs.States.{ConnectionState, world_of, situation_in}
 use Rattle.sc_session.specs.Served.{IsServed}
@@ -125,7 +125,7 @@ module _ (layout : Layout) (seen : Seen) (trace : Trace) (asked : AskedSplit) (f
 
 -- an exchange whose command was a split is one
 is_split : (layout : Layout) (old : Situation) (x : Exchange) (wanted : AskedSplit) (first : Stop) (course : Course) (end : SplitEnd)
-    → IsExchange layout old.seen x → Leaves layout x.trace.stops x.trace.command old (situation_after x)
+    → IsExchange layout old.seen x → Leaves layout x.trace.answers x.trace.stops x.trace.command old (situation_after x)
     → CameTo x.trace.command wanted first course end
     → IsSplit layout wanted (moment_at old) (split_moment (view_of x.seen x.trace.stops) x.outside) end
 is_split layout old x wanted first course end is leaves came = record {
@@ -133,13 +133,14 @@ is_split layout old x wanted first course end is leaves came = record {
   course = course;
   kept = stops;
   extends = subst (Extends layout old.seen x.seen) stops is.extends;
-  last = subst (EndAtLast layout x.seen) stops is.last;
+  last = subst (EndAtLast layout x.seen) stops (subst (λ (end : CommandEnd). EndAtLast layout x.seen (ended_stops end x.trace.stops)) came is.last);
   answered = λ later more. (told later more).answered;
   cause = cause_by_seen layout course (moment_at old) x.seen x.outside [] x.trace.stops end left.cause;
   board = left.board;
   buckets = left.buckets;
   outside = left.outside;
   counts = left.counts;
+  no_reach = left.no_reach;
 }
   where
     told : FromNowOn x.seen (λ later. AnswersSplit layout later x.trace wanted first course end)
@@ -149,14 +150,14 @@ is_split layout old x wanted first course end is leaves came = record {
     stops = (told x.seen (SeesMore-self x.seen)).stops_are
 
     left : LeavesSplit layout first course end old (situation_after x)
-    left = subst (λ (came : CommandEnd). Leaves layout x.trace.stops came old (situation_after x)) came leaves
+    left = subst (λ (came : CommandEnd). Leaves layout x.trace.answers x.trace.stops came old (situation_after x)) came leaves
 
 -- of exchanges one after another: each comes after what stood once those before it were over, and before what is seen at the end
 record ComesIn (layout : Layout) (old : Situation) (earlier : List Exchange) (x : Exchange) (further : List Exchange) (new : Seen) : Type 0 where
   before : Situation
   prior : AreExchanges layout old.seen earlier before.seen
   is : IsExchange layout before.seen x
-  leaves : Leaves layout x.trace.stops x.trace.command before (situation_after x)
+  leaves : Leaves layout x.trace.answers x.trace.stops x.trace.command before (situation_after x)
   later : AreExchanges layout x.seen further new
 
 sees_more : (layout : Layout) (old : Seen) (exchanges : List Exchange) (new : Seen) → AreExchanges layout old exchanges new → SeesMore old new

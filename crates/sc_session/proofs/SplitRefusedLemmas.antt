@@ -1,7 +1,7 @@
 -- What a split that was refused leaves of the board, of the slices, and of what gets and searches answer.
-use Rattle.std.proofs.Common.{◌≡◌, ℕ, ◌<◌, ◌≤◌, inl, inr, Bool, true, false, List, [], ◌∷◌, ◌++◌, length, take, map, Option, Some, None, All, refl, sym, ap, ◌∙◌, subst, arith, append_assoc, length-append}
+use Rattle.std.proofs.Common.{◌≡◌, ℕ, ◌<◌, ◌≤◌, inl, inr, Bool, true, false, List, [], ◌∷◌, ◌++◌, length, take, Option, Some, None, All, refl, sym, ap, ◌∙◌, subst, arith, append_assoc, length-append}
 use Rattle.std.specs.List.{filter, filter_map}
-use Rattle.std.proofs.lemmas.List.{append-nil, map-append, take_all, take_at}
+use Rattle.std.proofs.lemmas.List.{append-nil, take_all, take_at}
 use Rattle.std.proofs.lemmas.List.Elements.{All-head, All-tail}
 use mathlib.Core.List.{IsPrefix}
 use Rattle.sc_hash.specs.declared.range.Range.{Range}
@@ -26,13 +26,13 @@ use Rattle.sc_journal.proofs.ListLemmas.{append-cons}
 use Rattle.sc_journal.proofs.JournalLemmas.{writes-append}
 use Rattle.sc_journal.proofs.CommittedLemmas.{committed-push_other, committed-push_commit}
 use Rattle.sc_journal.proofs.LegalLemmas.{IsLegal-prefix}
-use Rattle.sc_journal.proofs.SplitLemmas.{after_all-append, map_after-append, open_split-push}
-use Rattle.sc_seen.specs.Board.{board_change_of, board_map}
+use Rattle.sc_journal.proofs.SplitLemmas.{map_after-append, open_split-push}
+use Rattle.sc_seen.specs.Board.{board_map}
 use Rattle.sc_seen.specs.Seen.{Layout, Seen, AreLegal}
 use Rattle.sc_seen.specs.declared.board.BoardEntry.{BoardEntry}
 use Rattle.sc_seen.specs.declared.board.BoardEntry.TheVariants as board
 use Rattle.sc_seen.specs.declared.stop.Stop.{Stop}
-use Rattle.sc_seen.proofs.BoardLemmas.{failed_leaves_the_map}
+use Rattle.sc_seen.proofs.BoardLemmas.{board_map-append, failed_leaves_the_map}
 use Rattle.sc_seen.proofs.GoesOnLemmas.{SeesMore-self}
 use Rattle.sc_board.specs.Splits.{AskedSplit}
 use Rattle.sc_fanout.specs.Searches.{IsFoundIn, IsInRoute}
@@ -234,11 +234,6 @@ finds_alike layout one other criterion route write alike finds =
     (found.0, found.1, found_alike layout.first (one found.0) (other found.0) criterion route write (alike found.0 found.1) found.2)
 
 -- ---- the board
-board_map-append : (first : List Slice) (entries more : List BoardEntry)
-    → board_map first (entries ++ more) ≡ after_all (board_map first entries) (map board_change_of more)
-board_map-append first entries more =
-    ap (after_all first) (map-append board_change_of entries more) ∙ after_all-append first (map board_change_of entries) (map board_change_of more)
-
 -- what a split that was refused noted leaves the board's map
 noted_leaves : (layout : Layout) (asked : AskedSplit) (seen : Seen) (first : Stop) (course : Course) (end : SplitEnd) (before : List BoardEntry)
     → IsAnswered layout seen asked first course end → is_done end ≡ false → before ≡ take first.place seen.board
@@ -290,7 +285,7 @@ status_alike layout asked old new later other first course end answered not_done
     slices : board_map layout.first later.board ≡ board_map layout.first other.board
     slices = ap (board_map layout.first) (as_if.later_is ∙ ap (λ (entries : List BoardEntry). entries ++ as_if.more) as_if.noted)
         ∙ board_map-append layout.first (as_if.before ++ noted_by course) as_if.more
-        ∙ ap (λ (slices : List Slice). after_all slices (map board_change_of as_if.more))
+        ∙ ap (λ (slices : List Slice). board_map slices as_if.more)
         (noted_leaves layout asked new first course end as_if.before answered not_done at_stop)
         ∙ sym (board_map-append layout.first as_if.before as_if.more)
         ∙ ap (board_map layout.first) (sym as_if.other_is)

@@ -11,6 +11,8 @@ use Rattle.sc_reply.specs.Bodies.{update_text, error_text}
 use Rattle.sc_reply.specs.Refusals as refusals
 use Rattle.sc_commands.specs.declared.batch.Batch.{Batch}
 use Rattle.sc_router.specs.Route.{IsBucketCount}
+use Rattle.sc_io.specs.Hosts.{Reached}
+use Rattle.sc_cores.specs.Cores.{Outside}
 use Rattle.sc_collection.specs.Kept.{stops_of_request, trail_room}
 use Rattle.sc_record.specs.Orders.{order_limit}
 use Rattle.sc_commands.specs.Updates.{update_of}
@@ -24,14 +26,14 @@ use Rattle.std.proofs.lemmas.Option.{slice_get_within}
 use Rattle.sc_journal.proofs.ListLemmas.{last_of_cases, slice_get-append_end}
 use Rattle.sc_seen.proofs.GoesOnLemmas.{SeesMore-self}
 use Rattle.sc_update.specs.Updated as updates
-use Rattle.sc_update.specs.Updated.{UpdateEnd, finished, Shows, OrdersEnd, IsUpdated, ReportsEnd, reported}
+use Rattle.sc_update.specs.Updated.{UpdateMoment, UpdateEnd, finished, Shows, OrdersEnd, IsUpdated, ReportsEnd, reported}
 use Rattle.sc_update.specs.declared.end.BatchEnd.{BatchEnd}
 use Rattle.sc_update.specs.declared.end.BatchFault.{BatchFault}
 use Rattle.sc_update.specs.declared.end.BatchFault.TheVariants as reports
 use Rattle.sc_session.specs.Requests.{update}
-use Rattle.sc_session.specs.Commands.{no_command}
+use Rattle.sc_session.specs.Commands.{no_command, situation, KeepsRest}
 use Rattle.sc_session.specs.Answers.{replied, IsAnswer, Trace, EndsBatch, update_answer, refusal_after}
-use Rattle.sc_session.specs.Answering.{AnswersOfBuckets, IsOfOrder, RefusesFor, IsReplyTo, reply_of, answer_of}
+use Rattle.sc_session.specs.Answering.{AnswersAsked, IsOfOrder, RefusesFor, IsReplyTo, reply_of, answer_of}
 use Rattle.sc_session.specs.declared.reply.Reply.{Reply}
 
 -- where versions are not shown, what was accepted is of no matter
@@ -80,10 +82,10 @@ within : {A : Type 0} (xs : List A) (at : ℕ) (x : A) → slice_get xs at ≡ S
 within xs at x is = slice_get_within xs at x is
 
 -- a fault that is reported is of an order of the batch
-pub of_order : {C : Type 0} (gives : C → ℕ → C → Type 0) (layout : Layout) (batch : Batch) (old new : Moment C) (end : BatchEnd)
+pub of_order : {C : Type 0} (gives : C → ℕ → C → Type 0) (layout : Layout) (batch : Batch) (old new : UpdateMoment C) (end : BatchEnd)
     → (updated : IsUpdated gives layout batch old new end) → IfSome end.fault (IsOfOrder batch)
 of_order gives layout batch old new end updated =
-    let now = new.view.seen in
+    let now = new.moment.view.seen in
     let ends = updated.ends now (SeesMore-self now) in
     subst (λ (fault : Option BatchFault). IfSome fault (IsOfOrder batch)) (sym updated.reports.fault)
     (by updated.how ends.0 (updated.answered now (SeesMore-self now)).in_turn)
@@ -163,17 +165,20 @@ refused_reply batch end fault refusal (Ok reply) same apart why is =
       by reports.LogFull apart why = (refusal, why, is)
       by reports.Memory apart why = absurd (apart refl)
 
--- an update that was answered by what it reports
-pub updated_asked : {C : Type 0} (gives : C → ℕ → C → Type 0) (layout : Layout) (batch : Batch) (old new : Moment C) (end : BatchEnd) (answer : Result Reply AllocError)
-    → IsUpdated gives layout batch old new end → IfOk answer (IsReplyTo batch end)
-    → AnswersOfBuckets gives layout (update (update_of batch)) old new (answer_of answer)
-updated_asked {C} gives layout batch old new end answer updated replies = record {
+-- an update that was answered by what it reports, which asked for nodes alone of what is outside
+pub updated_asked : {C : Type 0} (gives : C → ℕ → C → Type 0) (layout : Layout) (batch : Batch) (old new : Moment C) (before after : Outside) (end : BatchEnd) (answer : Result Reply AllocError)
+    → IsUpdated gives layout batch (record { moment = old; reach = before.reach }) (record { moment = new; reach = after.reach }) end
+    → after ≡ record before { reach = after.reach } → IfOk answer (IsReplyTo batch end)
+    → AnswersAsked gives layout (update (update_of batch)) (record { moment = old; outside = before }) (record { moment = new; outside = after }) (answer_of answer)
+updated_asked {C} gives layout batch old new before after end answer updated outside replies = record {
   trace = trace;
-  keeps = updated.keeps;
+  extends = updated.keeps.goes.extends;
+  last = updated.keeps.goes.last;
+  kept = updated.keeps.kept;
   given = updated.timestamps;
-  no_command_is = refl;
   answered = λ later more. by later more answer replies;
   once = updated.once;
+  leaves = rest;
 }
   where
     trace : Trace
@@ -183,6 +188,18 @@ updated_asked {C} gives layout batch old new end answer updated replies = record
       timestamps = order_timestamps updated.answers;
       stops = order_stops updated.answers ++ commit_stops updated.commits;
       command = no_command;
+    }
+
+    rest : KeepsRest layout trace.answers trace.stops (situation old.view.seen before) (situation new.view.seen after)
+    rest = record {
+      stays = updated.keeps.goes.stays;
+      board = λ none. updated.keeps.goes.board;
+      board_own = updated.keeps.goes.board_own;
+      reach = record {
+        rest = outside;
+        none = λ none. outside ∙ ap (λ (reach : Reached). record before { reach = reach }) (updated.unasked none);
+        downs = updated.notes;
+      };
     }
 
     ends : (later : Seen) → SeesMore new.view.seen later → EndsBatch layout later batch trace updated.how

@@ -19,7 +19,7 @@ use Rattle.sc_session.specs.declared.reply.Body.{Body}
 use Rattle.sc_session.specs.declared.reply.Body.TheVariants as bodies
 use Rattle.sc_seen.specs.declared.stop.Stop.{Stop}
 use Rattle.sc_session.specs.Answers.{Answer, replied, ran_out, Trace, IsAnswer, refusal_reply, status_reply}
-use Rattle.sc_session.specs.Commands.{no_command, Leaves}
+use Rattle.sc_session.specs.Commands.{no_command, ended_stops, Leaves}
 use Rattle.sc_session.specs.States.{World, situation_in}
 use Rattle.sc_session.specs.Requests.{Asked}
 use Rattle.sc_session.specs.declared.reply.Reply.{Reply}
@@ -38,13 +38,14 @@ abbrev pub answer_of : Result Reply AllocError → Answer
 answer_of (Ok reply) = replied (reply_of reply)
 answer_of (Err fault) = ran_out
 
--- What was asked of the buckets was answered: what was seen of them went on by the stops of a trace, which were kept, and the clock was
--- read. The answer is that by all that is seen later, and the writes that were made are those that were accepted.
+-- What was asked of the buckets was answered, without an order: what was seen of them went on by the stops of a trace, which were kept, and
+-- the clock was read. The answer is that by all that is seen later, and no write was made.
 pub record AnswersOfBuckets {C : Type 0} (gives : C → ℕ → C → Type 0) (layout : Layout) (asked : Asked) (old new : Moment C) (answer : Answer) : Type 0 where
   pub trace : Trace
   pub keeps : Keeps layout old.view new.view trace.stops
   pub given : GivesTimestamps gives old.clock trace.timestamps new.clock
   pub no_command_is : trace.command ≡ no_command
+  pub no_order_is : trace.answers ≡ []
   pub answered : FromNowOn new.view.seen (λ later. IsAnswer layout later asked trace answer)
   pub once : FromNowOn new.view.seen (λ later. WritesOnce layout later trace.stops trace.answers)
 
@@ -53,12 +54,12 @@ pub record AnswersOfBuckets {C : Type 0} (gives : C → ℕ → C → Type 0) (l
 pub record AnswersAsked {C : Type 0} (gives : C → ℕ → C → Type 0) (layout : Layout) (asked : Asked) (old new : World C) (answer : Answer) : Type 0 where
   pub trace : Trace
   pub extends : Extends layout old.moment.view.seen new.moment.view.seen trace.stops
-  pub last : EndAtLast layout new.moment.view.seen trace.stops
+  pub last : EndAtLast layout new.moment.view.seen (ended_stops trace.command trace.stops)
   pub kept : new.moment.view.stops ≡ old.moment.view.stops ++ trace.stops
   pub given : GivesTimestamps gives old.moment.clock trace.timestamps new.moment.clock
   pub answered : FromNowOn new.moment.view.seen (λ later. IsAnswer layout later asked trace answer)
   pub once : FromNowOn new.moment.view.seen (λ later. WritesOnce layout later trace.stops trace.answers)
-  pub leaves : Leaves layout trace.stops trace.command (situation_in old) (situation_in new)
+  pub leaves : Leaves layout trace.answers trace.stops trace.command (situation_in old) (situation_in new)
 
 -- the answer is this one, or memory ran out as it was made
 abbrev pub IsAnswerOf : (defined given : Answer) → Type 0

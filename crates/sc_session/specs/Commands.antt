@@ -10,7 +10,9 @@ use Rattle.sc_board.specs.Splits.{AskedSplit}
 use Rattle.sc_cores.specs.Cores.{Outside, CountsGoUp}
 use Rattle.sc_seen.specs.Seen.{Layout, Seen, stops_at}
 use Rattle.sc_seen.specs.Moments.{view_of}
+use Rattle.sc_seen.specs.Batches.{OrderAnswer, down_stops}
 use Rattle.sc_seen.specs.declared.stop.Stop.{Stop}
+use Rattle.sc_collection.specs.Downs.{NotesDowns}
 use Rattle.sc_split.specs.Splits.{SplitMoment, split_moment, Course, HasCause, LeavesBoard, LeavesBuckets, LeavesOutside}
 use Rattle.sc_split.specs.declared.end.SplitEnd.{SplitEnd}
 use Rattle.sc_split.specs.declared.end.SplitEnd.TheVariants as splits
@@ -23,6 +25,13 @@ pub data CommandEnd : Type 0 where
   split_ended : AskedSplit → Stop → Course → SplitEnd → CommandEnd
   -- a deletion of the shard of this name, by its stop of the board and by how it went
   delete_ended : List ℕ → Stop → DeleteCourse → DeleteEnd → CommandEnd
+
+-- Of what a command came to and of a request's stops, those of which it is said that the last of each bucket is at the end of what was
+-- seen there: all of them.
+abbrev pub ended_stops : CommandEnd → List Stop → List Stop
+ended_stops no_command stops = stops
+ended_stops (split_ended asked first course end) stops = stops
+ended_stops (delete_ended shard first course end) stops = stops
 
 -- why a split was refused, as it is told; none where it was done, or memory ran out
 abbrev pub split_refusal : SplitEnd → Option refusals.Refusal
@@ -60,13 +69,20 @@ situation seen outside = record { seen = seen; outside = outside }
 abbrev pub moment_at : Situation → SplitMoment
 moment_at now = split_moment (view_of now.seen []) now.outside
 
+-- What these orders left outside: they asked for nodes alone, of the cores that they noted as down the nodes could not be reached, and a
+-- request without orders left all as it was.
+pub record ReachesFor (layout : Layout) (answers : List OrderAnswer) (old new : Situation) : Type 0 where
+  pub rest : new.outside ≡ record old.outside { reach = new.outside.reach }
+  pub none : answers ≡ [] → new.outside ≡ old.outside
+  pub downs : NotesDowns layout new.seen (down_stops answers) old.outside.reach new.outside.reach
+
 -- Of what was seen, the buckets without a stop stayed, and so did the board where it has none; none of its entries is one's own. All
--- that is outside is as it was.
-pub record KeepsRest (layout : Layout) (stops : List Stop) (old new : Situation) : Type 0 where
+-- that is outside is as it was, but for the nodes that were asked for.
+pub record KeepsRest (layout : Layout) (answers : List OrderAnswer) (stops : List Stop) (old new : Situation) : Type 0 where
   pub stays : (lock : ℕ) → lock < layout.buckets → stops_at lock stops ≡ [] → new.seen.journals lock ≡ old.seen.journals lock
   pub board : stops_at layout.buckets stops ≡ [] → new.seen.board ≡ old.seen.board
   pub board_own : new.seen.own layout.buckets ≡ old.seen.own layout.buckets
-  pub outside : new.outside ≡ old.outside
+  pub reach : ReachesFor layout answers old new
 
 -- What a split left that went so, and why it was answered so.
 pub record LeavesSplit (layout : Layout) (first : Stop) (course : Course) (end : SplitEnd) (old new : Situation) : Type 0 where
@@ -75,6 +91,7 @@ pub record LeavesSplit (layout : Layout) (first : Stop) (course : Course) (end :
   pub buckets : LeavesBuckets layout.buckets course old.seen new.seen
   pub outside : LeavesOutside layout.nodes course old.outside new.outside
   pub counts : CountsGoUp old.outside new.outside
+  pub no_reach : new.outside.reach ≡ old.outside.reach
 
 -- What a deletion left that went so.
 pub record LeavesDelete (layout : Layout) (first : Stop) (course : DeleteCourse) (end : DeleteEnd) (old new : Situation) : Type 0 where
@@ -86,9 +103,10 @@ pub record LeavesDelete (layout : Layout) (first : Stop) (course : DeleteCourse)
   pub counts : CountsGoUp old.outside new.outside
   pub no_start : new.outside.start_faults ≡ old.outside.start_faults
   pub no_pace : new.outside.stops ≡ old.outside.stops
+  pub no_reach : new.outside.reach ≡ old.outside.reach
 
--- what a request left, by what it came to and by its stops
-abbrev pub Leaves : Layout → List Stop → CommandEnd → Situation → Situation → Type 0
-Leaves layout stops no_command old new = KeepsRest layout stops old new
-Leaves layout stops (split_ended asked first course end) old new = LeavesSplit layout first course end old new
-Leaves layout stops (delete_ended shard first course end) old new = LeavesDelete layout first course end old new
+-- what a request left, by the answers to its orders, by its stops and by what it came to
+abbrev pub Leaves : Layout → List OrderAnswer → List Stop → CommandEnd → Situation → Situation → Type 0
+Leaves layout answers stops no_command old new = KeepsRest layout answers stops old new
+Leaves layout answers stops (split_ended asked first course end) old new = LeavesSplit layout first course end old new
+Leaves layout answers stops (delete_ended shard first course end) old new = LeavesDelete layout first course end old new

@@ -13,7 +13,7 @@ use Rattle.sc_seen.specs.declared.stop.Stop.{Stop}
 use Rattle.sc_collection.specs.Kept.{are_enough}
 use Rattle.sc_session.specs.Answers.{Answer, replied, ran_out, Trace, IsAnswer, written_reply, refusal_reply, memory_reply}
 use Rattle.sc_model.specs.declared.message.Incoming.{Incoming}
-use Rattle.sc_session.specs.Commands.{Situation, situation, Leaves}
+use Rattle.sc_session.specs.Commands.{Situation, situation, ended_stops, Leaves}
 use Rattle.sc_session.specs.declared.end.End.{End}
 use Rattle.sc_session.specs.declared.end.End.TheVariants as ends
 
@@ -30,11 +30,11 @@ abbrev pub situation_after : Exchange → Situation
 situation_after x = situation x.seen x.outside
 
 -- One exchange, after this was seen. What was seen went on by its stops: of each bucket the last is at the end of what was seen
--- there. It is answered as was asked, by all that is seen from then on, and of the entries that its stops made the writes are
+-- there, of those of which that is said. It is answered as was asked, by all that is seen from then on, and of the entries that its stops made the writes are
 -- those of the orders that it accepted.
 pub record IsExchange (layout : Layout) (old : Seen) (x : Exchange) : Type 0 where
   pub extends : Extends layout old x.seen x.trace.stops
-  pub last : EndAtLast layout x.seen x.trace.stops
+  pub last : EndAtLast layout x.seen (ended_stops x.trace.command x.trace.stops)
   pub answered : FromNowOn x.seen (λ later. IsAnswer layout later (asked x.request) x.trace x.answer)
   pub once : FromNowOn x.seen (λ later. WritesOnce layout later x.trace.stops x.trace.answers)
 
@@ -47,7 +47,7 @@ AreExchanges layout old (x ∷ exchanges) new = IsExchange layout old x × AreEx
 abbrev pub LeaveRest : Layout → Situation → List Exchange → Situation → Type 0
 LeaveRest layout old [] new = new ≡ old
 LeaveRest layout old (x ∷ exchanges) new =
-    Leaves layout x.trace.stops x.trace.command old (situation_after x) × LeaveRest layout (situation_after x) exchanges new
+    Leaves layout x.trace.answers x.trace.stops x.trace.command old (situation_after x) × LeaveRest layout (situation_after x) exchanges new
 
 -- the stops of exchanges, in order
 abbrev pub stops_of : List Exchange → List Stop

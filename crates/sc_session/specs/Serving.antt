@@ -41,7 +41,7 @@ pub record Exchanges {C : Type 0} (gives : C → ℕ → C → Type 0) (layout :
   pub seen_is : exchange.seen ≡ new.moment.view.seen
   pub outside_is : exchange.outside ≡ new.outside
   pub is : IsExchange layout old.moment.view.seen exchange
-  pub leaves : Leaves layout exchange.trace.stops exchange.trace.command (situation_in (world_of old)) (situation_in (world_of new))
+  pub leaves : Leaves layout exchange.trace.answers exchange.trace.stops exchange.trace.command (situation_in (world_of old)) (situation_in (world_of new))
   pub stops : new.moment.view.stops ≡ old.moment.view.stops ++ exchange.trace.stops
   pub requests : new.requests ≡ old.requests + 1
   pub timestamps : GivesTimestamps gives old.moment.clock exchange.trace.timestamps new.moment.clock

@@ -55,11 +55,11 @@ pub(crate) fn answer<R: Threads + Sync, D: Desk, C: Clock, H: Hosts, P: Pace>(
     ensures answers { AnswersAsked C.gives (D.layout desk.old) (asking.asked request)
         (record {
           moment = moment_of (D.seen desk.old) trail.old.stops clock.old;
-          outside = outside_of (H.started hosts.old) (H.start_faults hosts.old) (H.stop_faults hosts.old) (P.stops pace.old);
+          outside = outside_of (H.started hosts.old) (H.start_faults hosts.old) (H.stop_faults hosts.old) (P.stops pace.old) (H.reached hosts.old);
         })
         (record {
           moment = moment_of (D.seen desk.new) trail.new.stops clock.new;
-          outside = outside_of (H.started hosts.new) (H.start_faults hosts.new) (H.stop_faults hosts.new) (P.stops pace.new);
+          outside = outside_of (H.started hosts.new) (H.start_faults hosts.new) (H.stop_faults hosts.new) (P.stops pace.new) (H.reached hosts.new);
         }) (answer_of result) }
     ensures status { IfOk result (λ reply. IsSome (replies.reason_of reply.status)) }
     ensures rest { IsDeskAtRest (D.layout desk.new) (D.out desk.new) (D.seen desk.new) }
@@ -72,7 +72,7 @@ pub(crate) fn answer<R: Threads + Sync, D: Desk, C: Clock, H: Hosts, P: Pace>(
         Asked::GetIds(ids) => get_ids(alloc, desk, trail, &ids),
         Asked::Select(asked) => select(rt, alloc, desk, trail, &asked),
         Asked::Update(batch) => {
-            let end = update(alloc, desk, clock, trail, &batch);
+            let end = update(alloc, desk, clock, hosts, trail, &batch);
             update_reply(alloc, &batch, &end)
         }
         Asked::Command(Admin::Status) => status(alloc, desk, trail),

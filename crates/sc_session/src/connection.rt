@@ -42,7 +42,7 @@ pub fn serve<R: Threads + Sync, D: Desk, C: Clock, H: Hosts, P: Pace, S: Source,
     ensures connection { IsServed C.gives (D.layout desk.old)
         (record {
           moment = moment_of (D.seen desk.old) trail.old.stops clock.old;
-          outside = outside_of (H.started hosts.old) (H.start_faults hosts.old) (H.stop_faults hosts.old) (P.stops pace.old);
+          outside = outside_of (H.started hosts.old) (H.start_faults hosts.old) (H.stop_faults hosts.old) (P.stops pace.old) (H.reached hosts.old);
           requests = trail.old.requests;
           unread = S.rest source.old;
           written = W.written sink.old;
@@ -51,7 +51,7 @@ pub fn serve<R: Threads + Sync, D: Desk, C: Clock, H: Hosts, P: Pace, S: Source,
         })
         (record {
           moment = moment_of (D.seen desk.new) trail.new.stops clock.new;
-          outside = outside_of (H.started hosts.new) (H.start_faults hosts.new) (H.stop_faults hosts.new) (P.stops pace.new);
+          outside = outside_of (H.started hosts.new) (H.start_faults hosts.new) (H.stop_faults hosts.new) (P.stops pace.new) (H.reached hosts.new);
           requests = trail.new.requests;
           unread = S.rest source.new;
           written = W.written sink.new;
@@ -98,7 +98,7 @@ fn exchange<R: Threads + Sync, D: Desk, C: Clock, H: Hosts, P: Pace, W: Sink>(
     ensures exchange { Exchanges C.gives (D.layout desk.old) request
         (record {
           moment = moment_of (D.seen desk.old) trail.old.stops clock.old;
-          outside = outside_of (H.started hosts.old) (H.start_faults hosts.old) (H.stop_faults hosts.old) (P.stops pace.old);
+          outside = outside_of (H.started hosts.old) (H.start_faults hosts.old) (H.stop_faults hosts.old) (P.stops pace.old) (H.reached hosts.old);
           requests = trail.old.requests;
           unread = None;
           written = W.written sink.old;
@@ -107,7 +107,7 @@ fn exchange<R: Threads + Sync, D: Desk, C: Clock, H: Hosts, P: Pace, W: Sink>(
         })
         (record {
           moment = moment_of (D.seen desk.new) trail.new.stops clock.new;
-          outside = outside_of (H.started hosts.new) (H.start_faults hosts.new) (H.stop_faults hosts.new) (P.stops pace.new);
+          outside = outside_of (H.started hosts.new) (H.start_faults hosts.new) (H.stop_faults hosts.new) (P.stops pace.new) (H.reached hosts.new);
           requests = trail.new.requests;
           unread = None;
           written = W.written sink.new;

@@ -23,12 +23,13 @@ pub fn gets_of_ids_show_own_writes<C: Clock>()
     ensures connections { HoldsOfConnections C.gives GetsOfIdsShowOwnWrites }
 {}
 
-/// The limits that a user meets are the numbers of the definitions, and a trail has room for the stops of any one request: two for
-/// each order of an update and one for each bucket, or one for each id of a get.
+/// The limits that a user meets are the numbers of the definitions, and a trail has room for the stops of any one request: five for
+/// each order of an update and one for each bucket, or one for each id of a get, or two for each bucket and one of the board.
 pub fn limits_are_as_defined()
     ensures ids { MOST_IDS ≡ most_ids }
     ensures rows { MOST_ROWS ≡ most_rows }
     ensures last_row { LAST_ROW ≡ last_row }
-    ensures stops_of_an_update { stops_of_request ≡ 2 * order_limit + most_buckets }
+    ensures stops_of_an_update { 5 * order_limit + most_buckets ≤ stops_of_request }
     ensures stops_of_a_get { most_ids ≤ stops_of_request }
+    ensures stops_of_all_buckets { 1 + 2 * most_buckets ≤ stops_of_request }
 {}

@@ -50,7 +50,7 @@ pub fn work<R: Threads + Sync, D: Desk, C: Clock, H: Hosts, P: Pace, L: Listener
           around = record {
             seen = D.seen desk.old;
             clock = clock.old;
-            outside = outside_of (H.started hosts.old) (H.start_faults hosts.old) (H.stop_faults hosts.old) (P.stops pace.old);
+            outside = outside_of (H.started hosts.old) (H.start_faults hosts.old) (H.stop_faults hosts.old) (P.stops pace.old) (H.reached hosts.old);
           };
           coming = L.coming listener.old;
           taken = L.taken listener.old;
@@ -61,7 +61,7 @@ pub fn work<R: Threads + Sync, D: Desk, C: Clock, H: Hosts, P: Pace, L: Listener
           around = record {
             seen = D.seen desk.new;
             clock = clock.new;
-            outside = outside_of (H.started hosts.new) (H.start_faults hosts.new) (H.stop_faults hosts.new) (P.stops pace.new);
+            outside = outside_of (H.started hosts.new) (H.start_faults hosts.new) (H.stop_faults hosts.new) (P.stops pace.new) (H.reached hosts.new);
           };
           coming = L.coming listener.new;
           taken = L.taken listener.new;
@@ -109,7 +109,7 @@ fn serve_next<R: Threads + Sync, D: Desk, C: Clock, H: Hosts, P: Pace, L: Listen
           around = record {
             seen = D.seen desk.old;
             clock = clock.old;
-            outside = outside_of (H.started hosts.old) (H.start_faults hosts.old) (H.stop_faults hosts.old) (P.stops pace.old);
+            outside = outside_of (H.started hosts.old) (H.start_faults hosts.old) (H.stop_faults hosts.old) (P.stops pace.old) (H.reached hosts.old);
           };
           coming = L.coming listener.old;
           taken = L.taken listener.old;
@@ -120,7 +120,7 @@ fn serve_next<R: Threads + Sync, D: Desk, C: Clock, H: Hosts, P: Pace, L: Listen
           around = record {
             seen = D.seen desk.new;
             clock = clock.new;
-            outside = outside_of (H.started hosts.new) (H.start_faults hosts.new) (H.stop_faults hosts.new) (P.stops pace.new);
+            outside = outside_of (H.started hosts.new) (H.start_faults hosts.new) (H.stop_faults hosts.new) (P.stops pace.new) (H.reached hosts.new);
           };
           coming = L.coming listener.new;
           taken = L.taken listener.new;

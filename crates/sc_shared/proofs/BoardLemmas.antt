@@ -8,7 +8,7 @@ use Rattle.std.proofs.lemmas.Bool.Decides.{nat_tests}
 use Rattle.sc_cluster.specs.declared.slice.Slice.{Slice}
 use Rattle.sc_seen.specs.declared.board.BoardEntry.{BoardEntry}
 use Rattle.sc_seen.specs.Board.{board_map, running_split}
-use Rattle.sc_seen.specs.Seen.{Layout}
+use Rattle.sc_seen.specs.Seen.{Opened, Layout}
 use Rattle.sc_board.specs.declared.board.Board.{Board}
 use Rattle.sc_board.specs.Boards.{IsSoundBoard}
 use Rattle.sc_lock.specs.Journal.{places_after}
@@ -88,17 +88,18 @@ still_fit old new locks bucket keepers fit = (
   record { part = λ number. refl; own = λ number. refl },
 )
 
--- whether buckets are at rest goes by how many there are and by their first map
+-- whether buckets are at rest goes by how many there are, by their first map and by what was opened
 rest_of_layout : (one other : Layout) (entries : List BoardEntry) (keeping : Keeping) → one.buckets ≡ other.buckets
-    → one.first ≡ other.first → AreAtRest one entries keeping → AreAtRest other entries keeping
-rest_of_layout one other entries keeping buckets first rest number within =
-    subst (λ (slices : List Slice). IsAtRest entries (board_map slices entries) (keeping.part number) (keeping.own number)) first
-    (rest number (subst (λ (count : ℕ). number < count) (sym buckets) within))
+    → one.first ≡ other.first → one.opened ≡ other.opened → AreAtRest one entries keeping → AreAtRest other entries keeping
+rest_of_layout one other entries keeping buckets first opened rest number within =
+    subst (λ (were : Opened). IsAtRest were.board entries (board_map other.first entries) (keeping.part number) (keeping.own number)) opened
+    (subst (λ (slices : List Slice). IsAtRest one.opened.board entries (board_map slices entries) (keeping.part number) (keeping.own number))
+    first (rest number (subst (λ (count : ℕ). number < count) (sym buckets) within)))
 
--- a board with a badge of each lock and the layout's first map, while no bucket is out
+-- a board with a badge of each lock, the layout's first map and what was opened, while no bucket is out
 module _ (desk : SharedState) (none : desk.bucket ≡ None) (kept : KeptBoard)
     (badges : map badge_lock kept.badges.items ≡ ids_of desk.locks.buckets)
-    (first : kept.board.first ≡ (board_name desk.locks).first) (keepers : Keepers) where
+    (first : kept.board.first ≡ (board_name desk.locks).first) (opened : kept.opened ≡ (board_name desk.locks).opened) (keepers : Keepers) where
   buckets : length (map badge_lock kept.badges.items) ≡ length desk.locks.buckets
   buckets = ap (λ (ids : BucketLocks). length ids) badges ∙ length-map desk.locks.buckets lock_id
 
@@ -110,7 +111,7 @@ module _ (desk : SharedState) (none : desk.bucket ≡ None) (kept : KeptBoard)
     fit_of_keepers desk keepers.keepers.items none
         (subst (λ (ids : BucketLocks). AreKeepers ids keepers.keepers.items) badges home.keepers_are),
     rest_of_layout (layout_of_board (board_name_of kept)) (layout_of desk.locks) kept.board.journal.entries
-        (keeping_of keepers.keepers.items) buckets first home.rest,
+        (keeping_of keepers.keepers.items) buckets first opened home.rest,
   )
 
   -- and keepers that fit, each of whose buckets is so, are home
@@ -120,7 +121,7 @@ module _ (desk : SharedState) (none : desk.bucket ≡ None) (kept : KeptBoard)
     keepers_are = subst (λ (ids : BucketLocks). AreKeepers ids keepers.keepers.items) (sym badges)
         (keepers_of_fit desk keepers.keepers.items none fit);
     rest = rest_of_layout (layout_of desk.locks) (layout_of_board (board_name_of kept)) kept.board.journal.entries
-        (keeping_of keepers.keepers.items) (sym buckets) (sym first) rest;
+        (keeping_of keepers.keepers.items) (sym buckets) (sym first) (sym opened) rest;
   }
 
 -- the board of a desk out of which no bucket is: the keepers that it has fit the desk that it is taken from, and each bucket is as it says
@@ -141,7 +142,7 @@ board_is_found locks first desk new kept are opened same_locks same_bucket none 
     found : Fit desk keepers.keepers.items
         × AreAtRest (layout_of desk.locks) kept.board.journal.entries (keeping_of keepers.keepers.items)
     found = fit_of_home desk (none_is_out desk.bucket none) kept (ap (λ (one : BoardName). one.locks) name ∙ badges)
-        (ap (λ (one : BoardName). one.first) name) keepers (sound.home keepers has)
+        (ap (λ (one : BoardName). one.first) name) (ap (λ (one : BoardName). one.opened) name) keepers (sound.home keepers has)
 
 -- of the board's lock the places of the board's pass are one's own
 own_of_board : (passes : List BucketPass) (board : BoardPass) (lock : ℕ) → length passes ≡ lock
@@ -192,9 +193,9 @@ module _ (desk : SharedState) (is : IsShared desk) (named : (board_name desk.loc
   abbrev held : List BoardEntry
   held = (handed taken.turn).board.journal.entries
 
-  -- the board with its badges
+  -- the board with what stood beside it
   abbrev given : KeptBoard
-  given = record { board = board; badges = taken.badges }
+  given = record { board = board; badges = taken.badges; opened = taken.opened }
 
   was_taken : IsTakenBoard desk taken
   was_taken = is.board taken out
@@ -218,20 +219,21 @@ module _ (desk : SharedState) (is : IsShared desk) (named : (board_name desk.loc
   -- it is the lock's
   name_is : board_name_of given ≡ board_name desk.locks
   name_is =
-      ap (λ (first : List Slice). name first board.limit (map badge_lock taken.badges.items)) may.is_of.first_is
-      ∙ ap (λ (limit : ℕ). name (board_name desk.locks).first limit (map badge_lock taken.badges.items)) may.is_of.limit_is
-      ∙ ap (λ (ids : BucketLocks). name (board_name desk.locks).first (board_name desk.locks).limit ids)
+      ap (λ (first : List Slice). name first board.limit (map badge_lock taken.badges.items) taken.opened) may.is_of.first_is
+      ∙ ap (λ (limit : ℕ). name (board_name desk.locks).first limit (map badge_lock taken.badges.items) taken.opened) may.is_of.limit_is
+      ∙ ap (λ (ids : BucketLocks). name (board_name desk.locks).first (board_name desk.locks).limit ids taken.opened)
       (was_taken.badges ∙ sym named)
+      ∙ ap (name (board_name desk.locks).first (board_name desk.locks).limit (board_name desk.locks).locks) was_taken.opened
     where
-      name : List Slice → ℕ → BucketLocks → BoardName
-      name first limit locks = record { first = first; limit = limit; locks = locks }
+      name : List Slice → ℕ → BucketLocks → Opened → BoardName
+      name first limit locks opened = record { first = first; limit = limit; locks = locks; opened = opened }
 
   given_is_sound : IsSoundKept given
   given_is_sound = record {
     sound = may.sound;
     home = λ keepers has.
         let rest = may.rest keepers has in
-        home_of_fit desk (none_is_out desk.bucket may.no_bucket) given was_taken.badges may.is_of.first_is keepers rest.0 rest.1;
+        home_of_fit desk (none_is_out desk.bucket may.no_bucket) given was_taken.badges may.is_of.first_is was_taken.opened keepers rest.0 rest.1;
   }
 
   given_grows : (board.journal.entries ≡ held) ⊎ ((one : BoardEntry) × (board.journal.entries ≡ held ++ one ∷ []))
@@ -279,8 +281,8 @@ module _ (desk : SharedState) (is : IsShared desk) (named : (board_name desk.loc
 -- What a give of the board leaves: the lock gets a sound board of its name, which comes from what was handed out by one entry at most,
 -- and by its owner; and what is seen then.
 pub record IsBoardGive (was desk : SharedState) (taken : TakenBoard) (board : Board Keepers) : Type 0 where
-  pub sound : IsSoundKept (record { board = board; badges = taken.badges })
-  pub follows : BoardFollows (handed taken.turn) (record { board = board; badges = taken.badges })
+  pub sound : IsSoundKept (record { board = board; badges = taken.badges; opened = taken.opened })
+  pub follows : BoardFollows (handed taken.turn) (record { board = board; badges = taken.badges; opened = taken.opened })
   pub owner : (one : BoardEntry) (place : ℕ) → board.journal.entries ≡ (handed taken.turn).board.journal.entries ++ one ∷ []
       → running_split (handed taken.turn).board.journal.entries ≡ Some place → Contains (own_places was.passes.board) place
   pub sees : (pass : BoardPass) → seen pass ≡ board.journal.entries

@@ -155,6 +155,7 @@ board_out_still locks passes new was now board same is one at =
     record {
       name = out.name;
       badges = out.badges;
+      opened = out.opened;
       turn = subst (λ (pass : BoardPass). IsTurnOf board_name_of pass one.turn) (sym same) out.turn;
     }
 

@@ -14,7 +14,7 @@ use Rattle.sc_journal.specs.Legal.{IsLegal}
 use Rattle.sc_journal.proofs.LegalLemmas.{IsLegal-none}
 use Rattle.sc_seen.specs.declared.board.BoardEntry.{BoardEntry}
 use Rattle.sc_seen.specs.Board.{board_map, IsLegalBoard}
-use Rattle.sc_seen.specs.Seen.{AreLegal}
+use Rattle.sc_seen.specs.Seen.{opened_at, Opened, nothing_opened, AreLegal}
 use Rattle.sc_seen.proofs.BoardLemmas.{IsLegalBoard-none}
 use Rattle.sc_bucket.specs.declared.bucket.Bucket.{Bucket}
 use Rattle.sc_replicas.proofs.FindLemmas.{some_at}
@@ -25,7 +25,8 @@ use Rattle.sc_lock.specs.Calls.{IsNewPassOf, IsNewKeeperOf}
 use Rattle.sc_board.specs.declared.board.Board.{Board}
 use Rattle.sc_board.specs.Boards.{IsSoundBoard}
 use Rattle.sc_collection.specs.Desks.{IsAtRest}
-use Rattle.sc_collection.specs.Shapes.{SeesNothing}
+use Rattle.sc_collection.specs.Shapes.{SeesOpened}
+use Rattle.sc_collection.proofs.RestLemmas.{SeesNothing}
 use Rattle.sc_shared.specs.declared.numbered.Numbered.{Numbered}
 use Rattle.sc_shared.specs.declared.keepers.Keepers.{Keepers}
 use Rattle.sc_shared.specs.declared.passes.Passes.{Passes}
@@ -46,7 +47,7 @@ named_so number buckets first limit = record { number = number; buckets = bucket
 -- a lock round a new bucket
 pub new_lock_is : (number buckets : ℕ) (first : List Slice) (limit : ℕ) (bucket : Bucket) (new : NewLock)
     → bucket.first ≡ first → bucket.limit ≡ limit → bucket.journal.entries ≡ []
-    → IsAtRest [] first (part_of bucket) (keeper_entries bucket.journal.entries)
+    → IsAtRest 0 [] first (part_of bucket) (keeper_entries bucket.journal.entries)
     → lock_name name_of new.lock ≡ named_so number buckets bucket.first bucket.limit
     → IsNewPassOf (lock_id new.lock) bucket.journal.entries (2 ^ 31) new.pass
     → IsNewKeeperOf (lock_id new.lock) bucket.journal.entries (part_of bucket) new.keeper
@@ -57,7 +58,7 @@ new_lock_is number buckets first limit bucket new begins limited empty rest name
   keeper = keeper.of_lock;
   free = keeper.free;
   no_entries = keeper.no_places;
-  left = (part_of bucket, keeper.part_is, subst (IsAtRest [] first (part_of bucket)) (ap keeper_entries empty) rest);
+  left = (part_of bucket, keeper.part_is, subst (IsAtRest 0 [] first (part_of bucket)) (ap keeper_entries empty) rest);
   badge = badge;
 }
 
@@ -142,12 +143,15 @@ none_yet buckets first limit locks no_locks no_passes no_keepers no_badges = rec
   each = λ number new at. absurd (none-some new.lock (ap (λ (xs : List BucketLock). slice_get xs number) (sym no_locks) ∙ at.lock));
 }
 
--- the name of a board whose first map and limit are these
-pub board_named : (first other : List Slice) (limit most : ℕ) (locks : List (LockId Numbered)) (name : BoardName)
-    → name ≡ record { first = other; limit = most; locks = locks } → other ≡ first → most ≡ limit
-    → name ≡ record { first = first; limit = limit; locks = locks }
-board_named first other limit most locks name is begins limited =
-    is ∙ (λ i. record { first = begins i; limit = limited i; locks = locks })
+-- the name of a new board whose first map and limit are these
+abbrev pub new_name : List Slice → ℕ → List (LockId Numbered) → Opened → BoardName
+new_name first limit locks opened = record { first = first; limit = limit; locks = locks; opened = opened }
+
+pub board_named : (first other : List Slice) (limit most : ℕ) (locks : List (LockId Numbered)) (opened : Opened) (name : BoardName)
+    → name ≡ new_name other most locks opened → other ≡ first → most ≡ limit → opened ≡ nothing_opened
+    → name ≡ new_name first limit locks nothing_opened
+board_named first other limit most locks opened name is begins limited none =
+    is ∙ (λ i. new_name (begins i) (limited i) locks (none i))
 
 -- ---- the locks of all buckets
 -- what is made of the elements of two lists, where it is the same at each place
@@ -214,7 +218,7 @@ module _ (buckets : ℕ) (first : List Slice) (limit : ℕ) (made : NewLocks) (n
         (subst (λ (id : LockId Numbered). IsKeeperOf id one.0.keeper) (sym is.badge ∙ same) is.keeper)
 
   -- each keeper left its bucket at rest
-  pub new_rest : (number : ℕ) → number < buckets → IsAtRest [] first ((keeping_of made.keepers.items).part number) ((keeping_of made.keepers.items).own number)
+  pub new_rest : (number : ℕ) → number < buckets → IsAtRest 0 [] first ((keeping_of made.keepers.items).part number) ((keeping_of made.keepers.items).own number)
   new_rest number within =
       let one = found number within in
       let is = new.each number one.0 one.1 in
@@ -223,24 +227,29 @@ module _ (buckets : ℕ) (first : List Slice) (limit : ℕ) (made : NewLocks) (n
       ∙ ap (λ (part : Option Part). unwrap_or part no_part) is.left.1 in
       let own : (keeping_of made.keepers.items).own number ≡ [] =
       ap own_of_keeper one.1.keeper ∙ ap (entries_at_places (keeper_seen one.0.keeper)) is.no_entries in
-      subst (λ (entries : List Entry). IsAtRest [] first ((keeping_of made.keepers.items).part number) entries) (sym own)
-      (subst (λ (left : Part). IsAtRest [] first left []) (sym part) is.left.2)
+      subst (λ (entries : List Entry). IsAtRest 0 [] first ((keeping_of made.keepers.items).part number) entries) (sym own)
+      (subst (λ (left : Part). IsAtRest 0 [] first left []) (sym part) is.left.2)
 
   -- a new board with these keepers is as its lock is to keep it
-  pub new_board_is : (board : Board Keepers) → IsSoundBoard board → board.first ≡ first → board.journal.entries ≡ []
-      → board.keepers ≡ Some (record { keepers = made.keepers }) → IsSoundKept (record { board = board; badges = made.badges })
-  new_board_is board sound begins empty has = record {
+  pub new_board_is : (board : Board Keepers) (opened : Opened) → IsSoundBoard board → board.first ≡ first → board.journal.entries ≡ []
+      → board.keepers ≡ Some (record { keepers = made.keepers }) → opened ≡ nothing_opened
+      → IsSoundKept (record { board = board; badges = made.badges; opened = opened })
+  new_board_is board opened sound begins empty has none = record {
     sound = sound;
     home = λ keepers there.
         let same : record { keepers = made.keepers } ≡ keepers = same_Some (record { keepers = made.keepers }) keepers (sym has ∙ there) in
-        subst (AreHome (record { board = board; badges = made.badges })) same (record {
+        subst (AreHome (record { board = board; badges = made.badges; opened = opened })) same (record {
           keepers_are = new_keepers;
           rest = λ number inside.
               let within : number < buckets = omega (arith, inside, length-map made.badges.items badge_lock, new.badges_are) in
-              subst (λ (entries : List BoardEntry). IsAtRest entries (board_map board.first entries) ((keeping_of made.keepers.items).part number) ((keeping_of made.keepers.items).own number)) (sym empty)
-              (subst (λ (slices : List Slice). IsAtRest [] slices ((keeping_of made.keepers.items).part number) ((keeping_of made.keepers.items).own number)) (sym begins) (new_rest number within));
+              subst (λ (were : Opened). IsRest were.board board.first board.journal.entries number) (sym none)
+              (subst (λ (entries : List BoardEntry). IsRest 0 board.first entries number) (sym empty)
+              (subst (λ (slices : List Slice). IsRest 0 slices [] number) (sym begins) (new_rest number within)));
         });
-  }
+  } where
+    IsRest : ℕ → List Slice → List BoardEntry → ℕ → Type 0
+    IsRest from slices entries number =
+        IsAtRest from entries (board_map slices entries) ((keeping_of made.keepers.items).part number) ((keeping_of made.keepers.items).own number)
 
   -- what is known of a pass by its number
   pass_at : (number : ℕ) (pass : BucketPass) → slice_get made.passes.items number ≡ Some pass
@@ -251,10 +260,14 @@ module _ (buckets : ℕ) (first : List Slice) (limit : ℕ) (made : NewLocks) (n
       (one.0.lock, one.1.lock, subst (IsNewPassOf (lock_id one.0.lock) [] (2 ^ 31)) (same_Some one.0.pass pass (sym one.1.pass ∙ at)) (new.each number one.0 one.1).pass)
 
   module _ (board : BoardLock) (nodes : ℕ)
-      (name_is : lock_name board_name_of board ≡ record { first = first; limit = limit; locks = map badge_lock made.badges.items }) where
+      (name_is : lock_name board_name_of board ≡ new_name first limit (map badge_lock made.badges.items) nothing_opened) where
     -- the locks of the collection
     abbrev all : Locks
     all = record { buckets = made.locks.items; board = board; nodes = nodes }
+
+    -- nothing was opened
+    pub none_opened : (layout_of all).opened ≡ nothing_opened
+    none_opened = ap (λ (name : BoardName). name.opened) name_is
 
     pub new_are_locks : IsBucketCount buckets → 1 ≤ nodes → AreLocks all first
     new_are_locks counted from =
@@ -275,8 +288,8 @@ module _ (buckets : ℕ) (first : List Slice) (limit : ℕ) (made : NewLocks) (n
 
     -- and the first passes
     module _ (pass : BoardPass) (is : IsNewPassOf (lock_id board) [] (2 ^ 31) pass) where
-      pub new_sees : SeesNothing (seen_by made.passes.items pass)
-      new_sees = record {
+      nothing_seen : SeesNothing (seen_by made.passes.items pass)
+      nothing_seen = record {
         journals = λ lock. journals lock (slice_get made.passes.items lock) refl;
         board = is.seen_is;
         own = λ lock. own lock (lock == length made.passes.items) (slice_get made.passes.items lock) refl;
@@ -291,6 +304,14 @@ module _ (buckets : ℕ) (first : List Slice) (limit : ℕ) (made : NewLocks) (n
         own lock false None at = refl
         own lock false (Some one) at = (pass_at lock one at).2.no_places
 
+      pub new_sees : SeesOpened (layout_of all).opened (seen_by made.passes.items pass)
+      new_sees = record {
+        journals = λ lock. ap (λ (journal : List Entry). length journal) (nothing_seen.journals lock)
+            ∙ sym (ap (λ (one : Opened). opened_at one lock) none_opened);
+        board = ap (λ (entries : List BoardEntry). length entries) nothing_seen.board ∙ sym (ap (λ (one : Opened). one.board) none_opened);
+        own = nothing_seen.own;
+      }
+
       pub new_of_locks : AreOfLocks all made.passes.items pass
       new_of_locks = record {
         count = new.passes_are ∙ sym new.locks_are;
@@ -298,7 +319,7 @@ module _ (buckets : ℕ) (first : List Slice) (limit : ℕ) (made : NewLocks) (n
             let known = pass_at number one at in
             subst (λ (of : BucketLock). IsPassOf (lock_id of) one) (same_Some known.0 lock (sym known.1 ∙ at_lock)) known.2.of_lock;
         of_board = is.of_lock;
-        legal = legal_nothing all made.passes.items pass new_sees;
+        legal = legal_nothing all made.passes.items pass nothing_seen;
       }
 
       pub new_free : AreFree made.passes.items pass

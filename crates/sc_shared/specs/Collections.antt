@@ -40,6 +40,7 @@ layout_of locks = record {
   nodes = locks.nodes;
   first = (board_name locks).first;
   limit = (board_name locks).limit;
+  opened = (board_name locks).opened;
 }
 
 -- which locks the buckets have

@@ -16,7 +16,7 @@ pub record IsNewLock (name : BucketName) (new : NewLock) : Type 0 where
   pub keeper : IsKeeperOf (lock_id new.lock) new.keeper
   pub free : IsFreeKeeper new.keeper
   pub no_entries : keeper_places new.keeper ≡ []
-  pub left : (part : Part) × (keeper_part new.keeper ≡ Some part) × IsAtRest [] name.first part []
+  pub left : (part : Part) × (keeper_part new.keeper ≡ Some part) × IsAtRest 0 [] name.first part []
   pub badge : badge_lock new.badge ≡ lock_id new.lock
 
 -- the lock of this number, and what came with it

@@ -75,10 +75,12 @@ pub record IsTakenBucket (shared : SharedState) (taken : TakenBucket) : Type 0 w
   pub turn : taken.by_keeper ≡ false → (pass : BucketPass) → slice_get shared.passes.buckets.items taken.number ≡ Some pass
       → IsTurnOf name_of pass taken.turn
 
--- The board that is out was the collection's when it was handed out, with the badges of its locks, and its turn is of the board's pass.
+-- The board that is out was the collection's when it was handed out, with the badges of its locks and with what was opened, and its turn is
+-- of the board's pass.
 pub record IsTakenBoard (shared : SharedState) (taken : TakenBoard) : Type 0 where
   pub name : board_name_of (handed taken.turn) ≡ board_name shared.locks
   pub badges : map badge_lock taken.badges.items ≡ ids_of shared.locks.buckets
+  pub opened : taken.opened ≡ (board_name shared.locks).opened
   pub turn : IsTurnOf board_name_of shared.passes.board taken.turn
 
 -- What is true of the desk of a thread: its passes are of the locks, and a turn is out of those alone whose bucket, or board, is out.

@@ -5,14 +5,16 @@ ghost use Rattle.sc_board.proofs.OwnedLemmas.{running-inside, running-stays};
 
 use crate::keepers::Keepers;
 use crate::numbered::Numbered;
-use sc_collection::{Board, BoardEntry};
+use sc_collection::{Board, BoardEntry, OpenedWith};
 use sc_lock::{Badge, Kept};
 
-/// A board with a badge of the lock of each bucket, by its number: the keepers that it has are those of these locks.
+/// A board with a badge of the lock of each bucket, by its number: the keepers that it has are those of these locks. Beside it stands how
+/// many entries each journal had when the collection was opened.
 #[derive(Drop)]
 pub struct KeptBoard {
     pub board: Board<Keepers>,
     pub badges: Vec<Badge<Numbered>>,
+    pub opened: OpenedWith,
 }
 
 impl Kept for KeptBoard {

@@ -11,7 +11,7 @@ use crate::numbered::Numbered;
 use crate::passes::Passes;
 use sc_bucket::Bucket;
 use sc_cluster::ClusterMap;
-use sc_collection::{Board, FullSlot, Shape};
+use sc_collection::{Board, FullSlot, OpenedWith, Shape};
 use sc_lock::{Badge, Keeper, Lock, Pass};
 use sc_record::CloneIn;
 use std::alloc::{AllocError, Global};
@@ -126,7 +126,8 @@ fn new_locks(
 
 impl Collection {
     ghost use Rattle.std.specs.Prelude.{◌≡◌, ◌^◌};
-    ghost use Rattle.sc_collection.specs.Shapes.{IsShape, HasShape, SeesNothing};
+    ghost use Rattle.sc_seen.specs.Seen.{nothing_opened};
+    ghost use Rattle.sc_collection.specs.Shapes.{IsShape, HasShape, SeesOpened};
     ghost use Rattle.sc_shared.specs.Passes.{seen_of, CanSplit};
     ghost use Rattle.sc_shared.specs.Collections.{layout_of};
     ghost use Rattle.sc_shared.specs.Sharing.{ArePasses};
@@ -136,7 +137,8 @@ impl Collection {
         requires { IsShape shape.now }
         ensures layout { IfOk result (λ made. HasShape shape.now (layout_of made.0)) }
         ensures passes { IfOk result (λ made. ArePasses made.0 made.1) }
-        ensures seen { IfOk result (λ made. SeesNothing (seen_of made.1)) }
+        ensures opened { IfOk result (λ made. (layout_of made.0).opened ≡ nothing_opened) }
+        ensures seen { IfOk result (λ made. SeesOpened (layout_of made.0).opened (seen_of made.1)) }
         ensures splits { IfOk result (λ made. CanSplit (2 ^ 31) made.1) }
     {
         let first = ClusterMap::new(alloc, shape.shards, shape.replicas, shape.nodes)?;
@@ -153,7 +155,14 @@ impl Collection {
             Keepers { keepers },
         )?;
         // The board's keeper has nothing to keep.
-        let (board, pass, _keeper) = Lock::new(alloc, KeptBoard { board, badges })?;
+        let (board, pass, _keeper) = Lock::new(
+            alloc,
+            KeptBoard {
+                board,
+                badges,
+                opened: OpenedWith::nothing(),
+            },
+        )?;
         let collection = Collection {
             locks,
             board,

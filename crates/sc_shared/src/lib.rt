@@ -7,7 +7,8 @@
 //!
 //! It depends on `sc_lock`, whose locks it makes, and on `sc_collection`, whose `Desk` it is. A bucket is kept with its number
 //! (`Numbered`), and its part is what its keeper alone changes (`sc_keeper`'s `Part`). The keepers of all buckets lie on the board while
-//! no split runs; so the board (`KeptBoard`) has a badge of each bucket's lock, by which it is known that they are its keepers. A keeper
+//! no split runs; so the board (`KeptBoard`) has a badge of each bucket's lock, by which it is known that they are its keepers. Beside it
+//! stands how many entries each journal had when the collection was opened, which no call changes. A keeper
 //! and a pass of one thread learn from each other what was seen (`sc_lock`'s `show` and `meet`), so that what a keeper finds extends what
 //! the thread has seen, and the other way round.
 //!

@@ -13,7 +13,7 @@ use crate::numbered::Numbered;
 use crate::passes::Passes;
 use sc_board::Board;
 use sc_bucket::Bucket;
-use sc_collection::{Desk, EmptySlot};
+use sc_collection::{Desk, EmptySlot, OpenedWith};
 use sc_lock::{Badge, Turn};
 use std::marker::{Brand, Model, PhantomData};
 use std::mem;
@@ -53,10 +53,11 @@ pub(crate) struct TakenBucket {
     slot: EmptySlot,
 }
 
-/// The badges of the board that is out, and the turn that is given back with it.
+/// What stood beside the board that is out, and the turn that is given back with it.
 pub(crate) struct TakenBoard {
     turn: Turn<KeptBoard>,
     badges: Vec<Badge<Numbered>>,
+    opened: OpenedWith,
 }
 
 // Fills an empty slot with what can't be let go of.
@@ -218,8 +219,19 @@ impl<'a, R: Wait, N: Home> Desk for Shared<'a, R, N> {
     fn hold_board(&mut self) -> Board<Keepers> {
         let collection = self.collection;
         let (kept, turn) = collection.board.hold(self.rt, &mut self.passes.board);
-        let KeptBoard { board, badges } = kept;
-        put(&mut self.board, TakenBoard { turn, badges });
+        let KeptBoard {
+            board,
+            badges,
+            opened,
+        } = kept;
+        put(
+            &mut self.board,
+            TakenBoard {
+                turn,
+                badges,
+                opened,
+            },
+        );
         board
     }
 
@@ -237,10 +249,17 @@ impl<'a, R: Wait, N: Home> Desk for Shared<'a, R, N> {
         ensures keepers { board.keepers ≡ None → (keepers : Keepers) → Fit self.old keepers.keepers.items
             → StillFit (Fit self.new keepers.keepers.items) (keeping_of keepers.keepers.items) (keeping_of keepers.keepers.items) }
     {
-        let TakenBoard { turn, badges } = take(&mut self.board);
+        let TakenBoard {
+            turn,
+            badges,
+            opened,
+        } = take(&mut self.board);
         let collection = self.collection;
-        collection
-            .board
-            .give(&mut self.passes.board, turn, KeptBoard { board, badges });
+        let kept = KeptBoard {
+            board,
+            badges,
+            opened,
+        };
+        collection.board.give(&mut self.passes.board, turn, kept);
     }
 }

@@ -1,5 +1,5 @@
 -- What the board hands out and takes back while one's own split runs.
-use Rattle.std.proofs.Common.{◌≡◌, ◌≢◌, ℕ, ◌+◌, ◌<◌, true, List, [], ◌∷◌, ◌++◌, length, ltb, Some, refl, sym, ap, ◌∙◌, subst, inr, arith, cond}
+use Rattle.std.proofs.Common.{◌≡◌, ℕ, true, List, [], ◌∷◌, ◌++◌, length, drop, ltb, Some, sym, ap, ◌∙◌, subst, inr, arith, cond}
 use Rattle.std.specs.Prelude.{Contains, All}
 use Rattle.std.proofs.lemmas.Bool.{lt-ltb}
 use Rattle.std.proofs.lemmas.List.{length_push}
@@ -11,7 +11,7 @@ use Rattle.sc_seen.specs.declared.board.BoardEntry.{BoardEntry}
 use Rattle.sc_seen.specs.Rounds.{GoTogether}
 use Rattle.sc_keeper.specs.declared.part.CorePart.{CorePart}
 use Rattle.sc_keeper.specs.declared.part.Part.{Part}
-use Rattle.sc_collection.specs.Desks.{Out, Keeping, KeepsOn, IsBoardOf, MayReplaceBoard, SeesBoardGiven, OwnsSplit, IsAtRest, AreAtRest, place_added}
+use Rattle.sc_collection.specs.Desks.{Keeping, KeepsOn, MayReplaceBoard, SeesBoardGiven, OwnsSplit, AreAtRest, place_added}
 use Rattle.sc_split.specs.Steps.{NotesOne}
 
 -- the place of one entry that was added
@@ -72,5 +72,6 @@ at-rest-still layout layout' entries entries' old new same-layout same keeps res
         idle = ap (λ (part : Part). part.phase) (keeps.part number) ∙ (rest number below).idle;
         active = subst (λ (part : Part). All (λ (core : CorePart). core.mode ≡ Active) part.cores) (sym (keeps.part number)) (rest number below).active;
         unfed = ap (λ (part : Part). part.feeds) (keeps.part number) ∙ (rest number below).unfed;
-        together = subst (GoTogether entries) (sym (keeps.own number)) (rest number below).together;
+        since = (rest number below).since;
+        together = subst (GoTogether (drop layout.opened.board entries)) (sym (keeps.own number)) (rest number below).together;
       }

@@ -1,8 +1,8 @@
 -- Once a split is switched in each bucket it is closed: the board may have the keepers back, and in each bucket the split stays switched.
-use Rattle.std.proofs.Common.{◌≡◌, ℕ, ◌≤◌, Bool, true, false, cond, List, [], ◌∷◌, ◌++◌, length, map, refl, sym, ap, ◌∙◌, subst, arith, append_assoc}
+use Rattle.std.proofs.Common.{◌≡◌, ℕ, ◌≤◌, Bool, true, false, cond, List, [], ◌∷◌, ◌++◌, length, drop, map, refl, sym, ap, ◌∙◌, subst, arith, append_assoc}
 use Rattle.std.specs.Prelude.{find, Contains, Option}
 use Rattle.std.specs.Option.{option_or, option_map_or}
-use Rattle.std.proofs.lemmas.List.{append-nil, length_push, map-append}
+use Rattle.std.proofs.lemmas.List.{append-nil, length_push}
 use Rattle.std.proofs.lemmas.List.Folds.{find-append}
 use mathlib.Core.List.{IsPrefix}
 use Rattle.sc_record.specs.declared.slice.SubSlice.{SubSlice}
@@ -14,8 +14,7 @@ use Rattle.sc_cluster.specs.Changes.{Change, after}
 use Rattle.sc_cluster.specs.Histories.{after_all}
 use Rattle.sc_cluster.proofs.UndoLemmas.{may_leave_recovery_out}
 use Rattle.sc_journal.proofs.ListLemmas.{slice_get-append_end}
-use Rattle.sc_journal.proofs.SplitLemmas.{after_all-append}
-use Rattle.sc_seen.specs.Board.{board_change_of, board_map, MayNote}
+use Rattle.sc_seen.specs.Board.{board_map, MayNote}
 use Rattle.sc_seen.specs.Rounds as rounds
 use Rattle.sc_seen.specs.Rounds.{board_entries, GoTogether}
 use Rattle.sc_seen.specs.Seen.{Layout, Seen, Extends, GoesOn, AreLegal, is_noted, noted_at}
@@ -23,11 +22,12 @@ use Rattle.sc_seen.specs.Moments.{View, view_of}
 use Rattle.sc_seen.specs.Commits.{commit_stops}
 use Rattle.sc_seen.specs.declared.board.BoardEntry.{BoardEntry}
 use Rattle.sc_seen.specs.declared.board.BoardEntry.TheVariants as board
+use Rattle.sc_seen.proofs.BoardLemmas.{board_map-append}
 use Rattle.sc_seen.proofs.ExtendsLemmas.{IsPrefix-length, NotesBoard-same, Extends-then}
-use Rattle.sc_seen.proofs.RoundLemmas.{GoTogether-more}
 use Rattle.sc_collection.specs.Desks.{AreAtRest, OwnsSplit}
 use Rattle.sc_collection.specs.Committing.{CommitsAll, commit_outcome}
 use Rattle.sc_collection.specs.Known.{Known, OfBuckets}
+use Rattle.sc_collection.proofs.RestLemmas.{GoTogether-since, since-more}
 use Rattle.sc_bucket.specs.declared.commit.CommitFault.{CommitFault}
 use Rattle.sc_keeper.specs.Part.{keeper_entries}
 use Rattle.sc_split.specs.declared.end.SplitEnd.{SplitEnd}
@@ -45,8 +45,7 @@ map-done : (first : List Slice) (entries : List BoardEntry) (plan : SplitPlan)
     → board_map first (entries ++ board_entries (rounds.done plan))
     ≡ after_all (board_map first entries) (Change.Begun plan.parent plan.subs ∷ Change.Switched plan.parent ∷ [])
 map-done first entries plan =
-    ap (after_all first) (map-append board_change_of entries (board_entries (rounds.done plan)))
-    ∙ after_all-append first (map board_change_of entries) (map board_change_of (board_entries (rounds.done plan)))
+    board_map-append first entries (board_entries (rounds.done plan))
     ∙ may_leave_recovery_out (after (board_map first entries) (Change.Begun plan.parent plan.subs)) plan.parent (Change.Switched plan.parent) refl
 
 -- each bucket is at rest as the board says once the split is noted there as done
@@ -73,8 +72,9 @@ rest-done layout split entries now known now_is base done = subst (λ (es : List
         idle = here.idle;
         active = here.active;
         unfed = here.unfed;
-        together = subst (GoTogether (entries ++ board_entries (rounds.done plan))) (sym here.ended.own)
-            (GoTogether-more (rounds.done plan) entries (split.base.keeping.own b) (base b below).together);
+        since = since-more layout.opened.board entries (board_entries (rounds.done plan)) (base b below).since;
+        together = subst (GoTogether (drop layout.opened.board (entries ++ board_entries (rounds.done plan)))) (sym here.ended.own)
+            (GoTogether-since layout.opened.board (rounds.done plan) entries (split.base.keeping.own b) (base b below).since (base b below).together);
       }
 
 -- ---- the split is switched in a bucket, and stays so

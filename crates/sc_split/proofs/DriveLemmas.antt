@@ -103,9 +103,9 @@ pub given-up-by : (layout layout' : Layout) (split : OpenSplit) (entries : List 
     (new : Seen) (end : SplitEnd) (before later : Outside) → layout' ≡ layout → Builds layout split entries begun split.base between
     → GivesUp layout' split.plan split.base.seen between.seen new
     → (Extends layout between.seen new [] → IsCause layout split.plan (split_moment (view_of split.base.seen stops) before) (split_moment (view_of new stops) later) end)
-    → LeavesCores layout.nodes split.plan before later → CountsGoUp before later
+    → LeavesCores layout.nodes split.plan before later → CountsGoUp before later → later.reach ≡ before.reach
     → IsGivenUpOnBoard layout split.plan (split_moment (view_of split.base.seen stops) before) (split_moment (view_of new stops) later) end
-given-up-by layout layout' split entries begun between stops new end before later same built gives' cause leaves up = record {
+given-up-by layout layout' split entries begun between stops new end before later same built gives' cause leaves up reach = record {
   recovered = built.recovered;
   stops = refl;
   extends = Extends-then layout split.base.seen between.seen new [] [] built.extends gives.extends;
@@ -115,6 +115,7 @@ given-up-by layout layout' split entries begun between stops new end before late
   cause = cause gives.extends;
   outside = leaves;
   counts = up;
+  no_reach = reach;
 } where
   gives : GivesUp layout split.plan split.base.seen between.seen new
   gives = subst (λ (l : Layout). GivesUp l split.plan split.base.seen between.seen new) same gives'

@@ -1,34 +1,16 @@
 -- What a hold of its keeper makes of a bucket in which the split is open: it fills its cores, makes it ready, or ends the split.
-use Rattle.std.proofs.Common.{◌≡◌, ◌<◌, ◌≤◌, ◌+◌, ℕ, arith, List, [], ◌∷◌, ◌++◌, map, refl, sym, ap, ◌∙◌, subst, append_assoc}
-use Rattle.std.specs.Prelude.{filter, All, Contains, true}
-use Rattle.std.proofs.lemmas.List.{append-nil, append_cancel_left, append_cancel_right}
-use Rattle.std.proofs.lemmas.List.Elements.{filter-append, Contains-append_left, Contains-append_right}
-use Rattle.std.specs.List.{range_with_len, flat_map}
-use mathlib.Core.List.{IsPrefix}
-use Rattle.sc_record.specs.declared.slice.SliceId.{SliceId}
+use Rattle.std.proofs.Common.{◌≡◌, ◌<◌, ◌≤◌, ℕ, arith, List, [], ◌∷◌, ◌++◌, refl, sym, ap, ◌∙◌, subst, append_assoc}
+use Rattle.std.proofs.lemmas.List.{append_cancel_left, append_cancel_right}
+use Rattle.std.proofs.lemmas.List.Elements.{filter-append}
 use Rattle.sc_record.specs.declared.entry.Entry.{Entry}
 use Rattle.sc_record.specs.declared.entry.Entry.TheVariants as entry
-use Rattle.sc_record.specs.declared.slice.SubSlice.{SubSlice}
-use Rattle.sc_record.specs.declared.slice.CoreId.{CoreId}
-use Rattle.sc_record.specs.Names.{key_of_core}
-use Rattle.sc_cluster.specs.declared.slice.Slice.{Slice}
-use Rattle.sc_cluster.specs.declared.plan.SplitPlan.{SplitPlan}
-use Rattle.sc_cluster.specs.Slices.{is_forming, forming}
-use Rattle.sc_cluster.specs.Changes.{begun_slice}
-use Rattle.sc_cluster.proofs.ListLemmas.{Contains-map, Contains-filter}
-use Rattle.sc_cluster.proofs.PairLemmas.{Contains-from_map}
-use Rattle.sc_cluster.proofs.StateLemmas.{forming-begun}
-use Rattle.sc_replicas.specs.Cores.{slice_keys}
-use Rattle.sc_bucket.specs.declared.phase.Phase.TheVariants as phases
-use Rattle.sc_keeper.specs.declared.part.CorePart.{CorePart}
-use Rattle.sc_keeper.specs.declared.part.Part.{Part}
 use Rattle.sc_keeper.specs.Part.{is_of_keeper, keeper_entries}
-use Rattle.sc_keeper.specs.Conditions.{MayBeReady, MaySwitch, MayAbort}
-use Rattle.sc_keeper.specs.Events.{PartGetsReady, PartSwitches}
+use Rattle.sc_keeper.specs.Conditions.{MayBeReady, MayAbort}
+use Rattle.sc_keeper.specs.Events.{PartGetsReady}
 use Rattle.sc_collection.specs.Known.{Known, OfBuckets, IsSameIn}
 use Rattle.sc_split.specs.Buckets.{part_in, IsAllSeen, LeavesOthers, KeeperHeld, IsUnderway, IsFilled, KeepsSeats, IsGivenUp, first_cores}
-use Rattle.sc_split.specs.Stages.{OpenSplit, Stage, HasOpened, HasEndedSplit, IsOpenIn, IsAtStage, IsEndedIn, IsFailedIn, filled, leaders_filled, recovering, whole, further_cores_of, further_names, follower_of}
-use Rattle.sc_split.proofs.StageLemmas.{sub_cores-seats, sub_cores-ready, to_fill-ready, may_be_ready, may_switch}
+use Rattle.sc_split.specs.Stages.{OpenSplit, Stage, HasEndedSplit, IsOpenIn, IsAtStage, IsEndedIn, IsFailedIn, filled, leaders_filled, recovering}
+use Rattle.sc_split.proofs.StageLemmas.{sub_cores-seats, sub_cores-ready, to_fill-ready, may_be_ready}
 use Rattle.sc_split.proofs.OpenLemmas.{open-held, open-same, same-other}
 use Rattle.sc_split.proofs.LoopLemmas.{apart-below, same-after, in-all}
 

@@ -1,5 +1,5 @@
 -- Once a split is given up in each bucket where it had begun the board may have the keepers back, and it failed wherever it had begun.
-use Rattle.std.proofs.Common.{◌≡◌, ◌<◌, inl, ℕ, Bool, true, false, not, List, [], ◌∷◌, ◌++◌, length, refl, sym, ap, ◌∙◌, subst, arith, append_assoc, All, Contains}
+use Rattle.std.proofs.Common.{◌≡◌, ◌<◌, inl, ℕ, Bool, true, false, List, [], ◌∷◌, ◌++◌, length, drop, refl, sym, ap, ◌∙◌, subst, arith, append_assoc, All, Contains}
 use Rattle.std.proofs.lemmas.List.{append-nil}
 use mathlib.Core.List.{IsPrefix}
 use Rattle.sc_record.specs.declared.entry.Entry.{Entry}
@@ -17,11 +17,11 @@ use Rattle.sc_seen.specs.Rounds.{board_entries, GoTogether}
 use Rattle.sc_seen.specs.Seen.{Layout, Seen, AreLegal}
 use Rattle.sc_seen.proofs.BoardLemmas.{failed_leaves_the_map}
 use Rattle.sc_seen.proofs.ExtendsLemmas.{IsPrefix-self, Extends-then}
-use Rattle.sc_seen.proofs.RoundLemmas.{GoTogether-more}
 use Rattle.sc_keeper.specs.declared.part.CorePart.{CorePart}
 use Rattle.sc_keeper.specs.declared.part.Part.{Part}
 use Rattle.sc_collection.specs.Desks.{OwnsSplit, IsAtRest, AreAtRest}
 use Rattle.sc_collection.specs.Known.{Known, OfBuckets, IsSameIn}
+use Rattle.sc_collection.proofs.RestLemmas.{GoTogether-since, since-more}
 use Rattle.sc_split.specs.Buckets.{part_in}
 use Rattle.sc_split.specs.Stages.{OpenSplit, IsUnbegun, IsFailedIn, KeepsKnownBoard}
 use Rattle.sc_split.specs.Steps.{NotesOne}
@@ -70,34 +70,36 @@ map-failed first entries plan true begun may = (failed_leaves_the_map first entr
 map-failed first entries plan false begun may = (failed_leaves_the_map first entries plan may).0
 
 -- where it was given up
-rest-given-up : (first : List Slice) (split : OpenSplit) (entries : List BoardEntry) (recovered : Bool) (known : Known) (b : ℕ)
+rest-given-up : (opened : ℕ) (first : List Slice) (split : OpenSplit) (entries : List BoardEntry) (recovered : Bool) (known : Known) (b : ℕ)
     → MayNote first entries (board.Begun split.plan)
-    → IsAtRest entries (board_map first entries) (part_in split.base b) (split.base.keeping.own b) → IsFailedIn split known b
-    → IsAtRest (entries ++ board_entries (rounds.failed split.plan recovered true))
+    → IsAtRest opened entries (board_map first entries) (part_in split.base b) (split.base.keeping.own b) → IsFailedIn split known b
+    → IsAtRest opened (entries ++ board_entries (rounds.failed split.plan recovered true))
     (board_map first (entries ++ board_entries (rounds.failed split.plan recovered true))) (part_in known b) (known.keeping.own b)
-rest-given-up first split entries recovered known b may base failed = record {
+rest-given-up opened first split entries recovered known b may base failed = record {
   map_is = failed.given_up.map_is ∙ base.map_is ∙ sym (map-failed first entries split.plan recovered true may);
   idle = failed.given_up.idle;
   active = failed.given_up.active;
   unfed = failed.given_up.unfed;
-  together = subst (GoTogether (entries ++ board_entries (rounds.failed split.plan recovered true))) (sym failed.ended.own)
-      (GoTogether-more (rounds.failed split.plan recovered true) entries (split.base.keeping.own b) base.together);
+  since = since-more opened entries (board_entries (rounds.failed split.plan recovered true)) base.since;
+  together = subst (GoTogether (drop opened (entries ++ board_entries (rounds.failed split.plan recovered true)))) (sym failed.ended.own)
+      (GoTogether-since opened (rounds.failed split.plan recovered true) entries (split.base.keeping.own b) base.since base.together);
 }
 
 -- where it had not begun
-rest-unbegun : (first : List Slice) (split : OpenSplit) (entries : List BoardEntry) (recovered : Bool) (old new : Known) (b : ℕ)
+rest-unbegun : (opened : ℕ) (first : List Slice) (split : OpenSplit) (entries : List BoardEntry) (recovered : Bool) (old new : Known) (b : ℕ)
     → MayNote first entries (board.Begun split.plan)
-    → IsAtRest entries (board_map first entries) (part_in split.base b) (split.base.keeping.own b) → IsUnbegun split first old b
-    → IsSameIn old new b → IsAtRest (entries ++ board_entries (rounds.failed split.plan recovered false))
+    → IsAtRest opened entries (board_map first entries) (part_in split.base b) (split.base.keeping.own b) → IsUnbegun split first old b
+    → IsSameIn old new b → IsAtRest opened (entries ++ board_entries (rounds.failed split.plan recovered false))
     (board_map first (entries ++ board_entries (rounds.failed split.plan recovered false))) (part_in new b) (new.keeping.own b)
-rest-unbegun first split entries recovered old new b may base unbegun same = record {
+rest-unbegun opened first split entries recovered old new b may base unbegun same = record {
   map_is = ap (λ (part : Part). part.map) part_is ∙ base.map_is ∙ sym (map-failed first entries split.plan recovered false may);
   idle = ap (λ (part : Part). part.phase) part_is ∙ base.idle;
   active = subst (λ (part : Part). All (λ (core : CorePart). core.mode ≡ Active) part.cores) (sym part_is) base.active;
   unfed = ap (λ (part : Part). part.feeds) part_is ∙ base.unfed;
-  together = subst (GoTogether (entries ++ board_entries (rounds.failed split.plan recovered false)))
+  since = since-more opened entries (board_entries (rounds.failed split.plan recovered false)) base.since;
+  together = subst (GoTogether (drop opened (entries ++ board_entries (rounds.failed split.plan recovered false))))
       (append-nil (split.base.keeping.own b) ∙ sym (same.own ∙ unbegun.own))
-      (GoTogether-more (rounds.failed split.plan recovered false) entries (split.base.keeping.own b) base.together);
+      (GoTogether-since opened (rounds.failed split.plan recovered false) entries (split.base.keeping.own b) base.since base.together);
 } where
   part_is : part_in new b ≡ part_in split.base b
   part_is = same.part_is ∙ unbegun.part_is
@@ -109,12 +111,12 @@ pub rest-failed : (layout layout' : Layout) (split : OpenSplit) (entries : List 
 rest-failed layout layout' split entries recovered begun old new same-layout legal keeps halted failed same =
     subst (λ (l : Layout). AreAtRest l (new.seen.board ++ board.Failed split.plan.parent ∷ []) new.keeping) (sym same-layout)
     (λ number below. in-both (λ (b : ℕ). b < layout.buckets → HereAtRest (new.seen.board ++ board.Failed split.plan.parent ∷ []) b) begun layout.buckets
-    (λ b low within there. as-noted true b (rest-given-up layout.first split entries recovered new b may (halted.rest b there) (failed b low within)))
-    (λ b low within there. as-noted false b (rest-unbegun layout.first split entries recovered old new b may (halted.rest b there)
+    (λ b low within there. as-noted true b (rest-given-up layout.opened.board layout.first split entries recovered new b may (halted.rest b there) (failed b low within)))
+    (λ b low within there. as-noted false b (rest-unbegun layout.opened.board layout.first split entries recovered old new b may (halted.rest b there)
     (halted.unbegun b low within) (same b low within)))
     number below below) where
       HereAtRest : List BoardEntry → ℕ → Type 0
-      HereAtRest es b = IsAtRest es (board_map layout.first es) (part_in new b) (new.keeping.own b)
+      HereAtRest es b = IsAtRest layout.opened.board es (board_map layout.first es) (part_in new b) (new.keeping.own b)
 
       board_is : new.seen.board ≡ entries ++ board.Begun split.plan ∷ recovering_entries split.plan.parent recovered
       board_is = keeps.board ∙ halted.board

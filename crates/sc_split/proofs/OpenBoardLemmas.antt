@@ -1,26 +1,24 @@
 -- What the board takes back once a split has begun on it, or was refused, and what is seen then.
-use Rattle.std.proofs.Common.{◌≡◌, ◌⊎◌, inl, inr, ℕ, Bool, true, false, not, List, [], ◌∷◌, ◌++◌, length, Option, Some, None, Result, Ok, Err, refl, sym, ap, ◌∙◌, subst, cond, arith, nat_eq, ltb}
+use Rattle.std.proofs.Common.{◌≡◌, inl, inr, ℕ, Bool, true, false, not, List, [], ◌∷◌, ◌++◌, length, Option, Some, None, Result, Ok, Err, refl, sym, ap, ◌∙◌, subst, cond, arith, nat_eq}
 use Rattle.std.proofs.lemmas.Bool.Decides.{nat_tests}
 use Rattle.std.proofs.lemmas.Bool.{le-ltb}
 use Rattle.std.proofs.lemmas.List.{append-nil}
-use Rattle.std.specs.Prelude.{IfOk, IfErr, OnOk, OnErr, is_some, is_ok}
+use Rattle.std.specs.Prelude.{IfOk, IfErr, OnOk, OnErr, is_some}
 use mathlib.Core.List.{IsPrefix}
 use Rattle.sc_cluster.specs.declared.slice.Slice.{Slice}
 use Rattle.sc_cluster.specs.declared.plan.SplitPlan.{SplitPlan}
 use Rattle.sc_seen.specs.Board.{running_split}
 use Rattle.sc_seen.specs.Seen.{Layout, Seen}
-use Rattle.sc_seen.specs.Moments.{View}
 use Rattle.sc_seen.specs.declared.board.BoardEntry.{BoardEntry}
 use Rattle.sc_seen.specs.declared.board.BoardEntry.TheVariants as board
 use Rattle.sc_seen.specs.declared.stop.Stop.{Stop}
 use Rattle.sc_board.specs.declared.board.Board.{Board}
 use Rattle.sc_board.specs.declared.fault.BoardFault.{BoardFault}
-use Rattle.sc_board.specs.Boards.{IsSoundBoard}
 use Rattle.sc_board.specs.Events.{Notes, IsSameBoardButRoom}
 use Rattle.sc_board.specs.Splits.{AskedSplit, IsPlanOf, IsRefusal}
-use Rattle.sc_collection.specs.Desks.{Keeping, KeepsOn, IsBoardOf, MayReplaceBoard, SeesBoardGiven, AreAtRest, place_added}
-use Rattle.sc_split.specs.Steps.{NotesOne, Opens, Refuses}
-use Rattle.sc_split.proofs.BoardLemmas.{notes-one, at-rest-still}
+use Rattle.sc_collection.specs.Desks.{IsBoardOf, MayReplaceBoard, SeesBoardGiven, place_added}
+use Rattle.sc_split.specs.Steps.{Opens, Refuses}
+use Rattle.sc_split.proofs.BoardLemmas.{notes-one}
 
 -- where the board has keepers no split runs
 none-runs : {K : Type 0} (keepers : Option K) (one : K) (running : Option ℕ) → is_some keepers ≡ not (is_some running) → keepers ≡ Some one

@@ -19,6 +19,7 @@ use Rattle.sc_board.specs.Splits.{AskedSplit, IsPlanOf, IsRefusal}
 use Rattle.sc_board.specs.declared.fault.BoardFault.{BoardFault}
 use Rattle.sc_split.specs.declared.end.SplitEnd.{SplitEnd}
 use Rattle.sc_split.specs.declared.end.SplitEnd.TheVariants as ends
+use Rattle.sc_io.specs.Hosts.{Reached}
 use Rattle.sc_cores.specs.Cores.{Outside, CountsGoUp}
 use Rattle.sc_split.specs.Outside.{StartsCoresOfPlan}
 use Rattle.sc_split.specs.Steps.{Opens, Refuses}
@@ -96,13 +97,14 @@ before-stop entries later begins = ap (take (length entries)) (sym begins.1) ∙
 
 -- no count falls where all is as it was, and where all cores were started
 stays-up : (outside : Outside) → CountsGoUp outside outside
-stays-up outside = record { starting = omega arith; stopping = omega arith; pace = omega arith }
+stays-up outside = record { starting = omega arith; stopping = omega arith; pace = omega arith; reaching = omega arith }
 
 starts-up : (nodes : ℕ) (plan : SplitPlan) (old new : Outside) → StartsCoresOfPlan nodes plan old new → CountsGoUp old new
 starts-up nodes plan old new starts = record {
   starting = omega (arith, starts.start_faults);
   stopping = omega (arith, starts.stop_faults);
   pace = omega (arith, starts.stops);
+  reaching = let same : new.reach.faults ≡ old.reach.faults = ap (λ (r : Reached). r.faults) starts.reach in omega (arith, same);
 }
 
 -- a split that the board refused
@@ -141,6 +143,7 @@ split-refused layout asked old new outside fault refuses = record {
   buckets = refuses.journals;
   outside = refl;
   counts = stays-up outside;
+  no_reach = refl;
 } where
   place : ℕ
   place = length new.seen.board
@@ -247,6 +250,7 @@ split-done layout asked old between new plan before later end opens went = recor
       (went.switched lock below);
   outside = went.outside;
   counts = starts-up layout.nodes plan before later went.outside;
+  no_reach = went.outside.reach;
 } where
   first : Stop
   first = board_stop layout (length opens.between.board) true
@@ -303,6 +307,7 @@ split-given-up layout asked old between new plan before later end opens went = r
       (went.failed lock below);
   outside = went.outside;
   counts = went.counts;
+  no_reach = went.no_reach;
 } where
   first : Stop
   first = board_stop layout (length opens.between.board) true

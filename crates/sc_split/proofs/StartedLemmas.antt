@@ -10,7 +10,7 @@ use Rattle.std.proofs.lemmas.List.FromFn.{length-map-range_with_len}
 use Rattle.std.proofs.lemmas.List.Elements.{All-nil, All-head, All-tail, All-append, All-map, All-take, All-weaker, All-contains_itself, filter-append}
 use Rattle.sc_record.specs.declared.slice.SubSlice.{SubSlice}
 use Rattle.sc_io.specs.declared.hosts.Host.{Host}
-use Rattle.sc_io.specs.Hosts.{is_core_on, with_core, without_core}
+use Rattle.sc_io.specs.Hosts.{Reached, is_core_on, with_core, without_core}
 use Rattle.sc_cluster.specs.declared.plan.SplitPlan.{SplitPlan}
 use Rattle.sc_cluster.proofs.ListLemmas.{filter-all}
 use Rattle.sc_cores.specs.Cores.{Outside, with_cores, without_cores, HasStarted, IsNew, CountsGoUp}
@@ -104,13 +104,14 @@ cores-on nodes nodes' plan cores are same = are ∙ ap (λ (n : ℕ). cores_of n
 pub starts-by : (nodes nodes' : ℕ) (plan : SplitPlan) (cores : List Host) (count : ℕ) (before later : Outside) → cores ≡ cores_of nodes' plan
     → nodes' ≡ nodes → count ≡ length cores → HasStarted cores count before.started later.started
     → later.start_faults ≡ before.start_faults → later.stop_faults ≡ before.stop_faults → later.stops ≡ before.stops
-    → StartsCoresOfPlan nodes plan before later
-starts-by nodes nodes' plan cores count before later are same each started starting stopping pace = record {
+    → later.reach ≡ before.reach → StartsCoresOfPlan nodes plan before later
+starts-by nodes nodes' plan cores count before later are same each started starting stopping pace reach = record {
   started = subst (λ (hosts : List Host). IfSome before.started (λ all. later.started ≡ Some (with_cores hosts all)))
       (cores-on nodes nodes' plan cores are same) (started-all cores count before.started later.started each started);
   start_faults = starting;
   stop_faults = stopping;
   stops = pace;
+  reach = reach;
 }
 
 -- those of its cores that were started are stopped
@@ -128,11 +129,12 @@ leaves-by nodes nodes' plan cores count before between later are same started st
 -- no count fell
 pub counts-by : (before between later : Outside) → before.start_faults ≤ between.start_faults → between.stop_faults ≡ before.stop_faults
     → before.stops ≤ between.stops → later.start_faults ≡ between.start_faults → between.stop_faults ≤ later.stop_faults
-    → later.stops ≡ between.stops → CountsGoUp before later
-counts-by before between later starting none pace starting' stopping pace' = record {
+    → later.stops ≡ between.stops → later.reach ≡ before.reach → CountsGoUp before later
+counts-by before between later starting none pace starting' stopping pace' reach = record {
   starting = omega arith;
   stopping = omega arith;
   pace = omega arith;
+  reaching = let same : later.reach.faults ≡ before.reach.faults = ap (λ (r : Reached). r.faults) reach in omega (arith, same);
 }
 
 -- a sub's replicas, and so its cores, are fewer than 256

@@ -1,9 +1,8 @@
 -- What is so of a collection between the steps of a split, and what its last steps leave.
-use Rattle.std.specs.Prelude.{◌≡◌, ◌≤◌, ◌<◌, ℕ, Bool, true, false, List, [], ◌∷◌, ◌++◌, length, map, slice_get, Some, Contains, ⊤}
+use Rattle.std.specs.Prelude.{◌≡◌, ◌<◌, ℕ, Bool, true, false, List, [], ◌∷◌, ◌++◌, length, map, slice_get, Some, Contains, ⊤}
 use Rattle.std.specs.List.{range_with_len}
 use Rattle.sc_record.specs.declared.slice.SubSlice.{SubSlice}
 use Rattle.sc_record.specs.declared.slice.SliceId.{SliceId}
-use Rattle.sc_cluster.specs.declared.slice.Slice.{Slice}
 use Rattle.sc_cluster.specs.declared.plan.SplitPlan.{SplitPlan}
 use Rattle.sc_io.specs.declared.hosts.Host.{Host}
 use Rattle.sc_seen.specs.Seen.{Layout, Seen, Extends, EndAtLast, FromNowOn}
@@ -17,7 +16,7 @@ use Rattle.sc_split.specs.declared.end.Fault.{Fault}
 use Rattle.sc_split.specs.declared.end.Fault.TheVariants as faults
 use Rattle.sc_split.specs.declared.end.SplitEnd.{SplitEnd}
 use Rattle.sc_split.specs.declared.end.SplitEnd.TheVariants as ends
-use Rattle.sc_cores.specs.Cores.{Outside, CountsGoUp}
+use Rattle.sc_cores.specs.Cores.{CountsGoUp}
 use Rattle.sc_split.specs.Outside.{StartsCoresOfPlan, LeavesCores}
 use Rattle.sc_split.specs.Stages.{OpenSplit, IsOpenIn, IsAtStage, IsUnbegun, whole}
 use Rattle.sc_split.specs.Splits.{SplitMoment, IsSwitchedIn, IsFailedIfBegun, HadNoRoom, IsCause}
@@ -117,6 +116,7 @@ pub record IsGivenUpOnBoard (layout : Layout) (plan : SplitPlan) (old new : Spli
   pub cause : IsCause layout plan old new end
   pub outside : LeavesCores layout.nodes plan old.outside new.outside
   pub counts : CountsGoUp old.outside new.outside
+  pub no_reach : new.outside.reach ≡ old.outside.reach
 
 -- what a split came to that is given up for this reason; these are its cores
 abbrev pub IsEndOf : List Host → Fault → SplitEnd → Type 0

@@ -177,3 +177,4 @@ pub record IsSplit (layout : Layout) (asked : AskedSplit) (old new : SplitMoment
   pub buckets : LeavesBuckets layout.buckets course old.view.seen new.view.seen
   pub outside : LeavesOutside layout.nodes course old.outside new.outside
   pub counts : CountsGoUp old.outside new.outside
+  pub no_reach : new.outside.reach ≡ old.outside.reach

@@ -174,6 +174,7 @@ pub(crate) fn start_cores<H: Hosts, P: Pace>(
         → (at < length cores.now) × (H.start_faults hosts.old < H.start_faults hosts.new) }
     ensures no_fall { H.start_faults hosts.old ≤ H.start_faults hosts.new }
     ensures other_count { H.stop_faults hosts.new ≡ H.stop_faults hosts.old }
+    ensures reached { H.reached hosts.new ≡ H.reached hosts.old }
     ensures pace { OnOk result (P.stops pace.new ≡ P.stops pace.old) }
     ensures stopped { result ≡ Err Fault.Stopped → P.stops pace.old < P.stops pace.new }
     ensures no_fall_of_pace { P.stops pace.old ≤ P.stops pace.new }
@@ -198,6 +199,7 @@ pub(crate) fn stop_all<H: Hosts>(hosts: &mut H, cores: &[Host])
         → H.started hosts.new ≡ Some (without_cores cores.now all) }
     ensures no_fall { H.stop_faults hosts.old ≤ H.stop_faults hosts.new }
     ensures other_count { H.start_faults hosts.new ≡ H.start_faults hosts.old }
+    ensures reached { H.reached hosts.new ≡ H.reached hosts.old }
 {
     let _ = stop_cores(hosts, cores);
 }

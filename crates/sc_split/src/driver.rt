@@ -61,9 +61,9 @@ pub fn split<D: Desk, H: Hosts, P: Pace>(
     requires room { length trail.old.stops + 1 + (D.layout desk.old).buckets ≤ trail_room }
     ensures split { IsSplit (D.layout desk.old) (asked_for shard.now cut.now)
         (split_moment (view_of (D.seen desk.old) trail.old.stops)
-        (outside_of (H.started hosts.old) (H.start_faults hosts.old) (H.stop_faults hosts.old) (P.stops pace.old)))
+        (outside_of (H.started hosts.old) (H.start_faults hosts.old) (H.stop_faults hosts.old) (P.stops pace.old) (H.reached hosts.old)))
         (split_moment (view_of (D.seen desk.new) trail.new.stops)
-        (outside_of (H.started hosts.new) (H.start_faults hosts.new) (H.stop_faults hosts.new) (P.stops pace.new))) result }
+        (outside_of (H.started hosts.new) (H.start_faults hosts.new) (H.stop_faults hosts.new) (P.stops pace.new) (H.reached hosts.new))) result }
     ensures layout { D.layout desk.new ≡ D.layout desk.old }
     ensures rest { IsDeskAtRest (D.layout desk.new) (D.out desk.new) (D.seen desk.new) }
     ensures requests { trail.new.requests ≡ trail.old.requests }
@@ -90,9 +90,9 @@ fn run<D: Desk, H: Hosts, P: Pace>(
         × HasBegunOnBoard (D.layout desk.old) plan.now entries (known_of (D.seen desk.old) (D.keeping desk.old keepers)) }
     requires room { length trail.old.stops + (D.layout desk.old).buckets ≤ trail_room }
     ensures went { let old = split_moment (view_of (D.seen desk.old) trail.old.stops)
-        (outside_of (H.started hosts.old) (H.start_faults hosts.old) (H.stop_faults hosts.old) (P.stops pace.old)) in
+        (outside_of (H.started hosts.old) (H.start_faults hosts.old) (H.stop_faults hosts.old) (P.stops pace.old) (H.reached hosts.old)) in
         let new = split_moment (view_of (D.seen desk.new) trail.new.stops)
-        (outside_of (H.started hosts.new) (H.start_faults hosts.new) (H.stop_faults hosts.new) (P.stops pace.new)) in
+        (outside_of (H.started hosts.new) (H.start_faults hosts.new) (H.stop_faults hosts.new) (P.stops pace.new) (H.reached hosts.new)) in
         IsSplitDone (D.layout desk.old) plan.now old new result ⊎ IsGivenUpOnBoard (D.layout desk.old) plan.now old new result }
     ensures layout { D.layout desk.new ≡ D.layout desk.old }
     ensures rest { IsDeskAtRest (D.layout desk.new) (D.out desk.new) (D.seen desk.new) }
@@ -163,11 +163,12 @@ fn build<D: Desk, H: Hosts, P: Pace>(
     ensures steady { OnOk result ((H.start_faults hosts.new ≡ H.start_faults hosts.old) × (P.stops pace.new ≡ P.stops pace.old)) }
     ensures no_fall { (H.start_faults hosts.old ≤ H.start_faults hosts.new) × (P.stops pace.old ≤ P.stops pace.new) }
     ensures none_stopped { H.stop_faults hosts.new ≡ H.stop_faults hosts.old }
+    ensures reached { H.reached hosts.new ≡ H.reached hosts.old }
     ensures cause { IfErr result (IsFault (D.layout desk.old) plan.now cores.now.hosts
         (split_moment (view_of (D.seen desk.old) [])
-        (outside_of (H.started hosts.old) (H.start_faults hosts.old) (H.stop_faults hosts.old) (P.stops pace.old)))
+        (outside_of (H.started hosts.old) (H.start_faults hosts.old) (H.stop_faults hosts.old) (P.stops pace.old) (H.reached hosts.old)))
         (split_moment (view_of (D.seen desk.new) [])
-        (outside_of (H.started hosts.new) (H.start_faults hosts.new) (H.stop_faults hosts.new) (P.stops pace.new)))) }
+        (outside_of (H.started hosts.new) (H.start_faults hosts.new) (H.stop_faults hosts.new) (P.stops pace.new) (H.reached hosts.new)))) }
 {
     lead(alloc, desk, hosts, pace, keepers, plan, cores, progress)?;
     note_recovering(desk);
@@ -222,6 +223,7 @@ fn lead<D: Desk, H: Hosts, P: Pace>(
     ensures steady { OnOk result ((H.start_faults hosts.new ≡ H.start_faults hosts.old) × (P.stops pace.new ≡ P.stops pace.old)) }
     ensures no_fall { (H.start_faults hosts.old ≤ H.start_faults hosts.new) × (P.stops pace.old ≤ P.stops pace.new) }
     ensures none_stopped { H.stop_faults hosts.new ≡ H.stop_faults hosts.old }
+    ensures reached { H.reached hosts.new ≡ H.reached hosts.old }
     ensures full { result ≡ Err Fault.LogFull → (b : ℕ) × (progress.new.begun ≤ b) × (b < (D.layout desk.old).buckets)
         × HasNoRoomFor (D.layout desk.old) plan.now.subs ((D.seen desk.new).journals b) }
     ensures failed { (at : ℕ) → result ≡ Err (faults.Host at)
@@ -281,6 +283,7 @@ fn follow<D: Desk, H: Hosts, P: Pace>(
     ensures steady { OnOk result ((H.start_faults hosts.new ≡ H.start_faults hosts.old) × (P.stops pace.new ≡ P.stops pace.old)) }
     ensures no_fall { (H.start_faults hosts.old ≤ H.start_faults hosts.new) × (P.stops pace.old ≤ P.stops pace.new) }
     ensures none_stopped { H.stop_faults hosts.new ≡ H.stop_faults hosts.old }
+    ensures reached { H.reached hosts.new ≡ H.reached hosts.old }
     ensures not_full { result ≡ Err Fault.LogFull → ⊥ }
     ensures failed { (at : ℕ) → result ≡ Err (faults.Host at)
         → (at < length cores.now.hosts) × (H.start_faults hosts.old < H.start_faults hosts.new) }
@@ -364,6 +367,7 @@ fn give_up<D: Desk, H: Hosts>(
         → H.started hosts.new ≡ Some (without_cores (take progress.started cores.hosts) all) }
     ensures no_fall { H.stop_faults hosts.old ≤ H.stop_faults hosts.new }
     ensures other_count { H.start_faults hosts.new ≡ H.start_faults hosts.old }
+    ensures reached { H.reached hosts.new ≡ H.reached hosts.old }
 {
     abort_all(desk, &mut keepers, progress.begun);
     note_failed(desk, keepers);

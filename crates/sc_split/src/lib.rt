@@ -3,7 +3,8 @@
 //!
 //! It depends on the clauses of any `Desk`, `Hosts` and `Pace`, on the events of `sc_handover`, which it does by what a bucket's keeper
 //! knows of it (`sc_keeper`'s parts), and on `sc_board`. The layer above uses the clause of `split` alone (`IsSplit`): what was noted on
-//! the board and in each bucket, which stops were kept, what was answered and why, and which cores are started.
+//! the board and in each bucket, which stops were kept, what was answered and why, which cores are started, and that reaching
+//! no node failed.
 //!
 //! Proved: each event of one bucket by what its keeper knows of it, and the filling of its cores (`IsFilled`); over all buckets in turn,
 //! that the split begins (`IsAtStage`, `IsUnbegun` where it did not), that its leaders are filled and ready, that its further replicas join

@@ -8,7 +8,8 @@ use std::fs;
 use std::process::Abort;
 use std::test::Fail;
 
-// Which of the calls succeed, a `+` for each that does and a `-` for each that fails. A call is `start NODE CORE` or `stop NODE CORE`.
+// Which of the calls succeed, a `+` for each that does and a `-` for each that fails. A call is `start NODE CORE`, `stop NODE CORE` or
+// `reach NODE`.
 fn results<H: Hosts>(alloc: Global, hosts: &mut H, calls: &str) -> Result<String, AllocError> {
     let mut results = String::new(alloc);
     for call in calls.split(", ") {
@@ -21,10 +22,10 @@ fn results<H: Hosts>(alloc: Global, hosts: &mut H, calls: &str) -> Result<String
 }
 
 fn succeeds<H: Hosts>(hosts: &mut H, kind: &str, node: u32, core: &str) -> bool {
-    if kind == "start" {
-        hosts.start_core(node, core).is_ok()
-    } else {
-        hosts.stop_core(node, core).is_ok()
+    match kind {
+        "start" => hosts.start_core(node, core).is_ok(),
+        "stop" => hosts.stop_core(node, core).is_ok(),
+        _ => hosts.reach(node).is_ok(),
     }
 }
 
@@ -39,6 +40,15 @@ fn shown(alloc: Global, hosts: &MemHosts) -> Result<String, AllocError> {
     Ok(text)
 }
 
+// The nodes that weren't reached, one after another.
+fn unreached(alloc: Global, hosts: &MemHosts) -> Result<String, AllocError> {
+    let mut text = String::new(alloc);
+    for node in &hosts.unreached {
+        text.push_str(format!(in alloc; "{node};")?.as_str())?;
+    }
+    Ok(text)
+}
+
 // The fourth and the sixth fail.
 fn calls_of_memory() -> &'static str {
     "start 1 a, start 2 b, start 1 a, stop 1 a, stop 1 a, start 1 c, stop 2 a, start 2 c"
@@ -48,7 +58,7 @@ fn calls_of_memory() -> &'static str {
 fn hosts_in_memory_keep_the_started_cores_and_fail_by_number(rt: HostRuntime) -> Result<(), Fail> {
     let alloc = rt.alloc();
     let fails = List::from_vec(Vec::from_array(alloc, [3, 5])?);
-    let mut hosts = MemHosts::new(alloc, fails);
+    let mut hosts = MemHosts::new(alloc, fails)?;
     keep_and_fail(&rt, alloc, &mut hosts)
 }
 
@@ -61,6 +71,28 @@ fn keep_and_fail(rt: &impl Abort, alloc: Global, hosts: &mut MemHosts) -> Result
         rt,
         (hosts.faults.count(), hosts.stop_faults.count()),
         (1, 1),
+    );
+    Ok(())
+}
+
+#[test]
+fn hosts_in_memory_note_the_nodes_that_they_fail_to_reach(rt: HostRuntime) -> Result<(), Fail> {
+    let alloc = rt.alloc();
+    let mut hosts = MemHosts::new(alloc, List::from_vec(Vec::from_array(alloc, [1, 2])?))?;
+    let first = results(alloc, &mut hosts, "reach 1, reach 7, stop 7 a, reach 7")?;
+    assert_text(&rt, first.as_str(), "+--+");
+    hosts.set_fails(List::from_vec(Vec::from_array(alloc, [5])?))?;
+    let next = results(alloc, &mut hosts, "reach 7, reach 2, start 2 a")?;
+    assert_text(&rt, next.as_str(), "+-+");
+    assert_text(&rt, unreached(alloc, &hosts)?.as_str(), "7;2;");
+    assert_same(
+        &rt,
+        (
+            hosts.faults.count(),
+            hosts.stop_faults.count(),
+            hosts.reach_faults.count(),
+        ),
+        (0, 1, 2),
     );
     Ok(())
 }
@@ -100,6 +132,35 @@ fn a_started_core_is_a_folder_with_its_properties(rt: HostRuntime) -> Result<(),
         (1, 1),
     );
     fs::remove_dir(&rt, "cores")?;
+    Ok(())
+}
+
+// A node is away while a file or a folder has its name.
+#[test]
+fn a_node_is_away_while_anything_has_the_name_that_says_so(rt: HostRuntime) -> Result<(), Fail> {
+    let alloc = rt.alloc();
+    let mut hosts = FolderHosts::new(alloc, &rt);
+    fs::write(&rt, "down-2", "")?;
+    fs::create_dir(&rt, "down-4294967295")?;
+    let away = results(
+        alloc,
+        &mut hosts,
+        "reach 1, reach 2, reach 22, reach 4294967295, reach 0",
+    )?;
+    assert_text(&rt, away.as_str(), "+-+-+");
+    fs::remove_file(&rt, "down-2")?;
+    fs::remove_dir(&rt, "down-4294967295")?;
+    let back = results(alloc, &mut hosts, "reach 2, reach 4294967295")?;
+    assert_text(&rt, back.as_str(), "++");
+    assert_same(
+        &rt,
+        (
+            hosts.faults.count(),
+            hosts.stop_faults.count(),
+            hosts.reach_faults.count(),
+        ),
+        (0, 0, 2),
+    );
     Ok(())
 }
 

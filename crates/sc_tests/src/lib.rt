@@ -10,6 +10,8 @@
 #[cfg(test)]
 mod arguments;
 #[cfg(test)]
+mod boards;
+#[cfg(test)]
 mod codings;
 #[cfg(test)]
 mod collections;

@@ -14,9 +14,11 @@ use Rattle.sc_router.specs.Route.{bucket_of}
 use Rattle.sc_commands.specs.declared.batch.Batch.{Batch}
 use Rattle.sc_journal.specs.Journal.{last_of}
 use Rattle.sc_seen.specs.Seen.{Layout, Seen}
-use Rattle.sc_seen.specs.Moments.{Moment, Keeps}
-use Rattle.sc_seen.specs.Batches.{OrderAnswer, IsOrderAnswer, AnswersOrders, GoOn, GivesTimestamps, goes_on, deletes, add_of, delete_of, accepted_adds, accepted_deletes, order_stops, order_timestamps}
+use Rattle.sc_seen.specs.Moments.{Keeps}
+use Rattle.sc_seen.specs.Batches.{OrderAnswer, IsOrderAnswer, AnswersOrders, GoOn, GivesTimestamps, goes_on, deletes, add_of, delete_of, accepted_adds, accepted_deletes, order_stops, stops_between, down_stops, order_timestamps}
 use Rattle.sc_seen.specs.Commits.{committed_now}
+use Rattle.sc_seen.specs.declared.stop.Stop.{Stop}
+use Rattle.sc_collection.specs.Downs.{NotesDowns}
 use Rattle.sc_journal.proofs.ListLemmas.{last_of-append, slice_get-append_left, slice_get-append_end}
 use Rattle.sc_seen.proofs.GoesOnLemmas.{Keeps-none, Keeps-then, Keeps-sees}
 use Rattle.sc_bucket.specs.Events.{outcome_of}
@@ -25,7 +27,8 @@ use Rattle.sc_update.specs.declared.end.BatchEnd.{BatchEnd}
 use Rattle.sc_update.specs.declared.end.BatchFault.{BatchFault}
 use Rattle.sc_update.specs.declared.end.BatchFault.TheVariants as faults
 use Rattle.sc_update.specs.declared.shown.Shown.{Shown}
-use Rattle.sc_update.specs.Updated.{finished, refused, ran_out, Shows, order_fault}
+use Rattle.sc_update.specs.Updated.{UpdateMoment, finished, refused, ran_out, Shows, order_fault}
+use Rattle.sc_collection.proofs.DownLemmas.{NotesDowns-none, NotesDowns-then}
 use Rattle.sc_update.specs.Steps.{Answered, one_order, EndsOne, ShowsMore, HasRoomToShow, HasRoomToShowOne, GrowsByOne, UpdateProgress, Takes, AnswersAll}
 
 pub timestamps-append : {C : Type 0} (gives : C → ℕ → C → Type 0) (a b c : C) (xs ys : List ℕ)
@@ -81,28 +84,40 @@ last_order layout seen fail orders answers last answered is =
     ∙ slice_get-append_left (map of_answer answers) answered.in_turn.0 (length answers - 1) (omega (arith, within, length-map answers of_answer))
     ∙ slice_get-map of_answer answers (length answers - 1) ∙ ap (option_map of_answer) is
 
+-- where two parts have no answer, neither has one
+append-none : (answers more : List OrderAnswer) → answers ++ more ≡ [] → (answers ≡ []) × (more ≡ [])
+append-none [] more none = (refl, none)
+append-none (answer ∷ answers) more none = absurd (cc)
+
 -- no order was tried
-pub Answered-none : {C : Type 0} (gives : C → ℕ → C → Type 0) (layout : Layout) (batch : Batch) (moment : Moment C)
+pub Answered-none : {C : Type 0} (gives : C → ℕ → C → Type 0) (layout : Layout) (batch : Batch) (moment : UpdateMoment C)
     → Answered gives layout batch moment moment []
 Answered-none gives layout batch moment = record {
-  keeps = Keeps-none layout moment.view;
+  keeps = Keeps-none layout moment.moment.view;
   timestamps = refl;
   answered = λ later more. record { in_turn = (batch.orders, refl); each = tt; go_on = tt };
+  notes = λ later more. NotesDowns-none layout later moment.reach;
+  unasked = λ none. refl;
   located = tt;
 }
 
 -- one order more was
-pub Answered-then : {C : Type 0} (gives : C → ℕ → C → Type 0) (layout : Layout) (batch : Batch) (order : Order) (old between new : Moment C) (answers more : List OrderAnswer)
+pub Answered-then : {C : Type 0} (gives : C → ℕ → C → Type 0) (layout : Layout) (batch : Batch) (order : Order) (old between new : UpdateMoment C) (answers more : List OrderAnswer)
     → Answered gives layout batch old between answers → GoOn batch.flags.fail_on_conflict answers → slice_get batch.orders (length answers) ≡ Some order
     → Answered gives layout (one_order batch.flags order) between new more → Answered gives layout batch old new (answers ++ more)
 Answered-then gives layout batch order old between new answers more one all next two =
     let split : order_stops (answers ++ more) ≡ order_stops answers ++ order_stops more = flat_map-append (λ (answer : OrderAnswer). answer.stops) answers more in
+    let noted : down_stops (answers ++ more) ≡ down_stops answers ++ down_stops more = flat_map-append (λ (answer : OrderAnswer). stops_between answer.stops) answers more in
     record {
-      keeps = subst (Keeps layout old.view new.view) (sym split) (Keeps-then layout old.view between.view new.view (order_stops answers) (order_stops more) one.keeps two.keeps);
-      timestamps = subst (λ (ms : List ℕ). GivesTimestamps gives old.clock ms new.clock) (sym (map-append (λ (answer : OrderAnswer). answer.timestamp) answers more))
-          (timestamps-append gives old.clock between.clock new.clock (order_timestamps answers) (order_timestamps more) one.timestamps two.timestamps);
+      keeps = subst (Keeps layout old.moment.view new.moment.view) (sym split) (Keeps-then layout old.moment.view between.moment.view new.moment.view (order_stops answers) (order_stops more) one.keeps two.keeps);
+      timestamps = subst (λ (ms : List ℕ). GivesTimestamps gives old.moment.clock ms new.moment.clock) (sym (map-append (λ (answer : OrderAnswer). answer.timestamp) answers more))
+          (timestamps-append gives old.moment.clock between.moment.clock new.moment.clock (order_timestamps answers) (order_timestamps more) one.timestamps two.timestamps);
       answered = λ later sees. orders_then layout later batch.flags.fail_on_conflict batch.orders order answers more
-          (one.answered later (Keeps-sees layout between.view new.view (order_stops more) two.keeps later sees)) all next (two.answered later sees);
+          (one.answered later (Keeps-sees layout between.moment.view new.moment.view (order_stops more) two.keeps later sees)) all next (two.answered later sees);
+      notes = λ later sees. subst (λ (downs : List Stop). NotesDowns layout later downs old.reach new.reach) (sym noted)
+          (NotesDowns-then layout later (down_stops answers) (down_stops more) old.reach between.reach new.reach
+          (one.notes later (Keeps-sees layout between.moment.view new.moment.view (order_stops more) two.keeps later sees)) (two.notes later sees));
+      unasked = λ none. let parts = append-none answers more none in two.unasked parts.1 ∙ one.unasked parts.0;
       located = All-append (λ (answer : OrderAnswer). bucket_of answer.order.id layout.buckets < layout.buckets) answers more one.located two.located;
     }
 
@@ -129,18 +144,18 @@ shows_end true answers shown end adds deleted shows = (adds ∙ shows.0, deleted
 shows_end false answers shown end adds deleted shows = (adds ∙ shows.0, deleted ∙ shows.1)
 
 -- how far an update is whose orders go on
-abbrev pub going_on : {C : Type 0} → Moment C → Shown → UpdateProgress C
+abbrev pub going_on : {C : Type 0} → UpdateMoment C → Shown → UpdateProgress C
 going_on moment shown = record { moment = moment; shown = shown; ended = None }
 
 -- the first orders of a batch were answered, as many as stand here, and orders went on after each
-pub record SoFar {C : Type 0} (gives : C → ℕ → C → Type 0) (layout : Layout) (batch : Batch) (old : Moment C) (new : UpdateProgress C) (count : ℕ) : Type 0 where
+pub record SoFar {C : Type 0} (gives : C → ℕ → C → Type 0) (layout : Layout) (batch : Batch) (old : UpdateMoment C) (new : UpdateProgress C) (count : ℕ) : Type 0 where
   pub answers : List OrderAnswer
   pub answered : Answered gives layout batch old new.moment answers
   pub go_on : GoOn batch.flags.fail_on_conflict answers
   pub count_is : length answers ≡ count
   pub shows : ShowsSoFar batch.flags.versions answers new.shown
 
-pub SoFar-none : {C : Type 0} (gives : C → ℕ → C → Type 0) (layout : Layout) (batch : Batch) (moment : Moment C) (shown : Shown)
+pub SoFar-none : {C : Type 0} (gives : C → ℕ → C → Type 0) (layout : Layout) (batch : Batch) (moment : UpdateMoment C) (shown : Shown)
     → shown.adds.items ≡ [] → shown.deletes.items ≡ [] → SoFar gives layout batch moment (going_on moment shown) 0
 SoFar-none gives layout batch moment shown adds deleted = record {
   answers = [];
@@ -150,7 +165,7 @@ SoFar-none gives layout batch moment shown adds deleted = record {
   shows = shows_none batch.flags.versions shown adds deleted;
 }
 
-module _ {C : Type 0} (gives : C → ℕ → C → Type 0) (layout : Layout) (batch : Batch) (order : Order) (old : Moment C) (between new : UpdateProgress C) (count : ℕ)
+module _ {C : Type 0} (gives : C → ℕ → C → Type 0) (layout : Layout) (batch : Batch) (order : Order) (old : UpdateMoment C) (between new : UpdateProgress C) (count : ℕ)
     (far : SoFar gives layout batch old between count) (next : slice_get batch.orders count ≡ Some order)
     (takes : Takes gives layout batch.flags order between new) where
   -- the answers so far, and those to one order more
@@ -215,7 +230,7 @@ module _ {C : Type 0} (gives : C → ℕ → C → Type 0) (layout : Layout) (ba
       ]
 
 -- all orders of a batch were answered
-pub SoFar-end : {C : Type 0} (gives : C → ℕ → C → Type 0) (layout : Layout) (batch : Batch) (old : Moment C) (new : UpdateProgress C) (count : ℕ) (end : BatchEnd)
+pub SoFar-end : {C : Type 0} (gives : C → ℕ → C → Type 0) (layout : Layout) (batch : Batch) (old : UpdateMoment C) (new : UpdateProgress C) (count : ℕ) (end : BatchEnd)
     → SoFar gives layout batch old new count → count ≡ length batch.orders
     → end.adds ≡ new.shown.adds.items → end.deletes ≡ new.shown.deletes.items → end.fault ≡ None
     → AnswersAll gives layout batch old new.moment end
@@ -229,7 +244,7 @@ SoFar-end gives layout batch old new count end far all adds deleted fault = reco
 }
 
 -- memory ran out before the first order
-pub answers-none : {C : Type 0} (gives : C → ℕ → C → Type 0) (layout : Layout) (batch : Batch) (moment : Moment C) (end : BatchEnd)
+pub answers-none : {C : Type 0} (gives : C → ℕ → C → Type 0) (layout : Layout) (batch : Batch) (moment : UpdateMoment C) (end : BatchEnd)
     → end.adds ≡ [] → end.deletes ≡ [] → end.fault ≡ Some faults.Memory
     → AnswersAll gives layout batch moment moment end
 answers-none gives layout batch moment end adds deleted fault = record {

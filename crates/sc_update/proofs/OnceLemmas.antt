@@ -13,7 +13,7 @@ use Rattle.sc_router.specs.Route.{bucket_of}
 use Rattle.sc_journal.specs.Journal.{as_write, write_at}
 use Rattle.sc_journal.specs.Outcomes.{Outcome, accepted, conflict, partial, log_full, out_of_memory, IsOutcome}
 use Rattle.sc_seen.specs.Seen.{Layout, Seen, basis_of, journal_at}
-use Rattle.sc_seen.specs.Batches.{OrderAnswer, IsOrderAnswer, HasStops, WritesOnce, ack_made, ack_of, ack_written, acknowledged, order_stops}
+use Rattle.sc_seen.specs.Batches.{OrderAnswer, IsDownStop, IsOrderAnswer, HasStops, WritesOnce, ack_made, ack_of, ack_written, acknowledged, order_stops}
 use Rattle.sc_seen.specs.declared.stop.Stop.{Stop}
 
 -- what stands at the end of a prefix stands at its length
@@ -42,6 +42,15 @@ no_write_made layout seen stop true is none =
     ap (λ (written : Option Write). cond (stop.made && nat_lt stop.lock layout.buckets) (option_map ack_written written) None) (none is)
     ∙ no_choice (stop.made && nat_lt stop.lock layout.buckets)
 
+-- nor did those of cores that were noted as down
+downs-unmade : (layout : Layout) (seen : Seen) (first : Stop) (downs : List Stop) → AllByRecursion (IsDownStop seen first) downs
+    → filter_map (ack_made layout seen) downs ≡ []
+downs-unmade layout seen first [] each = refl
+downs-unmade layout seen first (down ∷ downs) each =
+    ap (λ (o : Option Ack). cons_option o (filter_map (ack_made layout seen) downs))
+    (no_write_made layout seen down down.made refl (λ made. ap (option_and_then as_write) each.0.made_is))
+    ∙ downs-unmade layout seen first downs each.1
+
 alone : (layout : Layout) (seen : Seen) (stops : List Stop) (first : Stop) → (first.made ≡ false) × (stops ≡ first ∷ [])
     → filter_map (ack_made layout seen) stops ≡ []
 alone layout seen stops first has =
@@ -55,18 +64,22 @@ one_by : (layout : Layout) (seen : Seen) (order : Order) (timestamp : ℕ) (outc
     → filter_map (ack_made layout seen) stops ≡ cons_option (acknowledged order.id outcome) []
 one_by layout seen order timestamp (accepted version) stops first below is has =
     let write : Write = is.2.0 in
-    let second : Stop = has.1.0 in
+    let last : Stop = has.last in
     let same : ack_written write ≡ record { id = order.id; version = version } =
     ap (λ id. let ack : Ack = record { id = id; version = (ack_written write).version } in ack) is.2.2.id
     ∙ ap (λ v. let ack : Ack = record { id = order.id; version = v } in ack) (sym is.2.3) in
     let here : ack_made layout seen first ≡ Some (record { id = order.id; version = version }) =
-    ap (λ b. cond (b && nat_lt first.lock layout.buckets) (option_map ack_written (write_at (seen.journals first.lock) first.place)) None) has.0
+    ap (λ b. cond (b && nat_lt first.lock layout.buckets) (option_map ack_written (write_at (seen.journals first.lock) first.place)) None) has.made
     ∙ ap (λ b. cond b (option_map ack_written (write_at (seen.journals first.lock) first.place)) None) (lt-ltb first.lock layout.buckets below)
     ∙ ap (option_map ack_written) (at_end (seen.journals first.lock) first.place write is.2.1) ∙ ap Some same in
-    let none : ack_made layout seen second ≡ None = no_write_made layout seen second second.made refl (λ made. ap (option_and_then as_write) (has.1.2.made_is made)) in
-    ap (filter_map (ack_made layout seen)) has.1.1
-    ∙ ap (λ (o : Option Ack). cons_option o (cons_option (ack_made layout seen second) [])) here
-    ∙ ap (λ (o : Option Ack). record { id = order.id; version = version } ∷ cons_option o []) none
+    let none : ack_made layout seen last ≡ None = no_write_made layout seen last last.made refl (λ made. ap (option_and_then as_write) (has.settling.made_is made)) in
+    let rest : filter_map (ack_made layout seen) (has.downs ++ last ∷ []) ≡ [] =
+    filter_map-append (ack_made layout seen) has.downs (last ∷ [])
+    ∙ ap (λ (acks : List Ack). acks ++ cons_option (ack_made layout seen last) []) (downs-unmade layout seen first has.downs has.each)
+    ∙ ap (λ (o : Option Ack). cons_option o []) none in
+    ap (filter_map (ack_made layout seen)) has.stops_are
+    ∙ ap (λ (o : Option Ack). cons_option o (filter_map (ack_made layout seen) (has.downs ++ last ∷ []))) here
+    ∙ ap (λ (acks : List Ack). record { id = order.id; version = version } ∷ acks) rest
 one_by layout seen order timestamp (conflict version) stops first below is has = alone layout seen stops first has
 one_by layout seen order timestamp (partial name) stops first below is has = alone layout seen stops first has
 one_by layout seen order timestamp log_full stops first below is has = alone layout seen stops first has

@@ -7,7 +7,6 @@ use Rattle.sc_record.specs.declared.ack.Ack.{Ack}
 use Rattle.sc_record.specs.declared.order.Order.{Order}
 use Rattle.sc_journal.specs.Outcomes.{accepted}
 use Rattle.sc_seen.specs.Seen.{Layout}
-use Rattle.sc_seen.specs.Moments.{Moment}
 use Rattle.sc_seen.specs.Batches.{OrderAnswer, acknowledged, ack_of, add_of, delete_of, deletes, goes_on}
 use Rattle.sc_bucket.specs.declared.accept.Accepted.{Accepted}
 use Rattle.sc_bucket.specs.declared.accept.AcceptFault.{AcceptFault}
@@ -15,6 +14,7 @@ use Rattle.sc_bucket.specs.declared.accept.AcceptFault.TheVariants as faults
 use Rattle.sc_bucket.specs.Events.{outcome_of}
 use Rattle.sc_commands.specs.declared.batch.Flags.{Flags}
 use Rattle.sc_update.specs.declared.shown.Shown.{Shown}
+use Rattle.sc_update.specs.Updated.{UpdateMoment}
 use Rattle.sc_update.specs.Steps.{one_order, CarriesOut, EndsOne, ShowsMore, GrowsByOne, Takes, ending}
 use Rattle.sc_update.proofs.BatchLemmas.{Answered-none, going_on}
 
@@ -29,7 +29,7 @@ GrowsByOne-none true shown = record { adds = omega arith; adds_room = refl; dele
 GrowsByOne-none false shown = record { adds = omega arith; adds_room = refl; deleted = omega arith; deleted_room = refl }
 
 -- memory ran out before the order was carried out
-pub takes-none : {C : Type 0} (gives : C → ℕ → C → Type 0) (layout : Layout) (flags : Flags) (order : Order) (moment : Moment C) (shown : Shown)
+pub takes-none : {C : Type 0} (gives : C → ℕ → C → Type 0) (layout : Layout) (flags : Flags) (order : Order) (moment : UpdateMoment C) (shown : Shown)
     → Takes gives layout flags order (going_on moment shown) (record { moment = moment; shown = shown; ended = Some faults.Memory })
 takes-none gives layout flags order moment shown = record {
   answers = [];
@@ -72,7 +72,7 @@ refused-ends true faults.LogFull answer is = inl (answer, refl, is, ap (goes_on 
 refused-ends true faults.Memory answer is = inl (answer, refl, is, ap (goes_on true) is)
 
 -- an order that was refused
-pub takes-refused : {C : Type 0} (gives : C → ℕ → C → Type 0) (layout : Layout) (flags : Flags) (order : Order) (old new : Moment C) (shown : Shown) (fault : AcceptFault)
+pub takes-refused : {C : Type 0} (gives : C → ℕ → C → Type 0) (layout : Layout) (flags : Flags) (order : Order) (old new : UpdateMoment C) (shown : Shown) (fault : AcceptFault)
     → CarriesOut gives layout order old new (outcome_of (Err fault))
     → Takes gives layout flags order (going_on old shown) (record { moment = new; shown = shown; ended = ending flags.fail_on_conflict fault })
 takes-refused gives layout flags order old new shown fault carried = record {
@@ -84,7 +84,7 @@ takes-refused gives layout flags order old new shown fault carried = record {
 }
 
 -- an order that was accepted
-pub takes-accepted : {C : Type 0} (gives : C → ℕ → C → Type 0) (layout : Layout) (flags : Flags) (order : Order) (old new : Moment C) (shown more : Shown) (got : Accepted)
+pub takes-accepted : {C : Type 0} (gives : C → ℕ → C → Type 0) (layout : Layout) (flags : Flags) (order : Order) (old new : UpdateMoment C) (shown more : Shown) (got : Accepted)
     → CarriesOut gives layout order old new (outcome_of (Ok got))
     → ((answer : OrderAnswer) → answer.order ≡ order → answer.outcome ≡ accepted got.version → ShowsMore flags.versions (answer ∷ []) shown more)
     → GrowsByOne (deletes order.change) shown more

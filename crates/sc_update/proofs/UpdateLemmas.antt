@@ -10,15 +10,15 @@ use Rattle.sc_commands.specs.declared.batch.Batch.{Batch}
 use Rattle.sc_journal.specs.Journal.{as_write}
 use Rattle.sc_journal.specs.Outcomes.{Outcome, accepted, conflict, partial, log_full, out_of_memory}
 use Rattle.sc_seen.specs.Seen.{Layout, Seen, SeesMore}
-use Rattle.sc_seen.specs.Moments.{View, Moment, Keeps}
+use Rattle.sc_seen.specs.Moments.{View, Keeps}
 use Rattle.sc_seen.specs.Batches.{OrderAnswer, AnswersOrders, WritesOnce, ack_made, goes_on, order_stops}
 use Rattle.sc_seen.specs.Commits.{CommitOutcome, committed_now, commit_full, commit_out_of_memory, CommitAnswer, IsCommitOutcome, IsCommitAnswer, commit_stops, worst}
 use Rattle.sc_seen.specs.declared.stop.Stop.{Stop}
-use Rattle.sc_seen.proofs.GoesOnLemmas.{Keeps-then, Keeps-sees}
+use Rattle.sc_seen.proofs.GoesOnLemmas.{SeesMore-self, Keeps-then, Keeps-sees}
 use Rattle.sc_bucket.specs.declared.commit.CommitFault.{CommitFault}
 use Rattle.sc_update.specs.declared.end.BatchEnd.{BatchEnd}
 use Rattle.sc_update.specs.declared.end.BatchFault.{BatchFault}
-use Rattle.sc_update.specs.Updated.{UpdateEnd, finished, refused, ran_out, OrdersEnd, CommitsAsked, CommitsEnd, order_fault, commit_fault, reported, Shows, IsUpdated}
+use Rattle.sc_update.specs.Updated.{UpdateMoment, UpdateEnd, finished, refused, ran_out, OrdersEnd, CommitsAsked, CommitsEnd, order_fault, commit_fault, reported, Shows, IsUpdated}
 use Rattle.sc_collection.specs.Committing.{CommitsAll, commit_outcome}
 use Rattle.sc_update.specs.Steps.{AnswersAll}
 use Rattle.sc_update.proofs.OnceLemmas.{orders_once, unmade, no_write_made}
@@ -86,19 +86,21 @@ none_committed layout seen batch answers (refused last) end uncommitted fault id
 none_committed layout seen batch answers ran_out end uncommitted fault idle = refl
 
 -- an update without commits
-pub updated-idle : {C : Type 0} (gives : C → ℕ → C → Type 0) (layout : Layout) (batch : Batch) (old new : Moment C) (end : BatchEnd)
+pub updated-idle : {C : Type 0} (gives : C → ℕ → C → Type 0) (layout : Layout) (batch : Batch) (old new : UpdateMoment C) (end : BatchEnd)
     → AnswersAll gives layout batch old new end → (end.fault ≡ None → batch.flags.commit ≡ false)
     → IsUpdated gives layout batch old new end
 updated-idle gives layout batch old new end all idle = record {
   answers = answers;
   commits = [];
   how = all.how;
-  keeps = subst (Keeps layout old.view new.view) same all.answered.keeps;
+  keeps = subst (Keeps layout old.moment.view new.moment.view) same all.answered.keeps;
   timestamps = all.answered.timestamps;
   answered = all.answered.answered;
   ends = λ later more. (all.ends, none_committed layout later batch answers all.how end all.uncommitted all.reports.fault idle);
   once = λ later more. subst (λ (stops : List Stop). WritesOnce layout later stops answers) same
       (orders_once layout later answers (all.answered.answered later more).each all.answered.located);
+  notes = all.answered.notes new.moment.view.seen (SeesMore-self new.moment.view.seen);
+  unasked = all.answered.unasked;
   reports = all.reports;
 }
   where
@@ -109,16 +111,16 @@ updated-idle gives layout batch old new end all idle = record {
     same = sym (append-nil (order_stops answers))
 
 -- an update whose orders went on to the end, and whose buckets were committed then
-pub updated-committed : {C : Type 0} (gives : C → ℕ → C → Type 0) (layout : Layout) (batch : Batch) (old between : Moment C) (new : View) (before end : BatchEnd) (fault : Option CommitFault)
+pub updated-committed : {C : Type 0} (gives : C → ℕ → C → Type 0) (layout : Layout) (batch : Batch) (old between : UpdateMoment C) (new : View) (before end : BatchEnd) (fault : Option CommitFault)
     → AnswersAll gives layout batch old between before → before.fault ≡ None → batch.flags.commit ≡ true
-    → CommitsAll layout layout.buckets between.view new fault
+    → CommitsAll layout layout.buckets between.moment.view new fault
     → end.adds ≡ before.adds → end.deletes ≡ before.deletes → end.fault ≡ commit_fault (commit_outcome fault)
-    → IsUpdated gives layout batch old (record { view = new; clock = between.clock }) end
+    → IsUpdated gives layout batch old (record { moment = record { view = new; clock = between.moment.clock }; reach = between.reach }) end
 updated-committed gives layout batch old between new before end fault all none asked far adds deleted told = record {
   answers = answers;
   commits = commits;
   how = finished (worst commits);
-  keeps = Keeps-then layout old.view between.view new (order_stops answers) (commit_stops commits) all.answered.keeps far.keeps;
+  keeps = Keeps-then layout old.moment.view between.moment.view new (order_stops answers) (commit_stops commits) all.answered.keeps far.keeps;
   timestamps = all.answered.timestamps;
   answered = answered;
   ends = λ later more. (
@@ -127,6 +129,8 @@ updated-committed gives layout batch old between new before end fault all none a
   );
   once = λ later more. once_committed layout later (order_stops answers) answers commits
       (orders_once layout later answers (answered later more).each all.answered.located) (far.answered later more).each;
+  notes = all.answered.notes new.seen (Keeps-sees layout between.moment.view new (commit_stops commits) far.keeps new.seen (SeesMore-self new.seen));
+  unasked = all.answered.unasked;
   reports = record {
     fault = told ∙ ap commit_fault (sym far.worst_is);
     shown = shows_same batch.flags.versions answers before end adds deleted all.reports.shown;
@@ -140,4 +144,4 @@ updated-committed gives layout batch old between new before end fault all none a
     commits = far.answers
 
     answered : (later : Seen) → SeesMore new.seen later → AnswersOrders layout later batch.flags.fail_on_conflict batch.orders answers
-    answered later more = all.answered.answered later (Keeps-sees layout between.view new (commit_stops commits) far.keeps later more)
+    answered later more = all.answered.answered later (Keeps-sees layout between.moment.view new (commit_stops commits) far.keeps later more)

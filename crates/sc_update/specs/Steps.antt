@@ -7,8 +7,8 @@ use Rattle.sc_router.specs.Route.{bucket_of}
 use Rattle.sc_journal.specs.Journal.{write_at, is_settled}
 use Rattle.sc_journal.specs.Outcomes.{Outcome, IsOutcome}
 use Rattle.sc_seen.specs.Seen.{Layout, Seen, FromNowOn, basis_of, journal_at}
-use Rattle.sc_seen.specs.Moments.{View, Moment, Keeps}
-use Rattle.sc_seen.specs.Batches.{OrderAnswer, AnswersOrders, GivesTimestamps, IsSettling, goes_on, deletes, accepted_adds, accepted_deletes, order_stops, order_timestamps}
+use Rattle.sc_seen.specs.Moments.{View, Keeps}
+use Rattle.sc_seen.specs.Batches.{OrderAnswer, AnswersOrders, GivesTimestamps, IsSettling, goes_on, deletes, accepted_adds, accepted_deletes, order_stops, down_stops, order_timestamps}
 use Rattle.sc_seen.specs.Commits.{CommitOutcome, committed_now}
 use Rattle.sc_seen.specs.declared.stop.Stop.{Stop}
 use Rattle.sc_bucket.specs.Sound.{IsSound}
@@ -18,13 +18,14 @@ use Rattle.sc_bucket.specs.declared.accept.Accepted.{Accepted}
 use Rattle.sc_bucket.specs.declared.accept.AcceptFault.{AcceptFault}
 use Rattle.sc_bucket.specs.declared.accept.AcceptFault.TheVariants as accept_faults
 use Rattle.sc_collection.specs.Desks.{Out, nothing_out, IsBucketOf}
+use Rattle.sc_collection.specs.Downs.{NotesDowns}
 use Rattle.sc_commands.specs.declared.batch.Batch.{Batch}
 use Rattle.sc_commands.specs.declared.batch.Flags.{Flags}
 use Rattle.sc_update.specs.declared.end.BatchEnd.{BatchEnd}
 use Rattle.sc_update.specs.declared.order.Delivery.{Delivery}
 use Rattle.sc_update.specs.declared.order.Delivery.TheVariants as deliveries
 use Rattle.sc_update.specs.declared.shown.Shown.{Shown}
-use Rattle.sc_update.specs.Updated.{UpdateEnd, finished, OrdersEnd, ReportsEnd}
+use Rattle.sc_update.specs.Updated.{UpdateMoment, UpdateEnd, finished, OrdersEnd, ReportsEnd}
 
 -- Holds of the bucket of a lock made no entry. Of its journal more may be seen, which others made; all else that was seen stayed.
 pub record MakeNoEntry (old new : Seen) (lock : ℕ) : Type 0 where
@@ -65,11 +66,14 @@ pub record SettlesFirst (layout : Layout) (old new : View) (first : Stop) : Type
   pub settling : FromNowOn new.seen (λ later. IsSettling later first second)
 
 -- Orders of a batch were answered in turn, up to one of them, each at a timestamp that the clock gave for it and at its own stops. The
--- bucket of each one's id is one of the collection's.
-pub record Answered {C : Type 0} (gives : C → ℕ → C → Type 0) (layout : Layout) (batch : Batch) (old new : Moment C) (answers : List OrderAnswer) : Type 0 where
-  pub keeps : Keeps layout old.view new.view (order_stops answers)
-  pub timestamps : GivesTimestamps gives old.clock (order_timestamps answers) new.clock
-  pub answered : FromNowOn new.view.seen (λ later. AnswersOrders layout later batch.flags.fail_on_conflict batch.orders answers)
+-- bucket of each one's id is one of the collection's. Of the cores that they noted as down the nodes could not be reached; where no
+-- order was answered, no node was asked.
+pub record Answered {C : Type 0} (gives : C → ℕ → C → Type 0) (layout : Layout) (batch : Batch) (old new : UpdateMoment C) (answers : List OrderAnswer) : Type 0 where
+  pub keeps : Keeps layout old.moment.view new.moment.view (order_stops answers)
+  pub timestamps : GivesTimestamps gives old.moment.clock (order_timestamps answers) new.moment.clock
+  pub answered : FromNowOn new.moment.view.seen (λ later. AnswersOrders layout later batch.flags.fail_on_conflict batch.orders answers)
+  pub notes : FromNowOn new.moment.view.seen (λ later. NotesDowns layout later (down_stops answers) old.reach new.reach)
+  pub unasked : answers ≡ [] → new.reach ≡ old.reach
   pub located : AllByRecursion (λ (answer : OrderAnswer). bucket_of answer.order.id layout.buckets < layout.buckets) answers
 
 -- a batch of one order
@@ -77,7 +81,7 @@ abbrev pub one_order : Flags → Order → Batch
 one_order flags order = record { orders = order ∷ []; flags = flags }
 
 -- one order was carried out, with this outcome
-pub record CarriesOut {C : Type 0} (gives : C → ℕ → C → Type 0) (layout : Layout) (order : Order) (old new : Moment C) (outcome : Outcome) : Type 0 where
+pub record CarriesOut {C : Type 0} (gives : C → ℕ → C → Type 0) (layout : Layout) (order : Order) (old new : UpdateMoment C) (outcome : Outcome) : Type 0 where
   pub answer : OrderAnswer
   pub order_is : answer.order ≡ order
   pub outcome_is : answer.outcome ≡ outcome
@@ -120,7 +124,7 @@ pub record GrowsByOne (deletion : Bool) (old new : Shown) : Type 0 where
 
 -- how far an update is: what stands, what is shown of its answers so far, and the fault at which its orders ended, if they did
 pub record UpdateProgress (C : Type 0) : Type 0 where
-  pub moment : Moment C
+  pub moment : UpdateMoment C
   pub shown : Shown
   pub ended : Option AcceptFault
 
@@ -133,7 +137,7 @@ pub record Takes {C : Type 0} (gives : C → ℕ → C → Type 0) (layout : Lay
   pub ends : EndsOne flags.fail_on_conflict answers new.ended
 
 -- The orders of a batch were answered, up to one of them, and what was accepted is shown. Nothing was committed.
-pub record AnswersAll {C : Type 0} (gives : C → ℕ → C → Type 0) (layout : Layout) (batch : Batch) (old new : Moment C) (end : BatchEnd) : Type 0 where
+pub record AnswersAll {C : Type 0} (gives : C → ℕ → C → Type 0) (layout : Layout) (batch : Batch) (old new : UpdateMoment C) (end : BatchEnd) : Type 0 where
   pub answers : List OrderAnswer
   pub how : UpdateEnd
   pub answered : Answered gives layout batch old new answers

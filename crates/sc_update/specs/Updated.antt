@@ -1,15 +1,27 @@
--- What an update leaves of its desk, its clock and its trail, and what it reports.
+-- What an update leaves of its desk, its clock, its hosts and its trail, and what it reports.
 use Rattle.std.specs.Prelude.{◌≡◌, ℕ, ◌-◌, Bool, true, false, List, [], ◌++◌, length, Option, Some, None}
 use Rattle.sc_commands.specs.declared.batch.Batch.{Batch}
+use Rattle.sc_io.specs.Hosts.{Reached}
 use Rattle.sc_journal.specs.Journal.{last_of}
 use Rattle.sc_journal.specs.Outcomes.{Outcome, accepted, conflict, partial, log_full, out_of_memory}
 use Rattle.sc_seen.specs.Seen.{Layout, Seen, FromNowOn}
-use Rattle.sc_seen.specs.Moments.{Moment, Keeps}
-use Rattle.sc_seen.specs.Batches.{OrderAnswer, AnswersOrders, GoOn, WritesOnce, GivesTimestamps, goes_on, accepted_adds, accepted_deletes, order_stops, order_timestamps}
+use Rattle.sc_seen.specs.Moments.{Moment, moment_of, Keeps}
+use Rattle.sc_seen.specs.Batches.{OrderAnswer, AnswersOrders, GoOn, WritesOnce, GivesTimestamps, goes_on, accepted_adds, accepted_deletes, order_stops, down_stops, order_timestamps}
 use Rattle.sc_seen.specs.Commits.{CommitOutcome, committed_now, commit_full, commit_out_of_memory, CommitAnswer, AnswersCommits, commit_stops, worst}
+use Rattle.sc_seen.specs.declared.stop.Stop.{Stop}
+use Rattle.sc_collection.specs.Downs.{NotesDowns}
 use Rattle.sc_update.specs.declared.end.BatchEnd.{BatchEnd}
 use Rattle.sc_update.specs.declared.end.BatchFault.{BatchFault}
 use Rattle.sc_update.specs.declared.end.BatchFault.TheVariants as faults
+
+-- what stands at one moment of an update: what was looked at so far, the clock, and which nodes could not be reached
+pub record UpdateMoment (C : Type 0) : Type 0 where
+  pub moment : Moment C
+  pub reach : Reached
+
+-- the moment at which that stands: what was seen, the stops that were kept, the clock, and the nodes
+abbrev pub update_moment : {C : Type 0} → Seen → List Stop → C → Reached → UpdateMoment C
+update_moment seen stops clock reach = record { moment = moment_of seen stops clock; reach = reach }
 
 -- how an update ended
 pub data UpdateEnd : Type 0 where
@@ -75,14 +87,17 @@ pub record ReportsEnd (batch : Batch) (answers : List OrderAnswer) (how : Update
   pub shown : Shows batch.flags.versions answers end
 
 -- The orders of a batch were answered in turn, each at a timestamp that the clock gave for it and at its own stops, and then the
--- buckets were committed, if they were; the stops were kept, and what was seen went on by them.
-pub record IsUpdated {C : Type 0} (gives : C → ℕ → C → Type 0) (layout : Layout) (batch : Batch) (old new : Moment C) (end : BatchEnd) : Type 0 where
+-- buckets were committed, if they were; the stops were kept, and what was seen went on by them. Of the cores that orders noted as down
+-- the nodes could not be reached; where no order was answered, no node was asked.
+pub record IsUpdated {C : Type 0} (gives : C → ℕ → C → Type 0) (layout : Layout) (batch : Batch) (old new : UpdateMoment C) (end : BatchEnd) : Type 0 where
   pub answers : List OrderAnswer
   pub commits : List CommitAnswer
   pub how : UpdateEnd
-  pub keeps : Keeps layout old.view new.view (order_stops answers ++ commit_stops commits)
-  pub timestamps : GivesTimestamps gives old.clock (order_timestamps answers) new.clock
-  pub answered : FromNowOn new.view.seen (λ later. AnswersOrders layout later batch.flags.fail_on_conflict batch.orders answers)
-  pub ends : FromNowOn new.view.seen (λ later. Ends layout later batch answers commits how)
-  pub once : FromNowOn new.view.seen (λ later. WritesOnce layout later (order_stops answers ++ commit_stops commits) answers)
+  pub keeps : Keeps layout old.moment.view new.moment.view (order_stops answers ++ commit_stops commits)
+  pub timestamps : GivesTimestamps gives old.moment.clock (order_timestamps answers) new.moment.clock
+  pub answered : FromNowOn new.moment.view.seen (λ later. AnswersOrders layout later batch.flags.fail_on_conflict batch.orders answers)
+  pub ends : FromNowOn new.moment.view.seen (λ later. Ends layout later batch answers commits how)
+  pub once : FromNowOn new.moment.view.seen (λ later. WritesOnce layout later (order_stops answers ++ commit_stops commits) answers)
+  pub notes : NotesDowns layout new.moment.view.seen (down_stops answers) old.reach new.reach
+  pub unasked : answers ≡ [] → new.reach ≡ old.reach
   pub reports : ReportsEnd batch answers how end

@@ -1,11 +1,10 @@
 ghost use Rattle.std.specs.Prelude.{◌≡◌, ◌+◌, ◌*◌, ◌≤◌, length, Some, None, Err, true, false};
-ghost use Rattle.sc_seen.specs.Moments.{moment_of};
 ghost use Rattle.sc_seen.specs.Batches.{deletes};
 ghost use Rattle.sc_bucket.specs.Events.{outcome_of};
 ghost use Rattle.sc_collection.specs.Desks.{IsDeskAtRest};
 ghost use Rattle.sc_collection.specs.Kept.{trail_room};
 ghost use Rattle.sc_record.specs.Orders.{order_limit};
-ghost use Rattle.sc_update.specs.Updated.{IsUpdated, order_fault, commit_fault};
+ghost use Rattle.sc_update.specs.Updated.{update_moment, IsUpdated, order_fault, commit_fault};
 ghost use Rattle.sc_collection.specs.Committing.{commit_outcome};
 ghost use Rattle.sc_update.specs.Steps.{AnswersAll, Takes, HasRoomToShowOne, ending};
 
@@ -15,7 +14,7 @@ use crate::shown::{Shown, is_deletion, shown_id};
 use sc_bucket::{AcceptFault, CommitFault};
 use sc_collection::{Desk, Trail, commit_all};
 use sc_commands::{Batch, Flags};
-use sc_io::Clock;
+use sc_io::{Clock, Hosts};
 use sc_record::{Ack, Order};
 use std::alloc::Global;
 
@@ -27,15 +26,17 @@ use std::alloc::Global;
 /// entry, since a desk does not show what is in flight. The first of them that finds no message of the write, or the hold after
 /// them, settles the write. The hold that carries out the order and the one that settles its write are the order's stops of the
 /// trail. The orders end at the first that is not accepted, but a conflict is passed over where the batch says so. The lists of
-/// what is shown take their room first: where there is none, memory ran out and nothing was accepted.
+/// what is shown take their room first: where there is none, memory ran out and nothing was accepted. The hosts are asked nothing,
+/// and no order notes a core as down.
 ///
 /// A commit holds each bucket in turn, one stop each (Solr Reference Guide, "Commits and Transaction Logs"). One that is refused
 /// leaves its bucket as it was and does not end the round. Then memory ran out where it did in some bucket; else the log is full
 /// where it was in one.
-pub fn update<D: Desk, C: Clock>(
+pub fn update<D: Desk, C: Clock, H: Hosts>(
     alloc: Global,
     desk: &mut D,
     clock: &mut C,
+    hosts: &mut H,
     trail: &mut Trail,
     batch: &Batch,
 ) -> BatchEnd
@@ -43,12 +44,16 @@ pub fn update<D: Desk, C: Clock>(
     requires orders { length batch.now.orders ≤ order_limit }
     requires room { length trail.old.stops + 2 * length batch.now.orders + (D.layout desk.old).buckets ≤ trail_room }
     ensures updated { IsUpdated C.gives (D.layout desk.old) batch.now
-        (moment_of (D.seen desk.old) trail.old.stops clock.old) (moment_of (D.seen desk.new) trail.new.stops clock.new) result }
+        (update_moment (D.seen desk.old) trail.old.stops clock.old (H.reached hosts.old))
+        (update_moment (D.seen desk.new) trail.new.stops clock.new (H.reached hosts.new)) result }
     ensures layout { D.layout desk.new ≡ D.layout desk.old }
     ensures rest { IsDeskAtRest (D.layout desk.new) (D.out desk.new) (D.seen desk.new) }
+    ensures cores { H.started hosts.new ≡ H.started hosts.old }
+    ensures start_faults { H.start_faults hosts.new ≡ H.start_faults hosts.old }
+    ensures stop_faults { H.stop_faults hosts.new ≡ H.stop_faults hosts.old }
     ensures requests { trail.new.requests ≡ trail.old.requests }
 {
-    let mut end = take_orders(alloc, desk, clock, trail, batch);
+    let mut end = take_orders(alloc, desk, clock, hosts, trail, batch);
     if batch.flags.commit && end.fault.is_none() {
         end.fault = commit_fault(commit_all(alloc, desk, trail));
     }
@@ -67,10 +72,11 @@ fn commit_fault(fault: Option<CommitFault>) -> Option<BatchFault>
 }
 
 /// Carries out the orders of a batch one after another.
-fn take_orders<D: Desk, C: Clock>(
+fn take_orders<D: Desk, C: Clock, H: Hosts>(
     alloc: Global,
     desk: &mut D,
     clock: &mut C,
+    hosts: &mut H,
     trail: &mut Trail,
     batch: &Batch,
 ) -> BatchEnd
@@ -78,10 +84,14 @@ fn take_orders<D: Desk, C: Clock>(
     requires orders { length batch.now.orders ≤ order_limit }
     requires room { length trail.old.stops + 2 * length batch.now.orders ≤ trail_room }
     ensures answers { AnswersAll C.gives (D.layout desk.old) batch.now
-        (moment_of (D.seen desk.old) trail.old.stops clock.old) (moment_of (D.seen desk.new) trail.new.stops clock.new) result }
+        (update_moment (D.seen desk.old) trail.old.stops clock.old (H.reached hosts.old))
+        (update_moment (D.seen desk.new) trail.new.stops clock.new (H.reached hosts.new)) result }
     ensures layout { D.layout desk.new ≡ D.layout desk.old }
     ensures rest { IsDeskAtRest (D.layout desk.new) (D.out desk.new) (D.seen desk.new) }
     ensures stops { length trail.new.stops ≤ length trail.old.stops + 2 * length batch.now.orders }
+    ensures cores { H.started hosts.new ≡ H.started hosts.old }
+    ensures start_faults { H.start_faults hosts.new ≡ H.start_faults hosts.old }
+    ensures stop_faults { H.stop_faults hosts.new ≡ H.stop_faults hosts.old }
     ensures requests { trail.new.requests ≡ trail.old.requests }
 {
     let orders = batch.orders.as_slice();
@@ -90,7 +100,16 @@ fn take_orders<D: Desk, C: Clock>(
         Err(_) => return Shown::none(alloc).end(Some(BatchFault::Memory)),
     };
     for (at, order) in orders.iter().enumerate() {
-        let end = take_order(alloc, desk, clock, trail, &mut shown, order, batch.flags);
+        let end = take_order(
+            alloc,
+            desk,
+            clock,
+            hosts,
+            trail,
+            &mut shown,
+            order,
+            batch.flags,
+        );
         if let Some(fault) = end {
             return shown.end(Some(order_fault(at, fault)));
         }
@@ -99,10 +118,11 @@ fn take_orders<D: Desk, C: Clock>(
 }
 
 /// Carries out one order, and shows what was accepted where versions are asked for. A fault is reported where orders end at it.
-fn take_order<D: Desk, C: Clock>(
+fn take_order<D: Desk, C: Clock, H: Hosts>(
     alloc: Global,
     desk: &mut D,
     clock: &mut C,
+    hosts: &mut H,
     trail: &mut Trail,
     shown: &mut Shown,
     order: &Order,
@@ -112,18 +132,21 @@ fn take_order<D: Desk, C: Clock>(
     requires room { length trail.old.stops + 2 ≤ trail_room }
     requires shows { flags.versions ≡ true → HasRoomToShowOne (deletes order.now.change) shown.old }
     ensures takes { Takes C.gives (D.layout desk.old) flags order.now
-        (record { moment = moment_of (D.seen desk.old) trail.old.stops clock.old; shown = shown.old; ended = None })
-        (record { moment = moment_of (D.seen desk.new) trail.new.stops clock.new; shown = shown.new; ended = result }) }
+        (record { moment = update_moment (D.seen desk.old) trail.old.stops clock.old (H.reached hosts.old); shown = shown.old; ended = None })
+        (record { moment = update_moment (D.seen desk.new) trail.new.stops clock.new (H.reached hosts.new); shown = shown.new; ended = result }) }
     ensures layout { D.layout desk.new ≡ D.layout desk.old }
     ensures rest { IsDeskAtRest (D.layout desk.new) (D.out desk.new) (D.seen desk.new) }
     ensures stops { length trail.new.stops ≤ length trail.old.stops + 2 }
+    ensures cores { H.started hosts.new ≡ H.started hosts.old }
+    ensures start_faults { H.start_faults hosts.new ≡ H.start_faults hosts.old }
+    ensures stop_faults { H.stop_faults hosts.new ≡ H.stop_faults hosts.old }
     ensures requests { trail.new.requests ≡ trail.old.requests }
 {
     let id = match shown_id(alloc, &order.id, flags.versions) {
         Ok(id) => id,
         Err(_) => return Some(AcceptFault::Memory),
     };
-    match carry_out(alloc, desk, clock, trail, order) {
+    match carry_out(alloc, desk, clock, hosts, trail, order) {
         Ok(accepted) => {
             let version = accepted.version;
             match id {

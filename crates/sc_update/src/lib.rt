@@ -1,9 +1,10 @@
 //! One update: its orders, carried out one after another over a desk, and the commit of each bucket after them where it is asked
 //! for (Solr Reference Guide, "Indexing with Update Handlers").
 //!
-//! It depends on the clauses of any `Desk`, on the commit of all its buckets (`sc_collection`'s `commit_all`) and on any `Clock`. The layers above use the clause `updated` of `update`: each order
-//! is answered as the journal of its bucket has it at the order's stop, and each commit as that of its bucket has it at the
-//! commit's.
+//! It depends on the clauses of any `Desk`, on the commit of all its buckets (`sc_collection`'s `commit_all`), on any `Clock` and on any
+//! `Hosts`. The layers above use the clause `updated` of `update`: each order is answered as the journal of its bucket has it at the
+//! order's stop, and each commit as that of its bucket has it at the commit's; and of the cores that orders noted as down the nodes
+//! could not be reached. No node is asked, and no core noted.
 //!
 //! Proved: `update` over any desk: each order of a batch is answered as the journal of its bucket has it at the order's stops
 //! (`IsUpdated`), up to the first that is refused, or past conflicts if asked; the lists of what was accepted; then, if that

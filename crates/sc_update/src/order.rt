@@ -1,16 +1,17 @@
 ghost use Rattle.std.specs.Prelude.{◌≡◌, ◌<◌, ◌+◌, ◌≤◌, [], ◌∷◌, IsSome, length};
 ghost use Rattle.sc_router.specs.Route.{bucket_of};
 ghost use Rattle.sc_journal.specs.Journal.{write_at};
-ghost use Rattle.sc_seen.specs.Moments.{view_of, moment_of, Keeps};
+ghost use Rattle.sc_seen.specs.Moments.{view_of, Keeps};
 ghost use Rattle.sc_bucket.specs.Sound.{IsSound};
 ghost use Rattle.sc_bucket.specs.Events.{outcome_of};
 ghost use Rattle.sc_collection.specs.Kept.{trail_room};
 ghost use Rattle.sc_collection.specs.Desks.{nothing_out, IsDeskAtRest};
+ghost use Rattle.sc_update.specs.Updated.{update_moment};
 ghost use Rattle.sc_update.specs.Steps.{MakeNoEntry, Holds, HoldsWhereIdle, Tries, SettlesFirst, SettlesWhere, CarriesOut};
 
 use sc_bucket::{AcceptFault, Accepted, Bucket};
 use sc_collection::{Desk, Stop, Trail};
-use sc_io::Clock;
+use sc_io::{Clock, Hosts};
 use sc_record::Order;
 use sc_router::bucket_of;
 use std::alloc::Global;
@@ -130,20 +131,25 @@ fn settle_write(bucket: &mut Bucket, place: u64) -> bool
 }
 
 /// Carries out one order at the time that the clock reports, and settles its write where it is accepted.
-pub(crate) fn carry_out<D: Desk, C: Clock>(
+pub(crate) fn carry_out<D: Desk, C: Clock, H: Hosts>(
     alloc: Global,
     desk: &mut D,
     clock: &mut C,
+    hosts: &mut H,
     trail: &mut Trail,
     order: &Order,
 ) -> Result<Accepted, AcceptFault>
     requires nothing_out { D.out desk.old ≡ nothing_out }
     requires room { length trail.old.stops + 2 ≤ trail_room }
     ensures carried { CarriesOut C.gives (D.layout desk.old) order.now
-        (moment_of (D.seen desk.old) trail.old.stops clock.old) (moment_of (D.seen desk.new) trail.new.stops clock.new) (outcome_of result) }
+        (update_moment (D.seen desk.old) trail.old.stops clock.old (H.reached hosts.old))
+        (update_moment (D.seen desk.new) trail.new.stops clock.new (H.reached hosts.new)) (outcome_of result) }
     ensures layout { D.layout desk.new ≡ D.layout desk.old }
     ensures rest { IsDeskAtRest (D.layout desk.new) (D.out desk.new) (D.seen desk.new) }
     ensures stops { length trail.new.stops ≤ length trail.old.stops + 2 }
+    ensures cores { H.started hosts.new ≡ H.started hosts.old }
+    ensures start_faults { H.start_faults hosts.new ≡ H.start_faults hosts.old }
+    ensures stop_faults { H.stop_faults hosts.new ≡ H.stop_faults hosts.old }
     ensures requests { trail.new.requests ≡ trail.old.requests }
 {
     let now = clock.now();

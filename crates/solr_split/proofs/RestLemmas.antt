@@ -12,11 +12,12 @@ use Rattle.sc_seen.specs.declared.board.BoardEntry.{BoardEntry}
 use Rattle.sc_seen.specs.declared.board.BoardEntry.TheVariants as board
 use Rattle.sc_seen.specs.declared.stop.Stop.{Stop}
 use Rattle.sc_seen.specs.Board.{running_after, running_split}
-use Rattle.sc_seen.specs.Seen.{Layout, Seen, Extends}
+use Rattle.sc_seen.specs.Batches.{OrderAnswer}
+use Rattle.sc_seen.specs.Seen.{opened_at, Opened, nothing_opened, Layout, Seen, Extends}
 use Rattle.sc_seen.proofs.BoardLemmas.{running_split-push}
 use Rattle.sc_seen.proofs.ExtendsLemmas.{IsPrefix-length}
 use Rattle.sc_collection.specs.Alone.{AloneState, seen_alone, places, entries_alone, pass_places, journal_of}
-use Rattle.sc_collection.specs.Shapes.{SeesNothing}
+use Rattle.sc_collection.proofs.RestLemmas.{SeesNothing}
 use Rattle.sc_split.specs.Splits.{Course, refused, given_up, done, noted_by}
 use Rattle.sc_admin.specs.Deletes as deletes
 use Rattle.sc_session.specs.Commands.{CommandEnd, no_command, split_ended, delete_ended, Situation, Leaves}
@@ -118,15 +119,16 @@ noted_of (split_ended asked first course end) = noted_by course
 noted_of (delete_ended shard first course end) = deletes.noted_by_delete course
 
 -- so the board goes on by that and by nothing else
-pub board_after_request : (layout : Layout) (stops : List Stop) (end : CommandEnd) (old new : Situation) → Leaves layout stops end old new
+pub board_after_request : (layout : Layout) (answered : List OrderAnswer) (stops : List Stop) (end : CommandEnd) (old new : Situation)
+    → Leaves layout answered stops end old new
     → IsPrefix old.seen.board new.seen.board → OwnsAll layout old.seen → OwnsAll layout new.seen
     → new.seen.board ≡ old.seen.board ++ noted_of end
-board_after_request layout stops no_command old new leaves begins owned owns =
+board_after_request layout answered stops no_command old new leaves begins owned owns =
     let own = leaves.board_own ∙ sym (append-nil (old.seen.own layout.buckets)) in
     notes_only layout old.seen new.seen new.seen.board [] 0 owned owns begins (sym (append-nil new.seen.board)) own
-board_after_request layout stops (split_ended asked first course end) old new leaves begins owned owns =
+board_after_request layout answered stops (split_ended asked first course end) old new leaves begins owned owns =
     notes_only layout old.seen new.seen leaves.board.before (noted_by course) first.place owned owns begins leaves.board.board_is leaves.board.own
-board_after_request layout stops (delete_ended shard first course end) old new leaves begins owned owns =
+board_after_request layout answered stops (delete_ended shard first course end) old new leaves begins owned owns =
     notes_only layout old.seen new.seen (take first.place new.seen.board) (deletes.noted_by_delete course) first.place owned owns begins leaves.board leaves.own
 
 -- ---- which split runs then
@@ -159,11 +161,12 @@ over_after_noted entries no_command none = ap running_split (append-nil entries)
 over_after_noted entries (split_ended asked first course end) none = over_after_split entries course none
 over_after_noted entries (delete_ended shard first course end) none = over_after_delete entries course none
 
-over_after_request : (layout : Layout) (stops : List Stop) (end : CommandEnd) (old new : Situation) → Leaves layout stops end old new
+over_after_request : (layout : Layout) (answered : List OrderAnswer) (stops : List Stop) (end : CommandEnd) (old new : Situation)
+    → Leaves layout answered stops end old new
     → IsPrefix old.seen.board new.seen.board → OwnsAll layout old.seen → OwnsAll layout new.seen
     → running_split old.seen.board ≡ None → running_split new.seen.board ≡ None
-over_after_request layout stops end old new leaves begins owned owns none =
-    ap running_split (board_after_request layout stops end old new leaves begins owned owns) ∙ over_after_noted old.seen.board end none
+over_after_request layout answered stops end old new leaves begins owned owns none =
+    ap running_split (board_after_request layout answered stops end old new leaves begins owned owns) ∙ over_after_noted old.seen.board end none
 
 -- nor after exchanges
 over_after_all : (layout : Layout) (old new : Situation) (exchanges : List Exchange) → AreExchanges layout old.seen exchanges new.seen
@@ -175,7 +178,7 @@ over_after_all layout old new (x ∷ exchanges) each rest within owns none =
     let within_x = seen_after layout old.seen x.seen x.trace.stops extends within in
     let owned_x = owned_before_all layout x.seen new.seen exchanges each.1 within_x owns in
     let owned = owned_before layout old.seen x.seen x.trace.stops extends within owned_x in
-    let none_x = over_after_request layout x.trace.stops x.trace.command old (situation_after x) rest.0 extends.board owned owned_x none in
+    let none_x = over_after_request layout x.trace.answers x.trace.stops x.trace.command old (situation_after x) rest.0 extends.board owned owned_x none in
     over_after_all layout (situation_after x) new exchanges each.1 rest.1 within_x owns none_x
 
 -- ---- a whole connection
@@ -194,10 +197,15 @@ over_after_connection gives layout before after end served nothing owns =
     (owns_nothing layout old.seen nothing) owns
     (ap running_split nothing.board)
 
--- a desk for one thread sees all entries of the board as its own
-pub owns_all : (desk : AloneState) (layout : Layout) → desk.layout ≡ layout → OwnsAll layout (seen_alone desk)
-owns_all desk layout same = subst (λ (l : Layout). OwnsAll l (seen_alone desk)) same here where
+-- a desk for one thread over which nothing was opened sees all entries of the board as its own
+pub owns_all : (desk : AloneState) (layout : Layout) → desk.layout ≡ layout → layout.opened ≡ nothing_opened → OwnsAll layout (seen_alone desk)
+owns_all desk layout same new = subst (λ (l : Layout). OwnsAll l (seen_alone desk)) same here where
+  none : desk.layout.opened ≡ nothing_opened
+  none = ap (λ (l : Layout). l.opened) same ∙ new
+
   here : OwnsAll desk.layout (seen_alone desk)
   here =
       let itself : (desk.layout.buckets == desk.layout.buckets) ≡ true = grind (arith, nat_tests) in
-      ap (λ b. cond b (places (entries_alone desk)) (pass_places (journal_of desk desk.layout.buckets))) itself
+      ap (λ b. cond b (places desk.layout.opened.board (entries_alone desk))
+      (pass_places (opened_at desk.layout.opened desk.layout.buckets) (journal_of desk desk.layout.buckets))) itself
+      ∙ ap (λ (opened : Opened). places opened.board (entries_alone desk)) none

@@ -1,26 +1,25 @@
 -- Once a connection was served, the cores that are started are those of the board's map, where they were so before it.
-use Rattle.std.proofs.Common.{◌≡◌, inl, inr, ◌∙◌, ℕ, ◌≤◌, true, false, List, [], ◌∷◌, ◌++◌, map, take, Contains, sym, ap, subst, arith}
+use Rattle.std.proofs.Common.{◌≡◌, inl, inr, ◌∙◌, ℕ, ◌≤◌, true, false, List, [], ◌∷◌, ◌++◌, take, Contains, sym, ap, subst, arith}
 use Rattle.std.specs.Prelude.{⊤}
-use Rattle.std.proofs.lemmas.List.{map-append, append-nil, append_cancel_right}
+use Rattle.std.proofs.lemmas.List.{append-nil, append_cancel_right}
 use mathlib.Core.List.{IsPrefix}
 use Rattle.sc_cluster.specs.declared.slice.Slice.{Slice}
 use Rattle.sc_cluster.specs.Map.{IsMap}
 use Rattle.sc_cluster.specs.Plans.{IsPlan}
 use Rattle.sc_cluster.specs.Changes.{Change, after}
-use Rattle.sc_cluster.specs.Histories.{after_all}
-use Rattle.sc_journal.proofs.SplitLemmas.{after_all-append}
 use Rattle.sc_cores.specs.Cores.{Outside}
 use Rattle.sc_cores.proofs.ChangeLemmas.{cores_done}
 use Rattle.sc_seen.specs.declared.board.BoardEntry.{BoardEntry}
 use Rattle.sc_seen.specs.declared.board.BoardEntry.TheVariants as board
 use Rattle.sc_seen.specs.declared.stop.Stop.{Stop}
-use Rattle.sc_seen.specs.Board.{board_change_of, board_map, IsLegalBoard}
+use Rattle.sc_seen.specs.Batches.{OrderAnswer}
+use Rattle.sc_seen.specs.Board.{board_map, IsLegalBoard}
 use Rattle.sc_seen.specs.Seen.{Layout, Seen}
-use Rattle.sc_seen.proofs.BoardLemmas.{board_map-push, IsLegalBoard-prefix, board_is_map, failed_leaves_the_map}
+use Rattle.sc_seen.proofs.BoardLemmas.{board_map-append, board_map-push, IsLegalBoard-prefix, board_is_map, failed_leaves_the_map}
 use Rattle.sc_seen.proofs.ExtendsLemmas.{IsPrefix-self, IsPrefix-then}
 use Rattle.sc_seen.proofs.GoesOnLemmas.{SeesMore-self}
 use Rattle.sc_board.proofs.NamedLemmas.{named_there}
-use Rattle.sc_collection.specs.Shapes.{SeesNothing}
+use Rattle.sc_collection.proofs.RestLemmas.{SeesNothing}
 use Rattle.sc_split.specs.Splits.{refused, given_up, done, noted_by}
 use Rattle.sc_admin.specs.Commands as commands
 use Rattle.sc_admin.specs.Deletes as deletes
@@ -103,16 +102,11 @@ says_by_reply layout seen (command (commands.delete shard)) trace ran_out (inr (
     (by_delete layout seen shard delete.first delete.course end delete.answered)
 
 -- ---- one request
--- the map after entries and more of them
-board_map-append : (first : List Slice) (entries more : List BoardEntry) → board_map first (entries ++ more) ≡ board_map (board_map first entries) more
-board_map-append first entries more =
-    ap (after_all first) (map-append board_change_of entries more) ∙ after_all-append first (map board_change_of entries) (map board_change_of more)
-
--- where the board and what is outside stayed, so did this
-stays : (layout : Layout) (old new : Situation) → new.seen.board ≡ old.seen.board → new.outside ≡ old.outside → HostTheMap layout old → HostTheMap layout new
-stays layout old new same outside was =
-    subst (λ (o : Outside). AreStarted layout.nodes (board_map layout.first new.seen.board) o) (sym outside)
-    (subst (λ (entries : List BoardEntry). AreStarted layout.nodes (board_map layout.first entries) old.outside) (sym same) was)
+-- where the board and the cores that are started stayed, so did this
+stays : (layout : Layout) (old new : Situation) → new.seen.board ≡ old.seen.board → new.outside.started ≡ old.outside.started → HostTheMap layout old → HostTheMap layout new
+stays layout old new same started was =
+    let (cores, are, those) = subst (λ (entries : List BoardEntry). AreStarted layout.nodes (board_map layout.first entries) old.outside) (sym same) was in
+    (cores, started ∙ are, those)
 
 -- where the map is this one, it is the board's
 on_board : (layout : Layout) (new : Situation) (slices : List Slice) → board_map layout.first new.seen.board ≡ slices
@@ -120,33 +114,34 @@ on_board : (layout : Layout) (new : Situation) (slices : List Slice) → board_m
 on_board layout new slices is started = subst (λ (s : List Slice). AreStarted layout.nodes s new.outside) (sym is) started
 
 -- after a request the cores are still those of the map, unless stopping one failed
-after_request : (layout : Layout) (stops : List Stop) (end : CommandEnd) (old new : Situation) → Leaves layout stops end old new
+after_request : (layout : Layout) (answered : List OrderAnswer) (stops : List Stop) (end : CommandEnd) (old new : Situation)
+    → Leaves layout answered stops end old new
     → new.seen.board ≡ old.seen.board ++ noted_of end → IsMap layout.first → IsLegalBoard layout.first new.seen.board
     → SaysWhatItDropped layout new.seen end → new.outside.stop_faults ≡ old.outside.stop_faults → HostTheMap layout old → HostTheMap layout new
-after_request layout stops no_command old new leaves is is_map legal says steady was =
-    stays layout old new (is ∙ append-nil old.seen.board) leaves.outside was
-after_request layout stops (split_ended asked first refused end) old new leaves is is_map legal says steady was =
-    stays layout old new (is ∙ append-nil old.seen.board) leaves.outside was
-after_request layout stops (split_ended asked first (given_up plan true) end) old new leaves is is_map legal says steady was =
+after_request layout answered stops no_command old new leaves is is_map legal says steady was =
+    stays layout old new (is ∙ append-nil old.seen.board) (ap (λ (o : Outside). o.started) leaves.reach.rest) was
+after_request layout answered stops (split_ended asked first refused end) old new leaves is is_map legal says steady was =
+    stays layout old new (is ∙ append-nil old.seen.board) (ap (λ (o : Outside). o.started) leaves.outside) was
+after_request layout answered stops (split_ended asked first (given_up plan true) end) old new leaves is is_map legal says steady was =
     let slices = board_map layout.first old.seen.board in
     let may : IsPlan slices plan.parent plan.subs =
     legal old.seen.board (board.Begun plan) (board.Recovering plan.parent ∷ board.Failed plan.parent ∷ []) is in
     on_board layout new slices (ap (board_map layout.first) is ∙ (failed_leaves_the_map layout.first old.seen.board plan may).1)
     (given_up_leaves layout.nodes slices plan old.outside new.outside may leaves.outside steady was)
-after_request layout stops (split_ended asked first (given_up plan false) end) old new leaves is is_map legal says steady was =
+after_request layout answered stops (split_ended asked first (given_up plan false) end) old new leaves is is_map legal says steady was =
     let slices = board_map layout.first old.seen.board in
     let may : IsPlan slices plan.parent plan.subs = legal old.seen.board (board.Begun plan) (board.Failed plan.parent ∷ []) is in
     on_board layout new slices (ap (board_map layout.first) is ∙ (failed_leaves_the_map layout.first old.seen.board plan may).0)
     (given_up_leaves layout.nodes slices plan old.outside new.outside may leaves.outside steady was)
-after_request layout stops (split_ended asked first (done plan answers) end) old new leaves is is_map legal says steady was =
+after_request layout answered stops (split_ended asked first (done plan answers) end) old new leaves is is_map legal says steady was =
     let slices = board_map layout.first old.seen.board in
     let later : List Slice =
     after (after (after slices (Change.Begun plan.parent plan.subs)) (Change.Recovering plan.parent)) (Change.Switched plan.parent) in
     on_board layout new later (ap (board_map layout.first) is ∙ board_map-append layout.first old.seen.board (noted_by (done plan answers)))
     (done_adds layout.nodes slices later plan old.outside new.outside leaves.outside (cores_done layout.nodes slices plan.parent plan.subs) was)
-after_request layout stops (delete_ended shard first deletes.kept end) old new leaves is is_map legal says steady was =
-    stays layout old new (is ∙ append-nil old.seen.board) leaves.outside was
-after_request layout stops (delete_ended shard first (deletes.dropped slice) ends.Done) old new leaves is is_map legal says steady was =
+after_request layout answered stops (delete_ended shard first deletes.kept end) old new leaves is is_map legal says steady was =
+    stays layout old new (is ∙ append-nil old.seen.board) (ap (λ (o : Outside). o.started) leaves.outside) was
+after_request layout answered stops (delete_ended shard first (deletes.dropped slice) ends.Done) old new leaves is is_map legal says steady was =
     let entries = old.seen.board in
     let noted : List BoardEntry = board.Dropped slice.id ∷ [] in
     let slices = board_map layout.first entries in
@@ -162,15 +157,15 @@ after_request layout stops (delete_ended shard first (deletes.dropped slice) end
     (ap (board_map layout.first) is ∙ board_map-push layout.first entries (board.Dropped slice.id))
     (dropped_leaves layout.nodes slices slice old.outside new.outside (board_is_map layout.first entries is_map legal_before) inside
     leaves.outside.1 was)
-after_request layout stops (delete_ended shard first (deletes.dropped slice) (ends.HostFault core)) old new leaves is is_map legal says steady was =
+after_request layout answered stops (delete_ended shard first (deletes.dropped slice) (ends.HostFault core)) old new leaves is is_map legal says steady was =
     absurd (omega (arith, leaves.outside.0))
-after_request layout stops (delete_ended shard first (deletes.dropped slice) ends.UnknownShard) old new leaves is is_map legal says steady was =
+after_request layout answered stops (delete_ended shard first (deletes.dropped slice) ends.UnknownShard) old new leaves is is_map legal says steady was =
     absurd leaves.outside
-after_request layout stops (delete_ended shard first (deletes.dropped slice) (ends.Running other)) old new leaves is is_map legal says steady was =
+after_request layout answered stops (delete_ended shard first (deletes.dropped slice) (ends.Running other)) old new leaves is is_map legal says steady was =
     absurd leaves.outside
-after_request layout stops (delete_ended shard first (deletes.dropped slice) (ends.NotInactive state)) old new leaves is is_map legal says steady was =
+after_request layout answered stops (delete_ended shard first (deletes.dropped slice) (ends.NotInactive state)) old new leaves is is_map legal says steady was =
     absurd leaves.outside
-after_request layout stops (delete_ended shard first (deletes.dropped slice) ends.Memory) old new leaves is is_map legal says steady was =
+after_request layout answered stops (delete_ended shard first (deletes.dropped slice) ends.Memory) old new leaves is is_map legal says steady was =
     absurd leaves.outside
 
 -- ---- all of a connection
@@ -181,18 +176,19 @@ boards_go_on layout old new (x ∷ exchanges) each =
     IsPrefix-then old.board x.seen.board new.board each.0.extends.board (boards_go_on layout x.seen new exchanges each.1)
 
 -- no request makes the count of stops that failed less
-count_after_request : (layout : Layout) (stops : List Stop) (end : CommandEnd) (old new : Situation) → Leaves layout stops end old new
+count_after_request : (layout : Layout) (answered : List OrderAnswer) (stops : List Stop) (end : CommandEnd) (old new : Situation)
+    → Leaves layout answered stops end old new
     → old.outside.stop_faults ≤ new.outside.stop_faults
-count_after_request layout stops no_command old new leaves = omega (arith, ap (λ (o : Outside). o.stop_faults) leaves.outside)
-count_after_request layout stops (split_ended asked first course end) old new leaves = leaves.counts.stopping
-count_after_request layout stops (delete_ended shard first course end) old new leaves = leaves.counts.stopping
+count_after_request layout answered stops no_command old new leaves = omega (arith, ap (λ (o : Outside). o.stop_faults) leaves.reach.rest)
+count_after_request layout answered stops (split_ended asked first course end) old new leaves = leaves.counts.stopping
+count_after_request layout answered stops (delete_ended shard first course end) old new leaves = leaves.counts.stopping
 
 count_after_all : (layout : Layout) (old new : Situation) (exchanges : List Exchange) → LeaveRest layout old exchanges new
     → old.outside.stop_faults ≤ new.outside.stop_faults
 count_after_all layout old new [] rest = omega (arith, ap (λ (s : Situation). s.outside.stop_faults) rest)
 count_after_all layout old new (x ∷ exchanges) rest =
     let first : old.outside.stop_faults ≤ x.outside.stop_faults =
-    count_after_request layout x.trace.stops x.trace.command old (situation_after x) rest.0 in
+    count_after_request layout x.trace.answers x.trace.stops x.trace.command old (situation_after x) rest.0 in
     let others : x.outside.stop_faults ≤ new.outside.stop_faults = count_after_all layout (situation_after x) new exchanges rest.1 in
     omega (arith, first, others)
 
@@ -207,16 +203,16 @@ after_all_exchanges layout old new (x ∷ exchanges) each rest within owns is_ma
     let within_x = seen_after layout old.seen x.seen x.trace.stops extends within in
     let owned_x = owned_before_all layout x.seen new.seen exchanges each.1 within_x owns in
     let owned = owned_before layout old.seen x.seen x.trace.stops extends within owned_x in
-    let is = board_after_request layout x.trace.stops x.trace.command old next rest.0 extends.board owned owned_x in
+    let is = board_after_request layout x.trace.answers x.trace.stops x.trace.command old next rest.0 extends.board owned owned_x in
     let later = boards_go_on layout x.seen new.seen exchanges each.1 in
     let legal_x = IsLegalBoard-prefix layout.first x.seen.board later.0 (subst (IsLegalBoard layout.first) (sym later.1) legal) in
-    let up : old.outside.stop_faults ≤ x.outside.stop_faults = count_after_request layout x.trace.stops x.trace.command old next rest.0 in
+    let up : old.outside.stop_faults ≤ x.outside.stop_faults = count_after_request layout x.trace.answers x.trace.stops x.trace.command old next rest.0 in
     let more : x.outside.stop_faults ≤ new.outside.stop_faults = count_after_all layout next new exchanges rest.1 in
     let steady_x : x.outside.stop_faults ≡ old.outside.stop_faults = omega (arith, up, more, steady) in
     let steady_on : new.outside.stop_faults ≡ x.outside.stop_faults = omega (arith, up, more, steady) in
     let says = says_by_reply layout x.seen (asked x.request) x.trace x.answer (each.0.answered x.seen (SeesMore-self x.seen)) in
     after_all_exchanges layout next new exchanges each.1 rest.1 within_x owns is_map legal steady_on
-    (after_request layout x.trace.stops x.trace.command old next rest.0 is is_map legal_x says steady_x was)
+    (after_request layout x.trace.answers x.trace.stops x.trace.command old next rest.0 is is_map legal_x says steady_x was)
 
 -- after a connection over a collection in which nothing had happened, the cores that are started are those of the board's map, where they
 -- were those of the first before, all entries of the board are one's own, and stopping one never failed

@@ -4,12 +4,12 @@ use Rattle.sc_cluster.specs.declared.slice.Slice.{Slice}
 use Rattle.sc_io.specs.declared.hosts.Host.{Host}
 use Rattle.sc_cores.specs.Cores.{Outside, cores_of_map, StartsFirst}
 use Rattle.sc_seen.specs.Board.{board_map}
-use Rattle.sc_seen.specs.Seen.{Seen}
+use Rattle.sc_seen.specs.Seen.{nothing_opened, Seen}
 use Rattle.sc_seen.specs.Moments.{moment_of}
 use Rattle.sc_collection.specs.Kept.{Kept}
 use Rattle.sc_collection.specs.Alone.{AloneState, seen_alone, keeping_alone}
 use Rattle.sc_collection.specs.Desks.{AreAtRest}
-use Rattle.sc_collection.specs.Shapes.{HasShape, SeesNothing}
+use Rattle.sc_collection.specs.Shapes.{HasShape, SeesOpened}
 use Rattle.sc_session.specs.declared.end.End.{End}
 use Rattle.sc_session.specs.declared.end.End.TheVariants as ends
 use Rattle.sc_session.specs.States.{ConnectionState}
@@ -103,10 +103,10 @@ abbrev pub AreStarted : ℕ → List Slice → Outside → Type 0
 AreStarted nodes slices outside =
     (cores : List Host) × (outside.started ≡ Some cores) × ((core : Host) → Contains cores core ↔ Contains (cores_of_map nodes slices) core)
 
--- The cores of a collection of the script's shape, in which nothing had happened, were started, and one connection was served over it;
+-- The cores of a new collection of the script's shape, in which nothing had happened, were started, and one connection was served over it;
 -- the status is that of its end. What was seen after it is all that happened: of a bucket's journal each entry was made at one of the
--- connection's stops, or its keeper made it, and those that its keeper made go with the board's; each entry of the board was made by a
--- command.
+-- connection's stops, or its keeper made it, and each entry of the board was made by a command. Of the entries that keepers made all but those
+-- that say of a core that it is up again or leads go with those of the board, of which those that say who leads are left out.
 pub record RunsScript {C : Type 0} (script : Script) (gives : C → ℕ → C → Type 0) (before after : Machine C) (status : ℕ) : Type 0 where
   pub began : AloneState
   pub ended : AloneState
@@ -114,7 +114,8 @@ pub record RunsScript {C : Type 0} (script : Script) (gives : C → ℕ → C �
   pub kept : Kept
   pub end : End
   pub shape : HasShape script.shape began.layout
-  pub empty : SeesNothing (seen_alone began)
+  pub opened : began.layout.opened ≡ nothing_opened
+  pub empty : SeesOpened began.layout.opened (seen_alone began)
   pub layout : ended.layout ≡ began.layout
   pub hosts : StartsFirst began.layout.nodes began.layout.first before.outside hosted
   pub served : IsServed (clock_of script.clock gives) began.layout (state_of (seen_alone began) none_kept (record before { outside = hosted }))

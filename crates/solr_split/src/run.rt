@@ -41,7 +41,7 @@ pub fn run<S: Source, W: Sink, T: Station, R: Threads + Wait + Sync>(
     ensures { EndsRun
         (record {
           gives = T.C.gives;
-          outside = λ hosts pace. outside_of (T.H.started hosts) (T.H.start_faults hosts) (T.H.stop_faults hosts) (T.P.stops pace);
+          outside = λ hosts pace. outside_of (T.H.started hosts) (T.H.start_faults hosts) (T.H.stop_faults hosts) (T.P.stops pace) (T.H.reached hosts);
           coming = T.L.coming;
           taken = T.L.taken;
           faults = T.L.faults;
@@ -107,7 +107,7 @@ fn run_by_crew<S: Source, W: Sink, T: Station, R: Threads + Sync>(
     ensures script { EndsScript script.now
         (record {
           gives = T.C.gives;
-          outside = λ hosts pace. outside_of (T.H.started hosts) (T.H.start_faults hosts) (T.H.stop_faults hosts) (T.P.stops pace);
+          outside = λ hosts pace. outside_of (T.H.started hosts) (T.H.start_faults hosts) (T.H.stop_faults hosts) (T.P.stops pace) (T.H.reached hosts);
         })
         (record {
           front = record {
@@ -167,7 +167,7 @@ fn run_workers<W: Sink, T: Station, R: Threads + Wait + Sync>(
     ensures ends { EndsServer
         (record {
           gives = T.C.gives;
-          outside = λ hosts pace. outside_of (T.H.started hosts) (T.H.start_faults hosts) (T.H.stop_faults hosts) (T.P.stops pace);
+          outside = λ hosts pace. outside_of (T.H.started hosts) (T.H.start_faults hosts) (T.H.stop_faults hosts) (T.P.stops pace) (T.H.reached hosts);
           coming = T.L.coming;
           taken = T.L.taken;
           faults = T.L.faults;
@@ -213,7 +213,7 @@ fn run_makers<W: Sink, T: Station, R: Threads + Wait + Sync>(
     ensures ends { EndsDemo
         (record {
           gives = T.C.gives;
-          outside = λ hosts pace. outside_of (T.H.started hosts) (T.H.start_faults hosts) (T.H.stop_faults hosts) (T.P.stops pace);
+          outside = λ hosts pace. outside_of (T.H.started hosts) (T.H.start_faults hosts) (T.H.stop_faults hosts) (T.P.stops pace) (T.H.reached hosts);
         })
         demo.now
         (record {

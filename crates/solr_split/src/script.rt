@@ -2,9 +2,10 @@
 ghost use Rattle.std.specs.Prelude.{◌≡◌, ◌≢◌, ◌<◌, ◌↔◌, IfOk, OnOk, OnErr, None};
 ghost use Rattle.sc_cores.specs.Cores.{outside_of, cores_of_map};
 ghost use Rattle.sc_session.specs.Served.{IsServed};
+ghost use Rattle.sc_seen.specs.Seen.{nothing_opened};
 ghost use Rattle.sc_collection.specs.Alone.{seen_alone};
 ghost use Rattle.sc_collection.specs.Desks.{nothing_out};
-ghost use Rattle.sc_collection.specs.Shapes.{IsShape, HasShape, SeesNothing};
+ghost use Rattle.sc_collection.specs.Shapes.{IsShape, HasShape, SeesOpened};
 ghost use Rattle.solr_split.specs.Running.{RunsOrFails, clock_of, state_of, none_kept, exit_status};
 
 use sc_arguments::Script;
@@ -48,7 +49,7 @@ pub(crate) fn run_script<R: Threads + Sync, S: Source, W: Sink, C: Clock, H: Hos
     ensures script { RunsOrFails script.now C.gives
         (record {
           clock = clock.old;
-          outside = outside_of (H.started hosts.old) (H.start_faults hosts.old) (H.stop_faults hosts.old) (P.stops pace.old);
+          outside = outside_of (H.started hosts.old) (H.start_faults hosts.old) (H.stop_faults hosts.old) (P.stops pace.old) (H.reached hosts.old);
           unread = S.rest source.old;
           written = W.written sink.old;
           read_faults = S.faults source.old;
@@ -56,7 +57,7 @@ pub(crate) fn run_script<R: Threads + Sync, S: Source, W: Sink, C: Clock, H: Hos
         })
         (record {
           clock = clock.new;
-          outside = outside_of (H.started hosts.new) (H.start_faults hosts.new) (H.stop_faults hosts.new) (P.stops pace.new);
+          outside = outside_of (H.started hosts.new) (H.start_faults hosts.new) (H.stop_faults hosts.new) (P.stops pace.new) (H.reached hosts.new);
           unread = S.rest source.new;
           written = W.written sink.new;
           read_faults = S.faults source.new;
@@ -119,7 +120,7 @@ fn serve_script<R: Threads + Sync, D: Desk, S: Source, W: Sink, C: Clock, H: Hos
     ensures served { IsServed (clock_of timestamp C.gives) (D.layout desk.old)
         (state_of (D.seen desk.old) trail.old (record {
           clock = clock.old;
-          outside = outside_of (H.started hosts.old) (H.start_faults hosts.old) (H.stop_faults hosts.old) (P.stops pace.old);
+          outside = outside_of (H.started hosts.old) (H.start_faults hosts.old) (H.stop_faults hosts.old) (P.stops pace.old) (H.reached hosts.old);
           unread = S.rest source.old;
           written = W.written sink.old;
           read_faults = S.faults source.old;
@@ -127,7 +128,7 @@ fn serve_script<R: Threads + Sync, D: Desk, S: Source, W: Sink, C: Clock, H: Hos
         }))
         (state_of (D.seen desk.new) trail.new (record {
           clock = clock.new;
-          outside = outside_of (H.started hosts.new) (H.start_faults hosts.new) (H.stop_faults hosts.new) (P.stops pace.new);
+          outside = outside_of (H.started hosts.new) (H.start_faults hosts.new) (H.stop_faults hosts.new) (P.stops pace.new) (H.reached hosts.new);
           unread = S.rest source.new;
           written = W.written sink.new;
           read_faults = S.faults source.new;
@@ -156,7 +157,8 @@ fn serve_script<R: Threads + Sync, D: Desk, S: Source, W: Sink, C: Clock, H: Hos
 fn needs_of(alloc: Global, shape: &Shape) -> Result<Needs, AllocError>
     requires shape { IsShape shape.now }
     ensures layout { IfOk result (λ needs. HasShape shape.now needs.desk.layout) }
-    ensures seen { IfOk result (λ needs. SeesNothing (seen_alone needs.desk)) }
+    ensures opened { IfOk result (λ needs. needs.desk.layout.opened ≡ nothing_opened) }
+    ensures seen { IfOk result (λ needs. SeesOpened needs.desk.layout.opened (seen_alone needs.desk)) }
     ensures out { IfOk result (λ needs. needs.desk.out ≡ None) }
     ensures board_out { IfOk result (λ needs. needs.desk.board_out ≡ None) }
     ensures trail { IfOk result (λ needs. needs.trail ≡ none_kept) }

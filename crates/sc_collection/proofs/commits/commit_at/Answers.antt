@@ -5,7 +5,6 @@ use Rattle.sc_seen.specs.Moments.{view_of}
 use Rattle.sc_collection.specs.Kept.{Kept}
 use Rattle.sc_collection.specs.Desks.{Held, Out, SeesGiven, MayReplace}
 use Rattle.sc_collection.proofs.ReplaceLemmas.{commit_may_replace}
-use Rattle.sc_collection.proofs.KeeperReplaceLemmas.{keeper_may_replace}
 use Rattle.sc_collection.proofs.CommitLemmas.{commits-one}
 use Rattle.sc_collection.proofs.StopLemmas.{given-back}
 use Rattle.sc_collection.proofs.commits.commit_at.Goals as goal

@@ -33,6 +33,7 @@ loop-at-preserved g c =
             (ap (λ b. cond b c.loop-at.failed (Some at)) w.if-is_none.ensures ∙ sym w.failed-is) (failing w.if-is_err.ensures.value);
         no_fall = search rules;
         start_faults = search rules;
+        reached = search rules;
       }
       | else-is_err w ↦ elim w.else-is_err.branch [
         | else-is_err-via-then-is_err+else-is_none w' ↦ record {
@@ -43,6 +44,7 @@ loop-at-preserved g c =
               (ap (λ b. cond b c.loop-at.failed (Some at)) w'.if-is_none.ensures ∙ sym w.failed-is) (failing w'.if-is_err.ensures.value);
           no_fall = search rules;
           start_faults = search rules;
+          reached = search rules;
         }
         | else-is_err-via-else-is_err w' ↦ record {
           stopped = λ none all was.
@@ -60,6 +62,7 @@ loop-at-preserved g c =
               (at_ok c.stop_core.result w'.if-is_err.ensures.value c.stop_core.ensures.steady));
           no_fall = search rules;
           start_faults = search rules;
+          reached = search rules;
         }
       ]
     ]

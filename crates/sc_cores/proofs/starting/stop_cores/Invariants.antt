@@ -14,4 +14,5 @@ invariant-loop-at g l = record {
       (g.H.Hosts.stop_faults l.hosts) l.failed;
   no_fall : g.H.Hosts.stop_faults l.fn.hosts ≤ g.H.Hosts.stop_faults l.hosts;
   start_faults : g.H.Hosts.start_faults l.hosts ≡ g.H.Hosts.start_faults l.fn.hosts;
+  reached : g.H.Hosts.reached l.hosts ≡ g.H.Hosts.reached l.fn.hosts;
 }

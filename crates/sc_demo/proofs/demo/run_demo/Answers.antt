@@ -86,7 +86,7 @@ dismiss-requires-clause-out g c κs within =
     ]
 
 pub dismiss-requires-clause-none : goal.dismiss-requires-clause-none
-dismiss-requires-clause-none g c κs within = c.in-Ok.ensures.passes.nothing.own
+dismiss-requires-clause-none g c κs within = c.in-Ok.ensures.passes.seen.own
 
 pub returns : goal.returns
 returns g c =
@@ -106,6 +106,7 @@ returns g c =
             c.enlist.ensures.have.out c.enlist.ensures.have.crews_back c.enlist.ensures.have.faults count c.dismiss.ensures.back.crews_back c.dismiss.ensures.back.out
             c.dismiss.ensures.back.crews c.dismiss.ensures.back.faults)
             (w.in-Ok-enlist.ensures.all ∙ c.in-Ok.ensures.count) w.as_slice.result.now (w.as_slice.ensures ∙ c.in-Ok.ensures.cores) c.in-Ok.ensures.shape
+            c.in-Ok.ensures.passes.opened
             (seen_of c.dismiss.new.passes) c.dismiss.ensures.joined.story c.dismiss.ensures.joined.own c.requires.demo w.make_all-outcome.result _
             (made_as _ w.as_slice.result.now w.as_mut_slice.result.now enlisted w.make_all-outcome.new.makers new w.make_all-outcome.result
             w.as_mut_slice.ensures.value made w.make_all-outcome.ensures.makes)

@@ -24,7 +24,7 @@ returns-clause-made g c =
     let made = made_at
     (record {
       gives = g.C.Clock.gives;
-      outside = λ hosts pace. outside_of (g.H.Hosts.started hosts) (g.H.Hosts.start_faults hosts) (g.H.Hosts.stop_faults hosts) (g.P.Pace.stops pace);
+      outside = λ hosts pace. outside_of (g.H.Hosts.started hosts) (g.H.Hosts.start_faults hosts) (g.H.Hosts.stop_faults hosts) (g.P.Pace.stops pace) (g.H.Hosts.reached hosts);
     })
     (layout_of c.new-desk.result.locks) (layout_of c.args.maker.now.collection.now) (seen_of c.new-desk.result.passes) (seen_of c.requires.ready.home.passes)
     (seen_of c.make-made.new.desk.passes) (seen_of c.into_passes.result) c.args.maker.now.demo c.args.maker.now.task c.args.maker.now.crew

@@ -47,6 +47,7 @@ returns-clause-makes g c =
       start_faults = on_ok _ c.start_cores.result (sym c.is_err.ensures.value ∙ c.if-is_err.false) c.start_cores.ensures.steady;
       stop_faults = c.start_cores.ensures.other_count;
       stops = refl;
+      reach = c.start_cores.ensures.reached;
     })
     c.work_all.ensures.made c.outcome_of.ensures
 

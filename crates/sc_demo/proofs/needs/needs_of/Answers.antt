@@ -9,7 +9,11 @@ pub overflow_add-demo : goal.overflow_add-demo
 overflow_add-demo c = omega (arith, (numbers c.args.demo.now c.requires).workers.1)
 
 pub kits_of-requires-clause-new : goal.kits_of-requires-clause-new
-kits_of-requires-clause-new c = record { are = c.in_ok-collection.ensures.passes; nothing = c.in_ok-collection.ensures.seen }
+kits_of-requires-clause-new c = record {
+  are = c.in_ok-collection.ensures.passes;
+  opened = c.in_ok-collection.ensures.opened;
+  seen = c.in_ok-collection.ensures.seen;
+}
 
 pub kits_of-requires-clause-splits : goal.kits_of-requires-clause-splits
 kits_of-requires-clause-splits c =

@@ -17,8 +17,8 @@ returns-clause-split g c = record {
   stops = c.split.new.trail.stops;
   is = subst (λ (kept : Kept). IsSplit (g.D.Desk.layout c.args.desk.now) first_shard
       (split_moment (view_of (g.D.Desk.seen c.args.desk.now) kept.stops)
-      (outside_of (g.H.Hosts.started c.args.hosts.now) (g.H.Hosts.start_faults c.args.hosts.now) (g.H.Hosts.stop_faults c.args.hosts.now) (g.P.Pace.stops c.args.pace.now)))
+      (outside_of (g.H.Hosts.started c.args.hosts.now) (g.H.Hosts.start_faults c.args.hosts.now) (g.H.Hosts.stop_faults c.args.hosts.now) (g.P.Pace.stops c.args.pace.now) (g.H.Hosts.reached c.args.hosts.now)))
       (split_moment (view_of (g.D.Desk.seen c.split.new.desk) c.split.new.trail.stops)
-      (outside_of (g.H.Hosts.started c.split.new.hosts) (g.H.Hosts.start_faults c.split.new.hosts) (g.H.Hosts.stop_faults c.split.new.hosts) (g.P.Pace.stops c.split.new.pace)))
+      (outside_of (g.H.Hosts.started c.split.new.hosts) (g.H.Hosts.start_faults c.split.new.hosts) (g.H.Hosts.stop_faults c.split.new.hosts) (g.P.Pace.stops c.split.new.pace) (g.H.Hosts.reached c.split.new.hosts)))
       c.split.result) c.clear.ensures c.split.ensures.split;
 }

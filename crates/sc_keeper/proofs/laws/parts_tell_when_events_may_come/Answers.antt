@@ -1,5 +1,5 @@
 -- The laws are the lemmas on the conditions, one for each event.
-use Rattle.sc_keeper.proofs.ConditionLemmas.{begins_by_part, feeds_by_part, starts_replay_by_part, replays_by_part, is_ready_by_part, grows_by_part, switches_by_part, aborts_by_part, drops_by_part}
+use Rattle.sc_keeper.proofs.ConditionLemmas.{begins_by_part, feeds_by_part, starts_replay_by_part, replays_by_part, is_ready_by_part, grows_by_part, switches_by_part, aborts_by_part, drops_by_part, rejoins_by_part, leads_by_part}
 use Rattle.sc_keeper.proofs.laws.parts_tell_when_events_may_come.Goals as goal
 
 pub returns : goal.returns
@@ -13,4 +13,6 @@ returns c = record {
   switch = switches_by_part;
   abort = aborts_by_part;
   drop = drops_by_part;
+  rejoin = rejoins_by_part;
+  lead = leads_by_part;
 }

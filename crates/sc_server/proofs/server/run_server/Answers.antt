@@ -130,7 +130,8 @@ returns g c =
               faults = on_ok _ c.open.result (sym c.is_err.ensures.value ∙ c.if-is_err.false) c.open.ensures.steady;
             })
             c.enlist.ensures.have c.dismiss.ensures.back
-            w.as_slice.result.now w.as_bytes.result.now (seen_of c.dismiss.new.passes) c.in-Ok.ensures.shape (w.as_slice.ensures ∙ c.in-Ok.ensures.cores)
+            w.as_slice.result.now w.as_bytes.result.now (seen_of c.dismiss.new.passes) c.in-Ok.ensures.shape c.in-Ok.ensures.passes.opened
+            (w.as_slice.ensures ∙ c.in-Ok.ensures.cores)
             (w.as_bytes.ensures.value ∙ c.in-Ok.ensures.line) (w.in-Ok-enlist.ensures.all ∙ c.in-Ok.ensures.count)
             (ap length served ∙ w.serve_all-status.ensures.count ∙ ap length w.as_mut_slice.ensures.value) c.dismiss.ensures.story
             (served_as _ w.as_slice.result.now w.as_bytes.result.now w.as_mut_slice.result.now c.enlist.new.workers.items w.serve_all-status.new.workers

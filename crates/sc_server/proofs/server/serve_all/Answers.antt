@@ -23,6 +23,7 @@ returns-then-is_err-2-clause-ends g c =
       start_faults = on_ok _ c.start_cores.result (sym c.is_err.ensures.value ∙ c.if-is_err.false) c.start_cores.ensures.steady;
       stop_faults = c.start_cores.ensures.other_count;
       stops = refl;
+      reach = c.start_cores.ensures.reached;
     })
     (on_err _ c.write.result (sym c.is_err-2.ensures.value ∙ c.if-is_err-2.true) c.write.ensures.cause)
     (on_err _ c.write.result (sym c.is_err-2.ensures.value ∙ c.if-is_err-2.true) c.write.ensures.failed)
@@ -47,6 +48,7 @@ returns-then-any_failed-clause-ends g c =
       start_faults = on_ok _ c.start_cores.result (sym c.is_err.ensures.value ∙ c.if-is_err.false) c.start_cores.ensures.steady;
       stop_faults = c.start_cores.ensures.other_count;
       stops = refl;
+      reach = c.start_cores.ensures.reached;
     })
     (on_ok _ c.write.result (sym c.is_err-2.ensures.value ∙ c.if-is_err-2.false) c.write.ensures.whole)
     (on_ok _ c.write.result (sym c.is_err-2.ensures.value ∙ c.if-is_err-2.false) c.write.ensures.steady) c.work_all.ensures.worked
@@ -68,6 +70,7 @@ returns-else-any_failed-clause-ends g c =
       start_faults = on_ok _ c.start_cores.result (sym c.is_err.ensures.value ∙ c.if-is_err.false) c.start_cores.ensures.steady;
       stop_faults = c.start_cores.ensures.other_count;
       stops = refl;
+      reach = c.start_cores.ensures.reached;
     })
     (on_ok _ c.write.result (sym c.is_err-2.ensures.value ∙ c.if-is_err-2.false) c.write.ensures.whole)
     (on_ok _ c.write.result (sym c.is_err-2.ensures.value ∙ c.if-is_err-2.false) c.write.ensures.steady) c.work_all.ensures.worked

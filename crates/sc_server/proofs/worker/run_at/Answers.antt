@@ -32,7 +32,7 @@ returns-clause-worked g c =
       worked = worked_at
           (record {
             gives = g.C.Clock.gives;
-            outside = λ hosts pace. outside_of (g.H.Hosts.started hosts) (g.H.Hosts.start_faults hosts) (g.H.Hosts.stop_faults hosts) (g.P.Pace.stops pace);
+            outside = λ hosts pace. outside_of (g.H.Hosts.started hosts) (g.H.Hosts.start_faults hosts) (g.H.Hosts.stop_faults hosts) (g.P.Pace.stops pace) (g.H.Hosts.reached hosts);
             coming = g.L.Listener.coming;
             taken = g.L.Listener.taken;
             faults = g.L.Listener.faults;

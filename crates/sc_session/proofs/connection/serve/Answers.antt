@@ -22,8 +22,8 @@ returns-in-Err-clause-connection g c =
     let seen = g.D.Desk.seen c.args.desk.now in
     let unread = g.S.Source.rest c.args.source.now in
     let faults = g.S.Source.faults c.args.source.now in
-    let before = beside seen c.args.clock.now (outside_of (g.H.Hosts.started c.args.hosts.now) (g.H.Hosts.start_faults c.args.hosts.now) (g.H.Hosts.stop_faults c.args.hosts.now) (g.P.Pace.stops c.args.pace.now)) c.args.trail.now unread (g.W.Sink.written c.args.sink.now) faults (g.W.Sink.faults c.args.sink.now) in
-    let then = beside seen c.args.clock.now (outside_of (g.H.Hosts.started c.args.hosts.now) (g.H.Hosts.start_faults c.args.hosts.now) (g.H.Hosts.stop_faults c.args.hosts.now) (g.P.Pace.stops c.args.pace.now)) c.args.trail.now unread (g.W.Sink.written c.end_with.new.sink) faults (g.W.Sink.faults c.end_with.new.sink) in
+    let before = beside seen c.args.clock.now (outside_of (g.H.Hosts.started c.args.hosts.now) (g.H.Hosts.start_faults c.args.hosts.now) (g.H.Hosts.stop_faults c.args.hosts.now) (g.P.Pace.stops c.args.pace.now) (g.H.Hosts.reached c.args.hosts.now)) c.args.trail.now unread (g.W.Sink.written c.args.sink.now) faults (g.W.Sink.faults c.args.sink.now) in
+    let then = beside seen c.args.clock.now (outside_of (g.H.Hosts.started c.args.hosts.now) (g.H.Hosts.start_faults c.args.hosts.now) (g.H.Hosts.stop_faults c.args.hosts.now) (g.P.Pace.stops c.args.pace.now) (g.H.Hosts.reached c.args.hosts.now)) c.args.trail.now unread (g.W.Sink.written c.end_with.new.sink) faults (g.W.Sink.faults c.end_with.new.sink) in
     served_at_end gives layout before before then [] out_of_memory c.end_with.result
     (open_first gives layout before (ap (λ (k : Kept). k.stops) c.requires.trail) (ap (λ (k : Kept). k.requests) c.requires.trail))
     tt c.buckets.ensures.legal refl refl refl (λ some. some) (nothing_reported unread unread) c.end_with.ensures.ends
@@ -34,7 +34,7 @@ pub loop-request-init : goal.loop-request-init
 loop-request-init g c =
     let gives = g.C.Clock.gives in
     let layout = g.D.Desk.layout c.args.desk.now in
-    let before = beside (g.D.Desk.seen c.args.desk.now) c.args.clock.now (outside_of (g.H.Hosts.started c.args.hosts.now) (g.H.Hosts.start_faults c.args.hosts.now) (g.H.Hosts.stop_faults c.args.hosts.now) (g.P.Pace.stops c.args.pace.now)) c.args.trail.now (g.S.Source.rest c.args.source.now) (g.W.Sink.written c.args.sink.now) (g.S.Source.faults c.args.source.now) (g.W.Sink.faults c.args.sink.now) in
+    let before = beside (g.D.Desk.seen c.args.desk.now) c.args.clock.now (outside_of (g.H.Hosts.started c.args.hosts.now) (g.H.Hosts.start_faults c.args.hosts.now) (g.H.Hosts.stop_faults c.args.hosts.now) (g.P.Pace.stops c.args.pace.now) (g.H.Hosts.reached c.args.hosts.now)) c.args.trail.now (g.S.Source.rest c.args.source.now) (g.W.Sink.written c.args.sink.now) (g.S.Source.faults c.args.source.now) (g.W.Sink.faults c.args.sink.now) in
     record {
       is_open = subst (IsOpen gives layout before before) (sym c.in-Ok.ensures)
           (open_first gives layout before (ap (λ (k : Kept). k.stops) c.requires.trail) (ap (λ (k : Kept). k.requests) c.requires.trail));
@@ -60,9 +60,9 @@ pub returns-in-Some-clause-connection : goal.returns-in-Some-clause-connection
 returns-in-Some-clause-connection g c =
     let gives = g.C.Clock.gives in
     let layout = g.D.Desk.layout c.args.desk.now in
-    let before = beside (g.D.Desk.seen c.args.desk.now) c.args.clock.now (outside_of (g.H.Hosts.started c.args.hosts.now) (g.H.Hosts.start_faults c.args.hosts.now) (g.H.Hosts.stop_faults c.args.hosts.now) (g.P.Pace.stops c.args.pace.now)) c.args.trail.now (g.S.Source.rest c.args.source.now) (g.W.Sink.written c.args.sink.now) (g.S.Source.faults c.args.source.now) (g.W.Sink.faults c.args.sink.now) in
-    let now = beside (g.D.Desk.seen c.loop-request.desk) c.loop-request.clock (outside_of (g.H.Hosts.started c.loop-request.hosts) (g.H.Hosts.start_faults c.loop-request.hosts) (g.H.Hosts.stop_faults c.loop-request.hosts) (g.P.Pace.stops c.loop-request.pace)) c.loop-request.trail (g.S.Source.rest c.loop-request.source) (g.W.Sink.written c.loop-request.sink) (g.S.Source.faults c.loop-request.source) (g.W.Sink.faults c.loop-request.sink) in
-    let then = beside (g.D.Desk.seen c.exchange.new.desk) c.exchange.new.clock (outside_of (g.H.Hosts.started c.exchange.new.hosts) (g.H.Hosts.start_faults c.exchange.new.hosts) (g.H.Hosts.stop_faults c.exchange.new.hosts) (g.P.Pace.stops c.exchange.new.pace)) c.exchange.new.trail (g.S.Source.rest c.next_message.new.source) (g.W.Sink.written c.exchange.new.sink) (g.S.Source.faults c.next_message.new.source) (g.W.Sink.faults c.exchange.new.sink) in
+    let before = beside (g.D.Desk.seen c.args.desk.now) c.args.clock.now (outside_of (g.H.Hosts.started c.args.hosts.now) (g.H.Hosts.start_faults c.args.hosts.now) (g.H.Hosts.stop_faults c.args.hosts.now) (g.P.Pace.stops c.args.pace.now) (g.H.Hosts.reached c.args.hosts.now)) c.args.trail.now (g.S.Source.rest c.args.source.now) (g.W.Sink.written c.args.sink.now) (g.S.Source.faults c.args.source.now) (g.W.Sink.faults c.args.sink.now) in
+    let now = beside (g.D.Desk.seen c.loop-request.desk) c.loop-request.clock (outside_of (g.H.Hosts.started c.loop-request.hosts) (g.H.Hosts.start_faults c.loop-request.hosts) (g.H.Hosts.stop_faults c.loop-request.hosts) (g.P.Pace.stops c.loop-request.pace) (g.H.Hosts.reached c.loop-request.hosts)) c.loop-request.trail (g.S.Source.rest c.loop-request.source) (g.W.Sink.written c.loop-request.sink) (g.S.Source.faults c.loop-request.source) (g.W.Sink.faults c.loop-request.sink) in
+    let then = beside (g.D.Desk.seen c.exchange.new.desk) c.exchange.new.clock (outside_of (g.H.Hosts.started c.exchange.new.hosts) (g.H.Hosts.start_faults c.exchange.new.hosts) (g.H.Hosts.stop_faults c.exchange.new.hosts) (g.P.Pace.stops c.exchange.new.pace) (g.H.Hosts.reached c.exchange.new.hosts)) c.exchange.new.trail (g.S.Source.rest c.next_message.new.source) (g.W.Sink.written c.exchange.new.sink) (g.S.Source.faults c.next_message.new.source) (g.W.Sink.faults c.exchange.new.sink) in
     let request = c.in-Ok-next_message.request in
     served_at_exchange gives layout before now then c.loop-request.reader c.next_message.new.self request c.in-Some.end
     c.loop-request.invariant.is_open
@@ -74,9 +74,9 @@ pub loop-request-preserved : goal.loop-request-preserved
 loop-request-preserved g c =
     let gives = g.C.Clock.gives in
     let layout = g.D.Desk.layout c.args.desk.now in
-    let before = beside (g.D.Desk.seen c.args.desk.now) c.args.clock.now (outside_of (g.H.Hosts.started c.args.hosts.now) (g.H.Hosts.start_faults c.args.hosts.now) (g.H.Hosts.stop_faults c.args.hosts.now) (g.P.Pace.stops c.args.pace.now)) c.args.trail.now (g.S.Source.rest c.args.source.now) (g.W.Sink.written c.args.sink.now) (g.S.Source.faults c.args.source.now) (g.W.Sink.faults c.args.sink.now) in
-    let now = beside (g.D.Desk.seen c.loop-request.desk) c.loop-request.clock (outside_of (g.H.Hosts.started c.loop-request.hosts) (g.H.Hosts.start_faults c.loop-request.hosts) (g.H.Hosts.stop_faults c.loop-request.hosts) (g.P.Pace.stops c.loop-request.pace)) c.loop-request.trail (g.S.Source.rest c.loop-request.source) (g.W.Sink.written c.loop-request.sink) (g.S.Source.faults c.loop-request.source) (g.W.Sink.faults c.loop-request.sink) in
-    let then = beside (g.D.Desk.seen c.exchange.new.desk) c.exchange.new.clock (outside_of (g.H.Hosts.started c.exchange.new.hosts) (g.H.Hosts.start_faults c.exchange.new.hosts) (g.H.Hosts.stop_faults c.exchange.new.hosts) (g.P.Pace.stops c.exchange.new.pace)) c.exchange.new.trail (g.S.Source.rest c.next_message.new.source) (g.W.Sink.written c.exchange.new.sink) (g.S.Source.faults c.next_message.new.source) (g.W.Sink.faults c.exchange.new.sink) in
+    let before = beside (g.D.Desk.seen c.args.desk.now) c.args.clock.now (outside_of (g.H.Hosts.started c.args.hosts.now) (g.H.Hosts.start_faults c.args.hosts.now) (g.H.Hosts.stop_faults c.args.hosts.now) (g.P.Pace.stops c.args.pace.now) (g.H.Hosts.reached c.args.hosts.now)) c.args.trail.now (g.S.Source.rest c.args.source.now) (g.W.Sink.written c.args.sink.now) (g.S.Source.faults c.args.source.now) (g.W.Sink.faults c.args.sink.now) in
+    let now = beside (g.D.Desk.seen c.loop-request.desk) c.loop-request.clock (outside_of (g.H.Hosts.started c.loop-request.hosts) (g.H.Hosts.start_faults c.loop-request.hosts) (g.H.Hosts.stop_faults c.loop-request.hosts) (g.P.Pace.stops c.loop-request.pace) (g.H.Hosts.reached c.loop-request.hosts)) c.loop-request.trail (g.S.Source.rest c.loop-request.source) (g.W.Sink.written c.loop-request.sink) (g.S.Source.faults c.loop-request.source) (g.W.Sink.faults c.loop-request.sink) in
+    let then = beside (g.D.Desk.seen c.exchange.new.desk) c.exchange.new.clock (outside_of (g.H.Hosts.started c.exchange.new.hosts) (g.H.Hosts.start_faults c.exchange.new.hosts) (g.H.Hosts.stop_faults c.exchange.new.hosts) (g.P.Pace.stops c.exchange.new.pace) (g.H.Hosts.reached c.exchange.new.hosts)) c.exchange.new.trail (g.S.Source.rest c.next_message.new.source) (g.W.Sink.written c.exchange.new.sink) (g.S.Source.faults c.next_message.new.source) (g.W.Sink.faults c.exchange.new.sink) in
     let request = c.in-Ok-next_message.request in
     record {
       is_open = open_more gives layout before now then c.loop-request.reader c.next_message.new.self request
@@ -93,9 +93,9 @@ pub returns-in-Err-next_message-clause-connection :
 returns-in-Err-next_message-clause-connection g c =
     let gives = g.C.Clock.gives in
     let layout = g.D.Desk.layout c.args.desk.now in
-    let before = beside (g.D.Desk.seen c.args.desk.now) c.args.clock.now (outside_of (g.H.Hosts.started c.args.hosts.now) (g.H.Hosts.start_faults c.args.hosts.now) (g.H.Hosts.stop_faults c.args.hosts.now) (g.P.Pace.stops c.args.pace.now)) c.args.trail.now (g.S.Source.rest c.args.source.now) (g.W.Sink.written c.args.sink.now) (g.S.Source.faults c.args.source.now) (g.W.Sink.faults c.args.sink.now) in
-    let now = beside (g.D.Desk.seen c.loop-request.desk) c.loop-request.clock (outside_of (g.H.Hosts.started c.loop-request.hosts) (g.H.Hosts.start_faults c.loop-request.hosts) (g.H.Hosts.stop_faults c.loop-request.hosts) (g.P.Pace.stops c.loop-request.pace)) c.loop-request.trail (g.S.Source.rest c.loop-request.source) (g.W.Sink.written c.loop-request.sink) (g.S.Source.faults c.loop-request.source) (g.W.Sink.faults c.loop-request.sink) in
-    let then = beside (g.D.Desk.seen c.loop-request.desk) c.loop-request.clock (outside_of (g.H.Hosts.started c.loop-request.hosts) (g.H.Hosts.start_faults c.loop-request.hosts) (g.H.Hosts.stop_faults c.loop-request.hosts) (g.P.Pace.stops c.loop-request.pace)) c.loop-request.trail (g.S.Source.rest c.next_message.new.source) (g.W.Sink.written c.end_with-in-Err-next_message.new.sink) (g.S.Source.faults c.next_message.new.source) (g.W.Sink.faults c.end_with-in-Err-next_message.new.sink) in
+    let before = beside (g.D.Desk.seen c.args.desk.now) c.args.clock.now (outside_of (g.H.Hosts.started c.args.hosts.now) (g.H.Hosts.start_faults c.args.hosts.now) (g.H.Hosts.stop_faults c.args.hosts.now) (g.P.Pace.stops c.args.pace.now) (g.H.Hosts.reached c.args.hosts.now)) c.args.trail.now (g.S.Source.rest c.args.source.now) (g.W.Sink.written c.args.sink.now) (g.S.Source.faults c.args.source.now) (g.W.Sink.faults c.args.sink.now) in
+    let now = beside (g.D.Desk.seen c.loop-request.desk) c.loop-request.clock (outside_of (g.H.Hosts.started c.loop-request.hosts) (g.H.Hosts.start_faults c.loop-request.hosts) (g.H.Hosts.stop_faults c.loop-request.hosts) (g.P.Pace.stops c.loop-request.pace) (g.H.Hosts.reached c.loop-request.hosts)) c.loop-request.trail (g.S.Source.rest c.loop-request.source) (g.W.Sink.written c.loop-request.sink) (g.S.Source.faults c.loop-request.source) (g.W.Sink.faults c.loop-request.sink) in
+    let then = beside (g.D.Desk.seen c.loop-request.desk) c.loop-request.clock (outside_of (g.H.Hosts.started c.loop-request.hosts) (g.H.Hosts.start_faults c.loop-request.hosts) (g.H.Hosts.stop_faults c.loop-request.hosts) (g.P.Pace.stops c.loop-request.pace) (g.H.Hosts.reached c.loop-request.hosts)) c.loop-request.trail (g.S.Source.rest c.next_message.new.source) (g.W.Sink.written c.end_with-in-Err-next_message.new.sink) (g.S.Source.faults c.next_message.new.source) (g.W.Sink.faults c.end_with-in-Err-next_message.new.sink) in
     let held = c.loop-request.reader in
     let end = c.in-Err-next_message.end in
     let fault_is = c.end_with-in-Err-next_message.ensures.read_fault in

@@ -11,8 +11,8 @@ use Rattle.sc_session.proofs.connection.serve.Given as goal
 abbrev pub invariant-loop-request : goal.invariant-loop-request
 invariant-loop-request g l = record {
   is_open : IsOpen g.C.Clock.gives (g.D.Desk.layout l.fn.desk)
-      (beside (g.D.Desk.seen l.fn.desk) l.fn.clock (outside_of (g.H.Hosts.started l.fn.hosts) (g.H.Hosts.start_faults l.fn.hosts) (g.H.Hosts.stop_faults l.fn.hosts) (g.P.Pace.stops l.fn.pace)) l.fn.trail (g.S.Source.rest l.fn.source) (g.W.Sink.written l.fn.sink) (g.S.Source.faults l.fn.source) (g.W.Sink.faults l.fn.sink))
-      (beside (g.D.Desk.seen l.desk) l.clock (outside_of (g.H.Hosts.started l.hosts) (g.H.Hosts.start_faults l.hosts) (g.H.Hosts.stop_faults l.hosts) (g.P.Pace.stops l.pace)) l.trail (g.S.Source.rest l.source) (g.W.Sink.written l.sink) (g.S.Source.faults l.source) (g.W.Sink.faults l.sink)) l.reader;
+      (beside (g.D.Desk.seen l.fn.desk) l.fn.clock (outside_of (g.H.Hosts.started l.fn.hosts) (g.H.Hosts.start_faults l.fn.hosts) (g.H.Hosts.stop_faults l.fn.hosts) (g.P.Pace.stops l.fn.pace) (g.H.Hosts.reached l.fn.hosts)) l.fn.trail (g.S.Source.rest l.fn.source) (g.W.Sink.written l.fn.sink) (g.S.Source.faults l.fn.source) (g.W.Sink.faults l.fn.sink))
+      (beside (g.D.Desk.seen l.desk) l.clock (outside_of (g.H.Hosts.started l.hosts) (g.H.Hosts.start_faults l.hosts) (g.H.Hosts.stop_faults l.hosts) (g.P.Pace.stops l.pace) (g.H.Hosts.reached l.hosts)) l.trail (g.S.Source.rest l.source) (g.W.Sink.written l.sink) (g.S.Source.faults l.source) (g.W.Sink.faults l.sink)) l.reader;
   legal : AreLegal (g.D.Desk.layout l.fn.desk) (g.D.Desk.seen l.desk);
   layout : g.D.Desk.layout l.desk ≡ g.D.Desk.layout l.fn.desk;
   nothing_out : g.D.Desk.out l.desk ≡ nothing_out;

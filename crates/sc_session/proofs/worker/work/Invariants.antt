@@ -14,14 +14,14 @@ invariant-loop g l = record {
       (record { layout = g.D.Desk.layout l.fn.desk; rest = g.L.S.Source.rest; read_faults = g.L.S.Source.faults; written = g.L.W.Sink.written; write_faults = g.L.W.Sink.faults })
       l.counter
       (record {
-        around = record { seen = g.D.Desk.seen l.fn.desk; clock = l.fn.clock; outside = outside_of (g.H.Hosts.started l.fn.hosts) (g.H.Hosts.start_faults l.fn.hosts) (g.H.Hosts.stop_faults l.fn.hosts) (g.P.Pace.stops l.fn.pace) };
+        around = record { seen = g.D.Desk.seen l.fn.desk; clock = l.fn.clock; outside = outside_of (g.H.Hosts.started l.fn.hosts) (g.H.Hosts.start_faults l.fn.hosts) (g.H.Hosts.stop_faults l.fn.hosts) (g.P.Pace.stops l.fn.pace) (g.H.Hosts.reached l.fn.hosts) };
         coming = g.L.Listener.coming l.fn.listener;
         taken = g.L.Listener.taken l.fn.listener;
         faults = g.L.Listener.faults l.fn.listener;
         out = g.L.Listener.out l.fn.listener;
       })
       (record {
-        around = record { seen = g.D.Desk.seen l.desk; clock = l.clock; outside = outside_of (g.H.Hosts.started l.hosts) (g.H.Hosts.start_faults l.hosts) (g.H.Hosts.stop_faults l.hosts) (g.P.Pace.stops l.pace) };
+        around = record { seen = g.D.Desk.seen l.desk; clock = l.clock; outside = outside_of (g.H.Hosts.started l.hosts) (g.H.Hosts.start_faults l.hosts) (g.H.Hosts.stop_faults l.hosts) (g.P.Pace.stops l.pace) (g.H.Hosts.reached l.hosts) };
         coming = g.L.Listener.coming l.listener;
         taken = g.L.Listener.taken l.listener;
         faults = g.L.Listener.faults l.listener;

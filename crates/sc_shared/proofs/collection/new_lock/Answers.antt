@@ -13,7 +13,7 @@ returns c =
     let made = c.in_ok-bucket.ensures in
     let same = c.in_ok-slot.ensures in
     let rest =
-    subst (λ (one : Bucket). IsAtRest [] c.args.first.now (part_of one) (keeper_entries one.journal.entries)) (sym same)
+    subst (λ (one : Bucket). IsAtRest 0 [] c.args.first.now (part_of one) (keeper_entries one.journal.entries)) (sym same)
     (new_at_rest c.args.first.now c.args.limit bucket (record {
       bucket = bucket;
       there = refl;

@@ -1,6 +1,6 @@
 -- proofs/board/open/Answers.antt
 -- The board is given back with one entry more, or as it was.
-use Rattle.std.proofs.Common.{◌≡◌, Some, None, true, false, List, [], ◌∷◌, ◌++◌, length, sym, ap, ◌∙◌, refl}
+use Rattle.std.proofs.Common.{◌≡◌, Some, None, true, false, [], ◌∷◌, ◌++◌, length, ap, ◌∙◌, refl}
 use Rattle.std.specs.Prelude.{is_ok}
 use Rattle.sc_seen.specs.Seen.{Layout}
 use Rattle.sc_seen.specs.declared.stop.Stop.{Stop}

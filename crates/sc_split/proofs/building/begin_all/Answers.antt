@@ -1,6 +1,6 @@
 -- proofs/building/begin_all/Answers.antt
 -- The bucket that comes next is opened, or was refused; of the others nothing changes.
-use Rattle.std.proofs.Common.{◌<◌, ◌+◌, ◌∙◌, inr, refl, subst, sym, arith}
+use Rattle.std.proofs.Common.{◌<◌, ◌+◌, ◌∙◌, inr, refl, subst, arith}
 use Rattle.sc_collection.specs.Known.{known_of}
 use Rattle.sc_seen.specs.Seen.{Layout}
 use Rattle.sc_split.specs.Stages.{IsUnbegun, building}

@@ -3,7 +3,7 @@
 use Rattle.std.proofs.Common.{◌<◌, ◌≤◌, ◌∙◌, arith}
 use Rattle.sc_collection.specs.Known.{known_of}
 use Rattle.sc_split.specs.Buckets.{part_in}
-use Rattle.sc_split.specs.Stages.{IsAtStage, IsOpenIn, filled}
+use Rattle.sc_split.specs.Stages.{IsAtStage, filled}
 use Rattle.sc_split.proofs.OpenLemmas.{board-kept, board-then, stage-same, open-held}
 use Rattle.sc_split.proofs.LoopLemmas.{one-more, same-after}
 use Rattle.sc_split.proofs.EndLemmas.{stage-filled, open-in-all}

@@ -1,5 +1,5 @@
 -- The cores are filled in the buckets so far, and nothing was done of the others.
-use Rattle.std.proofs.Common.{◌≡◌, ◌≤◌, ◌⊎◌, ◌+◌, ℕ}
+use Rattle.std.proofs.Common.{◌≡◌}
 use Rattle.sc_collection.specs.Desks.{IsDeskAtRest}
 use Rattle.sc_collection.specs.Known.{known_of, OfBuckets, IsSameIn}
 use Rattle.sc_split.specs.Stages.{OpenSplit, Stage, IsAtStage, KeepsKnownBoard, filled}

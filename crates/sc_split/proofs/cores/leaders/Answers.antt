@@ -1,6 +1,6 @@
 -- proofs/cores/leaders/Answers.antt
 -- The core that comes next leads the sub that comes next.
-use Rattle.std.proofs.Common.{◌≡◌, List, [], ◌∷◌, ◌++◌, map, take, arith}
+use Rattle.std.proofs.Common.{◌≡◌, arith}
 use Rattle.std.proofs.lemmas.Grind.{common_steps}
 use Rattle.sc_handover.specs.Made.{first_core}
 use Rattle.sc_handover.proofs.MadeLemmas.{leader_named}

@@ -1,6 +1,6 @@
 -- proofs/cores/push_followers/Answers.antt
 -- The core that comes next is the next further replica.
-use Rattle.std.proofs.Common.{◌<◌, ◌+◌, ◌-◌, suc, ◌∙◌, ◌≡◌, refl, ap, arith}
+use Rattle.std.proofs.Common.{◌<◌, ◌+◌, ◌-◌, suc, ◌∙◌, ◌≡◌, refl, arith}
 use Rattle.sc_split.specs.Stages.{follower_of}
 use Rattle.sc_split.proofs.CoreListLemmas.{follower-is, range-pushed}
 use Rattle.sc_split.proofs.cores.push_followers.Goals as goal

@@ -1,5 +1,5 @@
 -- After the cores from before come the further ones so far.
-use Rattle.std.proofs.Common.{◌≡◌, ℕ, suc, ◌++◌, ◌+◌, ◌-◌, map}
+use Rattle.std.proofs.Common.{◌≡◌, ◌++◌, ◌-◌, map}
 use Rattle.std.specs.List.{range_with_len}
 use Rattle.sc_split.specs.Stages.{follower_of}
 use Rattle.sc_split.proofs.cores.push_followers.Given as goal

@@ -1,6 +1,6 @@
 -- proofs/cores/push_hosts_of/Answers.antt
 -- The core that comes next is the next further replica.
-use Rattle.std.proofs.Common.{◌<◌, ◌+◌, ◌-◌, suc, ◌∙◌, ◌≡◌, refl, ap, arith}
+use Rattle.std.proofs.Common.{◌<◌, ◌+◌, ◌-◌, ◌∙◌, ◌≡◌, ap, arith}
 use Rattle.sc_split.specs.Outside.{sub_core_at}
 use Rattle.sc_split.proofs.CoreListLemmas.{range-pushed}
 use Rattle.sc_split.proofs.cores.push_hosts_of.Goals as goal

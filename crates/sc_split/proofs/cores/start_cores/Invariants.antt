@@ -12,5 +12,6 @@ invariant-loop-at g l = record {
       → HasStarted l.cores l.at before (g.H.Hosts.started l.hosts);
   start_faults : g.H.Hosts.start_faults l.hosts ≡ g.H.Hosts.start_faults l.fn.hosts;
   stop_faults : g.H.Hosts.stop_faults l.hosts ≡ g.H.Hosts.stop_faults l.fn.hosts;
+  reached : g.H.Hosts.reached l.hosts ≡ g.H.Hosts.reached l.fn.hosts;
   stops : g.P.Pace.stops l.pace ≡ g.P.Pace.stops l.fn.pace;
 }

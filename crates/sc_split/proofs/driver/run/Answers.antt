@@ -1,5 +1,5 @@
 -- The cores were made and the split finished, or it was given up.
-use Rattle.std.proofs.Common.{◌<◌, List, length, All, inl, inr, refl, sym, subst}
+use Rattle.std.proofs.Common.{◌<◌, ◌∙◌, List, length, All, inl, inr, refl, sym, subst}
 use Rattle.sc_cluster.specs.declared.plan.SplitPlan.{SplitPlan}
 use Rattle.sc_io.specs.declared.hosts.Host.{Host}
 use Rattle.sc_seen.specs.Seen.{Layout}
@@ -28,8 +28,8 @@ returns-in-Ok-build-clause-went g c =
     let between : Known = known_of (g.D.Desk.seen c.build.new.desk) (g.D.Desk.keeping c.build.new.desk c.build.new.keepers) in
     let split : OpenSplit = record { plan = c.args.plan.now; base = base } in
     let entries : List BoardEntry = c.requires.begun.0 in
-    let before : Outside = outside_of (g.H.Hosts.started c.args.hosts.now) (g.H.Hosts.start_faults c.args.hosts.now) (g.H.Hosts.stop_faults c.args.hosts.now) (g.P.Pace.stops c.args.pace.now) in
-    let later : Outside = outside_of (g.H.Hosts.started c.build.new.hosts) (g.H.Hosts.start_faults c.build.new.hosts) (g.H.Hosts.stop_faults c.build.new.hosts) (g.P.Pace.stops c.build.new.pace) in
+    let before : Outside = outside_of (g.H.Hosts.started c.args.hosts.now) (g.H.Hosts.start_faults c.args.hosts.now) (g.H.Hosts.stop_faults c.args.hosts.now) (g.P.Pace.stops c.args.pace.now) (g.H.Hosts.reached c.args.hosts.now) in
+    let later : Outside = outside_of (g.H.Hosts.started c.build.new.hosts) (g.H.Hosts.start_faults c.build.new.hosts) (g.H.Hosts.stop_faults c.build.new.hosts) (g.P.Pace.stops c.build.new.pace) (g.H.Hosts.reached c.build.new.hosts) in
     let is_whole : IsWholeSplit layout split entries between = c.in-Ok-build.ensures.whole entries c.requires.begun.1 in
     inl (done-by layout (g.D.Desk.layout c.build.new.desk) split entries c.build.new.progress.begun between c.args.trail.now.stops
     (view_of (g.D.Desk.seen c.finish.new.desk) c.finish.new.trail.stops) c.finish.result before later
@@ -39,7 +39,7 @@ returns-in-Ok-build-clause-went g c =
     (starts-by layout.nodes c.nodes.result c.args.plan.now c.in-Ok.cores.hosts c.build.new.progress.started before later
     c.in-Ok.ensures.hosts c.nodes.ensures.count c.in-Ok-build.ensures.all
     (c.build.ensures.started before.started (started-none c.in-Ok.cores.hosts before.started))
-    c.in-Ok-build.ensures.steady.0 c.build.ensures.none_stopped c.in-Ok-build.ensures.steady.1))
+    c.in-Ok-build.ensures.steady.0 c.build.ensures.none_stopped c.in-Ok-build.ensures.steady.1 c.build.ensures.reached))
 
 pub returns-in-Err-build-clause-went : goal.returns-in-Err-build-clause-went
 returns-in-Err-build-clause-went g c =
@@ -50,9 +50,9 @@ returns-in-Err-build-clause-went g c =
     let between : Known = known_of (g.D.Desk.seen c.build.new.desk) (g.D.Desk.keeping c.build.new.desk c.build.new.keepers) in
     let split : OpenSplit = record { plan = plan; base = base } in
     let entries : List BoardEntry = c.requires.begun.0 in
-    let before : Outside = outside_of (g.H.Hosts.started c.args.hosts.now) (g.H.Hosts.start_faults c.args.hosts.now) (g.H.Hosts.stop_faults c.args.hosts.now) (g.P.Pace.stops c.args.pace.now) in
-    let halted : Outside = outside_of (g.H.Hosts.started c.build.new.hosts) (g.H.Hosts.start_faults c.build.new.hosts) (g.H.Hosts.stop_faults c.build.new.hosts) (g.P.Pace.stops c.build.new.pace) in
-    let later : Outside = outside_of (g.H.Hosts.started c.give_up.new.hosts) (g.H.Hosts.start_faults c.give_up.new.hosts) (g.H.Hosts.stop_faults c.give_up.new.hosts) (g.P.Pace.stops c.build.new.pace) in
+    let before : Outside = outside_of (g.H.Hosts.started c.args.hosts.now) (g.H.Hosts.start_faults c.args.hosts.now) (g.H.Hosts.stop_faults c.args.hosts.now) (g.P.Pace.stops c.args.pace.now) (g.H.Hosts.reached c.args.hosts.now) in
+    let halted : Outside = outside_of (g.H.Hosts.started c.build.new.hosts) (g.H.Hosts.start_faults c.build.new.hosts) (g.H.Hosts.stop_faults c.build.new.hosts) (g.P.Pace.stops c.build.new.pace) (g.H.Hosts.reached c.build.new.hosts) in
+    let later : Outside = outside_of (g.H.Hosts.started c.give_up.new.hosts) (g.H.Hosts.start_faults c.give_up.new.hosts) (g.H.Hosts.stop_faults c.give_up.new.hosts) (g.P.Pace.stops c.build.new.pace) (g.H.Hosts.reached c.give_up.new.hosts) in
     let built = c.build.ensures.built entries c.requires.begun.1 in
     inr (given-up-by layout (g.D.Desk.layout c.build.new.desk) split entries c.build.new.progress.begun between c.args.trail.now.stops
     (g.D.Desk.seen c.give_up.new.desk) c.give_up.result before later c.build.ensures.layout built
@@ -65,4 +65,5 @@ returns-in-Err-build-clause-went g c =
     (leaves-by layout.nodes c.nodes.result plan cores c.build.new.progress.started before halted later c.in-Ok.ensures.hosts c.nodes.ensures.count
     (c.build.ensures.started before.started (started-none cores before.started)) c.build.ensures.none_stopped c.give_up.ensures.stopped)
     (counts-by before halted later c.build.ensures.no_fall.0 c.build.ensures.none_stopped c.build.ensures.no_fall.1
-    c.give_up.ensures.other_count c.give_up.ensures.no_fall refl))
+    c.give_up.ensures.other_count c.give_up.ensures.no_fall refl (c.give_up.ensures.reached ∙ c.build.ensures.reached))
+    (c.give_up.ensures.reached ∙ c.build.ensures.reached))

@@ -2,7 +2,8 @@
 use Rattle.std.proofs.Common.{◌≡◌, ◌∙◌, true, false, refl, sym, ap, subst}
 use Rattle.std.specs.Prelude.{is_some, not}
 use Rattle.sc_seen.specs.Seen.{Layout}
-use Rattle.sc_seen.specs.Moments.{view_of, moment_of}
+use Rattle.sc_seen.specs.Moments.{view_of}
+use Rattle.sc_update.specs.Updated.{update_moment}
 use Rattle.sc_update.specs.declared.end.BatchEnd.{BatchEnd}
 use Rattle.sc_collection.specs.Committing.{CommitsAll}
 use Rattle.sc_update.proofs.UpdateLemmas.{no_fault, updated-idle, updated-committed}
@@ -14,8 +15,8 @@ returns-then-is_none-clause-updated g c =
     let before : BatchEnd = c.take_orders-end.result in
     let new = view_of (g.D.Desk.seen c.commit_all.new.desk) c.commit_all.new.trail.stops in
     updated-committed g.C.Clock.gives (g.D.Desk.layout c.args.desk.now) c.args.batch.now
-    (moment_of (g.D.Desk.seen c.args.desk.now) c.args.trail.now.stops c.args.clock.now)
-    (moment_of (g.D.Desk.seen c.take_orders-end.new.desk) c.take_orders-end.new.trail.stops c.take_orders-end.new.clock)
+    (update_moment (g.D.Desk.seen c.args.desk.now) c.args.trail.now.stops c.args.clock.now (g.H.Hosts.reached c.args.hosts.now))
+    (update_moment (g.D.Desk.seen c.take_orders-end.new.desk) c.take_orders-end.new.trail.stops c.take_orders-end.new.clock (g.H.Hosts.reached c.take_orders-end.new.hosts))
     new before (record { adds = before.adds; deletes = before.deletes; fault = c.commit_fault.result }) c.commit_all.result
     c.take_orders-end.ensures.answers
     (no_fault before.fault (c.is_none.ensures ∙ ap not c.if-is_none.true))
@@ -27,8 +28,8 @@ returns-then-is_none-clause-updated g c =
 pub returns-else-batch-clause-updated : goal.returns-else-batch-clause-updated
 returns-else-batch-clause-updated g c =
     updated-idle g.C.Clock.gives (g.D.Desk.layout c.args.desk.now) c.args.batch.now
-    (moment_of (g.D.Desk.seen c.args.desk.now) c.args.trail.now.stops c.args.clock.now)
-    (moment_of (g.D.Desk.seen c.take_orders-end.new.desk) c.take_orders-end.new.trail.stops c.take_orders-end.new.clock)
+    (update_moment (g.D.Desk.seen c.args.desk.now) c.args.trail.now.stops c.args.clock.now (g.H.Hosts.reached c.args.hosts.now))
+    (update_moment (g.D.Desk.seen c.take_orders-end.new.desk) c.take_orders-end.new.trail.stops c.take_orders-end.new.clock (g.H.Hosts.reached c.take_orders-end.new.hosts))
     c.take_orders-end.result c.take_orders-end.ensures.answers
     (λ none. elim c.else-batch.branch [
       | else-batch-via-then-batch+else-is_none w ↦

@@ -8,13 +8,15 @@ pub returns-clause-script : goal.returns-clause-script
 returns-clause-script g c =
     let began = c.in-Ok.needs.desk in
     let hosted = outside_of (g.H.Hosts.started c.start_cores.new.hosts) (g.H.Hosts.start_faults c.start_cores.new.hosts)
-    (g.H.Hosts.stop_faults c.start_cores.new.hosts) (g.P.Pace.stops c.args.pace.now) in
+    (g.H.Hosts.stop_faults c.start_cores.new.hosts) (g.P.Pace.stops c.args.pace.now) (g.H.Hosts.reached c.start_cores.new.hosts) in
     let hosts = starts_first c.start_cores.result began.layout.nodes began.layout.first c.as_slice.result.now c.in-Ok.needs.cores
     (g.H.Hosts.started c.args.hosts.now) (g.H.Hosts.started c.start_cores.new.hosts)
     (g.H.Hosts.start_faults c.args.hosts.now) (g.H.Hosts.start_faults c.start_cores.new.hosts)
     (g.H.Hosts.stop_faults c.args.hosts.now) (g.H.Hosts.stop_faults c.start_cores.new.hosts) (g.P.Pace.stops c.args.pace.now)
+    (g.H.Hosts.reached c.args.hosts.now) (g.H.Hosts.reached c.start_cores.new.hosts)
     (sym c.is_err.ensures.value ∙ c.if-is_err.false) c.as_slice.ensures c.in-Ok.ensures.cores
-    c.start_cores.ensures.started c.start_cores.ensures.steady c.start_cores.ensures.other_count in
+    c.start_cores.ensures.started c.start_cores.ensures.steady c.start_cores.ensures.other_count c.start_cores.ensures.reached in
     inl (script_runs c.args.script.now g.C.Clock.gives _ _ began c.serve_script-end.new.desk hosted c.in-Ok.needs.trail
-    c.serve_script-end.new.trail c.serve_script-end.result c.status_of.result c.in-Ok.ensures.layout c.in-Ok.ensures.seen
+    c.serve_script-end.new.trail c.serve_script-end.result c.status_of.result c.in-Ok.ensures.layout
+    c.in-Ok.ensures.opened c.in-Ok.ensures.seen
     c.serve_script-end.ensures.layout hosts c.in-Ok.ensures.trail c.serve_script-end.ensures.served c.leave.ensures.rest c.status_of.ensures.exit c.requires.shape)

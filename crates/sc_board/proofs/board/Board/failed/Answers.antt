@@ -1,5 +1,5 @@
 -- The entry is that of the split that runs, and leaves the board sound.
-use Rattle.std.proofs.Common.{◌∙◌, [], ◌∷◌, ◌++◌, ◌-◌, refl, ap}
+use Rattle.std.proofs.Common.{◌∙◌, [], ◌∷◌, ◌++◌, ◌-◌, take, refl, ap}
 use Rattle.std.specs.Prelude.{is_some}
 use Rattle.sc_record.specs.declared.slice.SliceId.{SliceId}
 use Rattle.sc_cluster.specs.Changes.{Change, after}
@@ -45,4 +45,4 @@ returns-clause-sound g c =
       entries = ap (λ (j : BoardJournalState). j.entries) c.append.ensures
           ∙ ap (λ (p : SliceId). old.journal.entries ++ board.Failed p ∷ []) same;
       map_is = c.failed.ensures.change ∙ ap (λ (p : SliceId). after old.map (Change.Failed p)) same;
-    }) (some_owed_failed_split old parent c.requires.sound may) (ap (λ n. old.owed - n) is.1) (ap (λ (j : BoardJournalState). j.room) c.append.ensures) refl
+    }) (c.cut.ensures ∙ ap (λ n. take n old.leaders) c.len.ensures) (some_owed_failed_split old parent c.requires.sound may) (ap (λ n. old.owed - n) is.1) (ap (λ (j : BoardJournalState). j.room) c.append.ensures) refl

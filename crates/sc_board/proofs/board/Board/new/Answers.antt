@@ -7,4 +7,4 @@ use Rattle.sc_board.proofs.board.Board.new.Goals as goal
 pub returns-clause-sound : goal.returns-clause-sound
 returns-clause-sound g c =
     sound_new _ c.get.ensures.map c.requires.active c.requires.ids c.requires.limit
-    (ap (λ (j : BoardJournalState). j.entries) c.new.ensures) (search rules) refl refl
+    (ap (λ (j : BoardJournalState). j.entries) c.new.ensures) (search rules) (search rules) refl refl

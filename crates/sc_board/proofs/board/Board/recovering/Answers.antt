@@ -48,4 +48,4 @@ returns-clause-sound g c =
       entries = ap (λ (j : BoardJournalState). j.entries) c.append.ensures
           ∙ ap (λ (p : SliceId). old.journal.entries ++ board.Recovering p ∷ []) same;
       map_is = c.recovering.ensures.change ∙ ap (λ (p : SliceId). after old.map (Change.Recovering p)) same;
-    }) refl (ap (λ (j : BoardJournalState). j.room) c.append.ensures) refl
+    }) refl refl (ap (λ (j : BoardJournalState). j.room) c.append.ensures) refl

@@ -4,7 +4,7 @@ use Rattle.std.specs.Option.{option_copied}
 use Rattle.sc_journal.specs.Journal.{last_of}
 use Rattle.sc_seen.specs.declared.board.BoardEntry.{BoardEntry}
 use Rattle.sc_seen.specs.declared.board.BoardEntry.TheVariants as board
-use Rattle.sc_board.proofs.SoundLemmas.{begun_last, recovering_last, done_last, failed_last, dropped_last}
+use Rattle.sc_board.proofs.LastLemmas.{begun_last, recovering_last, done_last, failed_last, dropped_last, led_last}
 use Rattle.sc_board.proofs.board.Board.running.Goals as goal
 
 pub returns-in-Some-Begun : goal.returns-in-Some-Begun
@@ -41,3 +41,10 @@ returns-in-Some-Dropped g c =
     ap last_of (sym c.as_slice.ensures) ∙ sym c.last.ensures.value ∙ ap option_copied c.in-Some-Dropped.is
     ∙ ap (λ (e : BoardEntry). Some e) c.in-Some-Dropped.field-0-is in
     dropped_last c.args.self.now c.in-Some-Dropped.field-0-0 c.requires last
+
+pub returns-in-Some-Led : goal.returns-in-Some-Led
+returns-in-Some-Led g c =
+    let last : last_of c.args.self.now.journal.entries ≡ Some (board.Led c.in-Some-Led.field-0-0 c.in-Some-Led.field-0-1) =
+    ap last_of (sym c.as_slice.ensures) ∙ sym c.last.ensures.value ∙ ap option_copied c.in-Some-Led.is
+    ∙ ap (λ (e : BoardEntry). Some e) c.in-Some-Led.field-0-is in
+    led_last c.args.self.now c.in-Some-Led.field-0-0 c.in-Some-Led.field-0-1 c.requires last

@@ -4,7 +4,6 @@ use Rattle.sc_router.specs.Route.{IsBucketCount}
 use Rattle.sc_cluster.specs.declared.slice.Slice.{Slice}
 use Rattle.sc_cluster.specs.Slices.{greatest_id}
 use Rattle.sc_bucket.specs.Sound.{AreActive}
-use Rattle.sc_collection.specs.Alone.{layout_alone}
 use Rattle.sc_collection.proofs.NewLemmas.{IsNewBoard, new_by_fields}
 use Rattle.sc_collection.proofs.FollowerLemmas.{first_active, first_followers, first_ids}
 use Rattle.sc_collection.proofs.ShapeLemmas.{ranges}
@@ -30,28 +29,26 @@ new_slots-requires-clause-least c =
 
 pub invariant_of-result : goal.invariant_of-result
 invariant_of-result c =
-    let board : IsNewBoard (layout_alone c.in_ok-new_slots.field-0.items c.args.shape.now.nodes c.in_ok-first.first c.args.shape.now.log_limit)
-    c.in_ok-board.board = record {
+    let board : IsNewBoard c.in_ok-first.first c.args.shape.now.log_limit c.in_ok-board.board = record {
       sound = c.in_ok-board.ensures.sound;
-      first = c.in_ok-board.ensures.first ∙ c.in_ok-clone_in.ensures;
-      limit = c.in_ok-board.ensures.limit;
+      first_is = c.in_ok-board.ensures.first ∙ c.in_ok-clone_in.ensures;
+      limit_is = c.in_ok-board.ensures.limit;
       empty = c.in_ok-board.ensures.journal;
     } in
-    (new_by_fields c.in_ok-new_slots.field-0.items c.args.shape.now.nodes c.in_ok-first.first c.args.shape.now.log_limit c.in_ok-board.board
-    c.new-3.result.items c.new-4.result.items c.in_ok-new_slots.ensures.each
+    (new_by_fields c.in_ok-new_slots.field-0.items c.args.shape.now.nodes c.in_ok-first.first c.args.shape.now.log_limit
+    c.nothing.result c.in_ok-board.board c.new-3.result.items c.new-4.result.items c.in_ok-new_slots.ensures.each
     (subst IsBucketCount (sym c.in_ok-new_slots.ensures.count) (ranges c.args.shape.now c.requires).buckets)
-    (ranges c.args.shape.now c.requires).nodes.0 board c.new-3.ensures c.new-4.ensures).is
+    (ranges c.args.shape.now c.requires).nodes.0 board c.nothing.ensures c.new-3.ensures c.new-4.ensures).is
 
 pub returns-clause-seen : goal.returns-clause-seen
 returns-clause-seen c =
-    let board : IsNewBoard (layout_alone c.in_ok-new_slots.field-0.items c.args.shape.now.nodes c.in_ok-first.first c.args.shape.now.log_limit)
-    c.in_ok-board.board = record {
+    let board : IsNewBoard c.in_ok-first.first c.args.shape.now.log_limit c.in_ok-board.board = record {
       sound = c.in_ok-board.ensures.sound;
-      first = c.in_ok-board.ensures.first ∙ c.in_ok-clone_in.ensures;
-      limit = c.in_ok-board.ensures.limit;
+      first_is = c.in_ok-board.ensures.first ∙ c.in_ok-clone_in.ensures;
+      limit_is = c.in_ok-board.ensures.limit;
       empty = c.in_ok-board.ensures.journal;
     } in
-    (new_by_fields c.in_ok-new_slots.field-0.items c.args.shape.now.nodes c.in_ok-first.first c.args.shape.now.log_limit c.in_ok-board.board
-    c.new-3.result.items c.new-4.result.items c.in_ok-new_slots.ensures.each
+    (new_by_fields c.in_ok-new_slots.field-0.items c.args.shape.now.nodes c.in_ok-first.first c.args.shape.now.log_limit
+    c.nothing.result c.in_ok-board.board c.new-3.result.items c.new-4.result.items c.in_ok-new_slots.ensures.each
     (subst IsBucketCount (sym c.in_ok-new_slots.ensures.count) (ranges c.args.shape.now c.requires).buckets)
-    (ranges c.args.shape.now c.requires).nodes.0 board c.new-3.ensures c.new-4.ensures).sees
+    (ranges c.args.shape.now c.requires).nodes.0 board c.nothing.ensures c.new-3.ensures c.new-4.ensures).sees

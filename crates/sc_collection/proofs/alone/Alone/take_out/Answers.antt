@@ -2,7 +2,7 @@
 use Rattle.std.proofs.Common.{◌++◌, ◌∷◌, [], ℕ, Bool, List, refl, ap, ◌∙◌}
 use Rattle.sc_bucket.specs.declared.bucket.Bucket.{Bucket}
 use Rattle.sc_collection.specs.Desks.{Held}
-use Rattle.sc_collection.proofs.HoldLemmas.{IsTaken, slot_is_full, taken_of_fields}
+use Rattle.sc_collection.proofs.HoldLemmas.{slot_is_full, taken_of_fields}
 use Rattle.sc_collection.proofs.alone.Alone.take_out.Goals as goal
 
 pub take-bucket-requires : goal.take-bucket-requires

@@ -1,5 +1,5 @@
 -- How many slots there are, and what was seen is legal.
-use Rattle.std.proofs.Common.{ap, sym, subst}
+use Rattle.std.proofs.Common.{subst}
 use Rattle.sc_seen.specs.Seen.{AreLegal}
 use Rattle.sc_collection.specs.Alone.{AloneState, seen_alone}
 use Rattle.sc_collection.proofs.DeskLemmas.{desk_is_legal}

@@ -1,5 +1,5 @@
 -- What a keeper gives back stands in its slot.
-use Rattle.std.proofs.Common.{◌≡◌, None, subst}
+use Rattle.std.proofs.Common.{None, subst}
 use Rattle.sc_collection.specs.Desks.{Held, SeesKeeperGiven, KeepsGiven}
 use Rattle.sc_collection.specs.Alone.{seen_alone, keeping_alone}
 use Rattle.sc_collection.proofs.DeskLemmas.{out_is}
@@ -9,7 +9,7 @@ use Rattle.sc_collection.proofs.alone.AloneDesk.give_keeper.Goals as goal
 pub put_back-requires : goal.put_back-requires
 put_back-requires c =
     let out = c.requires.is_out in
-    record { is_out = (out.0, out.1, out.2, λ is. may_stand_kept c.args.self.now out.0 c.args.bucket c.requires.fits out.3) }
+    record { is_out = (out.0, out.1, out.2, λ is. may_stand_kept c.args.self.now out.0 c.args.bucket is out.1 c.requires.fits out.3) }
 
 pub returns : goal.returns
 returns c =

@@ -8,7 +8,7 @@ use Rattle.sc_lock.specs.Tokens.{lock_id, badge_lock}
 use Rattle.sc_lock.specs.Calls.{IsNewPassOf}
 use Rattle.sc_collection.proofs.FollowerLemmas.{first_active, first_followers, first_ids}
 use Rattle.sc_collection.proofs.ShapeLemmas.{ranges}
-use Rattle.sc_shared.proofs.NewLockLemmas.{board_named, new_board_is, new_are_locks, new_sees, new_of_locks, new_free, new_splits}
+use Rattle.sc_shared.proofs.NewLockLemmas.{board_named, new_board_is, none_opened, new_are_locks, new_sees, new_of_locks, new_free, new_splits}
 use Rattle.sc_shared.proofs.collection.Collection.new.Goals as goal
 
 pub new_locks-requires-clause-active : goal.new_locks-requires-clause-active
@@ -32,8 +32,8 @@ new-requires-2-clause-ids c =
 pub new-requires-3 : goal.new-requires-3
 new-requires-3 c = record {
   sound = new_board_is c.args.shape.now.buckets c.in_ok-first.first c.args.shape.now.log_limit c.in_ok-locks.field-0 c.in_ok-locks.ensures
-      c.in_ok-board.board c.in_ok-board.ensures.sound (c.in_ok-board.ensures.first ∙ c.in_ok-clone_in.ensures) c.in_ok-board.ensures.journal
-      c.in_ok-board.ensures.keepers;
+      c.in_ok-board.board c.nothing.result c.in_ok-board.ensures.sound (c.in_ok-board.ensures.first ∙ c.in_ok-clone_in.ensures)
+      c.in_ok-board.ensures.journal c.in_ok-board.ensures.keepers c.nothing.ensures;
 }
 
 pub invariant_of-collection : goal.invariant_of-collection
@@ -43,16 +43,16 @@ invariant_of-collection c =
     let limit = c.args.shape.now.log_limit in
     let is = ranges c.args.shape.now c.requires in
     new_are_locks c.args.shape.now.buckets first limit made c.in_ok-locks.ensures c.in_ok-board-2.board c.args.shape.now.nodes
-    (board_named first c.in_ok-board.board.first limit c.in_ok-board.board.limit (map badge_lock made.badges.items) _
-    c.in_ok-board-2.ensures.name (c.in_ok-board.ensures.first ∙ c.in_ok-clone_in.ensures) c.in_ok-board.ensures.limit) is.buckets is.nodes.0
+    (board_named first c.in_ok-board.board.first limit c.in_ok-board.board.limit (map badge_lock made.badges.items) c.nothing.result _
+    c.in_ok-board-2.ensures.name (c.in_ok-board.ensures.first ∙ c.in_ok-clone_in.ensures) c.in_ok-board.ensures.limit c.nothing.ensures) is.buckets is.nodes.0
 
 pub returns-clause-passes : goal.returns-clause-passes
 returns-clause-passes c =
     let made = c.in_ok-locks.field-0 in
     let first = c.in_ok-first.first in
     let limit = c.args.shape.now.log_limit in
-    let name = board_named first c.in_ok-board.board.first limit c.in_ok-board.board.limit (map badge_lock made.badges.items) _
-    c.in_ok-board-2.ensures.name (c.in_ok-board.ensures.first ∙ c.in_ok-clone_in.ensures) c.in_ok-board.ensures.limit in
+    let name = board_named first c.in_ok-board.board.first limit c.in_ok-board.board.limit (map badge_lock made.badges.items) c.nothing.result _
+    c.in_ok-board-2.ensures.name (c.in_ok-board.ensures.first ∙ c.in_ok-clone_in.ensures) c.in_ok-board.ensures.limit c.nothing.ensures in
     let pass : IsNewPassOf (lock_id c.in_ok-board-2.board) [] (2 ^ 31) c.in_ok-board-2.pass =
     subst (λ (journal : List BoardEntry). IsNewPassOf (lock_id c.in_ok-board-2.board) journal (2 ^ 31) c.in_ok-board-2.pass)
     c.in_ok-board.ensures.journal c.in_ok-board-2.ensures.pass in
@@ -63,13 +63,22 @@ returns-clause-passes c =
           c.in_ok-board-2.pass pass;
     }
 
+pub returns-clause-opened : goal.returns-clause-opened
+returns-clause-opened c =
+    let made = c.in_ok-locks.field-0 in
+    let first = c.in_ok-first.first in
+    let limit = c.args.shape.now.log_limit in
+    let name = board_named first c.in_ok-board.board.first limit c.in_ok-board.board.limit (map badge_lock made.badges.items) c.nothing.result _
+    c.in_ok-board-2.ensures.name (c.in_ok-board.ensures.first ∙ c.in_ok-clone_in.ensures) c.in_ok-board.ensures.limit c.nothing.ensures in
+    none_opened c.args.shape.now.buckets first limit made c.in_ok-locks.ensures c.in_ok-board-2.board c.args.shape.now.nodes name
+
 pub returns-clause-seen : goal.returns-clause-seen
 returns-clause-seen c =
     let made = c.in_ok-locks.field-0 in
     let first = c.in_ok-first.first in
     let limit = c.args.shape.now.log_limit in
-    let name = board_named first c.in_ok-board.board.first limit c.in_ok-board.board.limit (map badge_lock made.badges.items) _
-    c.in_ok-board-2.ensures.name (c.in_ok-board.ensures.first ∙ c.in_ok-clone_in.ensures) c.in_ok-board.ensures.limit in
+    let name = board_named first c.in_ok-board.board.first limit c.in_ok-board.board.limit (map badge_lock made.badges.items) c.nothing.result _
+    c.in_ok-board-2.ensures.name (c.in_ok-board.ensures.first ∙ c.in_ok-clone_in.ensures) c.in_ok-board.ensures.limit c.nothing.ensures in
     let pass : IsNewPassOf (lock_id c.in_ok-board-2.board) [] (2 ^ 31) c.in_ok-board-2.pass =
     subst (λ (journal : List BoardEntry). IsNewPassOf (lock_id c.in_ok-board-2.board) journal (2 ^ 31) c.in_ok-board-2.pass)
     c.in_ok-board.ensures.journal c.in_ok-board-2.ensures.pass in
@@ -81,8 +90,8 @@ returns-clause-splits c =
     let made = c.in_ok-locks.field-0 in
     let first = c.in_ok-first.first in
     let limit = c.args.shape.now.log_limit in
-    let name = board_named first c.in_ok-board.board.first limit c.in_ok-board.board.limit (map badge_lock made.badges.items) _
-    c.in_ok-board-2.ensures.name (c.in_ok-board.ensures.first ∙ c.in_ok-clone_in.ensures) c.in_ok-board.ensures.limit in
+    let name = board_named first c.in_ok-board.board.first limit c.in_ok-board.board.limit (map badge_lock made.badges.items) c.nothing.result _
+    c.in_ok-board-2.ensures.name (c.in_ok-board.ensures.first ∙ c.in_ok-clone_in.ensures) c.in_ok-board.ensures.limit c.nothing.ensures in
     let pass : IsNewPassOf (lock_id c.in_ok-board-2.board) [] (2 ^ 31) c.in_ok-board-2.pass =
     subst (λ (journal : List BoardEntry). IsNewPassOf (lock_id c.in_ok-board-2.board) journal (2 ^ 31) c.in_ok-board-2.pass)
     c.in_ok-board.ensures.journal c.in_ok-board-2.ensures.pass in

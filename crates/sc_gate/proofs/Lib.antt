@@ -1,0 +1,2 @@
+-- Facts on gates.
+pub mod GateLemmas

@@ -1,0 +1,2 @@
+-- What a gate keeps of the journals that a desk sees.
+pub mod Gates

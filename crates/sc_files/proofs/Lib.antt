@@ -1,0 +1,3 @@
+mod MemFileLemmas
+mod MemoryLemmas
+mod StepLemmas

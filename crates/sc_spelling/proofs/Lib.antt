@@ -1,0 +1,7 @@
+-- The lemmas of this crate, lowest first.
+pub mod NumberLemmas
+pub mod ValueLemmas
+pub mod FieldLemmas
+pub mod DocumentLemmas
+pub mod LoopLemmas
+pub mod LengthLemmas

@@ -1,0 +1,12 @@
+mod AnewLemmas
+mod BeginLemmas
+mod CloseLemmas
+mod ClosingLemmas
+mod FrameLemmas
+mod ImageLemmas
+mod MomentLemmas
+mod NextLemmas
+mod ReadLemmas
+mod StagingLemmas
+mod TailLemmas
+mod HalfLemmas

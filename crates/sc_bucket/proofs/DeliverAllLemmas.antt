@@ -8,7 +8,7 @@ use Rattle.sc_record.specs.declared.slice.CoreId.{CoreId}
 use Rattle.sc_cluster.proofs.ListLemmas.{filter-all, filter-none}
 use Rattle.sc_bucket.specs.Kept.{Sent}
 use Rattle.sc_bucket.specs.Flight.{delivered_all}
-use Rattle.sc_bucket.specs.Events.{HasSameFirstAndLimit, HasSameSplit, Delivers}
+use Rattle.sc_bucket.specs.Events.{HasSameFixedParts, HasSameSplit, Delivers}
 use Rattle.sc_bucket.specs.declared.bucket.Bucket.{Bucket}
 use Rattle.sc_bucket.proofs.FlightLemmas.{split_get}
 
@@ -22,7 +22,7 @@ NoneMeets test messages = All (λ (message : Sent). test message ≡ false) mess
 
 -- all messages that meet the test are delivered
 pub record DeliversAll (old : Bucket) (test : Sent → Bool) (new : Bucket) : Type 0 where
-  pub name : HasSameFirstAndLimit old new
+  pub name : HasSameFixedParts old new
   pub split : HasSameSplit old new
   pub map_is : new.map ≡ old.map
   pub entries : new.journal.entries ≡ old.journal.entries
@@ -41,7 +41,7 @@ all_others test messages none =
 pub DeliversAll-none : (old : Bucket) (test : Sent → Bool) → NoneMeets test old.flight.messages
     → DeliversAll old test old
 DeliversAll-none old test none = record {
-  name = record { first = refl; limit = refl };
+  name = record { first = refl; limit = refl; filed = refl };
   split = record { phase = refl; feeds = refl };
   map_is = refl;
   entries = refl;
@@ -55,7 +55,7 @@ pub DeliversAll-first : (old : Bucket) (test : Sent → Bool) (at : ℕ) (messag
     → test message ≡ true → NoneMeets test (take at old.flight.messages) → Delivers old at message mid
     → DeliversAll mid test new → DeliversAll old test new
 DeliversAll-first old test at message mid new meets none one rest = record {
-  name = record { first = rest.name.first ∙ one.name.first; limit = rest.name.limit ∙ one.name.limit };
+  name = record { first = rest.name.first ∙ one.name.first; limit = rest.name.limit ∙ one.name.limit; filed = rest.name.filed ∙ one.name.filed };
   split = record { phase = rest.split.phase ∙ one.split.phase; feeds = rest.split.feeds ∙ one.split.feeds };
   map_is = rest.map_is ∙ one.map_is;
   entries = rest.entries ∙ one.entries;

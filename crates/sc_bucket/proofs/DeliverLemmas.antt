@@ -293,7 +293,7 @@ pub Delivers-received : (b : Bucket) (at : ℕ) (message : Sent) (flight : Fligh
     → ((core : Core) → slice_get b.replicas k ≡ Some core → cores ≡ set b.replicas k (received core message.write))
     → Delivers b at message (with_cores b flight cores)
 Delivers-received b at message flight found k cores sound there left is same received_there = record {
-  name = record { first = refl; limit = refl };
+  name = record { first = refl; limit = refl; filed = refl };
   split = record { phase = refl; feeds = refl };
   map_is = refl;
   entries = refl;

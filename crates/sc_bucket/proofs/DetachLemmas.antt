@@ -303,12 +303,12 @@ pub Detaches-marked : (b : Bucket) (name : CoreId) (journal : JournalState) (fli
     (found : Option ℕ) (k : ℕ) → IsSound b → IsCoreFound b.replicas name found → found ≡ Some k
     → ((core : Core) → slice_get b.replicas k ≡ Some core → cores ≡ set b.replicas k (marked core))
     → flight ≡ record b.flight { messages = left_out name b.flight.messages }
-    → journal ≡ record { entries = b.journal.entries ++ entry.Down name ∷ []; room = b.journal.room - 1 }
+    → journal ≡ record b.journal { entries = b.journal.entries ++ entry.Down name ∷ []; room = b.journal.room - 1 }
     → Detaches b name (with_down b journal flight cores)
 Detaches-marked b name journal flight cores found k sound is same cores_are flight_is journal_is =
     let (core, there, named) = place_of_core b.replicas name found k is same in
     record {
-      kept = record { first = refl; limit = refl };
+      kept = record { first = refl; limit = refl; filed = ap (λ (j : JournalState). j.filed) journal_is };
       split = record { phase = refl; feeds = refl };
       map_is = refl;
       entries = ap (λ (j : JournalState). j.entries) journal_is;
@@ -321,7 +321,7 @@ Detaches-marked b name journal flight cores found k sound is same cores_are flig
 -- and so the bucket is sound
 pub IsSound-marked : (b : Bucket) (name : CoreId) (journal : JournalState) (flight : FlightState) (cores : List Core)
     → IsSound b → CanDetach b name → Detaches b name (with_down b journal flight cores)
-    → journal ≡ record { entries = b.journal.entries ++ entry.Down name ∷ []; room = b.journal.room - 1 }
+    → journal ≡ record b.journal { entries = b.journal.entries ++ entry.Down name ∷ []; room = b.journal.room - 1 }
     → IsSound (with_down b journal flight cores)
 IsSound-marked b name journal flight cores sound can detaches journal_is =
     let owes = owes_down b name sound.journal can in

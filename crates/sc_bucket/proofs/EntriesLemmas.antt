@@ -10,22 +10,22 @@ use Rattle.sc_bucket.specs.declared.entries.Mark.TheVariants as mark
 use Rattle.sc_bucket.specs.Entries.{entries_of, AreParts}
 
 -- what is left where the first entry is a write
-AreParts-after_write : (marks : List Mark) (cell : Arc Write Global) (writes : List (Arc Write Global)) (settled : List ℕ) (others : List Entry)
+pub AreParts-after_write : (marks : List Mark) (cell : Arc Write Global) (writes : List (Arc Write Global)) (settled : List ℕ) (others : List Entry)
     → AreParts (mark.Write ∷ marks) (cell ∷ writes) settled others → AreParts marks writes settled others
 AreParts-after_write marks cell writes settled others parts = grind arith
 
 -- or settles one
-AreParts-after_settling : (marks : List Mark) (writes : List (Arc Write Global)) (place : ℕ) (settled : List ℕ) (others : List Entry)
+pub AreParts-after_settling : (marks : List Mark) (writes : List (Arc Write Global)) (place : ℕ) (settled : List ℕ) (others : List Entry)
     → AreParts (mark.Settled ∷ marks) writes (place ∷ settled) others → AreParts marks writes settled others
 AreParts-after_settling marks writes place settled others parts = grind arith
 
 -- or commits
-AreParts-after_committed : (marks : List Mark) (writes : List (Arc Write Global)) (settled : List ℕ) (others : List Entry)
+pub AreParts-after_committed : (marks : List Mark) (writes : List (Arc Write Global)) (settled : List ℕ) (others : List Entry)
     → AreParts (mark.Committed ∷ marks) writes settled others → AreParts marks writes settled others
 AreParts-after_committed marks writes settled others parts = grind arith
 
 -- or is of a split or of a core
-AreParts-after_other : (marks : List Mark) (writes : List (Arc Write Global)) (settled : List ℕ) (other : Entry) (others : List Entry)
+pub AreParts-after_other : (marks : List Mark) (writes : List (Arc Write Global)) (settled : List ℕ) (other : Entry) (others : List Entry)
     → AreParts (mark.Other ∷ marks) writes settled (other ∷ others) → AreParts marks writes settled others
 AreParts-after_other marks writes settled other others parts = grind arith
 

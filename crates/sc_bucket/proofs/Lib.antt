@@ -1,6 +1,9 @@
 -- Facts on buckets.
 pub mod EntriesLemmas
 pub mod UncommittedLemmas
+pub mod GoneLemmas
+pub mod LastLemmas
+pub mod LentLemmas
 pub mod InOrderLemmas
 pub mod SearcherLemmas
 pub mod SoundLemmas
@@ -26,6 +29,8 @@ pub mod CommitLemmas
 pub mod StableLemmas
 pub mod ChangesLemmas
 pub mod NextLemmas
+pub mod AskedLemmas
+pub mod ServingLemmas
 pub mod DeliverAllLemmas
 pub mod ArrivedLemmas
 pub mod FeedLemmas
@@ -35,4 +40,5 @@ pub mod DetachLemmas
 pub mod DownLemmas
 pub mod CountLemmas
 pub mod SeatLemmas
+pub mod TargetLemmas
 pub mod MovingLemmas

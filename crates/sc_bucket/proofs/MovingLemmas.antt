@@ -114,12 +114,12 @@ ArePrepared-moved b searchers sound unchanged =
 -- once the entry that commits is at the end of its journal the bucket was committed, and is sound
 pub committed-moved : (b : Bucket) (searchers : List Standing) (journal : JournalState) → IsSound b → IsUnchanged b
     → b.owed < b.journal.room → BucketHasRoom 1 b → AreMoved (length b.journal.entries) b.searchers searchers
-    → journal ≡ record { entries = b.journal.entries ++ entry.Committed ∷ []; room = b.journal.room - 1 }
+    → journal ≡ record b.journal { entries = b.journal.entries ++ entry.Committed ∷ []; room = b.journal.room - 1 }
     → Commits b (record b { searchers = searchers; journal = journal }) × IsSound (record b { searchers = searchers; journal = journal })
 committed-moved b searchers journal sound unchanged memory room moved longer =
     let left = ap (λ (j : JournalState). j.room) longer in
     let commits : Commits b (record b { searchers = searchers; journal = journal }) = record {
-      name = record { first = refl; limit = refl };
+      name = record { first = refl; limit = refl; filed = ap (λ (j : JournalState). j.filed) longer };
       split = record { phase = refl; feeds = refl };
       map_is = refl;
       room = room;

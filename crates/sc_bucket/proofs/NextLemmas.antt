@@ -96,7 +96,7 @@ none_outside first journal slice id (Some cell) legal out one =
     absurd (cc)
 
 -- nor is one found among writes whose hashes are in the range
-find-outside : (first : List Slice) (journal : List Entry) (slice : Slice) (found : List Write) (id : List ℕ) → IsLegal first journal
+pub find-outside : (first : List Slice) (journal : List Entry) (slice : Slice) (found : List Write) (id : List ℕ) → IsLegal first journal
     → All (Contains (writes journal)) found → All (IsInRange slice) found
     → contains (route_hash id) (bounds slice.range) ≡ false → write_of found id ≡ None
 find-outside first journal slice found id legal written within out =
@@ -143,11 +143,11 @@ last-inside first journal slice id legal inside =
     (uncommitted journal) (uncommitted-written journal)))
 
 -- the core's cells are the last writes of the slice, and no others
-record HasItsCells (journal : List Entry) (slice : Slice) (core : Core) : Type 0 where
-  has : HasLastWrites journal slice core
-  ascends : AscendById core.cells
-  written : All (Contains (writes journal)) core.cells
-  within : All (IsInRange slice) core.cells
+pub record HasItsCells (journal : List Entry) (slice : Slice) (core : Core) : Type 0 where
+  pub has : HasLastWrites journal slice core
+  pub ascends : AscendById core.cells
+  pub written : All (Contains (writes journal)) core.cells
+  pub within : All (IsInRange slice) core.cells
 
 -- rows that show what was committed of a slice, and have hashes of its range alone, are such a core's cells after these changes
 rows_are_cells : (first : List Slice) (journal : List Entry) (slice : Slice) (old changes new : List Write) (core : Core)
@@ -175,7 +175,7 @@ rows_are_cells first journal slice old changes new core legal shows within are a
           ∙ sym (find-outside first journal slice core.cells id legal its.written its.within is)
 
 -- so are those of a core that leads an active slice of a sound bucket
-its_leader : (b : Bucket) (slice : Slice) (core : Core) → IsSound b → Contains b.map slice → slice.state ≡ states.Active
+pub its_leader : (b : Bucket) (slice : Slice) (core : Core) → IsSound b → Contains b.map slice → slice.state ≡ states.Active
     → Contains b.replicas core → IsLeaderOf slice.id core → HasItsCells b.journal.entries slice core
 its_leader b slice core sound there active core_there leads =
     let entries : List Entry = b.journal.entries in

@@ -93,7 +93,7 @@ Accepts-put old roomy new order now version cell at messages same put fitting ro
     let roomy_leader = IsLeaderAt-same_cores old.map old.replicas roomy.replicas cell.value.hash at same.cores leader in
     let led_once = AreSameCores-led old.replicas roomy.replicas at leader.core roomy_leader.core cell.value same.cores leader.found roomy_leader.found in
     record {
-      name = record { first = put.name.first ∙ same.name.first; limit = put.name.limit ∙ same.name.limit };
+      name = record { first = put.name.first ∙ same.name.first; limit = put.name.limit ∙ same.name.limit; filed = put.name.filed ∙ same.name.filed };
       split = record { phase = put.split.phase ∙ same.split.phase; feeds = put.split.feeds ∙ same.split.feeds };
       map_is = put.map_is ∙ same.map_is;
       fitting = fitting;

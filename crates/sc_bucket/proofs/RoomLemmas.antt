@@ -1,5 +1,5 @@
 -- A bucket with more room is sound, and what room a write takes.
-use Rattle.std.proofs.Common.{◌≡◌, ℕ, ◌+◌, ◌<◌, ◌≤◌, ◌⊎◌, inl, inr, true, false, List, ◌++◌, length, map, All, Contains, slice_get, Some, Result, Ok, Err, refl, sym, ap, ◌∙◌, subst, arith}
+use Rattle.std.proofs.Common.{◌≡◌, ℕ, ◌+◌, ◌<◌, ◌≤◌, ◌⊎◌, inl, inr, true, false, List, ◌++◌, length, map, All, Contains, slice_get, Option, Some, Result, Ok, Err, refl, sym, ap, ◌∙◌, subst, arith}
 use Rattle.std.specs.Prelude.{OnOk}
 use Rattle.std.specs.List.{AllZip, IsDistinct}
 use Rattle.std.proofs.lemmas.List.{length-append, length-map}
@@ -18,7 +18,7 @@ use Rattle.sc_bucket.specs.Kept.{JournalState, PlacesState, Sent, FlightState, F
 use Rattle.sc_record.specs.Names.{is_core}
 use Rattle.sc_bucket.specs.Flight.{sent_of, in_flight}
 use Rattle.sc_bucket.specs.Pending.{to_feed, pending}
-use Rattle.sc_bucket.specs.Events.{HasSameFirstAndLimit, IsSameButRoom}
+use Rattle.sc_bucket.specs.Events.{IsSameButRoom}
 use Rattle.sc_bucket.specs.Accepting.{IsRoomier, HasMore, HasMoreAt, HasMemory}
 use Rattle.sc_bucket.specs.Room.{BucketHasRoom}
 use Rattle.sc_bucket.specs.Sound.{AreActive, HasJournal, HasSpare, IsSound}
@@ -29,21 +29,21 @@ use Rattle.sc_bucket.proofs.PendingLemmas.{goes_to, in_flight-append, length-in_
 use Rattle.sc_bucket.proofs.RoomierLemmas.{same-roomier, spares-roomier}
 
 -- a bucket's journal is sound, apart from its cores
-pub HasJournal-same : (old new : Bucket) → HasSameFirstAndLimit old new → new.map ≡ old.map → new.journal.entries ≡ old.journal.entries
+pub HasJournal-same : (old new : Bucket) → new.first ≡ old.first → new.limit ≡ old.limit → new.map ≡ old.map → new.journal.entries ≡ old.journal.entries
     → new.unsettled.places ≡ old.unsettled.places → new.owed ≡ old.owed → new.owed ≤ new.journal.room
     → HasJournal old → HasJournal new
-HasJournal-same old new name map_is entries places owed_is room journal = record {
-  first = subst IsMap (sym name.first) journal.first;
-  begins = subst AreActive (sym name.first) journal.begins;
-  legal = subst (λ j. IsLegal new.first j) (sym entries) (subst (λ f. IsLegal f old.journal.entries) (sym name.first) journal.legal);
-  map_is = map_is ∙ journal.map_is ∙ sym (ap (λ f. map_after f new.journal.entries) name.first ∙ ap (map_after old.first) entries);
+HasJournal-same old new first limit map_is entries places owed_is room journal = record {
+  first = subst IsMap (sym first) journal.first;
+  begins = subst AreActive (sym first) journal.begins;
+  legal = subst (λ j. IsLegal new.first j) (sym entries) (subst (λ f. IsLegal f old.journal.entries) (sym first) journal.legal);
+  map_is = map_is ∙ journal.map_is ∙ sym (ap (λ f. map_after f new.journal.entries) first ∙ ap (map_after old.first) entries);
   unsettled_are = places ∙ journal.unsettled_are ∙ sym (ap unsettled entries);
-  owed_is = owed_is ∙ journal.owed_is ∙ sym (ap (λ f. owed f new.journal.entries) name.first ∙ ap (owed old.first) entries);
+  owed_is = owed_is ∙ journal.owed_is ∙ sym (ap (λ f. owed f new.journal.entries) first ∙ ap (owed old.first) entries);
   room = room;
   within = let same : length new.journal.entries ≡ length old.journal.entries = ap length entries in
-      omega (arith, journal.within, same, owed_is, name.limit);
-  limit_from = omega (arith, journal.limit_from, name.limit);
-  limit_to = omega (arith, journal.limit_to, name.limit);
+      omega (arith, journal.within, same, owed_is, limit);
+  limit_from = omega (arith, journal.limit_from, limit);
+  limit_to = omega (arith, journal.limit_to, limit);
 }
 
 -- nor does its room for entries change with that in memory
@@ -59,11 +59,20 @@ pub IsSound-same : (old new : Bucket) → IsSameButRoom old new → new.unsettle
     → IsSound old → IsSound new
 IsSound-same old new same places owed_is room same_spares spares sound =
     IsSound-left old new sound same.split
-    (HasJournal-same old new same.name same.map_is same.entries places owed_is room sound.journal) same.map_is same.cores
+    (HasJournal-same old new same.name.first same.name.limit same.map_is same.entries places owed_is room sound.journal) same.map_is same.cores
     (ap writes same.entries) (ap open_split same.entries) (SaysSame-same old.journal.entries new.journal.entries same.entries) same.messages
     (AreSent-same old new same.cores same.entries same.messages sound.messages) spares
     (HasSearchers-same old new same.map_is same.searchers_are same.entries sound.searchers)
     (ArePrepared-same old new same.split.phase same.map_is same.searchers_are same_spares sound.prepared)
+
+-- nor where only how many entries a log file has changes
+pub IsSound-filed : (b : Bucket) (filed : Option ℕ) → IsSound b → IsSound (record b { journal = record b.journal { filed = filed } })
+IsSound-filed b filed sound =
+    let new : Bucket = record b { journal = record b.journal { filed = filed } } in
+    IsSound-left b new sound (record { phase = refl; feeds = refl })
+    (HasJournal-same b new refl refl refl refl refl refl sound.journal.room sound.journal) refl refl refl refl
+    (SaysSame-same b.journal.entries b.journal.entries refl) refl (AreSent-same b new refl refl refl sound.messages) sound.room
+    (HasSearchers-same b new refl refl refl sound.searchers) sound.prepared
 
 -- the bucket with other room in its parts
 abbrev pub with_parts : Bucket → JournalState → PlacesState → FlightState → List Core → Bucket
@@ -72,6 +81,7 @@ with_parts b journal unsettled flight cores = record b { journal = journal; unse
 -- what more room in the parts of a bucket leaves
 pub record HasMoreRoom (b : Bucket) (journal : JournalState) (unsettled : PlacesState) (flight : FlightState) (cores : List Core) : Type 0 where
   pub entries : journal.entries ≡ b.journal.entries
+  pub filed : journal.filed ≡ b.journal.filed
   pub room : b.journal.room ≤ journal.room
   pub places : unsettled.places ≡ b.unsettled.places
   pub messages : flight.messages ≡ b.flight.messages
@@ -80,7 +90,7 @@ pub record HasMoreRoom (b : Bucket) (journal : JournalState) (unsettled : Places
 pub IsSameButRoom-with_parts : (b : Bucket) (journal : JournalState) (unsettled : PlacesState) (flight : FlightState) (cores : List Core)
     → HasMoreRoom b journal unsettled flight cores → IsSameButRoom b (with_parts b journal unsettled flight cores)
 IsSameButRoom-with_parts b journal unsettled flight cores more = record {
-  name = record { first = refl; limit = refl };
+  name = record { first = refl; limit = refl; filed = more.filed };
   split = record { phase = refl; feeds = refl };
   map_is = refl;
   entries = more.entries;

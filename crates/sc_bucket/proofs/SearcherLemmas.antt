@@ -34,7 +34,7 @@ ShowsCommitted-grown old new slice rows same kept shows = record {
 }
 
 -- what is true of the searchers of each slice of a map
-abbrev Show : List Slice → List Entry → Standing → Type 0
+abbrev pub Show : List Slice → List Entry → Standing → Type 0
 Show slices journal searcher = (slice : Slice) → Contains slices slice → slice.id ≡ searcher.slice
     → (searcher.range ≡ slice.range) × ShowsCommitted journal slice (standing_rows searcher)
 

@@ -30,7 +30,7 @@ same_id : (one other : SliceId) → one.0 ≡ other.0 → one ≡ other
 same_id one other same = let make : ℕ → SliceId = λ n. record { 0 = n } in ap make same
 
 -- a name of a map is that of a core of a slice of it
-named_core : (slices : List Slice) (key : ℕ × ℕ) (id : SliceId) → Contains (core_keys slices) key → key.0 ≡ id.0 → HasCore slices id key.1
+pub named_core : (slices : List Slice) (key : ℕ × ℕ) (id : SliceId) → Contains (core_keys slices) key → key.0 ≡ id.0 → HasCore slices id key.1
 named_core slices key id there of_slice =
     let IsOfOne : ℕ × ℕ → Type 0 = λ other. (slice : Slice) × Contains slices slice × Contains (slice_keys slice) other in
     let each : All IsOfOne (core_keys slices) =
@@ -76,7 +76,7 @@ seat_is b id number seat sound (core, there, in_seat, named) =
     )
 
 -- no slice is being made as a bucket begins
-first_idle : (b : Bucket) → HasJournal b → forming b.first ≡ []
+pub first_idle : (b : Bucket) → HasJournal b → forming b.first ≡ []
 first_idle b journal =
     filter-none is_forming b.first
     (All-weaker (λ (slice : Slice). slice.state ≡ states.Active) (λ slice. is_forming slice ≡ false) active_settled b.first journal.begins)

@@ -162,7 +162,7 @@ DeliversAll-of_write old place core mid new first rest =
 pub Settles-noted : (old : Bucket) (place : ℕ) (mid new : Bucket) → DeliversAll old (is_of_write place) mid
     → NotesSettled mid place new → Settles old place new
 Settles-noted old place mid new all noted = record {
-  name = record { first = noted.name.first ∙ all.name.first; limit = noted.name.limit ∙ all.name.limit };
+  name = record { first = noted.name.first ∙ all.name.first; limit = noted.name.limit ∙ all.name.limit; filed = noted.name.filed ∙ all.name.filed };
   split = record { phase = noted.split.phase ∙ all.split.phase; feeds = noted.split.feeds ∙ all.split.feeds };
   map_is = noted.map_is ∙ all.map_is;
   entries = noted.entries ∙ ap (λ entries. entries ++ entry.Settled place ∷ []) all.entries;

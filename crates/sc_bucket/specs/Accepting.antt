@@ -16,7 +16,7 @@ use Rattle.sc_record.specs.Names.{is_core}
 use Rattle.sc_replicas.specs.Cores.{without_room}
 use Rattle.sc_bucket.specs.Pending.{to_feed, pending}
 use Rattle.sc_bucket.specs.Sound.{HasSpare}
-use Rattle.sc_bucket.specs.Events.{HasSameFirstAndLimit, HasSameSplit}
+use Rattle.sc_bucket.specs.Events.{HasSameFixedParts, HasSameSplit}
 
 -- the fault of an order whose change makes no document
 abbrev pub accept_fault : PartialFault → AcceptFault
@@ -51,7 +51,7 @@ pub record HasMemory (b : Bucket) (leader : ℕ) (messages : List Sent) : Type 0
 -- A write was put into a bucket: at the end of its journal, with its place among those that are not settled, and into the
 -- core at a place, which led it; and these messages were sent.
 pub record IsPut (old : Bucket) (cell : Arc Write Global) (at : ℕ) (messages : List Sent) (new : Bucket) : Type 0 where
-  pub name : HasSameFirstAndLimit old new
+  pub name : HasSameFixedParts old new
   pub split : HasSameSplit old new
   pub map_is : new.map ≡ old.map
   pub entries : new.journal.entries ≡ old.journal.entries ++ entry.Write cell ∷ []

@@ -1,9 +1,10 @@
 -- How a journal's entries are kept: a mark for each, and apart from them, in order, what the entries of a kind have besides; and
 -- which of its writes are not committed.
-use Rattle.std.specs.Prelude.{◌≡◌, ℕ, Bool, true, false, List, [], ◌∷◌, length, map, filter, drop}
+use Rattle.std.specs.Prelude.{◌≡◌, ℕ, Bool, true, false, List, [], ◌∷◌, ◌++◌, ◌≤◌, length, map, filter, take, drop}
 use Rattle.std.specs.Arc.{arc_value}
 use Rattle.std.specs.declared.sync.Arc.{Arc}
 use Rattle.std.specs.declared.alloc.Global.{Global}
+use Rattle.std.specs.declared.vec.Vec.{Vec}
 use Rattle.sc_record.specs.declared.write.Write.{Write}
 use Rattle.sc_record.specs.declared.entry.Entry.{Entry}
 use Rattle.sc_record.specs.declared.entry.Entry.TheVariants as entry
@@ -57,3 +58,15 @@ uncommitted journal = writes (drop (last_commit journal) journal)
 -- these are the cells of the journal's writes, and so many of them came before its last entry that commits
 abbrev pub AreCounted : (journal : List Entry) (cells : List (Arc Write Global)) (count : ℕ) → Type 0
 AreCounted journal cells count = (map arc_value cells ≡ writes journal) × (count ≡ length (writes (committed journal)))
+
+-- the cells that were let go: each time so many of the first of those that were there
+abbrev pub let_go_of : List (Vec (Arc Write Global) Global × ℕ) → List (Arc Write Global)
+let_go_of [] = []
+let_go_of ((there, count) ∷ later) = take count there.items ++ let_go_of later
+
+-- So many writes of the journal were let go: those below the entry at `from`. The last entry that commits is at `commit`, and not before
+-- that.
+pub record AreGone (journal : List Entry) (count from commit : ℕ) : Type 0 where
+  pub many : count ≡ length (writes (take from journal))
+  pub last : commit ≡ last_commit journal
+  pub before : from ≤ commit

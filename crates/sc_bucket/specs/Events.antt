@@ -1,6 +1,7 @@
 -- What each event of a bucket changes, and that all else stays.
-use Rattle.std.specs.Prelude.{◌≡◌, ℕ, ◌∷◌, ◌++◌, ℤ, [], List, length, map, filter, not, slice_get, slice_set, Some, Result, Ok, Err, IsSome, true, false, if◌then◌else◌, Contains}
+use Rattle.std.specs.Prelude.{◌≡◌, ℕ, ◌∷◌, ◌++◌, ℤ, [], List, length, map, filter, not, slice_get, slice_set, Some, Result, Ok, Err, IsSome, true, false, if◌then◌else◌, Contains, max}
 use Rattle.std.specs.List.{remove}
+use Rattle.std.specs.Option.{option_map}
 use Rattle.std.specs.declared.sync.Arc.{Arc}
 use Rattle.std.specs.declared.alloc.Global.{Global}
 use Rattle.sc_record.specs.Names.{key_of_core, is_core}
@@ -27,10 +28,11 @@ use Rattle.sc_bucket.specs.declared.accept.AcceptFault.TheVariants as faults
 abbrev pub AreSameCores : List Core → List Core → Type 0
 AreSameCores old new = map without_room new ≡ map without_room old
 
--- what no event changes: the first map and the limit
-pub record HasSameFirstAndLimit (old new : Bucket) : Type 0 where
+-- what no event changes but the one that is for it: the first map, the limit, and how many of the entries a log file has
+pub record HasSameFixedParts (old new : Bucket) : Type 0 where
   pub first : new.first ≡ old.first
   pub limit : new.limit ≡ old.limit
+  pub filed : new.journal.filed ≡ old.journal.filed
 
 -- nothing of a split was changed
 pub record HasSameSplit (old new : Bucket) : Type 0 where
@@ -39,7 +41,7 @@ pub record HasSameSplit (old new : Bucket) : Type 0 where
 
 -- nothing was changed but room
 pub record IsSameButRoom (old new : Bucket) : Type 0 where
-  pub name : HasSameFirstAndLimit old new
+  pub name : HasSameFixedParts old new
   pub split : HasSameSplit old new
   pub map_is : new.map ≡ old.map
   pub entries : new.journal.entries ≡ old.journal.entries
@@ -50,7 +52,7 @@ pub record IsSameButRoom (old new : Bucket) : Type 0 where
 -- An order is accepted at a timestamp: its write comes to the end of the journal, and the leader of its hash leads it, with the
 -- version that comes after the timestamp's and after that leader's clock; and it is sent to each other core that takes it.
 pub record Accepts (old : Bucket) (order : Order) (now : ℕ) (version : ℤ) (new : Bucket) : Type 0 where
-  pub name : HasSameFirstAndLimit old new
+  pub name : HasSameFixedParts old new
   pub split : HasSameSplit old new
   pub map_is : new.map ≡ old.map
   pub fitting : IsFitting old.journal.entries order
@@ -69,7 +71,7 @@ pub record Accepts (old : Bucket) (order : Order) (now : ℕ) (version : ℤ) (n
 
 -- the message at this place of the flight is delivered: it leaves the flight, and its core receives the write
 pub record Delivers (old : Bucket) (at : ℕ) (message : Sent) (new : Bucket) : Type 0 where
-  pub name : HasSameFirstAndLimit old new
+  pub name : HasSameFixedParts old new
   pub split : HasSameSplit old new
   pub map_is : new.map ≡ old.map
   pub entries : new.journal.entries ≡ old.journal.entries
@@ -88,7 +90,7 @@ pub record DeliversFirst (old : Bucket) (place : ℕ) (core : CoreId) (new : Buc
 
 -- all that is in flight to the core of this name is delivered, in the order of sending
 pub record DeliversAllTo (old : Bucket) (core : CoreId) (new : Bucket) : Type 0 where
-  pub name : HasSameFirstAndLimit old new
+  pub name : HasSameFixedParts old new
   pub split : HasSameSplit old new
   pub map_is : new.map ≡ old.map
   pub entries : new.journal.entries ≡ old.journal.entries
@@ -98,7 +100,7 @@ pub record DeliversAllTo (old : Bucket) (core : CoreId) (new : Bucket) : Type 0 
 
 -- the write at the place is settled: its messages in flight are delivered, and its entry comes to the end of the journal
 pub record Settles (old : Bucket) (place : ℕ) (new : Bucket) : Type 0 where
-  pub name : HasSameFirstAndLimit old new
+  pub name : HasSameFixedParts old new
   pub split : HasSameSplit old new
   pub map_is : new.map ≡ old.map
   pub entries : new.journal.entries ≡ old.journal.entries ++ entry.Settled place ∷ []
@@ -119,7 +121,7 @@ detached name core = if is_core name core.core then record core { down = true } 
 -- The core of this name is marked as down: the messages to it leave the flight, and the entry that says so comes to the end of the
 -- journal. It keeps its cells, its log and its clock.
 pub record Detaches (old : Bucket) (name : CoreId) (new : Bucket) : Type 0 where
-  pub kept : HasSameFirstAndLimit old new
+  pub kept : HasSameFixedParts old new
   pub split : HasSameSplit old new
   pub map_is : new.map ≡ old.map
   pub entries : new.journal.entries ≡ old.journal.entries ++ entry.Down name ∷ []
@@ -129,7 +131,7 @@ pub record Detaches (old : Bucket) (name : CoreId) (new : Bucket) : Type 0 where
 
 -- the entry that settles the write at the place comes to the end of the journal
 pub record NotesSettled (old : Bucket) (place : ℕ) (new : Bucket) : Type 0 where
-  pub name : HasSameFirstAndLimit old new
+  pub name : HasSameFixedParts old new
   pub split : HasSameSplit old new
   pub map_is : new.map ≡ old.map
   pub entries : new.journal.entries ≡ old.journal.entries ++ entry.Settled place ∷ []
@@ -140,7 +142,7 @@ pub record NotesSettled (old : Bucket) (place : ℕ) (new : Bucket) : Type 0 whe
 -- all is committed: each active slice has a searcher of its leader's cells as they are, and the entry that says so comes to the
 -- end of the journal
 pub record Commits (old new : Bucket) : Type 0 where
-  pub name : HasSameFirstAndLimit old new
+  pub name : HasSameFixedParts old new
   pub split : HasSameSplit old new
   pub map_is : new.map ≡ old.map
   pub room : BucketHasRoom 1 old
@@ -148,6 +150,10 @@ pub record Commits (old new : Bucket) : Type 0 where
   pub messages : new.flight.messages ≡ old.flight.messages
   pub cores : new.replicas ≡ old.replicas
   pub searchers_are : AreTaken old.map old.replicas (length old.journal.entries) new.searchers
+
+-- it was said that a log file has the first n entries of the journal, where a file is asked: nothing else is changed
+abbrev pub NotesFiled : Bucket → ℕ → Bucket → Type 0
+NotesFiled old n new = new ≡ record old { journal = record old.journal { filed = option_map (max n) old.journal.filed } }
 
 -- one event of a bucket, or none
 pub data IsStep (old new : Bucket) : Type 0 where
@@ -158,6 +164,7 @@ pub data IsStep (old new : Bucket) : Type 0 where
       → Settles old place new → IsStep old new
   commits : Commits old new → IsStep old new
   detaches : {name : CoreId} → CanDetach old name → Detaches old name new → IsStep old new
+  notes_filed : (n : ℕ) → NotesFiled old n new → IsStep old new
 
 -- what an accept answered
 abbrev pub outcome_of : Result Accepted AcceptFault → Outcome

@@ -52,6 +52,10 @@ pub record IsFirstOf (write : ℕ) (messages : List Sent) (at : ℕ) (message : 
 abbrev pub is_to : CoreId → Sent → Bool
 is_to core message = is_core core message.core
 
+-- the message is of the write at the place, and goes to the core of this name
+abbrev pub is_for : ℕ → CoreId → Sent → Bool
+is_for place core message = is_of_write place message && is_to core message
+
 -- the core of this name once all that was in flight to it came there; any other core stays
 abbrev pub arrived : List Sent → CoreId → Core → Core
 arrived messages name core = if is_core name core.core then received_all core (in_flight messages name) else core

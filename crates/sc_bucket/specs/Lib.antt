@@ -1,7 +1,9 @@
 -- What a bucket keeps, what is true of it at every moment, and what its events do.
 pub mod Kept
 pub mod Entries
+pub mod Gone
 pub mod Searchers
+pub mod Asked
 pub mod Flight
 pub mod Pending
 pub mod Sound
@@ -11,3 +13,5 @@ pub mod Events
 pub mod Accepting
 pub mod Taking
 pub mod Moving
+pub mod Targets
+pub mod Serving

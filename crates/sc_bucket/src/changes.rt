@@ -11,7 +11,7 @@ use std::alloc::{AllocError, Global};
 
 /// Of these writes those whose hash is in the range, of each id the last, ascending by the ids' bytes. None is shared. The only error is
 /// that memory was refused.
-pub(crate) fn changes_in<'a>(
+pub fn changes_in<'a>(
     alloc: Global,
     writes: &'a [Cell],
     range: &Range,

@@ -49,7 +49,7 @@ impl Bucket {
 }
 
 // The slice is active, and has this replica beside its leader.
-fn may_be_down(slice: &Slice, replica: u8) -> bool
+pub(crate) fn may_be_down(slice: &Slice, replica: u8) -> bool
     ensures { IsTrue result ↔ ((slice.now.state ≡ states.Active) × (1 < replica) × (replica ≤ slice.now.replicas)) }
 {
     slice.state == State::Active && replica > 1 && replica <= slice.replicas

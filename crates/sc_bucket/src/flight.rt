@@ -2,7 +2,7 @@ ghost use Rattle.std.specs.Prelude.{◌≡◌, ◌≢◌, ◌<◌, ◌≤◌, �
 ghost use Rattle.std.specs.List.{remove};
 ghost use Rattle.sc_bucket.specs.Kept.{Sent};
 ghost use Rattle.sc_replicas.specs.Cores.{is_of_one};
-ghost use Rattle.sc_bucket.specs.Flight.{sent_of, is_to, IsFirstOf};
+ghost use Rattle.sc_bucket.specs.Flight.{sent_of, is_to, is_for, IsFirstOf};
 
 use crate::message::Message;
 use sc_cluster::ClusterMap;
@@ -98,6 +98,17 @@ impl Flight {
         self.messages
             .iter()
             .position(|message| message.core == core)
+    }
+
+    /// The place in the flight of the message to this core of the write at this place of the journal; None where there is none.
+    pub fn first_for(&self, place: u64, core: CoreId) -> Option<usize>
+        ensures { MatchOption result (All (λ (message : Sent). is_for place core message ≡ false) self.now.messages)
+            (λ at. (message : Sent) × (slice_get self.now.messages at ≡ Some message) × (is_for place core message ≡ true)
+            × All (λ (other : Sent). is_for place core other ≡ false) (take at self.now.messages)) }
+    {
+        self.messages
+            .iter()
+            .position(|message| message.place == place && message.core == core)
     }
 
     /// Keeps the messages to cores of the map's slices.

@@ -1,57 +1,46 @@
-ghost use Rattle.std.specs.Prelude.{◌≡◌, ◌<◌, ◌≤◌, ◌-◌, [], ◌∷◌, ◌++◌, length, map, max, IfOk, OnOk, OnErr};
+ghost use Rattle.std.specs.Prelude.{◌≡◌, ◌<◌, ◌≤◌, ◌-◌, ◌↔◌, Some, None, [], ◌∷◌, ◌++◌, length, map, drop, max, IfOk, IfSome, IsSome, OnOk, OnErr};
+ghost use Rattle.std.specs.Option.{option_map};
 ghost use Rattle.std.specs.Arc.{arc_value};
 ghost use Rattle.sc_bucket.specs.Entries.{uncommitted};
+ghost use Rattle.sc_bucket.specs.Gone.{may_go, gone, went_of};
 
-use crate::entries::{Entries, Mark};
+use crate::entries::Entries;
+use crate::lists::Lists;
 use sc_record::{Cell, Entry};
 use std::alloc::{AllocError, Global};
 use std::marker::Model;
 
 /// The entries of a journal, the oldest first, and room for more, which contracts see as a number. An entry takes a byte, and 8 more where
-/// it is a write or settles one.
-#[derive(Debug, Drop)]
+/// it is a write or settles one. A write is let go once it is committed, and, where a log file is told of, once that file has it: then
+/// contracts alone have the write, and the journal its mark.
+#[derive(Drop)]
 pub struct Journal {
-    // one for each entry
-    marks: Vec<Mark>,
-    // what each write has besides
-    writes: Vec<Cell>,
-    // the places that are settled, in the order of the entries that settle them
-    settled: Vec<u64>,
-    // the entries of splits and of cores, whole
-    others: Vec<Entry>,
-    // how many more entries fit, as far as callers have asked for room
-    room: usize,
-    // how many of the writes came before the last entry that commits
-    committed: usize,
+    lists: Lists,
+    // how many of the entries a log file has; none where no file is asked
+    filed: Option<usize>,
 }
 
 impl Model for Journal {
-    ghost use Rattle.std.specs.Prelude.{◌≡◌, ◌+◌, ◌≤◌, vec_len, vec_capacity};
+    ghost use Rattle.std.specs.Prelude.{◌≡◌};
+    ghost use Rattle.sc_journal.specs.Committed.{last_commit};
     ghost use Rattle.sc_bucket.specs.Kept.{JournalState};
-    ghost use Rattle.sc_bucket.specs.Entries.{entries_of, AreParts, AreCounted};
+    ghost use Rattle.sc_bucket.specs.Gone.{may_go};
 
     ghost Value = { JournalState };
 
-    ghost view = { λ a. record { entries = entries_of a.marks.items a.writes.items a.settled.items a.others.items; room = a.room } };
+    ghost view = { λ a. record { entries = a.lists.entries; room = a.lists.room; filed = a.filed } };
 
-    ghost invariant = { λ a. AreParts a.marks.items a.writes.items a.settled.items a.others.items
-        × (vec_len a.marks + a.room ≤ vec_capacity a.marks) × (vec_len a.writes + a.room ≤ vec_capacity a.writes)
-        × (vec_len a.settled + a.room ≤ vec_capacity a.settled) × (vec_len a.others + a.room ≤ vec_capacity a.others)
-        × AreCounted (entries_of a.marks.items a.writes.items a.settled.items a.others.items) a.writes.items a.committed };
+    ghost invariant = { λ a. a.lists.gone ≡ may_go a.filed (last_commit a.lists.entries) };
 }
 
 impl Journal {
-    /// No entries, and no room. It takes no memory.
+    /// No entries, no room, and no file that is asked before writes are let go. It takes no memory.
     pub fn new(alloc: Global) -> Journal
-        ensures { result ≡ record { entries = []; room = 0 } }
+        ensures { result ≡ record { entries = []; room = 0; filed = None } }
     {
         Journal {
-            marks: Vec::new(alloc),
-            writes: Vec::new(alloc),
-            settled: Vec::new(alloc),
-            others: Vec::new(alloc),
-            room: 0,
-            committed: 0,
+            lists: Lists::new(alloc),
+            filed: None,
         }
     }
 
@@ -59,6 +48,7 @@ impl Journal {
     pub(crate) fn with_room(alloc: Global, n: usize) -> Result<Journal, AllocError>
         ensures entries { IfOk result (λ journal. journal.entries ≡ []) }
         ensures room { IfOk result (λ journal. n ≤ journal.room) }
+        ensures filed { IfOk result (λ journal. journal.filed ≡ None) }
     {
         let mut journal = Journal::new(alloc);
         journal.reserve(n)?;
@@ -68,26 +58,24 @@ impl Journal {
     pub fn len(&self) -> u64
         ensures { result ≡ length self.now.entries }
     {
-        self.marks.len() as u64
+        self.lists.len()
     }
 
-    /// The entries, the oldest first, one after another.
-    pub fn iter(&self) -> Entries<'_>
-        ensures { result ≡ self.now.entries }
+    /// The last n entries, the oldest of them first, one after another; None exactly where a write among them was let go. The others are not
+    /// looked at.
+    pub fn last(&self, n: usize) -> Option<Entries<'_>>
+        requires { n ≤ length self.now.entries }
+        ensures lent { IfSome result (λ rest. rest ≡ drop (length self.now.entries - n) self.now.entries) }
+        ensures there { IsSome result ↔ (went_of n (gone self.now) self.now.entries ≡ []) }
     {
-        Entries {
-            marks: self.marks.iter(),
-            writes: self.writes.iter(),
-            settled: self.settled.iter(),
-            others: self.others.iter(),
-        }
+        self.lists.last(n)
     }
 
     /// The writes after the last entry that commits, or all where none does, the oldest first.
     pub fn uncommitted_writes(&self) -> &[Cell]
         ensures { map arc_value result.now ≡ uncommitted self.now.entries }
     {
-        &self.writes.as_slice()[self.committed..]
+        self.lists.uncommitted_writes()
     }
 
     /// Makes room for at least `n` more entries. An error means out of memory.
@@ -95,44 +83,48 @@ impl Journal {
         ensures ok { OnOk result (self.new ≡ record self.old { room = max self.old.room n }) }
         ensures err { OnErr result (self.new ≡ self.old) }
     {
-        if n > self.room {
-            self.marks.reserve(n)?;
-            self.writes.reserve(n)?;
-            self.settled.reserve(n)?;
-            self.others.reserve(n)?;
-            self.room = n;
-        }
-        Ok(())
+        self.lists.reserve(n)
     }
 
-    /// Puts an entry at the end, in the room that `reserve` made. It takes no memory.
+    /// Puts an entry at the end, in the room that `reserve` made. Where it commits, the writes before it are let go, as far as a file has
+    /// them where one is asked. It takes no memory.
     pub fn append(&mut self, entry: Entry)
         requires { 0 < self.old.room }
-        ensures { self.new ≡ record { entries = self.old.entries ++ entry ∷ []; room = self.old.room - 1 } }
+        ensures { self.new ≡ record self.old { entries = self.old.entries ++ entry ∷ []; room = self.old.room - 1 } }
     {
-        self.room -= 1;
-        match entry {
-            Entry::Write(cell) => {
-                self.marks.push_reserved(Mark::Write);
-                self.writes.push_reserved(cell);
-            }
-            Entry::Settled { place } => {
-                self.marks.push_reserved(Mark::Settled);
-                self.settled.push_reserved(place);
-            }
-            Entry::Committed => {
-                self.marks.push_reserved(Mark::Committed);
-                self.committed = self.writes.len();
-            }
-            Entry::Begun { parent, subs } => {
-                self.marks.push_reserved(Mark::Other);
-                self.others.push_reserved(Entry::Begun { parent, subs });
-                self.committed = self.writes.len();
-            }
-            other => {
-                self.marks.push_reserved(Mark::Other);
-                self.others.push_reserved(other);
-            }
+        self.lists.append(entry);
+        let below = going(self.filed, self.lists.commit());
+        self.lists.let_go(below);
+    }
+
+    /// From here on no write is let go before a file is said to have it, by `note_filed`: the file has nothing yet.
+    pub fn await_file(&mut self)
+        requires { self.old.entries ≡ [] }
+        ensures { self.new ≡ record self.old { filed = Some 0 } }
+    {
+        self.filed = Some(0);
+    }
+
+    /// The file that is asked has the first `n` entries: those of their writes that are committed are let go. Where no file is asked it
+    /// does nothing. It takes no memory.
+    pub fn note_filed(&mut self, n: usize)
+        ensures { self.new ≡ record self.old { filed = option_map (max n) self.old.filed } }
+    {
+        if let Some(filed) = self.filed {
+            let filed = n.max(filed);
+            self.filed = Some(filed);
+            let below = going(self.filed, self.lists.commit());
+            self.lists.let_go(below);
         }
+    }
+}
+
+// The place of the entry below which writes may go, where the last entry that commits is at `commit`.
+fn going(filed: Option<usize>, commit: usize) -> usize
+    ensures { result ≡ may_go filed commit }
+{
+    match filed {
+        None => commit,
+        Some(filed) => filed.min(commit),
     }
 }

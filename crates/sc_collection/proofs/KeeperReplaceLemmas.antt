@@ -10,7 +10,7 @@ use Rattle.sc_seen.specs.Seen.{Layout}
 use Rattle.sc_journal.proofs.JournalLemmas.{writes-push_other}
 use Rattle.sc_bucket.specs.declared.bucket.Bucket.{Bucket}
 use Rattle.sc_bucket.specs.Sound.{IsSound}
-use Rattle.sc_bucket.specs.Events.{HasSameFirstAndLimit}
+use Rattle.sc_bucket.specs.Events.{HasSameFixedParts}
 use Rattle.sc_handover.specs.AnyEvent.{IsKeeperEvent}
 use Rattle.sc_keeper.specs.Part.{is_of_keeper}
 use Rattle.sc_keeper.specs.Laws.{AddsAtMost}
@@ -18,7 +18,7 @@ use Rattle.sc_keeper.proofs.PassLemmas.{keeper_adds_no_pass_entry}
 use Rattle.sc_collection.specs.Desks.{Held, IsBucketOf, KeeperMayReplace}
 
 -- no event of a keeper changes with what the bucket began
-keeper_same_name : (old new : Bucket) → IsKeeperEvent old new → HasSameFirstAndLimit old new
+keeper_same_name : (old new : Bucket) → IsKeeperEvent old new → HasSameFixedParts old new
 keeper_same_name old new (IsKeeperEvent.stays same) = same.name
 keeper_same_name old new (IsKeeperEvent.begins can begun) = begun.name
 keeper_same_name old new (IsKeeperEvent.feeds can fed) = fed.rest.name
@@ -56,7 +56,7 @@ keeper_may_replace layout held given is sound by_keeper event = record {
   event = event;
   by_keeper = by_keeper;
 } where
-  name : HasSameFirstAndLimit held.bucket given
+  name : HasSameFixedParts held.bucket given
   name = keeper_same_name held.bucket given event
 
   ids : AllByRecursion (λ (write : Write). bucket_of write.id layout.buckets ≡ held.number) (writes given.journal.entries)

@@ -14,3 +14,4 @@ pub mod StopLemmas
 pub mod CommitLemmas
 pub mod RestLemmas
 pub mod DownLemmas
+pub mod LookLemmas

@@ -1,5 +1,5 @@
 -- A bucket may be given back after each event that a holder of it may do.
-use Rattle.std.proofs.Common.{◌≡◌, ℕ, ℤ, List, [], ◌∷◌, ◌++◌, false, refl, sym, ◌∙◌, subst}
+use Rattle.std.proofs.Common.{◌≡◌, ℕ, ℤ, List, [], ◌∷◌, ◌++◌, false, refl, sym, ◌∙◌, subst, ap}
 use Rattle.std.specs.Prelude.{IsSome, Result, Ok, Err, IfOk, OnOk, OnErr}
 use Rattle.std.specs.Arc.{arc_value}
 use Rattle.std.specs.List.{AllByRecursion}
@@ -17,7 +17,7 @@ use Rattle.sc_bucket.specs.declared.commit.CommitFault.{CommitFault}
 use Rattle.sc_bucket.specs.declared.bucket.Bucket.{Bucket}
 use Rattle.sc_bucket.specs.Kept.{Sent}
 use Rattle.sc_bucket.specs.Sound.{IsSound}
-use Rattle.sc_bucket.specs.Events.{IsStep, IsSameButRoom, HasSameFirstAndLimit, Accepts, Delivers, Settles, Commits}
+use Rattle.sc_bucket.specs.Events.{IsStep, IsSameButRoom, HasSameFixedParts, Accepts, Delivers, Settles, Commits, NotesFiled}
 use Rattle.sc_collection.specs.Desks.{Held, IsBucketOf, MayReplace}
 
 -- the ids of the writes belong to the bucket of this number
@@ -33,7 +33,7 @@ AreOf-push buckets number (first ∷ earlier) write are is = (are.0, AreOf-push 
 module _ (layout : Layout) (held : Held) (given : Bucket)
     (is : IsBucketOf layout held.number held.bucket) (sound : IsSound given) (by_pass : held.by_keeper ≡ false) where
   -- the same bucket, by its writes
-  same_bucket : HasSameFirstAndLimit held.bucket given → AreOf layout.buckets held.number (writes given.journal.entries)
+  same_bucket : HasSameFixedParts held.bucket given → AreOf layout.buckets held.number (writes given.journal.entries)
       → IsBucketOf layout held.number given
   same_bucket name ids = record { first = name.first ∙ is.first; limit = name.limit ∙ is.limit; ids = ids }
 
@@ -53,7 +53,7 @@ module _ (layout : Layout) (held : Held) (given : Bucket)
   -- it is the same bucket
   pub same_may_replace : given ≡ held.bucket → MayReplace layout held given
   same_may_replace same = unchanged_may_replace (subst (IsSameButRoom held.bucket) (sym same) (record {
-    name = record { first = refl; limit = refl };
+    name = record { first = refl; limit = refl; filed = refl };
     map_is = refl;
     entries = refl;
     messages = refl;
@@ -61,6 +61,19 @@ module _ (layout : Layout) (held : Held) (given : Bucket)
     split = record { phase = refl; feeds = refl };
     searchers_are = refl;
   }))
+
+  -- it was said what a log file has
+  pub filed_may_replace : (n : ℕ) → NotesFiled held.bucket n given → MayReplace layout held given
+  filed_may_replace n noted = record {
+    sound = sound;
+    is_of = record {
+      first = ap (λ (bucket : Bucket). bucket.first) noted ∙ is.first;
+      limit = ap (λ (bucket : Bucket). bucket.limit) noted ∙ is.limit;
+      ids = same_ids (ap (λ (bucket : Bucket). bucket.journal.entries) noted);
+    };
+    step = IsStep.notes_filed n noted;
+    not_keeper = by_pass;
+  }
 
   -- a message was delivered
   pub delivered_may_replace : (at : ℕ) (message : Sent) → Delivers held.bucket at message given → MayReplace layout held given

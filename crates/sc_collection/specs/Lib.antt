@@ -6,7 +6,9 @@ pub mod Downs
 pub mod Opening
 pub mod Shapes
 pub mod Desks
+pub mod Resting
 pub mod Handing
 pub mod Known
 pub mod Committing
+pub mod Looks
 pub mod Alone

@@ -1,9 +1,13 @@
 -- What one maker makes: a worker its orders of the workload, and the last one the split.
 use Rattle.std.specs.Prelude.{◌≡◌, ◌<◌, ◌≤◌, ℕ, Bool, true, false, nat_lt, List, if◌then◌else◌, Option, Some, None}
+use Rattle.sc_io.specs.declared.clock.Clock.{Ghosts as Clock}
+use Rattle.sc_io.specs.declared.hosts.Hosts.{Ghosts as Hosts}
+use Rattle.sc_io.specs.declared.pace.Pace.{Ghosts as Pace}
 use Rattle.sc_cores.specs.Cores.{Outside}
 use Rattle.sc_seen.specs.Seen.{Layout, Seen}
 use Rattle.sc_session.specs.declared.station.Crew.{Crew}
 use Rattle.sc_session.specs.Commands.{situation}
+use Rattle.sc_server.specs.Reports.{outside_by}
 use Rattle.sc_split.specs.declared.end.SplitEnd.{SplitEnd}
 use Rattle.sc_split.specs.declared.end.SplitEnd.TheVariants as splits
 use Rattle.sc_arguments.specs.declared.asked.Demo.{Demo}
@@ -64,6 +68,10 @@ TellsIn (Some made) word = TellsMade made word
 pub record MakerReports (C H P : Type 0) : Type 1 where
   pub gives : C → ℕ → C → Type 0
   pub outside : H → P → Outside
+
+-- what each part of a crew reports by itself
+abbrev pub maker_reports : {C H P : Type 0} → Clock C → Hosts H → Pace P → MakerReports C H P
+maker_reports of_clock of_hosts of_pace = record { gives = of_clock.gives; outside = outside_by of_hosts of_pace }
 
 -- what the makers of one demonstration have in common: what their crews report, and how the collection is laid out
 pub record MakerSetting (C H P : Type 0) : Type 1 where

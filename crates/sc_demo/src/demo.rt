@@ -1,6 +1,7 @@
 //! The whole of a demonstration.
-ghost use Rattle.sc_cores.specs.Cores.{outside_of};
 ghost use Rattle.sc_arguments.specs.Arguments.{IsDemo};
+ghost use Rattle.sc_server.specs.Serving.{front_of};
+ghost use Rattle.sc_demo.specs.Making.{maker_reports};
 ghost use Rattle.sc_demo.specs.Demos.{EndsDemo};
 
 use crate::makers::{dismiss, enlist, make_all};
@@ -28,27 +29,10 @@ pub fn run_demo<R: Threads + Wait + Sync, W: Sink, T: Station>(
 ) -> u8
     requires demo { IsDemo demo.now }
     ensures ends { EndsDemo
-        (record {
-          gives = T.C.gives;
-          outside = λ hosts pace. outside_of (T.H.started hosts) (T.H.start_faults hosts) (T.H.stop_faults hosts) (T.P.stops pace) (T.H.reached hosts);
-        })
+        (maker_reports T.C.Clock T.H.Hosts T.P.Pace)
         demo.now
-        (record {
-          crews = T.crews station.old;
-          crews_back = T.crews_back station.old;
-          out = T.out station.old;
-          open_faults = T.faults station.old;
-          written = W.written sink.old;
-          write_faults = W.faults sink.old;
-        })
-        (record {
-          crews = T.crews station.new;
-          crews_back = T.crews_back station.new;
-          out = T.out station.new;
-          open_faults = T.faults station.new;
-          written = W.written sink.new;
-          write_faults = W.faults sink.new;
-        })
+        (front_of T.Station W.Sink station.old sink.old)
+        (front_of T.Station W.Sink station.new sink.new)
         result }
 {
     let Needs {

@@ -1,9 +1,8 @@
 //! One maker, as it goes to its thread and comes back.
 ghost use Rattle.std.specs.Prelude.{◌≡◌, Some};
-ghost use Rattle.sc_cores.specs.Cores.{outside_of};
 ghost use Rattle.sc_arguments.specs.Arguments.{IsDemo};
 ghost use Rattle.sc_collection.specs.Desks.{nothing_out};
-ghost use Rattle.sc_demo.specs.Making.{IsTaskOf, MakesTask};
+ghost use Rattle.sc_demo.specs.Making.{IsTaskOf, MakesTask, maker_reports};
 ghost use Rattle.sc_demo.specs.Makers.{IsMakerHome, IsMakerReady, HasMade};
 
 use crate::splitting::split_first;
@@ -40,10 +39,7 @@ impl<'a, R: Wait, C: Clock, H: Hosts, P: Pace, L> Maker<'a, R, C, H, P, L> {
         requires ready { IsMakerReady self.old.collection.now self.old }
         ensures home { IsMakerHome self.old.collection.now self.new }
         ensures made { HasMade
-            (record {
-              gives = C.gives;
-              outside = λ hosts pace. outside_of (H.started hosts) (H.start_faults hosts) (H.stop_faults hosts) (P.stops pace) (H.reached hosts);
-            })
+            (maker_reports C.Clock H.Hosts P.Pace)
             self.old self.new }
     {
         run_at::<Brand, R, C, H, P, L>(self)
@@ -56,10 +52,7 @@ fn run_at<N: Home, R: Wait, C: Clock, H: Hosts, P: Pace, L>(maker: &mut Maker<R,
     requires ready { IsMakerReady maker.old.collection.now maker.old }
     ensures home { IsMakerHome maker.old.collection.now maker.new }
     ensures made { HasMade
-        (record {
-          gives = C.gives;
-          outside = λ hosts pace. outside_of (H.started hosts) (H.start_faults hosts) (H.stop_faults hosts) (P.stops pace) (H.reached hosts);
-        })
+        (maker_reports C.Clock H.Hosts P.Pace)
         maker.old maker.new }
 {
     let passes = maker.passes.take().unwrap();
@@ -94,10 +87,7 @@ fn make<D: Desk, C: Clock, H: Hosts, P: Pace>(
     requires nothing_out { D.out desk.old ≡ nothing_out }
     ensures made { MakesTask
         (record {
-          reports = record {
-            gives = C.gives;
-            outside = λ hosts pace. outside_of (H.started hosts) (H.start_faults hosts) (H.stop_faults hosts) (P.stops pace) (H.reached hosts);
-          };
+          reports = maker_reports C.Clock H.Hosts P.Pace;
           layout = D.layout desk.old;
         })
         demo.now task

@@ -1,13 +1,12 @@
 //! All makers: they get their crews, work beside each other, and give their crews back.
 ghost use Rattle.std.specs.Prelude.{◌≡◌, ◌≤◌, ◌<◌, ◌+◌, ◌^◌, ℕ, true, [], length, All, IfSome, IfOk, OnOk, vec_len, vec_capacity};
 ghost use Rattle.std.specs.List.{list_any, sum_by};
-ghost use Rattle.sc_cores.specs.Cores.{outside_of};
 ghost use Rattle.sc_shared.specs.Passes.{seen_of};
 ghost use Rattle.sc_shared.specs.Collections.{Locks, SeesBoth};
 ghost use Rattle.sc_shared.specs.Sharing.{ArePasses};
 ghost use Rattle.sc_arguments.specs.Arguments.{most_workers, most_orders};
-ghost use Rattle.sc_server.specs.Crews.{seen_with};
-ghost use Rattle.sc_demo.specs.Making.{accepted_in, ran_out_in};
+ghost use Rattle.sc_server.specs.Crews.{seen_with, station_state};
+ghost use Rattle.sc_demo.specs.Making.{accepted_in, maker_reports, ran_out_in};
 ghost use Rattle.sc_demo.specs.Makers.{IsMakerKit, MakersHaveCrews, MakersHaveGivenBack, MakersHaveJoined, IsMakerHome, IsMakerReady, IsReadyToMake, HasMade, HaveMade, MakesAll, IsOutcomeOf, TellsSplit};
 
 use crate::maker::Maker;
@@ -43,18 +42,8 @@ pub fn enlist<'a, R, T: Station>(
     ensures all { OnOk result (length makers.new.items ≡ length kits.items) }
     ensures at_most { length makers.new.items ≤ length kits.items }
     ensures have { MakersHaveCrews demo.now collection.now makers.new.items
-        (record {
-          crews = T.crews station.old;
-          crews_back = T.crews_back station.old;
-          out = T.out station.old;
-          faults = T.faults station.old;
-        })
-        (record {
-          crews = T.crews station.new;
-          crews_back = T.crews_back station.new;
-          out = T.out station.new;
-          faults = T.faults station.new;
-        }) }
+        (station_state T.Station station.old)
+        (station_state T.Station station.new) }
 {
     for kit in kits {
         let number = makers.len() as u32;
@@ -88,10 +77,7 @@ pub fn make_all<
     requires some { 1 ≤ length makers.old }
     requires most { length makers.old ≤ most_workers + 1 }
     ensures makes { MakesAll
-        (record {
-          gives = C.gives;
-          outside = λ hosts pace. outside_of (H.started hosts) (H.start_faults hosts) (H.stop_faults hosts) (P.stops pace) (H.reached hosts);
-        })
+        (maker_reports C.Clock H.Hosts P.Pace)
         cores.now makers.old makers.new result }
     ensures home { (collection : Locks) → All (IsMakerReady collection) makers.old → All (IsMakerHome collection) makers.new }
     ensures count { length makers.new ≡ length makers.old }
@@ -115,10 +101,7 @@ fn work_all<
     requires ready { All IsReadyToMake makers.old }
     requires some { 1 ≤ length makers.old }
     ensures made { HaveMade
-        (record {
-          gives = C.gives;
-          outside = λ hosts pace. outside_of (H.started hosts) (H.start_faults hosts) (H.stop_faults hosts) (P.stops pace) (H.reached hosts);
-        })
+        (maker_reports C.Clock H.Hosts P.Pace)
         makers.old makers.new }
     ensures home { (collection : Locks) → All (IsMakerReady collection) makers.old → All (IsMakerHome collection) makers.new }
     ensures count { length makers.new ≡ length makers.old }
@@ -131,10 +114,7 @@ fn work_all<
         &|_, maker: &mut Maker<R, C, H, P, L>|
             requires { IsReadyToMake maker.old }
             ensures { IsMakerHome maker.old.collection.now maker.new × HasMade
-                (record {
-                  gives = C.gives;
-                  outside = λ hosts pace. outside_of (H.started hosts) (H.start_faults hosts) (H.stop_faults hosts) (P.stops pace) (H.reached hosts);
-                })
+                (maker_reports C.Clock H.Hosts P.Pace)
                 maker.old maker.new }
         { maker.run() },
     );
@@ -204,18 +184,8 @@ pub fn dismiss<'a, R, T: Station>(
     requires out { (number : ℕ) → number < length makers.items → T.out station.old number ≡ true }
     ensures joined { MakersHaveJoined collection.now makers.entry.items passes.new }
     ensures back { MakersHaveGivenBack makers.entry.items
-        (record {
-          crews = T.crews station.old;
-          crews_back = T.crews_back station.old;
-          out = T.out station.old;
-          faults = T.faults station.old;
-        })
-        (record {
-          crews = T.crews station.new;
-          crews_back = T.crews_back station.new;
-          out = T.out station.new;
-          faults = T.faults station.new;
-        }) }
+        (station_state T.Station station.old)
+        (station_state T.Station station.new) }
 {
     while let Some(maker) = makers.pop() {
         let Maker {

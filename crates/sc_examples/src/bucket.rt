@@ -9,7 +9,8 @@ use sc_record::{CoreId, Id, List, Order};
 use sc_world::{Event, can, run_events};
 use std::alloc::{AllocError, Global};
 
-/// A new bucket, by the line `bucket SHARDS REPLICAS LIMIT`, on one node.
+/// A new bucket, by the line `bucket SHARDS REPLICAS LIMIT`, on one node. It lets no write go, so that all its entries can be told: it
+/// awaits a log file that never says what it has.
 pub fn new_bucket(alloc: Global, words: &[&str]) -> Result<Bucket, AllocError>
     ensures { IfOk result IsSound }
 {
@@ -17,7 +18,9 @@ pub fn new_bucket(alloc: Global, words: &[&str]) -> Result<Bucket, AllocError>
     let replicas = number(words, 2).clamp(1, 4) as u8;
     let limit = log_limit(words, 3, shards, replicas);
     let map = ClusterMap::new(alloc, shards, replicas, 1)?;
-    Bucket::new(alloc, &map, limit)
+    let mut bucket = Bucket::new(alloc, &map, limit)?;
+    bucket.await_file();
+    Ok(bucket)
 }
 
 /// Has the event come where its condition holds, and tells what it answers.

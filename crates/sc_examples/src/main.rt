@@ -64,14 +64,18 @@ fn main(rt: HostRuntime) -> io::Result<()> {
     answered
 }
 
-/// Buckets and pages may go from thread to thread.
+/// Buckets and pages may go from thread to thread, and several threads may look at one page.
 fn buckets_and_pages_go_between_threads() {
     go_between_threads::<Bucket>();
     go_between_threads::<Page>();
+    are_shared_by_threads::<Page>();
 }
 
 /// Values of this type may go from thread to thread.
-fn go_between_threads<T: Send + Sync>() {}
+fn go_between_threads<T: Send>() {}
+
+/// Several threads may look at one value of this type.
+fn are_shared_by_threads<T: Sync>() {}
 
 /// Answers each line of standard input.
 fn answer_lines<R: Threads + Sync + Input + Print>(

@@ -39,11 +39,14 @@ fn put_cell(line: &mut Line, cell: &Cell) {
     line.put("=", &cell.shown());
 }
 
-/// The entries.
+/// The entries, where no write of them was let go.
 fn put_entries(line: &mut Line, bucket: &Bucket)
     requires { IsSound bucket.now }
 {
-    for entry in bucket.journal.iter() {
+    let Some(entries) = bucket.journal.last(bucket.journal.len() as usize) else {
+        return;
+    };
+    for entry in entries {
         match entry {
             EntryRef::Write(cell) => put_write(line, bucket, cell),
             EntryRef::Settled { place } => line.put(" settled:", &place),

@@ -1,12 +1,12 @@
 -- What the searchers of a bucket find is what a search finds in its journal.
-use Rattle.std.proofs.Common.{◌≡◌, ◌≢◌, ℕ, ℤ, zero, suc, ◌+◌, ◌≤◌, Bool, true, false, cond, ◌&&◌, List, [], ◌∷◌, ◌++◌, length, map, drop, Option, Some, None, All, Contains, count_by, refl, sym, ap, subst, ◌∙◌, ◌⊎◌, inl, inr, arith}
-use Rattle.std.specs.Prelude.{filter, Result, Ok, Err, OnOk}
+use Rattle.std.proofs.Common.{◌≡◌, ◌≢◌, ℕ, ℤ, zero, suc, ◌+◌, ◌≤◌, Bool, true, false, cond, ◌&&◌, List, [], ◌∷◌, ◌++◌, map, drop, Option, Some, None, All, Contains, count_by, refl, sym, ap, subst, ◌∙◌, ◌⊎◌, inl, inr, arith}
+use Rattle.std.specs.Prelude.{filter}
 use Rattle.std.specs.Int.{w32}
 use Rattle.std.proofs.Math.Facts.{sfits_to_z}
 use Rattle.std.proofs.lemmas.Bool.Decides.{not_from_Decides}
 use Rattle.std.proofs.lemmas.List.{take-append-drop}
-use Rattle.std.proofs.lemmas.List.Elements.{All-nil, All-cons, All-head, All-tail, All-contains, All-weaker, All-from_recursion, Contains-append_left}
-use Rattle.std.proofs.lemmas.List.Sums.{sum_by-cons, sum_by-le-sum_by, length-filter, count_by-le-length}
+use Rattle.std.proofs.lemmas.List.Elements.{All-head, All-tail, All-contains, All-from_recursion, Contains-append_left}
+use Rattle.std.proofs.lemmas.List.Sums.{sum_by-cons, sum_by-le-sum_by}
 use Rattle.sc_hash.specs.Bounds.{bounds, contains}
 use Rattle.sc_hash.specs.Range.{IsWithin}
 use Rattle.sc_hash.specs.declared.range.Range.{Range}
@@ -30,21 +30,19 @@ use Rattle.sc_eval.specs.Matching.{finds, matches, is_live}
 use Rattle.sc_journal.specs.Journal.{writes}
 use Rattle.sc_journal.specs.Committed.{last_commit, committed, IsShown}
 use Rattle.sc_journal.specs.Splits.{map_after}
-use Rattle.sc_journal.specs.Legal.{IsLegal, HasTerms}
+use Rattle.sc_journal.specs.Legal.{IsLegal}
 use Rattle.sc_seen.specs.Seen.{Layout}
 use Rattle.sc_journal.proofs.JournalLemmas.{is_of_own, last_write_is, writes-append}
-use Rattle.sc_journal.proofs.LegalLemmas.{legal_hash, legal_terms}
-use Rattle.sc_bucket.specs.Sound.{IsSound}
-use Rattle.sc_bucket.specs.declared.bucket.Bucket.{Bucket}
+use Rattle.sc_journal.proofs.LegalLemmas.{legal_hash}
+use Rattle.sc_replicas.specs.Searchers.{searcher_rows}
 use Rattle.sc_replicas.specs.declared.standing.Searcher.{Searcher}
-use Rattle.sc_bucket.proofs.AcceptLemmas.{bucket_has_map}
 use Rattle.sc_bucket.proofs.WriteLemmas.{Contains-find}
-use Rattle.sc_collection.specs.Desks.{IsBucketOf}
 use Rattle.sc_finding.specs.Lists.{all_of}
 use Rattle.sc_fanout.specs.Searches.{IsInRoute, IsFoundIn}
-use Rattle.sc_finding.specs.SearcherRows.{searcher_rows, found_in, HaveTerms}
-use Rattle.sc_fanout.specs.Steps.{asks_for, is_asked, AddsSearchers, IsOfSlice, AreOfSlices, IsJournalOf, AreAsked}
-use Rattle.sc_fanout.proofs.TakenLemmas.{asks_for-Decides}
+use Rattle.sc_finding.specs.SearcherRows.{found_in}
+use Rattle.sc_bucket.specs.Asked.{asks_for, is_asked, IsOfSlice, AreOfSlices}
+use Rattle.sc_collection.specs.Looks.{IsJournalOf, AreAsked}
+use Rattle.sc_bucket.proofs.AskedLemmas.{asks_for-Decides}
 use Rattle.sc_finding.proofs.AscendLemmas.{AscendById-filter}
 use Rattle.sc_fanout.proofs.ExactlyLemmas.{AreExactly, AreExactly-none, AreExactly-same, AreExactly-append, ascend-once}
 
@@ -271,63 +269,3 @@ found-number layout number journal criterion route write is_of found =
     All-contains (λ (w : Write). bucket_of w.id layout.buckets ≡ number) (writes journal) write
     (All-from_recursion (λ (w : Write). bucket_of w.id layout.buckets ≡ number) (writes journal) is_of.ids)
     (shown-written journal write found.shown)
-
--- each row has the terms of its document
-have-terms : (first : List Slice) (journal : List Entry) (slices : List Slice) (searchers : List Searcher)
-    → IsLegal first journal → AreOfSlices journal slices searchers
-    → All HaveTerms searchers
-have-terms first journal [] [] legal each = All-nil HaveTerms
-have-terms first journal [] (searcher ∷ searchers) legal each = absurd each
-have-terms first journal (slice ∷ slices) [] legal each = absurd each
-have-terms first journal (slice ∷ slices) (searcher ∷ searchers) legal each =
-    All-cons HaveTerms searcher searchers
-    (All-weaker (Contains (writes journal)) (λ (row : Write). HasTerms row.id row.doc row.terms)
-    (λ row there. legal_terms first journal row legal there) (searcher_rows searcher) each.0.shows.written)
-    (have-terms first journal slices searchers legal each.1)
-
-pub asked-terms : (layout : Layout) (number : ℕ) (journal : List Entry) (route : Option Range) (searchers : List Searcher)
-    → AreAsked layout number journal route searchers → All HaveTerms searchers
-asked-terms layout number journal route searchers asked =
-    have-terms layout.first journal (filter (is_asked route) (map_after layout.first journal)) searchers asked.is_of.legal asked.each
-
-same-length : (journal : List Entry) (slices : List Slice) (searchers : List Searcher) → AreOfSlices journal slices searchers
-    → length searchers ≡ length slices
-same-length journal [] [] each = refl
-same-length journal [] (searcher ∷ searchers) each = absurd each
-same-length journal (slice ∷ slices) [] each = absurd each
-same-length journal (slice ∷ slices) (searcher ∷ searchers) each = omega (arith, same-length journal slices searchers each.1)
-
--- a bucket has no more searchers than its map may have slices
-pub few-asked : (layout : Layout) (number : ℕ) (journal : List Entry) (route : Option Range) (searchers : List Searcher)
-    → AreAsked layout number journal route searchers → length searchers ≤ 256
-few-asked layout number journal route searchers asked =
-    let slices = map_after layout.first journal in
-    omega (
-      arith,
-      same-length journal (filter (is_asked route) slices) searchers asked.each,
-      length-filter (is_asked route) slices,
-      count_by-le-length (is_asked route) slices,
-      asked.is_of.is_map.few,
-    )
-
--- what was taken of a sound bucket
-pub asked : {E V : Type 0} (layout : Layout) (number : ℕ) (bucket : Bucket) (route : Option Range) (old new : List Searcher) (taken : Result V E)
-    → IsSound bucket → IsBucketOf layout number bucket
-    → OnOk taken (AddsSearchers (AreOfSlices bucket.journal.entries (filter (is_asked route) bucket.map)) old new)
-    → OnOk taken (AddsSearchers (AreAsked layout number bucket.journal.entries route) old new)
-asked layout number bucket route old new (Err fault) sound is_of adds = adds
-asked layout number bucket route old new (Ok v) sound is_of adds =
-    let same : bucket.map ≡ map_after layout.first bucket.journal.entries =
-    sound.journal.map_is ∙ ap (λ (slices : List Slice). map_after slices bucket.journal.entries) is_of.first in
-    record {
-      more = adds.more;
-      added = adds.added;
-      are = record {
-        is_of = record {
-          is_map = subst IsMap same (bucket_has_map bucket sound.journal);
-          legal = subst (λ (slices : List Slice). IsLegal slices bucket.journal.entries) is_of.first sound.journal.legal;
-          ids = is_of.ids;
-        };
-        each = subst (λ (slices : List Slice). AreOfSlices bucket.journal.entries (filter (is_asked route) slices) adds.more) same adds.are;
-      };
-    }

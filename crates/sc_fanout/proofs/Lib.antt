@@ -1,7 +1,6 @@
 -- The lemmas of this crate, lowest first.
 mod BetweenLemmas
 mod PageLemmas
-mod TakenLemmas
 mod ExactlyLemmas
 mod BucketLemmas
 mod SearchLemmas

@@ -1,11 +1,10 @@
 -- A search goes on from bucket to bucket, and a page shows what all of them find.
 use Rattle.std.proofs.Common.{◌≡◌, ◌≢◌, ℕ, zero, suc, ◌+◌, ◌*◌, ◌<◌, ◌≤◌, false, List, [], ◌∷◌, ◌++◌, length, map, All, Contains, refl, sym, ap, subst, ◌∙◌, ◌⊎◌, inl, inr, ⊎_elim, arith, length-append}
 use Rattle.std.specs.Prelude.{Result, Ok, Err, IfOk}
-use Rattle.std.specs.List.{range_with_len}
 use Rattle.std.specs.declared.alloc.AllocError.{AllocError}
-use Rattle.std.proofs.lemmas.List.{get_or-append-add, get_or_append_left, map-append, length-map}
+use Rattle.std.proofs.lemmas.List.{get_or-append-add, get_or_append_left, length-map}
 use Rattle.std.proofs.lemmas.List.Concat.{flat_map-append}
-use Rattle.std.proofs.lemmas.List.Elements.{All-nil, All-cons, All-append, Contains-append_left, Contains-append_right, Contains-append_cases}
+use Rattle.std.proofs.lemmas.List.Elements.{All-nil, All-append, Contains-append_left, Contains-append_right, Contains-append_cases}
 use Rattle.std.proofs.lemmas.List.Sorted.{length_permutation}
 use Rattle.sc_router.specs.Route.{bucket_of}
 use Rattle.sc_record.specs.declared.write.Write.{Write}
@@ -13,72 +12,31 @@ use Rattle.sc_record.specs.declared.entry.Entry.{Entry}
 use Rattle.sc_snapshot.specs.Rows.{AreRows}
 use Rattle.sc_eval.specs.Criteria.{Criterion, criterion_of}
 use Rattle.sc_seen.specs.Seen.{Layout, Seen, SeesMore, FromNowOn, journal_at}
-use Rattle.sc_seen.specs.Moments.{View, Keeps}
+use Rattle.sc_seen.specs.Moments.{View}
 use Rattle.sc_seen.specs.declared.stop.Stop.{Stop}
 use Rattle.sc_seen.proofs.ExtendsLemmas.{IsPrefix-then}
-use Rattle.sc_seen.proofs.GoesOnLemmas.{take-prefix, Keeps-none, Keeps-then, Keeps-sees}
+use Rattle.sc_seen.proofs.GoesOnLemmas.{take-prefix, Keeps-sees}
+use Rattle.sc_replicas.specs.Searchers.{searcher_rows}
 use Rattle.sc_replicas.specs.declared.standing.Searcher.{Searcher}
 use Rattle.sc_fanout.specs.declared.ask.Ask.{Ask}
 use Rattle.sc_fanout.specs.declared.shown.Page.{Page}
 use Rattle.sc_finding.specs.Lists.{AreFound, all_of}
 use Rattle.sc_fanout.specs.Pages.{IsPageOf}
-use Rattle.sc_fanout.specs.Searches.{IsFoundIn, IsFoundAtOne, LooksAtBuckets, SearchesBuckets, search_of}
-use Rattle.sc_finding.specs.SearcherRows.{searcher_rows, found_in}
-use Rattle.sc_fanout.specs.Steps.{AreAsked, LooksAtOne}
+use Rattle.sc_fanout.specs.Searches.{IsFoundIn, IsFoundAtOne, SearchesBuckets, search_of}
+use Rattle.sc_finding.specs.SearcherRows.{found_in}
+use Rattle.sc_collection.specs.Looks.{AreAsked, LooksAtOne}
+use Rattle.sc_collection.proofs.LookLemmas.{Looked, Looked-none, Looked-more, few-asked}
 use Rattle.sc_fanout.proofs.ExactlyLemmas.{AreExactly, AreExactly-none, AreExactly-same, AreExactly-append, AreExactly-sorted}
 use Rattle.sc_finding.proofs.AscendLemmas.{are-found}
-use Rattle.sc_fanout.proofs.BucketLemmas.{bucket-exactly, found-number, few-asked}
+use Rattle.sc_fanout.proofs.BucketLemmas.{bucket-exactly, found-number}
 
--- the first buckets were looked at, and these stops kept
-pub record Looked (layout : Layout) (old now : View) (count : ℕ) : Type 0 where
-  pub stops : List Stop
-  pub keeps : Keeps layout old now stops
-  pub looks : LooksAtBuckets count stops
-
--- and what the lists hold is what was found in them
+-- the first buckets were looked at, and what the lists hold is what was found in them
 pub record FoundSoFar (layout : Layout) (old now : View) (ask : Ask) (count : ℕ) (lists : List (List Write)) : Type 0 where
   pub looked : Looked layout old now count
   pub found : FromNowOn now.seen (λ later. AreExactly (IsFoundAtOne layout later (search_of ask looked.stops)) (all_of lists))
   pub below : (write : Write) → Contains (all_of lists) write → bucket_of write.id layout.buckets < count
   pub may_be : All AreFound lists
   pub few : length lists ≤ 256 * count
-
--- one number more is counted
-range-more : (from count : ℕ) → range_with_len from (suc count) ≡ range_with_len from count ++ (from + count) ∷ []
-range-more from zero = let same : from ≡ from + 0 = omega arith in ap (λ n. n ∷ []) same
-range-more from (suc count) =
-    let same : from + 1 + count ≡ from + suc count = omega arith in
-    ap (λ ns. from ∷ ns) (range-more (from + 1) count) ∙ ap (λ n. from ∷ range_with_len (from + 1) count ++ n ∷ []) same
-
-range-next : (count : ℕ) → range_with_len 0 (count + 1) ≡ range_with_len 0 count ++ count ∷ []
-range-next count =
-    let next_is : count + 1 ≡ suc count = omega arith in
-    let here : 0 + count ≡ count = omega arith in
-    ap (range_with_len 0) next_is ∙ range-more 0 count ∙ ap (λ n. range_with_len 0 count ++ n ∷ []) here
-
-pub Looked-none : (layout : Layout) (view : View) → Looked layout view view 0
-Looked-none layout view = record {
-  stops = [];
-  keeps = Keeps-none layout view;
-  looks = record { locks = refl; made = All-nil (λ (stop : Stop). stop.made ≡ false) };
-}
-
-pub Looked-more : (layout : Layout) (old between new : View) (count : ℕ) (taken : List Entry → Type 0)
-    → Looked layout old between count → LooksAtOne layout between new count taken
-    → Looked layout old new (count + 1)
-Looked-more layout old between new count taken far one = record {
-  stops = far.stops ++ stop ∷ [];
-  keeps = Keeps-then layout old between new far.stops (stop ∷ []) far.keeps one.keeps;
-  looks = record {
-    locks = map-append (λ (each : Stop). each.lock) far.stops (stop ∷ [])
-        ∙ ap (λ (locks : List ℕ). locks ++ count ∷ []) far.looks.locks ∙ sym (range-next count);
-    made = All-append (λ (each : Stop). each.made ≡ false) far.stops (stop ∷ []) far.looks.made
-        (All-cons (λ (each : Stop). each.made ≡ false) stop [] refl (All-nil (λ (each : Stop). each.made ≡ false)));
-  };
-}
-  where
-    stop : Stop
-    stop = record { lock = count; place = length one.journal; made = false }
 
 pub FoundSoFar-none : (layout : Layout) (view : View) (ask : Ask) (lists : List (List Write))
     → lists ≡ [] → FoundSoFar layout view view ask 0 lists

@@ -3,4 +3,3 @@ pub mod Pages
 pub mod Laws
 pub mod Searches
 pub mod SearchLaws
-pub mod Steps

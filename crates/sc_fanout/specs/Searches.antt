@@ -1,7 +1,6 @@
 -- What a search finds, by the journals that were seen.
-use Rattle.std.specs.Prelude.{◌≡◌, ◌≤◌, ◌↔◌, ℕ, true, false, List, length, map, take, drop, All, Contains, Option, Some, None, Result, IfOk, ⊤}
+use Rattle.std.specs.Prelude.{◌≡◌, ◌≤◌, ◌↔◌, ℕ, true, List, length, map, take, drop, Contains, Option, Some, None, Result, IfOk, ⊤}
 use Rattle.std.specs.Arc.{arc_value}
-use Rattle.std.specs.List.{range_with_len}
 use Rattle.std.specs.declared.alloc.AllocError.{AllocError}
 use Rattle.sc_hash.specs.Range.{Meets}
 use Rattle.sc_hash.specs.declared.range.Range.{Range}
@@ -17,6 +16,7 @@ use Rattle.sc_journal.specs.Committed.{IsShown}
 use Rattle.sc_seen.specs.Seen.{Layout, Seen, FromNowOn, journal_at}
 use Rattle.sc_seen.specs.Moments.{View, Keeps}
 use Rattle.sc_seen.specs.declared.stop.Stop.{Stop}
+use Rattle.sc_collection.specs.Looks.{LooksAtBuckets}
 use Rattle.sc_fanout.specs.declared.ask.Ask.{Ask}
 use Rattle.sc_fanout.specs.declared.shown.Page.{Page}
 
@@ -32,11 +32,6 @@ pub record IsFoundIn (first : List Slice) (journal : List Entry) (criterion : Cr
   pub shown : IsShown journal write
   pub matched : matches criterion write ≡ true
   pub in_route : IsInRoute (map_after first journal) route write
-
--- the buckets from 0 on were each looked at once, in order: so many of them
-pub record LooksAtBuckets (count : ℕ) (stops : List Stop) : Type 0 where
-  pub locks : map (λ (stop : Stop). stop.lock) stops ≡ range_with_len 0 count
-  pub made : All (λ (stop : Stop). stop.made ≡ false) stops
 
 -- a search: its stops, the criterion of its query, and the hashes of its route, if it has one
 pub record Search : Type 0 where

@@ -1,21 +1,17 @@
-ghost use Rattle.std.specs.Prelude.{◌≡◌, ◌+◌, ◌<◌, ◌≤◌, [], length, filter, All, OnOk};
+ghost use Rattle.std.specs.Prelude.{◌≡◌, ◌+◌, ◌≤◌, [], length, All};
 ghost use Rattle.sc_snapshot.specs.Rows.{AreRows};
-ghost use Rattle.sc_bucket.specs.Sound.{IsSound};
+ghost use Rattle.sc_replicas.specs.Searchers.{searcher_rows};
 ghost use Rattle.sc_replicas.specs.declared.standing.Searcher.{Searcher};
 ghost use Rattle.sc_seen.specs.Moments.{view_of};
 ghost use Rattle.sc_collection.specs.Desks.{nothing_out, IsDeskAtRest};
 ghost use Rattle.sc_collection.specs.Kept.{trail_room};
 ghost use Rattle.sc_fanout.specs.Searches.{SearchesBuckets};
-ghost use Rattle.sc_finding.specs.SearcherRows.{searcher_rows};
-ghost use Rattle.sc_fanout.specs.Steps.{asks_for, is_asked, AddsSearchers, AreOfSlices, AreAsked, LooksAtOne};
 
 use crate::ask::Ask;
 use crate::pages::page;
 use crate::shown::Page;
-use sc_bucket::Bucket;
-use sc_collection::{Desk, Stop, Trail};
+use sc_collection::{Desk, Trail, take_searchers};
 use sc_finding::{find_in_parts, parts_for};
-use sc_hash::Range;
 use sc_replicas::Searcher;
 use std::alloc::{AllocError, Global};
 use std::thread::Threads;
@@ -56,65 +52,6 @@ fn with_room(alloc: Global, count: u32) -> Vec<Searcher>
     match Vec::with_capacity(alloc, count as usize) {
         Ok(searchers) => searchers,
         Err(_) => Vec::new(alloc),
-    }
-}
-
-// Puts the searchers of a bucket that the route asks for at the end of the others. They are taken in one hold, whose stop is kept.
-fn take_searchers<D: Desk>(
-    desk: &mut D,
-    trail: &mut Trail,
-    b: u32,
-    route: &Option<Range>,
-    searchers: &mut Vec<Searcher>,
-) -> Result<(), AllocError>
-    requires nothing_out { D.out desk.old ≡ nothing_out }
-    requires within { b < (D.layout desk.old).buckets }
-    requires room { length trail.old.stops < trail_room }
-    ensures looks { LooksAtOne (D.layout desk.old) (view_of (D.seen desk.old) trail.old.stops) (view_of (D.seen desk.new) trail.new.stops) b
-        (λ journal. OnOk result (AddsSearchers (AreAsked (D.layout desk.old) b journal route.now) searchers.old.items searchers.new.items)) }
-    ensures layout { D.layout desk.new ≡ D.layout desk.old }
-    ensures rest { IsDeskAtRest (D.layout desk.new) (D.out desk.new) (D.seen desk.new) }
-    ensures stops { length trail.new.stops ≡ length trail.old.stops + 1 }
-    ensures requests { trail.new.requests ≡ trail.old.requests }
-{
-    let bucket = desk.hold(b);
-    trail.keep(Stop {
-        lock: b,
-        place: bucket.entries(),
-        made: false,
-    });
-    let taken = add_searchers(&bucket, route, searchers);
-    desk.give(b, bucket);
-    taken
-}
-
-// Puts the searchers of a bucket that the route asks for at the end of the others, in the order of the map.
-fn add_searchers(
-    bucket: &Bucket,
-    route: &Option<Range>,
-    searchers: &mut Vec<Searcher>,
-) -> Result<(), AllocError>
-    requires { IsSound bucket.now }
-    ensures { OnOk result (AddsSearchers (AreOfSlices bucket.now.journal.entries (filter (is_asked route.now) bucket.now.map))
-        searchers.old.items searchers.new.items) }
-{
-    let mut from = 0;
-    while let Some(searcher) = bucket.searcher(from)? {
-        from = searcher.next;
-        if asks_for(route, &searcher.range) {
-            searchers.push(searcher)?;
-        }
-    }
-    Ok(())
-}
-
-// Whether the route asks for slices of this range.
-fn asks_for(route: &Option<Range>, range: &Range) -> bool
-    ensures { result ≡ asks_for route.now range.now }
-{
-    match route {
-        Some(route) => range.meets(route),
-        None => true,
     }
 }
 

@@ -13,7 +13,8 @@ use Rattle.sc_replicas.specs.declared.standing.Searcher.{Searcher}
 use Rattle.sc_eval.specs.Criteria.{Criterion}
 use Rattle.sc_eval.specs.Matching.{finds}
 use Rattle.sc_finding.specs.Lists.{AreFound}
-use Rattle.sc_finding.specs.SearcherRows.{searcher_rows, found_in}
+use Rattle.sc_replicas.specs.Searchers.{searcher_rows}
+use Rattle.sc_finding.specs.SearcherRows.{found_in}
 
 -- the id comes before the other
 abbrev pub IsBelow : List ℕ → List ℕ → Type 0

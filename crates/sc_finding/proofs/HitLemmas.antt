@@ -10,7 +10,8 @@ use Rattle.sc_eval.specs.Matching.{finds}
 use Rattle.sc_eval.specs.Numbers.{numbers_of, AreMatches}
 use Rattle.sc_eval.specs.declared.numbers.Matches.{Matches}
 use Rattle.sc_eval.proofs.NumberLemmas.{led}
-use Rattle.sc_finding.specs.SearcherRows.{searcher_rows, found_in}
+use Rattle.sc_replicas.specs.Searchers.{searcher_rows}
+use Rattle.sc_finding.specs.SearcherRows.{found_in}
 use Rattle.sc_finding.specs.Merging.{AscendsBy, goes_before}
 use Rattle.sc_finding.specs.Lists.{AreFound}
 use Rattle.sc_finding.specs.Hits.{StandAt, HasMatches, AreHits, BeginAlike, HitsAscend, hit_rows, lists_of, searchers_of}

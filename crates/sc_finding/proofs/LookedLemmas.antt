@@ -16,7 +16,7 @@ use Rattle.sc_eval.specs.declared.numbers.Numbers.{Numbers}
 use Rattle.sc_eval.specs.declared.unjoined.Unjoined.{Unjoined}
 use Rattle.sc_eval.specs.declared.unjoined.Unjoined.TheVariants.{One}
 use Rattle.sc_eval.proofs.NumberLemmas.{are-matches}
-use Rattle.sc_finding.specs.SearcherRows.{searcher_rows}
+use Rattle.sc_replicas.specs.Searchers.{searcher_rows}
 use Rattle.sc_finding.specs.Hits.{HasMatches}
 use Rattle.sc_finding.specs.declared.hits.Looked.{Looked}
 use Rattle.sc_finding.proofs.HitLemmas.{has-matches}

@@ -6,7 +6,7 @@ use Rattle.std.proofs.lemmas.List.{drop_more, get_or-drop, get_or-map, get_or-ta
 use Rattle.std.proofs.lemmas.List.Elements.{recursion_from_All}
 use Rattle.sc_record.specs.declared.write.Write.{Write}
 use Rattle.sc_finding.specs.Lists.{AreFound, IsStartOf, all_of}
-use Rattle.sc_finding.specs.SearcherRows.{searcher_rows}
+use Rattle.sc_replicas.specs.Searchers.{searcher_rows}
 use Rattle.sc_finding.specs.Merging.{AscendsBy, gathered, goes_before}
 use Rattle.sc_finding.specs.Hits.{BeginAlike, FrontAscends, IsLeast, front_rows, hit_rows, lead_rows, leads_of, rows_numbered}
 use Rattle.sc_finding.specs.declared.hits.Front.{Front}

@@ -12,7 +12,8 @@ use Rattle.sc_eval.specs.Numbers.{numbers_of}
 use Rattle.sc_eval.specs.declared.numbers.Matches.{Matches}
 use Rattle.sc_finding.specs.Merging.{AscendsBy, goes_before}
 use Rattle.sc_finding.specs.Lists.{all_of}
-use Rattle.sc_finding.specs.SearcherRows.{searcher_rows, found_in}
+use Rattle.sc_replicas.specs.Searchers.{searcher_rows}
+use Rattle.sc_finding.specs.SearcherRows.{found_in}
 use Rattle.sc_finding.specs.declared.hits.Hits.{Hits}
 use Rattle.sc_finding.specs.declared.hits.Found.{Found}
 use Rattle.sc_finding.specs.declared.hits.Front.{Front}

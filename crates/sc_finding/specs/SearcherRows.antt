@@ -1,15 +1,11 @@
 -- The rows of a searcher, and what a criterion finds among them.
 use Rattle.std.specs.Prelude.{List, filter, All}
-use Rattle.std.specs.Arc.{arc_value}
 use Rattle.sc_record.specs.declared.write.Write.{Write}
 use Rattle.sc_eval.specs.Criteria.{Criterion}
 use Rattle.sc_eval.specs.Matching.{finds}
 use Rattle.sc_journal.specs.Legal.{HasTerms}
+use Rattle.sc_replicas.specs.Searchers.{searcher_rows}
 use Rattle.sc_replicas.specs.declared.standing.Searcher.{Searcher}
-
--- the rows that a searcher looks at
-abbrev pub searcher_rows : Searcher → List Write
-searcher_rows searcher = (arc_value searcher.snapshot).rows
 
 -- the rows that a searcher looks at have their terms
 abbrev pub HaveTerms : Searcher → Type 0

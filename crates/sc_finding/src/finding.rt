@@ -7,7 +7,8 @@ ghost use Rattle.sc_journal.specs.Legal.{HasTerms};
 ghost use Rattle.sc_keys.specs.Fresh.{IsFresh};
 ghost use Rattle.sc_snapshot.specs.Rows.{AreRows};
 ghost use Rattle.sc_finding.specs.Hits.{HasFound, HasMatches};
-ghost use Rattle.sc_finding.specs.SearcherRows.{searcher_rows, HaveTerms};
+ghost use Rattle.sc_replicas.specs.Searchers.{searcher_rows};
+ghost use Rattle.sc_finding.specs.SearcherRows.{HaveTerms};
 
 use crate::hits::{Found, Hits, Looked};
 use sc_eval::{Bound, Matches, Numbers, Unjoined, find, look_up};

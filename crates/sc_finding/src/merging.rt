@@ -3,7 +3,7 @@ ghost use Rattle.sc_record.specs.declared.write.Write.{Write};
 ghost use Rattle.sc_keys.specs.Fresh.{IsFresh};
 ghost use Rattle.sc_finding.specs.Lists.{AreFound, IsStartOf, all_of};
 ghost use Rattle.sc_finding.specs.Merging.{gathered, goes_before};
-ghost use Rattle.sc_finding.specs.SearcherRows.{searcher_rows};
+ghost use Rattle.sc_replicas.specs.Searchers.{searcher_rows};
 ghost use Rattle.sc_snapshot.specs.Rows.{lent};
 ghost use Rattle.sc_finding.specs.Hits.{BeginAlike, FrontAscends, HitsAscend, IsLeast, LeadAscends, front_rows, hit_rows, lead_left, lead_rows, leads_of, lent_in, rows_numbered, rows_left};
 

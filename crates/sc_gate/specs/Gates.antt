@@ -19,6 +19,11 @@ pub record Gated : Type 0 where
 abbrev pub no_gate : Gated
 no_gate = record { keeps = λ lock place. true; keeps_commit = λ lock place. true; faults = 0; meets = false }
 
+-- all is kept, whatever is made
+pub record StandsOpen (gate : Gated) : Type 0 where
+  pub entries : (lock place : ℕ) → gate.keeps lock place ≡ true
+  pub commits : (lock place : ℕ) → gate.keeps_commit lock place ≡ true
+
 -- the hold at the stop made an entry of a bucket's journal
 abbrev pub IsOfBucket : Layout → Stop → Type 0
 IsOfBucket layout stop = (stop.lock < layout.buckets) × (stop.made ≡ true)

@@ -1,9 +1,9 @@
-ghost use Rattle.std.specs.Prelude.{◌≡◌, ◌≤◌, false, length, drop, Err, OnOk};
+ghost use Rattle.std.specs.Prelude.{◌≡◌, ◌≤◌, true, false, length, drop, Err, OnOk};
 ghost use Rattle.std.specs.List.{AllByRecursion};
 ghost use Rattle.sc_io.specs.Counts.{CountsFaults};
 ghost use Rattle.sc_seen.specs.Seen.{SeesMore, IsStopWithin};
 ghost use Rattle.sc_collection.specs.Desks.{IsDeskAtRest};
-ghost use Rattle.sc_gate.specs.Gates.{Gated, no_gate, KeepsStops, KeepsCommits, KeepsAll, StillKeeps, SeesOnly};
+ghost use Rattle.sc_gate.specs.Gates.{Gated, no_gate, KeepsStops, KeepsCommits, KeepsAll, StandsOpen, StillKeeps, SeesOnly};
 ghost use Rattle.sc_gate.specs.declared.gate.GateFault.TheVariants as reports;
 
 use sc_collection::{Desk, Trail};
@@ -29,6 +29,13 @@ pub trait Gate<D: Desk> {
 
     /// From the one on until the other, at each moment what a crash leaves is no less than what the first kept.
     ghost since: { Self → Self → Type 0 };
+
+    /// Whether it is known to stand open: all is kept as it is made, and nobody has to pass it.
+    fn is_open(&self) -> bool
+        ensures { result ≡ true → StandsOpen (state self.now) }
+    {
+        false
+    }
 
     /// Keeps the entries that were made at the stops of the trail from a place on, the first of which is at 0, and the commits that were
     /// made there. The stops of the board are passed over.
@@ -92,6 +99,10 @@ impl<D: Desk> Gate<D> for NoGate {
     ghost since_then = { λ old between new one two. tt };
 
     ghost fits_on = { λ gate old new fits layout more. tt };
+
+    fn is_open(&self) -> bool {
+        true
+    }
 
     fn pass(&mut self, _: Global, _: &mut D, _: &Trail, _: usize) -> Result<(), GateFault> {
         Ok(())

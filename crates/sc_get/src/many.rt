@@ -1,7 +1,6 @@
 ghost use Rattle.std.specs.Prelude.{◌≡◌, ◌+◌, ◌≤◌, length};
-ghost use Rattle.sc_seen.specs.Moments.{view_of};
-ghost use Rattle.sc_collection.specs.Desks.{IsDeskAtRest};
 ghost use Rattle.sc_collection.specs.Kept.{trail_room};
+ghost use Rattle.sc_collection.specs.Resting.{Rests, looked_at, LeavesAtRest};
 ghost use Rattle.sc_get.specs.Got.{AreGot};
 
 use crate::one::get_one;
@@ -17,12 +16,10 @@ pub fn get_many<D: Desk>(
     trail: &mut Trail,
     ids: &List<Id>,
 ) -> Result<List<Cell>, AllocError>
-    requires rest { IsDeskAtRest (D.layout desk.old) (D.out desk.old) (D.seen desk.old) }
+    requires rest { Rests D.Desk desk.old }
     requires room { length trail.old.stops + length ids.now ≤ trail_room }
-    ensures got { AreGot (D.layout desk.old) (view_of (D.seen desk.old) trail.old.stops) (view_of (D.seen desk.new) trail.new.stops) ids.now result }
-    ensures layout { D.layout desk.new ≡ D.layout desk.old }
-    ensures rest { IsDeskAtRest (D.layout desk.new) (D.out desk.new) (D.seen desk.new) }
-    ensures requests { trail.new.requests ≡ trail.old.requests }
+    ensures got { AreGot (D.layout desk.old) (looked_at D.Desk desk.old trail.old) (looked_at D.Desk desk.new trail.new) ids.now result }
+    ensures leaves { LeavesAtRest D.Desk desk.old trail.old desk.new trail.new }
 {
     let mut found = Vec::with_capacity(alloc, ids.len())?;
     for id in ids.as_slice() {

@@ -1,9 +1,9 @@
 ghost use Rattle.std.specs.Prelude.{◌≡◌, ◌<◌, ◌+◌, IfOk, length, option_copied};
 ghost use Rattle.std.specs.Option.{option_map};
 ghost use Rattle.std.specs.Arc.{arc_value};
-ghost use Rattle.sc_seen.specs.Moments.{view_of};
-ghost use Rattle.sc_collection.specs.Desks.{nothing_out, IsDeskAtRest};
+ghost use Rattle.sc_collection.specs.Desks.{nothing_out};
 ghost use Rattle.sc_collection.specs.Kept.{trail_room};
+ghost use Rattle.sc_collection.specs.Resting.{looked_at, LeavesAtRest};
 ghost use Rattle.sc_get.specs.Got.{IsGot, live};
 
 use sc_collection::{Desk, Stop, Trail};
@@ -20,11 +20,9 @@ pub fn get_one<D: Desk>(
 ) -> Result<Option<Cell>, AllocError>
     requires nothing_out { D.out desk.old ≡ nothing_out }
     requires room { length trail.old.stops < trail_room }
-    ensures got { IsGot (D.layout desk.old) (view_of (D.seen desk.old) trail.old.stops) (view_of (D.seen desk.new) trail.new.stops) id.now result }
-    ensures layout { D.layout desk.new ≡ D.layout desk.old }
-    ensures rest { IsDeskAtRest (D.layout desk.new) (D.out desk.new) (D.seen desk.new) }
+    ensures got { IsGot (D.layout desk.old) (looked_at D.Desk desk.old trail.old) (looked_at D.Desk desk.new trail.new) id.now result }
+    ensures leaves { LeavesAtRest D.Desk desk.old trail.old desk.new trail.new }
     ensures stops { length trail.new.stops ≡ length trail.old.stops + 1 }
-    ensures requests { trail.new.requests ≡ trail.old.requests }
 {
     let b = bucket_of(id.as_str(), desk.buckets());
     let bucket = desk.hold(b);

@@ -54,7 +54,7 @@ IsSoundIn-parts b feeds cores core name buffer left named kept fed sound =
 pub HasSameRest-with_fed : (b : Bucket) (feeds : List FeedState) (cores : List Core)
     → HasSameRest b (with_fed b feeds cores)
 HasSameRest-with_fed b feeds cores = record {
-  name = record { first = refl; limit = refl };
+  name = record { first = refl; limit = refl; filed = refl };
   map_is = refl;
   entries = refl;
   phase_is = refl;
@@ -100,7 +100,7 @@ pub IsSound-with_fed : (b : Bucket) (feeds : List FeedState) (cores : List Core)
 IsSound-with_fed b feeds cores sound each in_order still has are phase =
     let new : Bucket = with_fed b feeds cores in
     IsSound-each new each in_order
-    (HasJournal-same b new (record { first = refl; limit = refl }) refl refl refl refl sound.journal.room sound.journal)
+    (HasJournal-same b new refl refl refl refl refl refl sound.journal.room sound.journal)
     (HasSearchers-same b new refl refl refl sound.searchers) sound.prepared
     (AreSent-with_fed b feeds cores still sound.messages) has are phase
 

@@ -1,5 +1,5 @@
 -- Each event of a bucket, whoever holds it, adds one entry to the journal's end, or none.
-use Rattle.std.proofs.Common.{◌≡◌, ◌⊎◌, inl, inr, List, [], ◌∷◌, ◌++◌}
+use Rattle.std.proofs.Common.{◌≡◌, ◌⊎◌, inl, inr, List, [], ◌∷◌, ◌++◌, ap}
 use Rattle.sc_record.specs.declared.entry.Entry.{Entry}
 use Rattle.sc_record.specs.declared.entry.Entry.TheVariants as entry
 use Rattle.sc_bucket.specs.Events.{IsStep}
@@ -18,6 +18,7 @@ step_adds old new (IsStep.delivers delivered) = inl delivered.entries
 step_adds old new (IsStep.settles {place = place} written still settled) = inr (entry.Settled place, settled.entries)
 step_adds old new (IsStep.commits committed) = inr (entry.Committed, committed.entries)
 step_adds old new (IsStep.detaches {name = name} can detached) = inr (entry.Down name, detached.entries)
+step_adds old new (IsStep.notes_filed n noted) = inl (ap (λ (bucket : Bucket). bucket.journal.entries) noted)
 
 -- after each that only its keeper does
 keeper_adds : (old new : Bucket) → IsKeeperEvent old new → AddsAtMostOne old.journal.entries new.journal.entries

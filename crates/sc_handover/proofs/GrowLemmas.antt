@@ -89,7 +89,7 @@ pub Grows-joined : (old mid new : Bucket) (leader name : CoreId) (sub : Slice) (
     → DeliversAllTo old leader mid → leader.slice ≡ name.slice → leader.replica ≡ 1 → CanGrow old name sub
     → IsMade mid name sub core feed → Joins mid core.core feed new → Grows old name sub new
 Grows-joined old mid new leader name sub core feed all slice first can made joins = record {
-  kept = record { first = joins.kept.first ∙ all.name.first; limit = joins.kept.limit ∙ all.name.limit };
+  kept = record { first = joins.kept.first ∙ all.name.first; limit = joins.kept.limit ∙ all.name.limit; filed = joins.kept.filed ∙ all.name.filed };
   map_is = joins.map_is ∙ all.map_is;
   entries = joins.entries ∙ all.entries;
   phase_is = joins.phase_is ∙ all.split.phase;

@@ -238,7 +238,7 @@ pub Joins-put_in : (b : Bucket) (name : CoreId) (sub : Slice) (core : Core) (fee
     (feeds : List FeedState) → IsMade b name sub core feed → cores ≡ put_by_name core b.replicas → feeds ≡ b.feeds ++ feed ∷ []
     → Joins b core.core feed (record b { replicas = cores; feeds = feeds })
 Joins-put_in b name sub core feed cores feeds made cores_are feeds_are = record {
-  kept = record { first = refl; limit = refl };
+  kept = record { first = refl; limit = refl; filed = refl };
   map_is = refl;
   entries = refl;
   phase_is = refl;

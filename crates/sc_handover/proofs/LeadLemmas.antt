@@ -117,6 +117,7 @@ TakesLead-changed old mid new name sound follower all changes =
       kept = record {
         first = changes.kept.first ∙ all.name.first;
         limit = changes.kept.limit ∙ all.name.limit;
+        filed = changes.kept.filed ∙ all.name.filed;
       };
       split = record {
         phase = changes.split.phase ∙ all.split.phase;

@@ -15,7 +15,7 @@ use Rattle.sc_journal.proofs.SettledLemmas.{SettlesNothing}
 use Rattle.sc_bucket.specs.Kept.{Sent, JournalState, PlacesState}
 use Rattle.sc_replicas.specs.Cores.{is_of_one}
 use Rattle.sc_bucket.specs.Sound.{HasJournal}
-use Rattle.sc_bucket.specs.Events.{HasSameFirstAndLimit}
+use Rattle.sc_bucket.specs.Events.{HasSameFixedParts}
 use Rattle.sc_bucket.specs.declared.bucket.Bucket.{Bucket}
 use Rattle.sc_handover.specs.Events.{LosesSlices}
 use Rattle.sc_handover.proofs.PushedLemmas.{HasJournal-pushed}
@@ -53,10 +53,10 @@ pub record TakesOut (old : Bucket) (one : Entry) (change : Change) (less : ℕ) 
 
 -- as the calls leave it, where the entries are owed and one has its room
 pub TakesOut-called : (old new : Bucket) (one : Entry) (change : Change) (less : ℕ)
-    → (less ≤ old.owed) × (1 ≤ old.journal.room) → HasSameFirstAndLimit old new → new.map ≡ after old.map change
+    → (less ≤ old.owed) × (1 ≤ old.journal.room) → HasSameFixedParts old new → new.map ≡ after old.map change
     → new.replicas ≡ filter (is_kept new.map) old.replicas
     → new.flight.messages ≡ filter (λ (message : Sent). is_of_one new.map message.core) old.flight.messages
-    → new.journal ≡ record { entries = old.journal.entries ++ one ∷ []; room = old.journal.room - 1 }
+    → new.journal ≡ record old.journal { entries = old.journal.entries ++ one ∷ []; room = old.journal.room - 1 }
     → new.searchers ≡ old.searchers → new.unsettled ≡ old.unsettled → new.owed ≡ old.owed - less → new.spares ≡ None
     → TakesOut old one change less new
 TakesOut-called old new one change less owes name map_is cores messages journal searchers unsettled_are owed_is

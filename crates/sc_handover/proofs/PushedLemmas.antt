@@ -17,7 +17,7 @@ use Rattle.sc_journal.proofs.LegalLemmas.{IsLegal-push}
 use Rattle.sc_journal.proofs.SettledLemmas.{SettlesNothing, unsettled-push_other}
 use Rattle.sc_journal.proofs.SplitLemmas.{map_after-push}
 use Rattle.sc_bucket.specs.Sound.{AreActive, HasJournal}
-use Rattle.sc_bucket.specs.Events.{HasSameFirstAndLimit}
+use Rattle.sc_bucket.specs.Events.{HasSameFixedParts}
 use Rattle.sc_bucket.specs.declared.bucket.Bucket.{Bucket}
 
 -- no split was open at first
@@ -29,7 +29,7 @@ first_is_idle b journal =
 
 -- The journal got the entry, the map is that after it, what is owed is counted, and that and the entry have their room.
 pub record IsLonger (old : Bucket) (one : Entry) (new : Bucket) : Type 0 where
-  pub name : HasSameFirstAndLimit old new
+  pub name : HasSameFixedParts old new
   pub entries : new.journal.entries ≡ old.journal.entries ++ one ∷ []
   pub map_is : new.map ≡ map_after old.first (old.journal.entries ++ one ∷ [])
   pub unsettled_are : new.unsettled.places ≡ old.unsettled.places
@@ -63,7 +63,7 @@ HasJournal-longer old new one journal may no_write none longer =
 
 -- The journal got the entry, the map changed so, what is owed is counted, and that and the entry have their room.
 pub record IsPushed (old : Bucket) (one : Entry) (change : Change) (new : Bucket) : Type 0 where
-  pub name : HasSameFirstAndLimit old new
+  pub name : HasSameFixedParts old new
   pub entries : new.journal.entries ≡ old.journal.entries ++ one ∷ []
   pub map_is : new.map ≡ after old.map change
   pub unsettled_are : new.unsettled.places ≡ old.unsettled.places

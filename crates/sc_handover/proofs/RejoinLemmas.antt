@@ -23,14 +23,14 @@ use Rattle.sc_handover.proofs.RejoinedLemmas.{MayRejoin, with_rejoined, numbered
 -- and that is the event
 pub Rejoins-put : (b : Bucket) (name : CoreId) (slice : Slice) (fresh : Core) (feed : FeedState) (at : ℕ) (before : Core)
     (journal : JournalState) (feeds : List FeedState) (cores : List Core) → MayRejoin b name slice fresh feed at before
-    → BucketHasRoom 2 b → journal ≡ record { entries = longer b name; room = b.journal.room - 1 }
+    → BucketHasRoom 2 b → journal ≡ record b.journal { entries = longer b name; room = b.journal.room - 1 }
     → feeds ≡ b.feeds ++ feed ∷ [] → cores ≡ set b.replicas at (numbered before.number fresh)
     → Rejoins b name (with_rejoined b journal feeds cores)
 Rejoins-put b name slice fresh feed at before journal feeds cores may has_room journal_is feeds_are cores_are =
     let made = may.ready.made in
     let as_made : Core = numbered before.number (empty_core name) in
     record {
-      kept = record { first = refl; limit = refl };
+      kept = record { first = refl; limit = refl; filed = ap (λ (j : JournalState). j.filed) journal_is };
       room = has_room;
       map_is = refl;
       entries = ap (λ (j : JournalState). j.entries) journal_is;
@@ -54,9 +54,9 @@ Rejoins-put b name slice fresh feed at before journal feeds cores may has_room j
 
 -- which is the same without the room that was made for the journal
 pub Rejoins-reserved : (b new : Bucket) (journal : JournalState) (name : CoreId) → journal.entries ≡ b.journal.entries
-    → Rejoins (record b { journal = journal }) name new → Rejoins b name new
-Rejoins-reserved b new journal name same is = record {
-  kept = record { first = is.kept.first; limit = is.kept.limit };
+    → journal.filed ≡ b.journal.filed → Rejoins (record b { journal = journal }) name new → Rejoins b name new
+Rejoins-reserved b new journal name same same_filed is = record {
+  kept = record { first = is.kept.first; limit = is.kept.limit; filed = is.kept.filed ∙ same_filed };
   room = subst (λ (entries : List Entry). length entries + owed b.first entries + 2 ≤ b.limit) same is.room;
   map_is = is.map_is;
   entries = is.entries ∙ ap (λ (entries : List Entry). entries ++ entry.Up name ∷ []) same;

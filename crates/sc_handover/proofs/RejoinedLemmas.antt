@@ -171,7 +171,7 @@ may_come_up b name sound can = record {
 
 HasJournal-rejoined : (b : Bucket) (name : CoreId) (journal : JournalState) (feeds : List FeedState) (cores : List Core) → IsSound b
     → CanRejoin b name → b.owed + 2 ≤ b.journal.room → BucketHasRoom 2 b
-    → journal ≡ record { entries = longer b name; room = b.journal.room - 1 } → HasJournal (with_rejoined b journal feeds cores)
+    → journal ≡ record b.journal { entries = longer b name; room = b.journal.room - 1 } → HasJournal (with_rejoined b journal feeds cores)
 HasJournal-rejoined b name journal feeds cores sound can memory has_room journal_is =
     let has = sound.journal in
     let may = may_come_up b name sound can in
@@ -179,7 +179,7 @@ HasJournal-rejoined b name journal feeds cores sound can memory has_room journal
     let left : journal.room ≡ b.journal.room - 1 = ap (λ (j : JournalState). j.room) journal_is in
     HasJournal-longer b (with_rejoined b journal feeds cores) (entry.Up name) has may refl (λ place. refl)
     (record {
-      name = record { first = refl; limit = refl };
+      name = record { first = refl; limit = refl; filed = ap (λ (j : JournalState). j.filed) journal_is };
       entries = ap (λ (j : JournalState). j.entries) journal_is;
       map_is = has.map_is ∙ sym (map_after-left b.first b.journal.entries (entry.Up name) (LeavesSlices-up name));
       unsettled_are = refl;
@@ -304,7 +304,7 @@ AreFeeds-rejoined b new name slice fresh feed at before may same_map same_phase 
 -- ---- so the bucket is sound
 pub IsSound-rejoined : (b : Bucket) (name : CoreId) (slice : Slice) (fresh : Core) (feed : FeedState) (at : ℕ) (before : Core)
     (journal : JournalState) (feeds : List FeedState) (cores : List Core) → MayRejoin b name slice fresh feed at before
-    → b.owed + 2 ≤ b.journal.room → BucketHasRoom 2 b → journal ≡ record { entries = longer b name; room = b.journal.room - 1 }
+    → b.owed + 2 ≤ b.journal.room → BucketHasRoom 2 b → journal ≡ record b.journal { entries = longer b name; room = b.journal.room - 1 }
     → feeds ≡ b.feeds ++ feed ∷ [] → cores ≡ set b.replicas at (numbered before.number fresh)
     → IsSound (with_rejoined b journal feeds cores)
 IsSound-rejoined b name slice fresh feed at before journal feeds cores may memory has_room journal_is feeds_are cores_are =

@@ -17,6 +17,7 @@ IsSound-reserved b journal n is sound =
     IsSound-with_parts b journal b.unsettled b.flight b.replicas
     (record {
       entries = ap (λ (journal : JournalState). journal.entries) is;
+      filed = ap (λ (journal : JournalState). journal.filed) is;
       room = omega (arith, room);
       places = refl;
       messages = refl;

@@ -128,7 +128,7 @@ next-more n m feed =
 -- nothing else was changed by two, where nothing else was by either
 pub same_rest : (old mid new : Bucket) → HasSameRest old mid → HasSameRest mid new → HasSameRest old new
 same_rest old mid new one other = record {
-  name = record { first = other.name.first ∙ one.name.first; limit = other.name.limit ∙ one.name.limit };
+  name = record { first = other.name.first ∙ one.name.first; limit = other.name.limit ∙ one.name.limit; filed = other.name.filed ∙ one.name.filed };
   map_is = other.map_is ∙ one.map_is;
   entries = other.entries ∙ one.entries;
   phase_is = other.phase_is ∙ one.phase_is;

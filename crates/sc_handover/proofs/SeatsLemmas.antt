@@ -79,7 +79,7 @@ owes_led b name sound can =
 
 -- its journal is as it has to be
 HasJournal-led : (b : Bucket) (name : CoreId) (journal : JournalState) (flight : FlightState) (cores : List Core) → IsSound b
-    → CanLead b name → journal ≡ record { entries = longer b name; room = b.journal.room - 1 }
+    → CanLead b name → journal ≡ record b.journal { entries = longer b name; room = b.journal.room - 1 }
     → HasJournal (with_seats b journal flight cores)
 HasJournal-led b name journal flight cores sound can journal_is =
     let owes = owes_led b name sound can in
@@ -88,7 +88,7 @@ HasJournal-led b name journal flight cores sound can journal_is =
     let left : journal.room ≡ b.journal.room - 1 = ap (λ (j : JournalState). j.room) journal_is in
     HasJournal-longer b (with_seats b journal flight cores) (entry.Led name) has (may_lead b name sound can) refl (λ place. refl)
     (record {
-      name = record { first = refl; limit = refl };
+      name = record { first = refl; limit = refl; filed = ap (λ (j : JournalState). j.filed) journal_is };
       entries = ap (λ (j : JournalState). j.entries) journal_is;
       map_is = has.map_is ∙ sym (map_after-left b.first b.journal.entries (entry.Led name) (LeavesSlices-led name));
       unsettled_are = refl;
@@ -119,7 +119,7 @@ AreSent-led b new name leading sent delivered entries messages names = record {
 -- ---- so the bucket is sound
 pub IsSound-led : (b : Bucket) (name : CoreId) (leader_at at : ℕ) (leader core : Core) (journal : JournalState) (flight : FlightState)
     (cores : List Core) → MayChangeSeats b name leader_at at leader core
-    → journal ≡ record { entries = longer b name; room = b.journal.room - 1 }
+    → journal ≡ record b.journal { entries = longer b name; room = b.journal.room - 1 }
     → flight.messages ≡ left_out leader.core b.flight.messages → cores ≡ in_new_seats b name leader_at at leader core
     → IsSound (with_seats b journal flight cores)
 IsSound-led b name leader_at at leader core journal flight cores may journal_is messages cores_are =
@@ -179,7 +179,7 @@ IsSound-led b name leader_at at leader core journal flight cores may journal_is 
 -- and led by a core that has the last write of each id of the slice's range, and a clock that is above none of them
 pub IsLedWhole-led : (b : Bucket) (name : CoreId) (leader_at at : ℕ) (leader core : Core) (journal : JournalState) (flight : FlightState)
     (cores : List Core) → MayChangeSeats b name leader_at at leader core
-    → journal ≡ record { entries = longer b name; room = b.journal.room - 1 }
+    → journal ≡ record b.journal { entries = longer b name; room = b.journal.room - 1 }
     → flight.messages ≡ left_out leader.core b.flight.messages → cores ≡ in_new_seats b name leader_at at leader core
     → IsLedWhole (with_seats b journal flight cores) name.slice
 IsLedWhole-led b name leader_at at leader core journal flight cores may journal_is messages cores_are slice found in_map named there leads =
@@ -231,11 +231,11 @@ IsLedWhole-led b name leader_at at leader core journal flight cores may journal_
 -- and that is the event
 pub ChangesSeats-led : (b : Bucket) (name : CoreId) (leader_at at : ℕ) (leader core : Core) (journal : JournalState) (flight : FlightState)
     (cores : List Core) → MayChangeSeats b name leader_at at leader core
-    → journal ≡ record { entries = longer b name; room = b.journal.room - 1 }
+    → journal ≡ record b.journal { entries = longer b name; room = b.journal.room - 1 }
     → flight.messages ≡ left_out leader.core b.flight.messages → cores ≡ in_new_seats b name leader_at at leader core
     → ChangesSeats b name (with_seats b journal flight cores)
 ChangesSeats-led b name leader_at at leader core journal flight cores may journal_is messages cores_are = record {
-  kept = record { first = refl; limit = refl };
+  kept = record { first = refl; limit = refl; filed = ap (λ (j : JournalState). j.filed) journal_is };
   split = record { phase = refl; feeds = refl };
   map_is = refl;
   entries = ap (λ (j : JournalState). j.entries) journal_is;

@@ -17,7 +17,7 @@ use Rattle.sc_bucket.specs.Kept.{Sent}
 use Rattle.sc_record.specs.Names.{is_core}
 use Rattle.sc_bucket.specs.Flight.{in_flight, is_to, arrived}
 use Rattle.sc_bucket.specs.Sound.{IsSent, IsSound}
-use Rattle.sc_bucket.specs.Events.{HasSameFirstAndLimit, HasSameSplit, DeliversAllTo}
+use Rattle.sc_bucket.specs.Events.{HasSameFixedParts, HasSameSplit, DeliversAllTo}
 use Rattle.sc_bucket.specs.declared.bucket.Bucket.{Bucket}
 use Rattle.sc_replicas.proofs.CoreLemmas.{name_of, is_core-Decides, element_from_map}
 use Rattle.sc_bucket.proofs.PendingLemmas.{goes_to, in_flight-none}
@@ -164,7 +164,7 @@ to_no_sub-left slices messages name of_sub =
 -- What was in flight to those of the subs' cores that stand before a place is delivered; what is still to be done leads to the same
 -- as before.
 pub record DeliversSome (old : Bucket) (at : ℕ) (new : Bucket) : Type 0 where
-  pub name : HasSameFirstAndLimit old new
+  pub name : HasSameFixedParts old new
   pub split : HasSameSplit old new
   pub map_is : new.map ≡ old.map
   pub entries : new.journal.entries ≡ old.journal.entries
@@ -195,7 +195,7 @@ some_more_of_sub : (old : Bucket) (at : ℕ) (mid new : Bucket) (core : Core) �
     → slice_get mid.replicas at ≡ Some core → IsQuiet core → is_of_sub old.map core.core ≡ true
     → DeliversAllTo mid core.core new → DeliversSome old (at + 1) new
 some_more_of_sub old at mid new core some there quiet of_sub one = record {
-  name = record { first = one.name.first ∙ some.name.first; limit = one.name.limit ∙ some.name.limit };
+  name = record { first = one.name.first ∙ some.name.first; limit = one.name.limit ∙ some.name.limit; filed = one.name.filed ∙ some.name.filed };
   split = record { phase = one.split.phase ∙ some.split.phase; feeds = one.split.feeds ∙ some.split.feeds };
   map_is = one.map_is ∙ some.map_is;
   entries = one.entries ∙ some.entries;

@@ -18,7 +18,7 @@ use Rattle.sc_bucket.specs.Flight.{is_to, arrived}
 use Rattle.sc_bucket.specs.Searchers.{AreTaken, AreHandedOn}
 use Rattle.sc_bucket.specs.Room.{BucketHasRoom}
 use Rattle.sc_bucket.specs.Sound.{HasLastWrites}
-use Rattle.sc_bucket.specs.Events.{AreSameCores, HasSameFirstAndLimit}
+use Rattle.sc_bucket.specs.Events.{AreSameCores, HasSameFixedParts}
 use Rattle.sc_bucket.specs.declared.bucket.Bucket.{Bucket}
 use Rattle.sc_bucket.specs.declared.phase.Phase.{Phase}
 use Rattle.sc_bucket.specs.declared.phase.Phase.TheVariants as phases
@@ -29,7 +29,7 @@ use Rattle.sc_handover.specs.Made.{first_core, empty_core, cells_now, first_feed
 -- its leader, which buffers what comes and has no cells, and is fed from the parent's cells as they are. The journal has room for the
 -- entry that says so and for all that it owes then.
 pub record Begins (old : Bucket) (parent : SliceId) (subs : List SubSlice) (new : Bucket) : Type 0 where
-  pub name : HasSameFirstAndLimit old new
+  pub name : HasSameFixedParts old new
   pub room : BucketHasRoom (entries_of_split subs) old
   pub map_is : new.map ≡ after old.map (Change.Begun parent subs)
   pub entries : new.journal.entries ≡ old.journal.entries ++ entry.Begun parent subs ∷ []
@@ -44,7 +44,7 @@ pub record Begins (old : Bucket) (parent : SliceId) (subs : List SubSlice) (new 
 
 -- nothing was changed but cores and feeds
 pub record HasSameRest (old new : Bucket) : Type 0 where
-  pub name : HasSameFirstAndLimit old new
+  pub name : HasSameFixedParts old new
   pub map_is : new.map ≡ old.map
   pub entries : new.journal.entries ≡ old.journal.entries
   pub phase_is : new.phase ≡ old.phase
@@ -87,7 +87,7 @@ pub record ReplaysPiece (old : Bucket) (name : CoreId) (is_done : Bool) (new : B
 
 -- the leaders of the subs are made
 pub record GetsReady (old : Bucket) (parent : SliceId) (new : Bucket) : Type 0 where
-  pub name : HasSameFirstAndLimit old new
+  pub name : HasSameFixedParts old new
   pub map_is : new.map ≡ old.map
   pub entries : new.journal.entries ≡ old.journal.entries
   pub phase_is : new.phase ≡ phases.Recovering parent
@@ -99,7 +99,7 @@ pub record GetsReady (old : Bucket) (parent : SliceId) (new : Bucket) : Type 0 w
 -- A further replica of a sub joins: what is in flight to the sub's leader is delivered, and the new core buffers what comes, has no
 -- cells, and is fed from the leader's cells as they are then.
 pub record Grows (old : Bucket) (name : CoreId) (sub : Slice) (new : Bucket) : Type 0 where
-  pub kept : HasSameFirstAndLimit old new
+  pub kept : HasSameFixedParts old new
   pub map_is : new.map ≡ old.map
   pub entries : new.journal.entries ≡ old.journal.entries
   pub phase_is : new.phase ≡ old.phase
@@ -114,7 +114,7 @@ pub record Grows (old : Bucket) (name : CoreId) (sub : Slice) (new : Bucket) : T
 -- The split is switched: what is in flight to the subs' cores is delivered, the subs take the parent's place, and each has the parent's
 -- searcher, cut to its range. No cell changes but by those messages.
 pub record Switches (old : Bucket) (parent : SliceId) (new : Bucket) : Type 0 where
-  pub name : HasSameFirstAndLimit old new
+  pub name : HasSameFixedParts old new
   pub map_is : new.map ≡ after old.map (Change.Switched parent)
   pub entries : new.journal.entries ≡ old.journal.entries ++ entry.Switched parent ∷ []
   pub phase_is : new.phase ≡ phases.Idle
@@ -131,7 +131,7 @@ HaveLastWrites b subs = (sub : Slice) (core : Core) → Contains subs sub → Co
 -- Slices leave the map by this change, with their cores and the messages to them, and the journal gets this entry. The phase and the
 -- feeds are these then, and all else is as it was.
 pub record LosesSlices (old : Bucket) (change : Change) (one : Entry) (phase : Phase) (feeds : List FeedState) (new : Bucket) : Type 0 where
-  pub name : HasSameFirstAndLimit old new
+  pub name : HasSameFixedParts old new
   pub map_is : new.map ≡ after old.map change
   pub entries : new.journal.entries ≡ old.journal.entries ++ one ∷ []
   pub phase_is : new.phase ≡ phase

@@ -13,7 +13,7 @@ use Rattle.sc_replicas.specs.Cores.{IsCounted, IsLeaderOf, is_of_one, put_by_nam
 use Rattle.sc_bucket.specs.Flight.{is_to}
 use Rattle.sc_bucket.specs.Searchers.{AreHandedOn}
 use Rattle.sc_bucket.specs.Sound.{HasLastWrites}
-use Rattle.sc_bucket.specs.Events.{AreSameCores, HasSameFirstAndLimit, HasSameSplit}
+use Rattle.sc_bucket.specs.Events.{AreSameCores, HasSameFixedParts, HasSameSplit}
 use Rattle.sc_bucket.specs.declared.bucket.Bucket.{Bucket}
 use Rattle.sc_bucket.specs.declared.phase.Phase.TheVariants as phases
 use Rattle.sc_bucket.specs.Pending.{new_feed}
@@ -30,7 +30,7 @@ IsQuiet core = IsEmptyWhereActive core.mode core.buffer
 
 -- all that is in flight to the cores of the subs is delivered
 pub record DeliversToSubs (old new : Bucket) : Type 0 where
-  pub name : HasSameFirstAndLimit old new
+  pub name : HasSameFixedParts old new
   pub split : HasSameSplit old new
   pub map_is : new.map ≡ old.map
   pub entries : new.journal.entries ≡ old.journal.entries
@@ -44,7 +44,7 @@ NoneIsToASub b = All (λ (message : Sent). is_of_sub b.map message.core ≡ fals
 
 -- the subs are put in the place of their parent, once nothing is in flight to their cores
 pub record PutsSwitch (old : Bucket) (parent : SliceId) (new : Bucket) : Type 0 where
-  pub name : HasSameFirstAndLimit old new
+  pub name : HasSameFixedParts old new
   pub map_is : new.map ≡ after old.map (Change.Switched parent)
   pub entries : new.journal.entries ≡ old.journal.entries ++ entry.Switched parent ∷ []
   pub phase_is : new.phase ≡ phases.Idle
@@ -74,7 +74,7 @@ pub record IsMade (b : Bucket) (name : CoreId) (slice : Slice) (core : Core) (fe
 
 -- the core and its feed join: it stands in its place among the others, and its feed comes last
 pub record Joins (old : Bucket) (name : CoreId) (feed : FeedState) (new : Bucket) : Type 0 where
-  pub kept : HasSameFirstAndLimit old new
+  pub kept : HasSameFixedParts old new
   pub map_is : new.map ≡ old.map
   pub entries : new.journal.entries ≡ old.journal.entries
   pub phase_is : new.phase ≡ old.phase
@@ -86,7 +86,7 @@ pub record Joins (old : Bucket) (name : CoreId) (feed : FeedState) (new : Bucket
 -- The core in the seat of this name and the one that leads change seats, once nothing is in flight to the first: its seat is down
 -- then, and what was in flight to the seat that leads leaves the flight.
 pub record ChangesSeats (old : Bucket) (name : CoreId) (new : Bucket) : Type 0 where
-  pub kept : HasSameFirstAndLimit old new
+  pub kept : HasSameFixedParts old new
   pub split : HasSameSplit old new
   pub map_is : new.map ≡ old.map
   pub entries : new.journal.entries ≡ old.journal.entries ++ entry.Led name ∷ []

@@ -17,7 +17,7 @@ use Rattle.sc_bucket.specs.Flight.{is_to, arrived}
 use Rattle.sc_bucket.specs.Pending.{new_feed}
 use Rattle.sc_bucket.specs.Room.{BucketHasRoom}
 use Rattle.sc_bucket.specs.Sound.{HasLastWrites}
-use Rattle.sc_bucket.specs.Events.{AreSameCores, HasSameFirstAndLimit, HasSameSplit}
+use Rattle.sc_bucket.specs.Events.{AreSameCores, HasSameFixedParts, HasSameSplit}
 use Rattle.sc_bucket.specs.declared.bucket.Bucket.{Bucket}
 use Rattle.sc_handover.specs.Made.{empty_core, cells_now}
 
@@ -29,7 +29,7 @@ pub record IsCoreAt (b : Bucket) (name : CoreId) (at : ℕ) (core : Core) : Type
 -- The core of this name, which was down, is a new one with its number: it is not down, has no cells, buffers what comes, and is fed from
 -- its leader's cells as they are. The journal has room for the entry that says so and for the one more that it owes then.
 pub record Rejoins (old : Bucket) (name : CoreId) (new : Bucket) : Type 0 where
-  pub kept : HasSameFirstAndLimit old new
+  pub kept : HasSameFixedParts old new
   pub room : BucketHasRoom 2 old
   pub map_is : new.map ≡ old.map
   pub entries : new.journal.entries ≡ old.journal.entries ++ entry.Up name ∷ []
@@ -51,7 +51,7 @@ pub record Rejoins (old : Bucket) (name : CoreId) (new : Bucket) : Type 0 where
 -- The core in the seat of this name takes the lead: what is in flight to it is delivered, it changes seats with the core that led, and
 -- that one's seat is down. What was in flight to the seat that leads leaves the flight.
 pub record TakesLead (old : Bucket) (name : CoreId) (new : Bucket) : Type 0 where
-  pub kept : HasSameFirstAndLimit old new
+  pub kept : HasSameFixedParts old new
   pub split : HasSameSplit old new
   pub map_is : new.map ≡ old.map
   pub entries : new.journal.entries ≡ old.journal.entries ++ entry.Led name ∷ []

@@ -1,7 +1,8 @@
 //! Requests as they come over a connection, and replies as they go back (HTTP/1.0 and HTTP/1.1: RFC 9112).
 //!
-//! It may depend on the sources and sinks of `sc_io`, on the model of requests in `sc_model`, on the decoder of chunks in
-//! `sc_chunks`, and on `httparse` and `form_urlencoded`. The layer above uses the clauses of `Reader::next_message`: the
+//! It depends on the sources and sinks of `sc_io`, on the model of requests in `sc_model`, on the decoder of chunks in `sc_chunks`, on the
+//! texts and lists of `sc_record`; and on `httparse` for heads, `form_urlencoded` for forms, `arrayvec` and `itoa` for the bytes and the
+//! numbers of a reply, and `thiserror`. The layer above uses the clauses of `Reader::next_message`: the
 //! request that comes first of a connection's bytes, however these are cut into pieces, or why there
 //! is none; that of `form_params`: the pairs of a form; and that of `write_reply`: the bytes that a
 //! reply is.
@@ -13,7 +14,7 @@
 //!
 //! Tested alone: heads that come byte by byte.
 //!
-//! Neither: that time is linear and a body is copied once holds by construction.
+//! Neither: that time is linear and that a body is copied once, which hold by construction.
 #![tactic(auto)]
 
 mod body;

@@ -35,3 +35,8 @@ down_name node = codes "down-" ++ decimal node
 -- the lines of a core's `core.properties` (Solr Reference Guide, "Core Discovery")
 abbrev pub core_properties : ℕ → List ℕ → List ℕ
 core_properties node core = codes "name=" ++ core ++ codes "\ncollection=docs\nnode=" ++ decimal node ++ codes "\n"
+
+-- nodes, in order, and for how many more there is room
+pub record NodesState : Type 0 where
+  pub nodes : List ℕ
+  pub room : ℕ

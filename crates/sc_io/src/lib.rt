@@ -29,6 +29,7 @@ mod source;
 mod mem_hosts;
 mod mem_source;
 mod memory;
+mod nodes;
 
 // The machine's.
 mod folder_hosts;
@@ -42,6 +43,7 @@ pub use machine::{MachineClock, StdSink, StdSource};
 pub use mem_hosts::{MemHosts, MemPace};
 pub use mem_source::MemSource;
 pub use memory::{Fixed, MemClock, MemSink, Never};
+pub use nodes::Nodes;
 pub use pace::{NoPace, Pace, SplitStep};
 pub use sink::Sink;
 pub use source::Source;

@@ -1,9 +1,10 @@
-ghost use Rattle.std.specs.Prelude.{◌≡◌, ◌↔◌, ◌+◌, ◌-◌, ◌^◌, [], ◌∷◌, ◌++◌, length, min, Some, IsTrue, IsFalse, IsErr, IfOk, OnOk, OnErr, Contains, if◌then◌else◌};
+ghost use Rattle.std.specs.Prelude.{◌≡◌, ◌<◌, ◌↔◌, ◌+◌, ◌-◌, ◌^◌, [], ◌∷◌, ◌++◌, length, min, max, Some, IsTrue, IsFalse, IsErr, IfOk, OnOk, OnErr, Contains, if◌then◌else◌};
 ghost use Rattle.std.specs.List.{list_any};
 ghost use Rattle.sc_io.specs.Hosts.{is_core_on, with_core, without_core};
 
 use crate::fault::{Failed, Faults};
 use crate::hosts::{Host, Hosts};
+use crate::nodes::Nodes;
 use crate::pace::{Pace, SplitStep};
 use sc_record::{List, Text};
 use std::alloc::{AllocError, Global};
@@ -46,8 +47,8 @@ fn remove_core(node: u32, core: &str, cores: List<Host>) -> List<Host>
 
 /// Hosts that keep the list of the cores that are started, in the order in which they were started, and that of the nodes that
 /// weren't reached. The calls, of all three kinds together, whose numbers, counted from 0, are in `fails` fail, and so does a start
-/// that finds no memory; only where there is no room to note its node does a `reach` of such a number not fail. `calls` is the number
-/// of the next call; at 2^64 - 1 it stands still, and each call from there on has that number. `faults` counts the failures of
+/// that finds no memory; a `reach` of such a number fails exactly where there is room to note its node. `calls` is the number of the
+/// next call; at 2^64 - 1 it stands still, and each call from there on has that number. `faults` counts the failures of
 /// `start_core`.
 #[derive(Debug, Drop)]
 pub struct MemHosts {
@@ -57,10 +58,10 @@ pub struct MemHosts {
     pub faults: Faults,
     pub stop_faults: Faults,
     pub reach_faults: Faults,
-    /// The nodes that weren't reached, in order.
-    pub unreached: List<u32>,
+    /// The nodes that weren't reached, in order, and room for those of the numbers that were given.
+    pub unreached: Nodes,
     alloc: Global,
-    pub ghost told: { length unreached ≡ reach_faults },
+    pub ghost told: { length unreached.nodes ≡ reach_faults },
 }
 
 impl MemHosts {
@@ -72,9 +73,9 @@ impl MemHosts {
         ensures calls { IfOk result (λ hosts. hosts.calls ≡ 0) }
         ensures faults { IfOk result (λ hosts. hosts.faults ≡ 0) }
         ensures stop_faults { IfOk result (λ hosts. hosts.stop_faults ≡ 0) }
-        ensures unreached { IfOk result (λ hosts. hosts.unreached ≡ []) }
+        ensures unreached { IfOk result (λ hosts. hosts.unreached ≡ record { nodes = []; room = length fails }) }
     {
-        let unreached = Vec::with_capacity(alloc, fails.len())?;
+        let unreached = Nodes::with_room(alloc, fails.len())?;
         Ok(MemHosts {
             started: List::new(alloc),
             fails,
@@ -82,22 +83,18 @@ impl MemHosts {
             faults: Faults::none(),
             stop_faults: Faults::none(),
             reach_faults: Faults::none(),
-            unreached: List::from_vec(unreached),
+            unreached,
             alloc,
         })
     }
 
-    /// Has the calls of these numbers fail, and no others, and makes room for a node more for each of them. An error means out of
-    /// memory.
+    /// Has the calls of these numbers fail, and no others, and makes room for a node for each of them. An error means out of memory.
     pub fn set_fails(&mut self, fails: List<u64>) -> Result<(), AllocError>
-        ensures ok { OnOk result (self.new ≡ record self.old { fails = fails }) }
+        ensures ok { OnOk result (self.new
+            ≡ record self.old { fails = fails; unreached = record self.old.unreached { room = max self.old.unreached.room (length fails) } }) }
         ensures err { OnErr result (self.new ≡ self.old) }
     {
-        let empty = List::new(self.alloc);
-        let mut unreached = mem::replace(&mut self.unreached, empty).into_vec();
-        let reserved = unreached.reserve(fails.len());
-        self.unreached = List::from_vec(unreached);
-        reserved?;
+        self.unreached.reserve(fails.len())?;
         self.fails = fails;
         Ok(())
     }
@@ -110,7 +107,7 @@ impl Hosts for MemHosts {
 
     ghost stop_faults = { λ s. s.stop_faults };
 
-    ghost reached = { λ s. record { faults = s.reach_faults; nodes = Some s.unreached } };
+    ghost reached = { λ s. record { faults = s.reach_faults; nodes = Some s.unreached.nodes } };
 
     fn start_core(&mut self, node: u32, core: &str) -> Result<(), Failed>
         ensures whole { OnOk result (self.new.started ≡ with_core node core.now self.old.started) }
@@ -160,18 +157,19 @@ impl Hosts for MemHosts {
 
     fn reach(&mut self, node: u32) -> Result<(), Failed>
         ensures ok { OnOk result (self.new.unreached ≡ self.old.unreached) }
-        ensures told { OnErr result (self.new.unreached ≡ self.old.unreached ++ node ∷ []) }
+        ensures told { OnErr result (self.new.unreached
+            ≡ record { nodes = self.old.unreached.nodes ++ node ∷ []; room = self.old.unreached.room - 1 }) }
         ensures cores { self.new.started ≡ self.old.started }
         ensures starts { self.new.faults ≡ self.old.faults }
         ensures stops { self.new.stop_faults ≡ self.old.stop_faults }
 
-        ensures fails { IsErr result → Contains self.old.fails self.old.calls }
+        ensures fails { IsErr result ↔ (Contains self.old.fails self.old.calls × (0 < self.old.unreached.room)) }
         ensures counted { self.new.calls ≡ min (self.old.calls + 1) (2 ^ 64 - 1) }
         ensures kept_fails { self.new.fails ≡ self.old.fails }
     {
         let call = self.calls;
         self.calls = call.saturating_add(1);
-        if self.fails.as_slice().contains(&call) && self.unreached.push(node).is_ok() {
+        if self.fails.as_slice().contains(&call) && self.unreached.note(node) {
             self.reach_faults.rise();
             return Err(Failed);
         }

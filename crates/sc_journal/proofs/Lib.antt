@@ -14,3 +14,6 @@ pub mod RestLemmas
 pub mod VersionLemmas
 pub mod MapLemmas
 pub mod SeatLemmas
+pub mod GoneLemmas
+pub mod UpLemmas
+pub mod CoreLemmas

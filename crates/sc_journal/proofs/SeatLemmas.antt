@@ -72,7 +72,7 @@ exchanged_own seat core_in higher =
     ap (λ b. cond b (core_in seat) (cond (eqb seat seat) (core_in 1) (core_in seat))) (ne_eqb seat 1 higher)
     ∙ ap (λ b. cond b (core_in 1) (core_in seat)) (eq-eqb seat seat refl)
 
-exchanged_other : (seat : ℕ) (core_in : ℕ → ℕ) (at : ℕ) → at ≢ 1 → at ≢ seat → exchanged seat core_in at ≡ core_in at
+pub exchanged_other : (seat : ℕ) (core_in : ℕ → ℕ) (at : ℕ) → at ≢ 1 → at ≢ seat → exchanged seat core_in at ≡ core_in at
 exchanged_other seat core_in at higher other =
     ap (λ b. cond b (core_in seat) (cond (eqb at seat) (core_in 1) (core_in at))) (ne_eqb at 1 higher)
     ∙ ap (λ b. cond b (core_in 1) (core_in at)) (ne_eqb at seat other)

@@ -1,18 +1,20 @@
 -- Laws of journals, above their definitions.
-use Rattle.std.specs.Prelude.{◌≡◌, ◌<ℤ◌, ◌≤◌, ◌↔◌, ℕ, ◌+◌, Bool, true, false, List, [], ◌∷◌, ◌++◌, length, map, not, count_by, Some, None, IsSome, All, Contains}
+use Rattle.std.specs.Prelude.{◌≡◌, ◌<ℤ◌, ◌≤◌, ◌↔◌, ℕ, ◌+◌, Bool, true, false, List, [], ◌∷◌, ◌++◌, length, map, filter, take, slice_get, not, count_by, Some, None, IsSome, All, Contains}
 use Rattle.std.specs.List.{flat_map, range_with_len}
 use Rattle.std.specs.List.Sorted.{IsPermutation}
 use Rattle.sc_record.specs.declared.write.Write.{Write}
 use Rattle.sc_record.specs.declared.slice.SliceId.{SliceId}
 use Rattle.sc_record.specs.declared.slice.CoreId.{CoreId}
 use Rattle.sc_record.specs.declared.slice.SubSlice.{SubSlice}
+use Rattle.sc_record.specs.Names.{key_of_core}
 use Rattle.sc_record.specs.declared.entry.Entry.{Entry}
 use Rattle.sc_record.specs.declared.entry.Entry.TheVariants as entry
 use Rattle.sc_cluster.specs.declared.slice.Slice.{Slice}
 use Rattle.sc_cluster.specs.Slices.{is_forming, forming, is_inactive}
 use Rattle.sc_cluster.specs.Map.{IsMap}
 use Rattle.sc_cluster.specs.Changes.{IsBeingSplit}
-use Rattle.sc_journal.specs.Journal.{write_at, writes_of, is_settled}
+use Rattle.sc_journal.specs.Journal.{write_at, writes_of, last_write, found, is_settled}
+use Rattle.sc_journal.specs.Committed.{committed}
 use Rattle.sc_journal.specs.Splits.{map_after, open_split, owed, entries_of_split}
 use Rattle.sc_journal.specs.Down.{is_down, follower_keys, count_up}
 use Rattle.sc_journal.specs.Seats.{seats}
@@ -98,6 +100,47 @@ abbrev pub SeatsBeginInOrder : Type 0
 SeatsBeginInOrder = (first : List Slice) (journal : List Entry) (id : SliceId) → IsMap first → forming first ≡ [] → IsLegal first journal
     → ((slice : Slice) → Contains (map_after first journal) slice → slice.id ≡ id → is_forming slice ≡ true)
     → (seat : ℕ) → seats journal id seat ≡ seat
+
+-- the entry at a place of the journal says of the slice's core of this number, which sits in the seat there, that it is up again
+pub record ComesUpAt (journal : List Entry) (slice : SliceId) (number seat place : ℕ) : Type 0 where
+  pub core : CoreId
+  pub key : key_of_core core ≡ (slice.0, seat)
+  pub entry_is : slice_get journal place ≡ Some (entry.Up core)
+  pub number_is : seats (take place journal) slice seat ≡ number
+
+-- A core that is down after the first part of a legal journal, and is not down after the whole, where its slice is there then, came up by
+-- an entry of the second part, and kept its seat until then: wherever the core of that number sits after the whole.
+abbrev pub ComesUpByAnEntry : Type 0
+ComesUpByAnEntry = (first : List Slice) (journal more : List Entry) (slice : Slice) (number seat later : ℕ) → IsMap first
+    → forming first ≡ [] → IsLegal first (journal ++ more) → Contains (map_after first (journal ++ more)) slice
+    → seats journal slice.id seat ≡ number → is_down journal (slice.id.0, seat) ≡ true
+    → seats (journal ++ more) slice.id later ≡ number → is_down (journal ++ more) (slice.id.0, later) ≡ false
+    → (place : ℕ) × (length journal ≤ place) × ComesUpAt (journal ++ more) slice.id number seat place
+
+-- the entry says of a core that it is down, that it is up again, or that it leads
+abbrev pub is_of_core : Entry → Bool
+is_of_core (entry.Down core) = true
+is_of_core (entry.Up core) = true
+is_of_core (entry.Led core) = true
+is_of_core _ = false
+
+-- the journal without such entries
+abbrev pub without_cores : List Entry → List Entry
+without_cores journal = filter (λ (one : Entry). not (is_of_core one)) journal
+
+-- What the journal answers is the same without its entries of cores: the last write of each id and the version that is found of it, what
+-- was committed and can be found, the slices, and the split that is open.
+pub record AnswersWithoutCores (first : List Slice) (journal : List Entry) : Type 0 where
+  pub last : (id : List ℕ) → last_write journal id ≡ last_write (without_cores journal) id
+  pub found_is : (id : List ℕ) → found journal id ≡ found (without_cores journal) id
+  pub committed_is : without_cores (committed journal) ≡ committed (without_cores journal)
+  pub shown : (id : List ℕ) → last_write (committed journal) id ≡ last_write (committed (without_cores journal)) id
+  pub map_is : map_after first journal ≡ map_after first (without_cores journal)
+  pub split : open_split journal ≡ open_split (without_cores journal)
+
+-- no answer depends on which cores went down, came up or led
+abbrev pub CoresChangeNoAnswer : Type 0
+CoresChangeNoAnswer = (first : List Slice) (journal : List Entry) → AnswersWithoutCores first journal
 
 -- A journal is at rest: each of its writes is settled, no split is open, and no slice is inactive.
 pub record IsJournalAtRest (first : List Slice) (journal : List Entry) : Type 0 where

@@ -1,6 +1,6 @@
 //! Laws of journals, above their definitions.
 
-ghost use Rattle.sc_journal.specs.Laws.{GrowsByWhatMayFollow, HasLegalPrefixes, AscendsInVersions, OwesOneForAWrite, OwesOneLessSettled, OwesForASplit, OwesLessFailed, OwesLessSwitched, OwesOneLessDropped, OwesOneLessDown, OwesOneForUp, OwesNothingAtRest, ComesToRest, JournalsKeepAMap, DownAreFollowers, SeatsAreExchanged, SeatsBeginInOrder};
+ghost use Rattle.sc_journal.specs.Laws.{GrowsByWhatMayFollow, HasLegalPrefixes, AscendsInVersions, OwesOneForAWrite, OwesOneLessSettled, OwesForASplit, OwesLessFailed, OwesLessSwitched, OwesOneLessDropped, OwesOneLessDown, OwesOneForUp, OwesNothingAtRest, ComesToRest, JournalsKeepAMap, DownAreFollowers, SeatsAreExchanged, SeatsBeginInOrder, ComesUpByAnEntry, CoresChangeNoAnswer};
 
 /// Whatever a bucket's journal gets, each entry where it may follow.
 pub fn journals_stay_legal()
@@ -37,4 +37,10 @@ pub fn journals_seat_cores()
     ensures down { DownAreFollowers }
     ensures seats { SeatsAreExchanged }
     ensures begin { SeatsBeginInOrder }
+    ensures up { ComesUpByAnEntry }
+{}
+
+/// Which cores went down, came up or led is nothing to what a journal answers.
+pub fn cores_change_no_answer()
+    ensures { CoresChangeNoAnswer }
 {}

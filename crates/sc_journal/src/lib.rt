@@ -8,12 +8,14 @@
 //! slices after a legal journal are those of a cluster, and those being made are the subs of the slice whose split is open),
 //! `journals_seat_cores` (in a legal journal a core that is down is a follower of a slice that is there and that no split is
 //! making, and the cores of a slice sit in its seats, each in one, and each in the seat of its number until the slice is there
-//! and no split is making it).
+//! and no split is making it; a core that was down and is not came up by an entry, in the seat where it was),
+//! `cores_change_no_answer` (without its entries of cores a journal has the same last writes, versions, slices and open split, and
+//! a search finds the same).
 #![tactic(auto)]
 
 mod laws;
 
 pub use laws::{
-    journals_come_to_rest, journals_keep_a_map, journals_owe_entries, journals_seat_cores,
-    journals_stay_legal,
+    cores_change_no_answer, journals_come_to_rest, journals_keep_a_map, journals_owe_entries,
+    journals_seat_cores, journals_stay_legal,
 };

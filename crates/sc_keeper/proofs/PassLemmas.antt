@@ -46,6 +46,7 @@ part-step old new (IsStep.commits committed) =
 part-step old new (IsStep.detaches {name = name} can detached) =
     part_of-same old new detached.split detached.map_is (ap parts_of detached.cores ∙ parts-detached name old.replicas)
     (keeper_entries-other old.journal.entries new.journal.entries (entry.Down name) refl detached.entries)
+part-step old new (IsStep.notes_filed n noted) = ap part_of noted
 
 -- none of them makes an entry of the keeper
 pub step_adds_no_keeper_entry : (old new : Bucket) → IsStep old new → AddsAtMost false old.journal.entries new.journal.entries
@@ -56,6 +57,7 @@ step_adds_no_keeper_entry old new (IsStep.settles {place = place} written still 
     inr (entry.Settled place, refl, settled.entries)
 step_adds_no_keeper_entry old new (IsStep.commits committed) = inr (entry.Committed, refl, committed.entries)
 step_adds_no_keeper_entry old new (IsStep.detaches {name = name} can detached) = inr (entry.Down name, refl, detached.entries)
+step_adds_no_keeper_entry old new (IsStep.notes_filed n noted) = inl (ap (λ (bucket : Bucket). bucket.journal.entries) noted)
 
 -- and the keeper's events no other
 pub keeper_adds_no_pass_entry : (old new : Bucket) → IsKeeperEvent old new → AddsAtMost true old.journal.entries new.journal.entries

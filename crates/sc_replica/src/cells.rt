@@ -1,4 +1,4 @@
-ghost use Rattle.std.specs.Prelude.{◌≡◌, ◌<◌, ◌≤◌, ◌+◌, ◌-◌, [], map, insert, max, min, length, int_lt};
+ghost use Rattle.std.specs.Prelude.{◌≡◌, ◌<◌, ◌≤◌, ◌+◌, ◌-◌, [], map, insert, max, min, length, slice_get, int_lt};
 ghost use Rattle.std.specs.Prelude.{IsOk, IfOk, OnOk, OnErr, IsTrue, option_copied};
 ghost use Rattle.std.specs.List.{AllWithin};
 ghost use Rattle.std.specs.declared.cmp.Ordering.TheVariants.{Less};
@@ -74,6 +74,14 @@ impl Cells {
             Ok(place) => Some(&self.cells[place]),
             Err(_) => None,
         }
+    }
+
+    /// The cell at this place, from 0, by the ids' bytes; None where there are not so many.
+    pub fn nth(&self, i: usize) -> Option<&Cell>
+        ensures cell { option_map arc_value (option_copied result) ≡ slice_get self.now.writes i }
+        ensures ascends { AscendById self.now.writes }
+    {
+        self.cells.get(i)
     }
 
     /// A share of each cell, by the ids' bytes, in a list that has room for just these. An error means out of memory.

@@ -7,10 +7,15 @@ use Rattle.sc_record.specs.declared.slice.SliceId.{SliceId}
 use Rattle.sc_record.specs.declared.write.Write.{Write}
 use Rattle.sc_snapshot.specs.Rows.{AreRows, SnapshotState}
 use Rattle.sc_replicas.specs.declared.standing.Standing.{Standing}
+use Rattle.sc_replicas.specs.declared.standing.Searcher.{Searcher}
 
 -- the rows that a searcher looks at
 abbrev pub standing_rows : Standing → List Write
 standing_rows searcher = (arc_value searcher.snapshot).rows
+
+-- the rows that a share of a searcher looks at
+abbrev pub searcher_rows : Searcher → List Write
+searcher_rows searcher = (arc_value searcher.snapshot).rows
 
 -- a searcher as contracts see it
 pub record StandingState : Type 0 where

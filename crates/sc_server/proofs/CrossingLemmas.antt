@@ -13,6 +13,7 @@ use Rattle.sc_bucket.specs.contracts.bucket.Bucket as Bucket
 use Rattle.sc_bucket.specs.contracts.feeds.Feeds as Feeds
 use Rattle.sc_bucket.specs.contracts.flight.Flight as Flight
 use Rattle.sc_bucket.specs.contracts.journal.Journal as Journal
+use Rattle.sc_bucket.specs.contracts.lists.Lists as Lists
 use Rattle.sc_replicas.specs.contracts.replicas.Replicas as Replicas
 use Rattle.sc_replicas.specs.contracts.standing.Standing as Standing
 use Rattle.sc_cluster.specs.contracts.map.ClusterMap as ClusterMap
@@ -61,8 +62,11 @@ snapshot_sync = let a = rows_sync in let b = key_send in let c = key_sync in sea
 map_send : IsSend (ClusterMap.the_field).row
 map_send = let a = text_send in search (crosses, sendable) depth 100 fits 20000
 
+lists_send : IsSend (Lists.the_field).row
+lists_send = let a = write_send in let b = write_sync in let c = text_send in search (log.the_send, crosses, sendable) depth 100 fits 20000
+
 journal_send : IsSend (Journal.the_field).row
-journal_send = let a = write_send in let b = write_sync in let c = text_send in search (crosses, sendable) depth 100 fits 20000
+journal_send = let a = lists_send in search (crosses, sendable) depth 100 fits 20000
 
 replicas_send : IsSend (Replicas.the_field).row
 replicas_send = let a = write_send in let b = write_sync in search (crosses, sendable) depth 100 fits 20000

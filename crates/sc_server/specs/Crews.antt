@@ -2,6 +2,7 @@
 use Rattle.std.specs.Prelude.{◌≡◌, ◌≤◌, ◌<◌, ℕ, Bool, true, false, List, [], length, slice_get, Option, Some, None, IfSome}
 use Rattle.sc_seen.specs.Seen.{Seen}
 use Rattle.sc_session.specs.declared.station.Crew.{Crew}
+use Rattle.sc_session.specs.declared.station.Station.{Ghosts as Station}
 use Rattle.sc_shared.specs.declared.passes.Passes.{Passes}
 use Rattle.sc_shared.specs.Passes.{seen_of}
 use Rattle.sc_shared.specs.Collections.{Locks}
@@ -26,6 +27,15 @@ pub record StationState (C H P L : Type 0) : Type 0 where
   pub crews_back : Option (ℕ → Option (Crew C H P L))
   pub out : ℕ → Bool
   pub faults : ℕ
+
+-- what this station reports
+abbrev pub station_state : {T C H P L S W : Type 0} → Station T C H P L S W → T → StationState C H P L
+station_state of_station station = record {
+  crews = of_station.crews station;
+  crews_back = of_station.crews_back station;
+  out = of_station.out station;
+  faults = of_station.faults station;
+}
 
 -- what these passes have seen; none have seen nothing
 abbrev pub seen_with : Option Passes → Seen

@@ -1,8 +1,15 @@
 -- What a worker's crew reports.
 use Rattle.std.specs.Prelude.{ℕ, List, Option}
-use Rattle.sc_cores.specs.Cores.{Outside}
+use Rattle.sc_io.specs.declared.clock.Clock.{Ghosts as Clock}
+use Rattle.sc_io.specs.declared.hosts.Hosts.{Ghosts as Hosts}
+use Rattle.sc_io.specs.declared.pace.Pace.{Ghosts as Pace}
+use Rattle.sc_io.specs.declared.source.Source.{Ghosts as Source}
+use Rattle.sc_io.specs.declared.sink.Sink.{Ghosts as Sink}
+use Rattle.sc_cores.specs.Cores.{Outside, outside_of}
 use Rattle.sc_seen.specs.Seen.{Layout, Seen}
+use Rattle.sc_gate.specs.Gates.{no_gate}
 use Rattle.sc_session.specs.declared.listener.Link.{Link}
+use Rattle.sc_session.specs.declared.listener.Listener.{Ghosts as Listener}
 use Rattle.sc_session.specs.declared.listener.Taken.{Taken}
 use Rattle.sc_session.specs.declared.station.Crew.{Crew}
 use Rattle.sc_session.specs.Working.{LinkSetting, WorkState}
@@ -22,6 +29,26 @@ pub record Reports (C H P L S W : Type 0) : Type 1 where
   pub read_faults : S → ℕ
   pub written : W → Option (List ℕ)
   pub write_faults : W → ℕ
+
+-- what is outside of the collection, as hosts and a pace report it
+abbrev pub outside_by : {H P : Type 0} → Hosts H → Pace P → H → P → Outside
+outside_by of_hosts of_pace hosts pace =
+    outside_of (of_hosts.started hosts) (of_hosts.start_faults hosts) (of_hosts.stop_faults hosts) (of_pace.stops pace) (of_hosts.reached hosts)
+
+-- what each part of a crew reports by itself
+abbrev pub reports_of : {C H P L S W : Type 0} → Clock C → Hosts H → Pace P → Listener L S W → Source S → Sink W → Reports C H P L S W
+reports_of of_clock of_hosts of_pace of_listener of_source of_sink = record {
+  gives = of_clock.gives;
+  outside = outside_by of_hosts of_pace;
+  coming = of_listener.coming;
+  taken = of_listener.taken;
+  faults = of_listener.faults;
+  out = of_listener.out;
+  rest = of_source.rest;
+  read_faults = of_source.faults;
+  written = of_sink.written;
+  write_faults = of_sink.faults;
+}
 
 -- a crew whose clock is that of a worker
 abbrev pub WorkerCrew : (C H P L : Type 0) → Type 0
@@ -58,7 +85,7 @@ module _ {C H P L S W : Type 0} (reports : Reports C H P L S W) where
   -- what stands beside a worker with this crew, whose passes have seen this
   abbrev pub beside : Seen → WorkerCrew C H P L → WorkState (WorkerClock C) S W
   beside seen crew = record {
-    around = record { seen = seen; clock = crew.clock; outside = reports.outside crew.hosts crew.pace };
+    around = record { seen = seen; clock = crew.clock; outside = reports.outside crew.hosts crew.pace; gate = no_gate };
     coming = reports.coming crew.listener;
     taken = reports.taken crew.listener;
     faults = reports.faults crew.listener;

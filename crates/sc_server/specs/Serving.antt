@@ -3,9 +3,11 @@ use Rattle.std.specs.Prelude.{◌≡◌, ◌≢◌, ◌⊎◌, ◌↔◌, ◌≤
 use Rattle.std.specs.List.{list_any}
 use Rattle.sc_cores.specs.Cores.{StartsFirst}
 use Rattle.sc_io.specs.Pieces.{AddsPrefix}
+use Rattle.sc_io.specs.declared.sink.Sink.{Ghosts as Sink}
 use Rattle.sc_seen.specs.Seen.{nothing_opened, Layout, Seen, SeesMore, AreLegal}
 use Rattle.sc_lock.specs.Journal.{AreDisjoint}
 use Rattle.sc_session.specs.declared.station.Crew.{Crew}
+use Rattle.sc_session.specs.declared.station.Station.{Ghosts as Station}
 use Rattle.sc_session.specs.declared.worker.WorkEnd.{WorkEnd}
 use Rattle.sc_session.specs.Working.{IsWorked}
 use Rattle.sc_collection.specs.Shapes.{HasShape, SeesOpened}
@@ -31,6 +33,17 @@ pub record Front (C H P L : Type 0) : Type 0 where
   pub open_faults : ℕ
   pub written : Option (List ℕ)
   pub write_faults : ℕ
+
+-- what this station and this sink report
+abbrev pub front_of : {T C H P L S V W : Type 0} → Station T C H P L S V → Sink W → T → W → Front C H P L
+front_of of_station of_sink station sink = record {
+  crews = of_station.crews station;
+  crews_back = of_station.crews_back station;
+  out = of_station.out station;
+  open_faults = of_station.faults station;
+  written = of_sink.written sink;
+  write_faults = of_sink.faults sink;
+}
 
 module _ {C H P L : Type 0} (before after : Front C H P L) where
   -- the station gave this crew as the one of this number, and has it back as that one, where it reports them

@@ -1,15 +1,15 @@
 //! All workers, from the port to the status.
 ghost use Rattle.std.specs.Prelude.{◌≡◌, ◌≤◌, ◌<◌, ◌^◌, ℕ, true, [], length, map, All, IfSome, OnOk, vec_len, vec_capacity};
 ghost use Rattle.std.specs.List.{list_any};
-ghost use Rattle.sc_cores.specs.Cores.{outside_of};
 ghost use Rattle.sc_arguments.specs.Arguments.{IsServer};
 ghost use Rattle.sc_shared.specs.Passes.{seen_of};
 ghost use Rattle.sc_shared.specs.Collections.{Locks, layout_of, SeesBoth};
 ghost use Rattle.sc_shared.specs.Sharing.{ArePasses};
 ghost use Rattle.sc_server.specs.Working.{IsReady, IsReadyToWork, ended_by_fault, HasWorked, HaveWorked, ServesAll, serving};
 ghost use Rattle.sc_server.specs.Needs.{IsKit};
-ghost use Rattle.sc_server.specs.Crews.{HaveCrews, HaveGivenBack, seen_with, seen_by_worker};
-ghost use Rattle.sc_server.specs.Serving.{IsOneStory, EndsServer};
+ghost use Rattle.sc_server.specs.Crews.{HaveCrews, HaveGivenBack, seen_with, seen_by_worker, station_state};
+ghost use Rattle.sc_server.specs.Reports.{reports_of};
+ghost use Rattle.sc_server.specs.Serving.{IsOneStory, EndsServer, front_of};
 
 use crate::clock::WorkerClock;
 use crate::needs::{Kit, Needs, needs_of};
@@ -38,35 +38,10 @@ pub fn run_server<R: Threads + Wait + Sync, W: Sink, T: Station>(
 ) -> u8
     requires server { IsServer server.now }
     ensures ends { EndsServer
-        (record {
-          gives = T.C.gives;
-          outside = λ hosts pace. outside_of (T.H.started hosts) (T.H.start_faults hosts) (T.H.stop_faults hosts) (T.P.stops pace) (T.H.reached hosts);
-          coming = T.L.coming;
-          taken = T.L.taken;
-          faults = T.L.faults;
-          out = T.L.out;
-          rest = T.L.S.rest;
-          read_faults = T.L.S.faults;
-          written = T.L.W.written;
-          write_faults = T.L.W.faults;
-        })
+        (reports_of T.C.Clock T.H.Hosts T.P.Pace T.L.Listener T.L.S.Source T.L.W.Sink)
         server.now
-        (record {
-          crews = T.crews station.old;
-          crews_back = T.crews_back station.old;
-          out = T.out station.old;
-          open_faults = T.faults station.old;
-          written = W.written sink.old;
-          write_faults = W.faults sink.old;
-        })
-        (record {
-          crews = T.crews station.new;
-          crews_back = T.crews_back station.new;
-          out = T.out station.new;
-          open_faults = T.faults station.new;
-          written = W.written sink.new;
-          write_faults = W.faults sink.new;
-        })
+        (front_of T.Station W.Sink station.old sink.old)
+        (front_of T.Station W.Sink station.new sink.new)
         result }
 {
     let Needs {
@@ -116,18 +91,8 @@ fn enlist<'a, R, T: Station>(
     ensures all { OnOk result (length workers.new.items ≡ length kits.items) }
     ensures at_most { length workers.new.items ≤ length kits.items }
     ensures have { HaveCrews server.now collection.now workers.new.items
-        (record {
-          crews = T.crews station.old;
-          crews_back = T.crews_back station.old;
-          out = T.out station.old;
-          faults = T.faults station.old;
-        })
-        (record {
-          crews = T.crews station.new;
-          crews_back = T.crews_back station.new;
-          out = T.out station.new;
-          faults = T.faults station.new;
-        }) }
+        (station_state T.Station station.old)
+        (station_state T.Station station.new) }
 {
     for kit in kits {
         let Crew {
@@ -178,18 +143,7 @@ fn serve_all<
     requires ready { All IsReadyToWork workers.old }
     requires some { 1 ≤ length workers.old }
     ensures ends { ServesAll
-        (record {
-          gives = C.gives;
-          outside = λ hosts pace. outside_of (H.started hosts) (H.start_faults hosts) (H.stop_faults hosts) (P.stops pace) (H.reached hosts);
-          coming = L.coming;
-          taken = L.taken;
-          faults = L.faults;
-          out = L.out;
-          rest = L.S.rest;
-          read_faults = L.S.faults;
-          written = L.W.written;
-          write_faults = L.W.faults;
-        })
+        (reports_of C.Clock H.Hosts P.Pace L.Listener L.S.Source L.W.Sink)
         cores.now line.now
         (serving workers.old (record { written = W.written sink.old; faults = W.faults sink.old }))
         (serving workers.new (record { written = W.written sink.new; faults = W.faults sink.new }))
@@ -219,18 +173,7 @@ fn work_all<
     requires ready { All IsReadyToWork workers.old }
     requires some { 1 ≤ length workers.old }
     ensures worked { HaveWorked
-        (record {
-          gives = C.gives;
-          outside = λ hosts pace. outside_of (H.started hosts) (H.start_faults hosts) (H.stop_faults hosts) (P.stops pace) (H.reached hosts);
-          coming = L.coming;
-          taken = L.taken;
-          faults = L.faults;
-          out = L.out;
-          rest = L.S.rest;
-          read_faults = L.S.faults;
-          written = L.W.written;
-          write_faults = L.W.faults;
-        })
+        (reports_of C.Clock H.Hosts P.Pace L.Listener L.S.Source L.W.Sink)
         workers.old workers.new }
     ensures ready { (collection : Locks) → All (IsReady collection) workers.old → All (IsReady collection) workers.new }
     ensures count { length workers.new ≡ length workers.old }
@@ -243,18 +186,7 @@ fn work_all<
         &|_, worker: &mut Worker<R, C, H, P, L>|
             requires { IsReadyToWork worker.old }
             ensures { IsReady worker.old.collection.now worker.new × HasWorked
-                (record {
-                  gives = C.gives;
-                  outside = λ hosts pace. outside_of (H.started hosts) (H.start_faults hosts) (H.stop_faults hosts) (P.stops pace) (H.reached hosts);
-                  coming = L.coming;
-                  taken = L.taken;
-                  faults = L.faults;
-                  out = L.out;
-                  rest = L.S.rest;
-                  read_faults = L.S.faults;
-                  written = L.W.written;
-                  write_faults = L.W.faults;
-                })
+                (reports_of C.Clock H.Hosts P.Pace L.Listener L.S.Source L.W.Sink)
                 worker.old worker.new }
         { worker.run() },
     );
@@ -280,18 +212,8 @@ fn dismiss<'a, R, T: Station>(
     requires out { (number : ℕ) → number < length workers.items → T.out station.old number ≡ true }
     ensures story { IsOneStory (layout_of collection.now) (map seen_by_worker workers.entry.items) (seen_of passes.new) }
     ensures back { HaveGivenBack workers.entry.items
-        (record {
-          crews = T.crews station.old;
-          crews_back = T.crews_back station.old;
-          out = T.out station.old;
-          faults = T.faults station.old;
-        })
-        (record {
-          crews = T.crews station.new;
-          crews_back = T.crews_back station.new;
-          out = T.out station.new;
-          faults = T.faults station.new;
-        }) }
+        (station_state T.Station station.old)
+        (station_state T.Station station.new) }
 {
     while let Some(worker) = workers.pop() {
         let Worker {

@@ -1,6 +1,6 @@
 //! One worker, as it goes to its thread and comes back.
 ghost use Rattle.std.specs.Prelude.{◌≡◌, Some};
-ghost use Rattle.sc_cores.specs.Cores.{outside_of};
+ghost use Rattle.sc_server.specs.Reports.{reports_of};
 ghost use Rattle.sc_server.specs.Working.{IsReady, HasWorked};
 
 use crate::clock::WorkerClock;
@@ -40,18 +40,7 @@ impl<'a, R: Threads + Wait + Sync, C: Clock, H: Hosts, P: Pace, L: Listener> Wor
         requires ready { IsReady self.old.collection.now self.old }
         ensures ready { IsReady self.old.collection.now self.new }
         ensures worked { HasWorked
-            (record {
-              gives = C.gives;
-              outside = λ hosts pace. outside_of (H.started hosts) (H.start_faults hosts) (H.stop_faults hosts) (P.stops pace) (H.reached hosts);
-              coming = L.coming;
-              taken = L.taken;
-              faults = L.faults;
-              out = L.out;
-              rest = L.S.rest;
-              read_faults = L.S.faults;
-              written = L.W.written;
-              write_faults = L.W.faults;
-            })
+            (reports_of C.Clock H.Hosts P.Pace L.Listener L.S.Source L.W.Sink)
             self.old self.new }
     {
         run_at::<Brand, R, C, H, P, L>(self)
@@ -66,18 +55,7 @@ fn run_at<N: Home, R: Threads + Wait + Sync, C: Clock, H: Hosts, P: Pace, L: Lis
     requires ready { IsReady worker.old.collection.now worker.old }
     ensures ready { IsReady worker.old.collection.now worker.new }
     ensures worked { HasWorked
-        (record {
-          gives = C.gives;
-          outside = λ hosts pace. outside_of (H.started hosts) (H.start_faults hosts) (H.stop_faults hosts) (P.stops pace) (H.reached hosts);
-          coming = L.coming;
-          taken = L.taken;
-          faults = L.faults;
-          out = L.out;
-          rest = L.S.rest;
-          read_faults = L.S.faults;
-          written = L.W.written;
-          write_faults = L.W.faults;
-        })
+        (reports_of C.Clock H.Hosts P.Pace L.Listener L.S.Source L.W.Sink)
         worker.old worker.new }
 {
     let passes = worker.passes.take().unwrap();

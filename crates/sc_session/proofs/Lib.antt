@@ -5,8 +5,10 @@ pub mod ReadLemmas
 pub mod UpdateLemmas
 pub mod CommandLemmas
 pub mod StatusLemmas
+pub mod SeesLemmas
 pub mod OpenLemmas
 pub mod ServeLemmas
+pub mod PassingLemmas
 pub mod EndLemmas
 pub mod WorkLemmas
 pub mod MessageEndLemmas

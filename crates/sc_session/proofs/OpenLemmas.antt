@@ -1,6 +1,7 @@
 -- A connection from one request to the next.
 use Rattle.std.proofs.Common.{◌≡◌, ℕ, Bool, true, false, List, [], ◌∷◌, ◌++◌, length, Option, Some, None, refl, sym, ap, ◌∙◌, subst, arith, append_assoc, length-append}
 use Rattle.std.specs.Prelude.{map, IfSome, IsSome}
+use Rattle.std.proofs.ByRecursion.{All-append, All-weaker}
 use Rattle.std.proofs.lemmas.List.{append-nil}
 use Rattle.std.proofs.lemmas.Grind.{flat_map-append}
 use Rattle.sc_model.specs.declared.message.Incoming.{Incoming}
@@ -13,27 +14,30 @@ use Rattle.sc_seen.specs.declared.stop.Stop.{Stop}
 use Rattle.sc_collection.specs.Kept.{Kept, are_enough}
 use Rattle.sc_session.specs.declared.end.End.{End}
 use Rattle.sc_session.specs.Commands.{Situation, situation, Leaves}
-use Rattle.sc_session.specs.Connection.{Exchange, IsExchange, AreExchanges, LeaveRest, situation_after, StaysOpen, stops_of, timestamps_of, texts_of, end_after, end_at}
+use Rattle.sc_session.specs.Connection.{Exchange, kept, IsExchange, IsKept, AreExchanges, LeaveRest, situation_after, situation_passed, StaysOpen, stops_of, timestamps_of, texts_of, end_after, end_at}
 use Rattle.sc_session.specs.States.{ConnectionState, world_of, situation_in}
 use Rattle.sc_session.specs.Served.{LeavesTraces}
 use Rattle.sc_session.specs.Serving.{Exchanges, Writes, end_by}
 use Rattle.sc_seen.proofs.ExtendsLemmas.{Extends-none, Extends-then}
+use Rattle.sc_gate.specs.Gates.{Gated, StillKeeps}
+use Rattle.sc_gate.proofs.GateLemmas.{SeesOnly-extends, StillKeeps-self, StillKeeps-then, KeepsStops-on, KeepsCommits-on, KeepsAll-on}
 
 -- what stands beside a connection, by its parts
-abbrev pub beside : {C : Type 0} → Seen → C → Outside → Kept → (unread written : Option (List ℕ)) → (read_faults write_faults : ℕ) → ConnectionState C
-beside seen clock outside kept unread written read_faults write_faults = record {
-  moment = moment_of seen kept.stops clock;
+abbrev pub beside : {C : Type 0} → Seen → C → Outside → Kept → (unread written : Option (List ℕ)) → (read_faults write_faults : ℕ) → Gated → ConnectionState C
+beside seen clock outside trail unread written read_faults write_faults gate = record {
+  moment = moment_of seen trail.stops clock;
   outside = outside;
-  requests = kept.requests;
+  requests = trail.requests;
   unread = unread;
   written = written;
   read_faults = read_faults;
   write_faults = write_faults;
+  gate = gate;
 }
 
 -- what stands beside a connection, but for its source
 abbrev pub without_source : {C : Type 0} → ConnectionState C → ConnectionState C
-without_source state = record { moment = state.moment; outside = state.outside; requests = state.requests; unread = None; written = state.written; read_faults = 0; write_faults = state.write_faults }
+without_source state = record { moment = state.moment; outside = state.outside; requests = state.requests; unread = None; written = state.written; read_faults = 0; write_faults = state.write_faults; gate = state.gate }
 
 -- A connection that is open since one moment: its requests so far were read, answered and written, and `held` is what its
 -- reader has of the bytes that come next.
@@ -46,6 +50,7 @@ pub record IsOpen {C : Type 0} (gives : C → ℕ → C → Type 0) (layout : La
   pub wrote : Writes (texts_of exchanges) before.written now.written
   pub read_faults : now.read_faults ≡ before.read_faults
   pub write_faults : now.write_faults ≡ before.write_faults
+  pub log_faults : now.gate.faults ≡ before.gate.faults
 
 written_none : (old : Option (List ℕ)) → Writes [] old old
 written_none None = tt
@@ -65,12 +70,23 @@ pub open_first : {C : Type 0} (gives : C → ℕ → C → Type 0) (layout : Lay
 open_first gives layout now stops requests = record {
   exchanges = [];
   stays_open = none_between;
-  traces = record { each = refl; rest = refl; journals = Extends-none layout now.moment.view.seen; stops = stops; requests = requests; timestamps = refl };
+  traces = record {
+    each = refl;
+    rest = refl;
+    journals = Extends-none layout now.moment.view.seen;
+    stops = stops;
+    requests = requests;
+    timestamps = refl;
+    keeps = tt;
+    stays = StillKeeps-self now.gate;
+    alone = λ none. tt;
+  };
   more = ap (λ n. are_enough n (length now.moment.view.stops)) requests ∙ ap (λ (ss : List Stop). are_enough 0 (length ss)) stops;
   read = read_none now.unread;
   wrote = written_none now.written;
   read_faults = refl;
   write_faults = refl;
+  log_faults = refl;
 }
 
 -- one request more was read
@@ -102,19 +118,24 @@ timestamps_of-push exchanges x = flat_map-append (λ (y : Exchange). y.trace.tim
 
 -- one exchange more, after those that led to what was seen
 push : (layout : Layout) (old : Seen) (exchanges : List Exchange) (between : Seen) (x : Exchange) (new : Seen) → AreExchanges layout old exchanges between
-    → IsExchange layout between x → x.seen ≡ new → AreExchanges layout old (exchanges ++ x ∷ []) new
+    → IsExchange layout between x → x.passed ≡ new → AreExchanges layout old (exchanges ++ x ∷ []) new
 push layout old [] between x new are is same = (subst (λ (seen : Seen). IsExchange layout seen x) are is, sym same)
-push layout old (y ∷ exchanges) between x new are is same = (are.0, push layout y.seen exchanges between x new are.1 is same)
+push layout old (y ∷ exchanges) between x new are is same = (are.0, push layout y.passed exchanges between x new are.1 is same)
 
 -- what one more left, after what those left
 push_rest : (layout : Layout) (old : Situation) (exchanges : List Exchange) (between : Situation) (x : Exchange) (new : Situation) → LeaveRest layout old exchanges between
-    → Leaves layout x.trace.answers x.trace.stops x.trace.command between new → situation_after x ≡ new → LeaveRest layout old (exchanges ++ x ∷ []) new
-push_rest layout old [] between x new are leaves same = (
-  subst (λ (now : Situation). Leaves layout x.trace.answers x.trace.stops x.trace.command now (situation_after x)) are
-      (subst (λ (now : Situation). Leaves layout x.trace.answers x.trace.stops x.trace.command between now) (sym same) leaves),
-  sym same,
-)
-push_rest layout old (y ∷ exchanges) between x new are leaves same = (are.0, push_rest layout (situation_after y) exchanges between x new are.1 leaves same)
+    → Leaves layout x.trace.answers x.trace.stops x.trace.command between (situation_after x) → situation_passed x ≡ new → LeaveRest layout old (exchanges ++ x ∷ []) new
+push_rest layout old [] between x new are leaves same =
+    (subst (λ (now : Situation). Leaves layout x.trace.answers x.trace.stops x.trace.command now (situation_after x)) are leaves, sym same)
+push_rest layout old (y ∷ exchanges) between x new are leaves same = (are.0, push_rest layout (situation_passed y) exchanges between x new are.1 leaves same)
+
+-- what a gate keeps of a request it goes on to keep
+kept_on : (layout : Layout) (seen : Seen) (old new : Gated) (stops : List Stop) → StillKeeps old new → IsKept layout seen old stops → IsKept layout seen new stops
+kept_on layout seen old new stops still is = record {
+  entries = KeepsStops-on layout seen old new stops still is.entries;
+  commits = KeepsCommits-on layout seen old new stops still is.commits;
+  all = λ stop there noted. KeepsAll-on layout seen old new still (is.all stop there noted);
+}
 
 -- what was read up to a request that came
 abbrev pub HasRead : (before then : Option (List ℕ)) → List Exchange → Incoming → List ℕ → Type 0
@@ -126,16 +147,19 @@ module _ {C : Type 0} (gives : C → ℕ → C → Type 0) (layout : Layout) (be
     (open_ : IsOpen gives layout before now held)
     (step : Exchanges gives layout request (without_source now) (without_source then) end) where
   extends : Extends layout now.moment.view.seen then.moment.view.seen step.exchange.trace.stops
-  extends = subst (λ (seen : Seen). Extends layout now.moment.view.seen seen step.exchange.trace.stops) step.seen_is step.is.extends
+  extends = subst (λ (seen : Seen). Extends layout now.moment.view.seen seen step.exchange.trace.stops) step.passed_is
+      (subst (λ (ss : List Stop). Extends layout now.moment.view.seen step.exchange.passed ss) (append-nil step.exchange.trace.stops)
+      (Extends-then layout now.moment.view.seen step.exchange.seen step.exchange.passed step.exchange.trace.stops [] step.is.extends
+      (SeesOnly-extends layout step.exchange.seen step.exchange.passed step.is.met)))
 
   -- what stands once it is over
-  stands : situation_after step.exchange ≡ situation_in (world_of then)
-  stands = ap (λ (seen : Seen). situation seen step.exchange.outside) step.seen_is ∙ ap (situation then.moment.view.seen) step.outside_is
+  stands : situation_passed step.exchange ≡ situation_in (world_of then)
+  stands = ap (λ (seen : Seen). situation seen step.exchange.outside) step.passed_is ∙ ap (situation then.moment.view.seen) step.outside_is
 
   -- what it leaves, after those before it
   pub traces_after : LeavesTraces gives layout before then (open_.exchanges ++ step.exchange ∷ [])
   traces_after = record {
-    each = push layout before.moment.view.seen open_.exchanges now.moment.view.seen step.exchange then.moment.view.seen open_.traces.each step.is step.seen_is;
+    each = push layout before.moment.view.seen open_.exchanges now.moment.view.seen step.exchange then.moment.view.seen open_.traces.each step.is step.passed_is;
     rest = push_rest layout (situation_in (world_of before)) open_.exchanges (situation_in (world_of now)) step.exchange (situation_in (world_of then)) open_.traces.rest step.leaves stands;
     journals = subst (Extends layout before.moment.view.seen then.moment.view.seen) (sym (stops_of-push open_.exchanges step.exchange))
         (Extends-then layout before.moment.view.seen now.moment.view.seen then.moment.view.seen (stops_of open_.exchanges) step.exchange.trace.stops open_.traces.journals extends);
@@ -143,13 +167,21 @@ module _ {C : Type 0} (gives : C → ℕ → C → Type 0) (layout : Layout) (be
     requests = omega (arith, length-append open_.exchanges (step.exchange ∷ []), step.requests, open_.traces.requests);
     timestamps = subst (λ (ms : List ℕ). GivesTimestamps gives before.moment.clock ms then.moment.clock) (sym (timestamps_of-push open_.exchanges step.exchange))
         (timestamps-append gives before.moment.clock now.moment.clock then.moment.clock (timestamps_of open_.exchanges) step.exchange.trace.timestamps open_.traces.timestamps step.timestamps);
+    keeps = All-append (λ (x : Exchange). x.gate ≡ kept → IsKept layout x.seen then.gate x.trace.stops) open_.exchanges (step.exchange ∷ [])
+        (All-weaker (λ (x : Exchange). x.gate ≡ kept → IsKept layout x.seen now.gate x.trace.stops)
+        (λ (x : Exchange). x.gate ≡ kept → IsKept layout x.seen then.gate x.trace.stops)
+        (λ x here is. kept_on layout x.seen now.gate then.gate x.trace.stops step.passes.stays (here is)) open_.exchanges open_.traces.keeps)
+        (step.passes.kept_is, tt);
+    stays = StillKeeps-then before.gate now.gate then.gate open_.traces.stays step.passes.stays;
+    alone = λ none. All-append (λ (x : Exchange). x.passed ≡ x.seen) open_.exchanges (step.exchange ∷ []) (open_.traces.alone none)
+        (step.passes.alone (open_.traces.stays.meets ∙ none), tt);
   }
 
   -- how the connection ends after it, by the exchanges and by what stands beside it
   pub end_same : end_by step.exchange (without_source then) ≡ end_at open_.exchanges step.exchange
   end_same =
-      ap (λ n. end_after step.exchange.answer step.exchange.request.close (are_enough n (length then.moment.view.stops))) traces_after.requests
-      ∙ ap (λ (ss : List Stop). end_after step.exchange.answer step.exchange.request.close (are_enough (length (open_.exchanges ++ step.exchange ∷ [])) (length ss))) traces_after.stops
+      ap (λ n. end_after step.exchange.answer step.exchange.gate step.exchange.request.close (are_enough n (length then.moment.view.stops))) traces_after.requests
+      ∙ ap (λ (ss : List Stop). end_after step.exchange.answer step.exchange.gate step.exchange.request.close (are_enough (length (open_.exchanges ++ step.exchange ∷ [])) (length ss))) traces_after.stops
 
   -- what was read, with this request
   pub read_after : (IsSome now.unread → IsSome then.unread) → IfSome now.unread (λ bytes. IfSome then.unread (λ more. ReadsMessage (held ++ bytes) request (next ++ more)))

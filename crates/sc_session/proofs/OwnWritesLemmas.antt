@@ -27,27 +27,23 @@ use Rattle.sc_journal.proofs.JournalLemmas.{is_of_from_id, writes_of-append, wri
 use Rattle.sc_journal.proofs.LegalLemmas.{IsLegal-prefix}
 use Rattle.sc_journal.proofs.VersionLemmas.{legal_newest}
 use Rattle.sc_seen.proofs.ExtendsLemmas.{IsPrefix-length, entries-grow, entries-bucket}
-use Rattle.sc_seen.proofs.GoesOnLemmas.{SeesMore-self, SeesMore-then, SeesMore-by}
+use Rattle.sc_seen.proofs.GoesOnLemmas.{SeesMore-self, SeesMore-then}
+use Rattle.sc_gate.proofs.GateLemmas.{SeesOnly-more}
 use Rattle.sc_admin.specs.Commands.{split, status, delete}
 use Rattle.sc_session.specs.Requests.{Asked, asked, refused, update, get, get_ids, select, command}
 use Rattle.sc_session.specs.Answers.{Answer, replied, ran_out, Trace, IsAnswer, EndsBatch, read_trace}
 use Rattle.sc_session.specs.Connection.{Exchange, IsExchange, AreExchanges}
 use Rattle.sc_session.specs.Laws.{AcceptsOrderFor, IsLastSince}
-
--- what was seen before exchanges is seen after them
-sees_more : (layout : Layout) (old : Seen) (exchanges : List Exchange) (new : Seen) → AreExchanges layout old exchanges new → SeesMore old new
-sees_more layout old [] new are = subst (SeesMore old) (sym are) (SeesMore-self old)
-sees_more layout old (x ∷ exchanges) new are =
-    SeesMore-then old x.seen new (SeesMore-by layout old x.seen x.trace.stops are.0.extends) (sees_more layout x.seen exchanges new are.1)
+use Rattle.sc_session.proofs.SeesLemmas.{exchange_sees, sees_on}
 
 -- one of several exchanges comes after what was seen after those before it
 one_of : (layout : Layout) (old : Seen) (before : List Exchange) (x : Exchange) (after : List Exchange) (new : Seen)
     → AreExchanges layout old (before ++ x ∷ after) new
-    → (seen : Seen) × SeesMore old seen × IsExchange layout seen x × AreExchanges layout x.seen after new
+    → (seen : Seen) × SeesMore old seen × IsExchange layout seen x × AreExchanges layout x.passed after new
 one_of layout old [] x after new are = (old, SeesMore-self old, are.0, are.1)
 one_of layout old (y ∷ before) x after new are =
-    let rest = one_of layout y.seen before x after new are.1 in
-    (rest.0, SeesMore-then old y.seen rest.0 (SeesMore-by layout old y.seen y.trace.stops are.0.extends) rest.1, rest.2, rest.3)
+    let rest = one_of layout y.passed before x after new are.1 in
+    (rest.0, SeesMore-then old y.passed rest.0 (exchange_sees layout old y are.0) rest.1, rest.2, rest.3)
 
 -- a trace without answers to orders has none
 no_order : (trace : Trace) (one : OrderAnswer) → trace.answers ≡ [] → Contains trace.answers one → ⊥
@@ -281,12 +277,12 @@ pub reads_after : (layout : Layout) (old new : Seen) (exchanges before between a
 reads_after layout old new exchanges before between after writing reading id version some_bucket are is accepts =
     let one = one_of layout old before writing (between ++ reading ∷ after) new
     (subst (λ (xs : List Exchange). AreExchanges layout old xs new) (is ∙ append_assoc before (writing ∷ between) (reading ∷ after)) are) in
-    let two = one_of layout writing.seen between reading after new one.3 in
+    let two = one_of layout writing.passed between reading after new one.3 in
     record {
       between = two.0;
       made = exchange_made layout id some_bucket one.0 new writing version one.2 accepts
-          (sees_more layout writing.seen (between ++ reading ∷ after) new one.3);
-      grows = two.1;
+          (sees_on layout one.0 writing (between ++ reading ∷ after) new one.2 one.3);
+      grows = SeesMore-then writing.seen writing.passed two.0 (SeesOnly-more writing.seen writing.passed one.2.met) two.1;
       is = two.2;
-      more = sees_more layout reading.seen after new two.3;
+      more = sees_on layout two.0 reading after new two.2 two.3;
     }

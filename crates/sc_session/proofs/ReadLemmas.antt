@@ -18,7 +18,8 @@ use Rattle.sc_seen.specs.Seen.{Layout, Seen, SeesMore, journal_at}
 use Rattle.sc_seen.specs.Batches.{ack_made, ack_written}
 use Rattle.sc_seen.specs.declared.stop.Stop.{Stop}
 use Rattle.sc_get.specs.Got.{IsGot, AreGot, ReadsEach, live, live_at, live_writes}
-use Rattle.sc_fanout.specs.Searches.{Search, SearchPage, SearchesBuckets, LooksAtBuckets, ShowsFound, search_of, page_of}
+use Rattle.sc_collection.specs.Looks.{LooksAtBuckets}
+use Rattle.sc_fanout.specs.Searches.{Search, SearchPage, SearchesBuckets, ShowsFound, search_of, page_of}
 use Rattle.sc_fanout.specs.declared.ask.Ask.{Ask}
 use Rattle.sc_fanout.specs.declared.shown.Page.{Page}
 use Rattle.sc_session.specs.Queries.{HaveCriterion, IsRouteOf}

@@ -18,7 +18,7 @@ use Rattle.sc_cores.specs.Cores.{Outside}
 use Rattle.sc_seen.specs.Moments.{view_of}
 use Rattle.sc_seen.specs.Seen.{Layout, Seen, Extends, EndAtLast, SeesMore, FromNowOn, IsStopWithin, ComeInOrder, place_after, journal_at, stops_at, entries_at}
 use Rattle.sc_seen.specs.declared.stop.Stop.{Stop}
-use Rattle.sc_seen.proofs.GoesOnLemmas.{SeesMore-self, SeesMore-then, SeesMore-by}
+use Rattle.sc_seen.proofs.GoesOnLemmas.{SeesMore-self}
 use Rattle.sc_split.specs.declared.end.SplitEnd.{SplitEnd}
 use Rattle.sc_split.specs.declared.end.SplitEnd.TheVariants as ends
 use Rattle.sc_split.specs.Splits.{SplitMoment, split_moment, Course, refused, given_up, done, split_stops, HasCause, IsAnswered, IsSplit}
@@ -26,11 +26,12 @@ use Rattle.sc_session.specs.Requests as requests
 use Rattle.sc_session.specs.Requests.{update, get, get_ids, select, command, asked}
 use Rattle.sc_session.specs.Answers.{Answer, replied, ran_out, Trace, IsAnswer, EndsSplit, read_trace}
 use Rattle.sc_session.specs.Commands.{CommandEnd, no_command, split_ended, delete_ended, ended_stops, Situation, moment_at, Leaves, LeavesSplit}
-use Rattle.sc_session.specs.Connection.{Exchange, situation_after, IsExchange, AreExchanges, LeaveRest, exchanges_of}
+use Rattle.sc_session.specs.Connection.{Exchange, situation_after, situation_passed, IsExchange, AreExchanges, LeaveRest, exchanges_of}
 use Rattle.sc_session.specs.States.{ConnectionState, world_of, situation_in}
 use Rattle.sc_session.specs.Served.{IsServed}
 use Rattle.sc_session.specs.declared.end.End.{End}
 use Rattle.sc_session.specs.SplitLaws.{ComesBetween, SwitchesBetween, ConnectionsSplit, LooksAreAround}
+use Rattle.sc_session.proofs.SeesLemmas.{sees_more, sees_on}
 use Rattle.sc_session.proofs.SplitPlaceLemmas.{done_splits_switch}
 
 -- the cause of an answer does not depend on the stops that were kept
@@ -158,12 +159,7 @@ record ComesIn (layout : Layout) (old : Situation) (earlier : List Exchange) (x 
   prior : AreExchanges layout old.seen earlier before.seen
   is : IsExchange layout before.seen x
   leaves : Leaves layout x.trace.answers x.trace.stops x.trace.command before (situation_after x)
-  later : AreExchanges layout x.seen further new
-
-sees_more : (layout : Layout) (old : Seen) (exchanges : List Exchange) (new : Seen) → AreExchanges layout old exchanges new → SeesMore old new
-sees_more layout old [] new are = subst (SeesMore old) (sym are) (SeesMore-self old)
-sees_more layout old (x ∷ exchanges) new are =
-    SeesMore-then old x.seen new (SeesMore-by layout old x.seen x.trace.stops are.0.extends) (sees_more layout x.seen exchanges new are.1)
+  later : AreExchanges layout x.passed further new
 
 comes_in : (layout : Layout) (old new : Situation) (earlier : List Exchange) (x : Exchange) (further : List Exchange)
     → AreExchanges layout old.seen (earlier ++ x ∷ further) new.seen → LeaveRest layout old (earlier ++ x ∷ further) new
@@ -171,7 +167,7 @@ comes_in : (layout : Layout) (old new : Situation) (earlier : List Exchange) (x 
 comes_in layout old new [] x further are rest =
     record { before = old; prior = refl; is = are.0; leaves = rest.0; later = are.1 }
 comes_in layout old new (y ∷ earlier) x further are rest =
-    let one = comes_in layout (situation_after y) new earlier x further are.1 rest.1 in
+    let one = comes_in layout (situation_passed y) new earlier x further are.1 rest.1 in
     record { before = one.before; prior = (are.0, one.prior); is = one.is; leaves = one.leaves; later = one.later }
 
 -- of exchanges one after another, what was seen before one of them, and before and after it the others
@@ -179,13 +175,13 @@ record Parts (layout : Layout) (old : Seen) (earlier : List Exchange) (x : Excha
   before : Seen
   prior : AreExchanges layout old earlier before
   is : IsExchange layout before x
-  later : AreExchanges layout x.seen further new
+  later : AreExchanges layout x.passed further new
 
 parts : (layout : Layout) (old : Seen) (earlier : List Exchange) (x : Exchange) (further : List Exchange) (new : Seen)
     → AreExchanges layout old (earlier ++ x ∷ further) new → Parts layout old earlier x further new
 parts layout old [] x further new are = record { before = old; prior = refl; is = are.0; later = are.1 }
 parts layout old (y ∷ earlier) x further new are =
-    let rest = parts layout y.seen earlier x further new are.1 in
+    let rest = parts layout y.passed earlier x further new are.1 in
     record { before = rest.before; prior = (are.0, rest.prior); is = rest.is; later = rest.later }
 
 module _ {C : Type 0} (gives : C → ℕ → C → Type 0) (layout : Layout) (before after : ConnectionState C) (end : End)
@@ -207,7 +203,7 @@ connections_split gives layout before after end earlier further x wanted first c
       before = one.before;
       grows = sees_more layout before.moment.view.seen earlier one.before.seen one.prior;
       split = comes_split gives layout before after end earlier further x wanted first course split_end served is came;
-      stays = sees_more layout x.seen further after.moment.view.seen one.later;
+      stays = sees_on layout one.before.seen x further after.moment.view.seen one.is one.later;
     }
 
 -- ---- looks before and after
@@ -273,8 +269,8 @@ looks_are_around gives layout before after end earlier between further rest read
     reads : Parts layout before.moment.view.seen earlier reading between one_split.before.seen
     reads = parts layout before.moment.view.seen earlier reading between one_split.before.seen one_split.prior
 
-    reads_again : Parts layout x.seen further again rest after.moment.view.seen
-    reads_again = parts layout x.seen further again rest after.moment.view.seen one_split.later
+    reads_again : Parts layout x.passed further again rest after.moment.view.seen
+    reads_again = parts layout x.passed further again rest after.moment.view.seen one_split.later
 
     around : (one two : Stop) → Contains reading.trace.stops one → Contains again.trace.stops two → two.lock ≡ one.lock
         → one.lock < layout.buckets
@@ -283,7 +279,7 @@ looks_are_around gives layout before after end earlier between further rest read
         subst (λ (lock : ℕ). ComesBetween switches.0 (take one.place (after.moment.view.seen.journals one.lock)) (take two.place (after.moment.view.seen.journals lock)))
         (sym at_lock)
         (its.between (after.moment.view.seen.journals one.lock)
-        ((sees_more layout x.seen (further ++ again ∷ rest) after.moment.view.seen one_split.later).journals one.lock) one.place two.place
+        ((sees_on layout one_split.before.seen x (further ++ again ∷ rest) after.moment.view.seen one_split.is one_split.later).journals one.lock) one.place two.place
         (omega (arith, its.not_seen, seen_before, look_within layout reads.before reading one reads.is looked below))
         (omega (arith, within, seen_again, after_it)))
       where
@@ -295,11 +291,11 @@ looks_are_around gives layout before after end earlier between further rest read
 
         seen_before : length (reading.seen.journals one.lock) ≤ length (one_split.before.seen.journals one.lock)
         seen_before = IsPrefix-length (reading.seen.journals one.lock) (one_split.before.seen.journals one.lock)
-            ((sees_more layout reading.seen between one_split.before.seen reads.later).journals one.lock)
+            ((sees_on layout reads.before reading between one_split.before.seen reads.is reads.later).journals one.lock)
 
         seen_again : length (x.seen.journals one.lock) ≤ length (reads_again.before.journals one.lock)
         seen_again = IsPrefix-length (x.seen.journals one.lock) (reads_again.before.journals one.lock)
-            ((sees_more layout x.seen further reads_again.before reads_again.prior).journals one.lock)
+            ((sees_on layout one_split.before.seen x further reads_again.before one_split.is reads_again.prior).journals one.lock)
 
         after_it : length (reads_again.before.journals one.lock) ≤ two.place
         after_it = subst (λ (lock : ℕ). length (reads_again.before.journals lock) ≤ two.place) at_lock

@@ -8,6 +8,7 @@ use Rattle.sc_seen.specs.Seen.{Layout, Seen, Extends}
 use Rattle.sc_seen.specs.declared.stop.Stop.{Stop}
 use Rattle.sc_seen.proofs.ExtendsLemmas.{Extends-none, Extends-then}
 use Rattle.sc_collection.specs.Kept.{Kept}
+use Rattle.sc_gate.specs.Gates.{Gated}
 use Rattle.sc_session.specs.Listening.{GivesFirst, nothing_kept}
 use Rattle.sc_session.specs.Served.{IsServed}
 use Rattle.sc_session.specs.States.{CountsFault}
@@ -18,9 +19,9 @@ use Rattle.sc_session.specs.declared.worker.WorkEnd.{WorkEnd}
 use Rattle.sc_session.specs.declared.worker.WorkEnd.TheVariants as ends
 
 -- what stands beside a worker, by these
-abbrev pub work_state : {C S W : Type 0} → Seen → C → Outside → Option (List (Link S W)) → Option (List (Taken S W)) → (faults out : ℕ) → WorkState C S W
-work_state seen clock outside coming taken faults out = record {
-  around = record { seen = seen; clock = clock; outside = outside };
+abbrev pub work_state : {C S W : Type 0} → Seen → C → Outside → Gated → Option (List (Link S W)) → Option (List (Taken S W)) → (faults out : ℕ) → WorkState C S W
+work_state seen clock outside gate coming taken faults out = record {
+  around = record { seen = seen; clock = clock; outside = outside; gate = gate };
   coming = coming;
   taken = taken;
   faults = faults;

@@ -28,7 +28,8 @@ use Rattle.sc_seen.specs.Commits.{committed_now, commit_full, commit_out_of_memo
 use Rattle.sc_update.specs.Updated as updates
 use Rattle.sc_update.specs.Updated.{UpdateEnd, finished, Ends}
 use Rattle.sc_get.specs.Got.{live, ReadsEach, live_writes}
-use Rattle.sc_fanout.specs.Searches.{Search, SearchPage, LooksAtBuckets, ShowsFound}
+use Rattle.sc_collection.specs.Looks.{LooksAtBuckets}
+use Rattle.sc_fanout.specs.Searches.{Search, SearchPage, ShowsFound}
 use Rattle.sc_session.specs.Queries.{HaveCriterion, HaveFault, IsRouteOf}
 use Rattle.sc_session.specs.Requests.{Asked, Select, refused, update, get, get_ids, select, command}
 use Rattle.sc_session.specs.Commands.{CommandEnd, no_command, split_ended, delete_ended, split_refusal, delete_refusal}
@@ -81,11 +82,6 @@ pub data Answer : Type 0 where
   replied : Reply → Answer
   -- memory ran out
   ran_out : Answer
-
--- the reply that is written
-abbrev pub written_reply : Answer → Reply
-written_reply (replied reply) = reply
-written_reply ran_out = memory_reply
 
 -- the answer to an update that was refused for this reason, where there is one; else memory ran out
 abbrev pub refusal_answer : Bool → List OrderAnswer → Option refusals.Refusal → Answer

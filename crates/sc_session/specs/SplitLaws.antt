@@ -24,7 +24,8 @@ use Rattle.sc_seen.specs.Seen.{Layout, Seen, SeesMore, journal_at}
 use Rattle.sc_seen.specs.Moments.{view_of}
 use Rattle.sc_seen.specs.Commits.{CommitAnswer}
 use Rattle.sc_seen.specs.declared.stop.Stop.{Stop}
-use Rattle.sc_fanout.specs.Searches.{IsFoundIn, IsFoundAtOne, LooksAtBuckets, Search, SearchPage, ShowsFound}
+use Rattle.sc_collection.specs.Looks.{LooksAtBuckets}
+use Rattle.sc_fanout.specs.Searches.{IsFoundIn, IsFoundAtOne, Search, SearchPage, ShowsFound}
 use Rattle.sc_board.specs.Splits.{AskedSplit}
 use Rattle.sc_collection.specs.declared.commits.Commits.{Commits}
 use Rattle.sc_split.specs.declared.end.SplitEnd.{SplitEnd}

@@ -5,6 +5,7 @@ use Rattle.sc_cores.specs.Cores.{Outside}
 use Rattle.sc_seen.specs.Seen.{Layout, Seen, Extends}
 use Rattle.sc_seen.specs.Moments.{moment_of}
 use Rattle.sc_seen.specs.declared.stop.Stop.{Stop}
+use Rattle.sc_gate.specs.Gates.{Gated}
 use Rattle.sc_session.specs.Listening.{nothing_kept}
 use Rattle.sc_session.specs.Served.{IsServed}
 use Rattle.sc_session.specs.States.{ConnectionState, CountsFault}
@@ -23,11 +24,12 @@ pub record LinkSetting (S W : Type 0) : Type 0 where
   pub written : W → Option (List ℕ)
   pub write_faults : W → ℕ
 
--- what stands beside a link: what was seen of the collection, the clock, and what is outside of the collection
+-- what stands beside a link: what was seen of the collection, the clock, what is outside of the collection, and what the gate keeps
 pub record Surroundings (C : Type 0) : Type 0 where
   pub seen : Seen
   pub clock : C
   pub outside : Outside
+  pub gate : Gated
 
 -- what stands beside the connection over a link, by what its trail has kept
 abbrev pub over_link : {C S W : Type 0} → LinkSetting S W → Surroundings C → Taken S W → ConnectionState C
@@ -39,6 +41,7 @@ over_link setting around one = record {
   written = setting.written one.link.sink;
   read_faults = setting.read_faults one.link.source;
   write_faults = setting.write_faults one.link.sink;
+  gate = around.gate;
 }
 
 -- a link that was served: as it was given, and as it was taken back with what its trail kept; how its connection ended; and what

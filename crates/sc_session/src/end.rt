@@ -19,4 +19,7 @@ pub enum End {
     WriteFault,
     /// Memory ran out; a 503 was written.
     Memory,
+    /// What a request made could not be kept, and its gate has counted that; a 500 was written. It stands in the journals, and may be
+    /// kept later.
+    LogFault,
 }

@@ -12,6 +12,13 @@ pub(crate) fn bad_head_body() -> &'static str
     r#"{"error":{"code":400,"msg":"bad request"},"responseHeader":{"QTime":0,"status":400}}"#
 }
 
+/// The body of a refusal with 500: what the request made could not be kept.
+pub(crate) fn log_failed_body() -> &'static str
+    ensures { result.now ≡ (refusal_reply refusals.log_failed).body }
+{
+    r#"{"error":{"code":500,"msg":"update log failed"},"responseHeader":{"QTime":0,"status":500}}"#
+}
+
 /// The body of a refusal with 413: a head or a body is too large.
 pub(crate) fn too_large_body() -> &'static str
     ensures { result.now ≡ (refusal_reply refusals.too_large).body }

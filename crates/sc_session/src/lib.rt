@@ -1,11 +1,15 @@
 //! One connection: its requests are read, each is answered over a desk, and the answers are written. And a worker, which serves the
 //! links that its listener gives one after another, each as one connection.
 //!
-//! It depends on the reader and the writer of `sc_http`, on the bodies that `sc_commands` reads and `sc_reply` prints, on the
-//! commands to the collection that `sc_admin` and `sc_split` carry out, and on any `Desk`: nothing here knows of cells or locks.
+//! It depends on the reader and the writer of `sc_http` and the requests of `sc_model`, on the bodies that `sc_commands` reads and `sc_reply`
+//! prints, on the calls of `sc_update`, `sc_get` and `sc_fanout`, on queries as `sc_query` reads them and `sc_eval` binds them to the fields of
+//! `sc_schema`, on routes (`sc_router`, `sc_hash`), on the commands to the collection that `sc_admin` and `sc_split` carry out, on the ids,
+//! texts and documents of `sc_record`, on any `Desk` (`sc_collection`), on any `Gate` (`sc_gate`), and on any `Clock`, `Hosts`, `Pace`,
+//! `Source` and `Sink` (`sc_io`): nothing here knows of a bucket's cores, of locks or of files.
 //! The layer above uses the clause `connection` of `serve`: every answer is that of the journals at the stops that the trail
 //! keeps, all else is as what each request came to left it, and the bytes written are the texts of the answers to the requests
 //! that the bytes read are. The clause `worked` of `work` says so of each link, and that the listener has it back with its stops.
+//! `serve_with` and `work_with` say the same over a gate, and what that keeps once an exchange is over whose gate was passed (`IsKept`).
 //!
 //! Proved: `serve`: the promise over any desk (`IsServed`), with the cause of each read and write fault, both ways; each
 //! request's meaning (`asked`) and each reply's text. Laws `gets_show_own_writes`, `gets_of_ids_show_own_writes`: a get of one or
@@ -37,6 +41,7 @@ mod answer;
 mod command;
 mod connection;
 mod end;
+mod passing;
 
 // Many connections, one after another.
 mod listener;
@@ -47,7 +52,7 @@ mod worker;
 mod laws;
 mod split_laws;
 
-pub use connection::serve;
+pub use connection::{serve, serve_with};
 pub use end::End;
 pub use laws::{gets_of_ids_show_own_writes, gets_show_own_writes, limits_are_as_defined};
 pub use listener::{Link, Listener, MemListener, Taken};
@@ -56,4 +61,4 @@ pub use split_laws::{
     routes_follow_the_subs, searches_are_of_their_journals,
 };
 pub use station::{Crew, MemStation, Station};
-pub use worker::{WorkEnd, work};
+pub use worker::{WorkEnd, work, work_with};

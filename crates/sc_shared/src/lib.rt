@@ -5,12 +5,13 @@
 //! of `sc_collection`'s `Desk`, whatever the other threads do in between; so all that is proved over any desk holds of each thread. Its
 //! type names the collection that it is over (`Home`), so that a call over any desk gives it back over the same one.
 //!
-//! It depends on `sc_lock`, whose locks it makes, and on `sc_collection`, whose `Desk` it is. A bucket is kept with its number
-//! (`Numbered`), and its part is what its keeper alone changes (`sc_keeper`'s `Part`). The keepers of all buckets lie on the board while
-//! no split runs; so the board (`KeptBoard`) has a badge of each bucket's lock, by which it is known that they are its keepers. Beside it
-//! stands how many entries each journal had when the collection was opened, which no call changes. A keeper
-//! and a pass of one thread learn from each other what was seen (`sc_lock`'s `show` and `meet`), so that what a keeper finds extends what
-//! the thread has seen, and the other way round.
+//! It depends on `sc_lock`, whose locks it makes, and on `sc_collection`, whose `Desk` it is; on the buckets of `sc_bucket` and the board
+//! of `sc_board`, which stand behind its locks; on the map of `sc_cluster`, and on the entries of `sc_record`. A bucket is kept with its
+//! number (`Numbered`), and its part is what its keeper alone changes (`sc_keeper`'s `Part`). The keepers of all buckets lie on the board
+//! while no split runs; so the board (`KeptBoard`) has a badge of each bucket's lock, by which it is known that they are its keepers.
+//! Beside it stands how many entries each journal had when the collection was opened, which no call changes. A keeper and a pass of one
+//! thread learn from each other what was seen (`sc_lock`'s `show` and `meet`), so that what a keeper finds extends what the thread has
+//! seen, and the other way round.
 //!
 //! Who holds the board may wait for a bucket, and nobody who holds a bucket waits for the board or for another bucket.
 //!

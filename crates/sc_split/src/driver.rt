@@ -44,9 +44,10 @@ struct Progress {
 /// subs in its place, and commits every bucket (Solr Reference Guide, "Shard Management", SPLITSHARD).
 ///
 /// Each step of a bucket is one hold of it, and each of the board one hold of the board. The first of the board is a stop of the trail,
-/// and so is the commit of each bucket. The pace is asked between two steps, while nothing is held, and not after the first switch.
-/// Memory is asked for before that too. Once the split has begun on the board, whatever refuses it has it given up in each bucket in
-/// which it has begun, noted on the board, and each core stopped that was started; where stopping one fails the answer is the same.
+/// and so is the commit of each bucket. The pace is asked after each step that a `SplitStep` names, while nothing is held, and not after
+/// the first switch. Memory is asked for before that too. Once the split has begun on the board, whatever refuses it has it given up in
+/// each bucket in which it has begun, noted on the board, and each core stopped that was started; where stopping one fails the answer is
+/// the same.
 pub fn split<D: Desk, H: Hosts, P: Pace>(
     alloc: Global,
     desk: &mut D,

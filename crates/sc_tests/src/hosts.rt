@@ -43,7 +43,7 @@ fn shown(alloc: Global, hosts: &MemHosts) -> Result<String, AllocError> {
 // The nodes that weren't reached, one after another.
 fn unreached(alloc: Global, hosts: &MemHosts) -> Result<String, AllocError> {
     let mut text = String::new(alloc);
-    for node in &hosts.unreached {
+    for node in hosts.unreached.as_slice() {
         text.push_str(format!(in alloc; "{node};")?.as_str())?;
     }
     Ok(text)

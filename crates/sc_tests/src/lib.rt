@@ -20,6 +20,8 @@ mod demo;
 #[cfg(test)]
 mod hosts;
 #[cfg(test)]
+mod journals;
+#[cfg(test)]
 mod locks;
 #[cfg(test)]
 mod queries;
@@ -33,6 +35,8 @@ mod sharing;
 mod snapshots;
 #[cfg(test)]
 mod sockets;
+#[cfg(test)]
+mod spelling;
 #[cfg(test)]
 mod splits;
 #[cfg(test)]

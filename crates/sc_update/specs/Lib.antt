@@ -1,3 +1,4 @@
 -- What an update leaves.
 pub mod Updated
+pub mod Moments
 pub mod Steps

@@ -1,10 +1,11 @@
 ghost use Rattle.std.specs.Prelude.{◌≡◌, ◌+◌, ◌*◌, ◌≤◌, length, Some, None, Err, true, false};
 ghost use Rattle.sc_seen.specs.Batches.{deletes};
 ghost use Rattle.sc_bucket.specs.Events.{outcome_of};
-ghost use Rattle.sc_collection.specs.Desks.{IsDeskAtRest};
 ghost use Rattle.sc_collection.specs.Kept.{trail_room};
+ghost use Rattle.sc_collection.specs.Resting.{Rests, LeavesAtRest};
 ghost use Rattle.sc_record.specs.Orders.{order_limit};
-ghost use Rattle.sc_update.specs.Updated.{update_moment, IsUpdated, order_fault, commit_fault};
+ghost use Rattle.sc_update.specs.Updated.{IsUpdated, order_fault, commit_fault};
+ghost use Rattle.sc_update.specs.Moments.{KeepsCores, moment_at};
 ghost use Rattle.sc_collection.specs.Committing.{commit_outcome};
 ghost use Rattle.sc_update.specs.Steps.{AnswersAll, Takes, HasRoomToShowOne, ending};
 
@@ -40,18 +41,14 @@ pub fn update<D: Desk, C: Clock, H: Hosts>(
     trail: &mut Trail,
     batch: &Batch,
 ) -> BatchEnd
-    requires rest { IsDeskAtRest (D.layout desk.old) (D.out desk.old) (D.seen desk.old) }
+    requires rest { Rests D.Desk desk.old }
     requires orders { length batch.now.orders ≤ order_limit }
     requires room { length trail.old.stops + 2 * length batch.now.orders + (D.layout desk.old).buckets ≤ trail_room }
     ensures updated { IsUpdated C.gives (D.layout desk.old) batch.now
-        (update_moment (D.seen desk.old) trail.old.stops clock.old (H.reached hosts.old))
-        (update_moment (D.seen desk.new) trail.new.stops clock.new (H.reached hosts.new)) result }
-    ensures layout { D.layout desk.new ≡ D.layout desk.old }
-    ensures rest { IsDeskAtRest (D.layout desk.new) (D.out desk.new) (D.seen desk.new) }
-    ensures cores { H.started hosts.new ≡ H.started hosts.old }
-    ensures start_faults { H.start_faults hosts.new ≡ H.start_faults hosts.old }
-    ensures stop_faults { H.stop_faults hosts.new ≡ H.stop_faults hosts.old }
-    ensures requests { trail.new.requests ≡ trail.old.requests }
+        (moment_at D.Desk H.Hosts desk.old clock.old hosts.old trail.old)
+        (moment_at D.Desk H.Hosts desk.new clock.new hosts.new trail.new) result }
+    ensures leaves { LeavesAtRest D.Desk desk.old trail.old desk.new trail.new }
+    ensures cores { KeepsCores H.Hosts hosts.old hosts.new }
 {
     let mut end = take_orders(alloc, desk, clock, hosts, trail, batch);
     if batch.flags.commit && end.fault.is_none() {
@@ -80,19 +77,15 @@ fn take_orders<D: Desk, C: Clock, H: Hosts>(
     trail: &mut Trail,
     batch: &Batch,
 ) -> BatchEnd
-    requires rest { IsDeskAtRest (D.layout desk.old) (D.out desk.old) (D.seen desk.old) }
+    requires rest { Rests D.Desk desk.old }
     requires orders { length batch.now.orders ≤ order_limit }
     requires room { length trail.old.stops + 2 * length batch.now.orders ≤ trail_room }
     ensures answers { AnswersAll C.gives (D.layout desk.old) batch.now
-        (update_moment (D.seen desk.old) trail.old.stops clock.old (H.reached hosts.old))
-        (update_moment (D.seen desk.new) trail.new.stops clock.new (H.reached hosts.new)) result }
-    ensures layout { D.layout desk.new ≡ D.layout desk.old }
-    ensures rest { IsDeskAtRest (D.layout desk.new) (D.out desk.new) (D.seen desk.new) }
+        (moment_at D.Desk H.Hosts desk.old clock.old hosts.old trail.old)
+        (moment_at D.Desk H.Hosts desk.new clock.new hosts.new trail.new) result }
+    ensures leaves { LeavesAtRest D.Desk desk.old trail.old desk.new trail.new }
     ensures stops { length trail.new.stops ≤ length trail.old.stops + 2 * length batch.now.orders }
-    ensures cores { H.started hosts.new ≡ H.started hosts.old }
-    ensures start_faults { H.start_faults hosts.new ≡ H.start_faults hosts.old }
-    ensures stop_faults { H.stop_faults hosts.new ≡ H.stop_faults hosts.old }
-    ensures requests { trail.new.requests ≡ trail.old.requests }
+    ensures cores { KeepsCores H.Hosts hosts.old hosts.new }
 {
     let orders = batch.orders.as_slice();
     let mut shown = match Shown::with_room(alloc, orders, batch.flags.versions) {
@@ -128,19 +121,15 @@ fn take_order<D: Desk, C: Clock, H: Hosts>(
     order: &Order,
     flags: Flags,
 ) -> Option<AcceptFault>
-    requires rest { IsDeskAtRest (D.layout desk.old) (D.out desk.old) (D.seen desk.old) }
+    requires rest { Rests D.Desk desk.old }
     requires room { length trail.old.stops + 2 ≤ trail_room }
     requires shows { flags.versions ≡ true → HasRoomToShowOne (deletes order.now.change) shown.old }
     ensures takes { Takes C.gives (D.layout desk.old) flags order.now
-        (record { moment = update_moment (D.seen desk.old) trail.old.stops clock.old (H.reached hosts.old); shown = shown.old; ended = None })
-        (record { moment = update_moment (D.seen desk.new) trail.new.stops clock.new (H.reached hosts.new); shown = shown.new; ended = result }) }
-    ensures layout { D.layout desk.new ≡ D.layout desk.old }
-    ensures rest { IsDeskAtRest (D.layout desk.new) (D.out desk.new) (D.seen desk.new) }
+        (record { moment = moment_at D.Desk H.Hosts desk.old clock.old hosts.old trail.old; shown = shown.old; ended = None })
+        (record { moment = moment_at D.Desk H.Hosts desk.new clock.new hosts.new trail.new; shown = shown.new; ended = result }) }
+    ensures leaves { LeavesAtRest D.Desk desk.old trail.old desk.new trail.new }
     ensures stops { length trail.new.stops ≤ length trail.old.stops + 2 }
-    ensures cores { H.started hosts.new ≡ H.started hosts.old }
-    ensures start_faults { H.start_faults hosts.new ≡ H.start_faults hosts.old }
-    ensures stop_faults { H.stop_faults hosts.new ≡ H.stop_faults hosts.old }
-    ensures requests { trail.new.requests ≡ trail.old.requests }
+    ensures cores { KeepsCores H.Hosts hosts.old hosts.new }
 {
     let id = match shown_id(alloc, &order.id, flags.versions) {
         Ok(id) => id,

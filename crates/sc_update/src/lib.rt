@@ -1,9 +1,10 @@
 //! One update: its orders, carried out one after another over a desk, and the commit of each bucket after them where it is asked
 //! for (Solr Reference Guide, "Indexing with Update Handlers").
 //!
-//! It depends on the clauses of any `Desk`, on the commit of all its buckets (`sc_collection`'s `commit_all`), on any `Clock` and on any
-//! `Hosts`. The layers above use the clause `updated` of `update`: each order is answered as the journal of its bucket has it at the
-//! order's stop, and each commit as that of its bucket has it at the commit's; and of the cores that orders noted as down the nodes
+//! It depends on the clauses of any `Desk` and on the commit of all its buckets (`sc_collection`'s `commit_all`), on the events of
+//! `sc_bucket`, on the bucket of an id (`sc_router`), on any `Clock` and `Hosts` (`sc_io`), and on the batches of `sc_commands` and their
+//! orders (`sc_record`). The layers above use the clause `updated` of `update`: each order is answered as the journal of its bucket has it
+//! at the order's stop, and each commit as that of its bucket has it at the commit's; and of the cores that orders noted as down the nodes
 //! could not be reached. No node is asked, and no core noted.
 //!
 //! Proved: `update` over any desk: each order of a batch is answered as the journal of its bucket has it at the order's stops
@@ -13,7 +14,7 @@
 //!
 //! Tested alone: the worked batches; that the holds which deliver are no stops; a commit of two buckets.
 //!
-//! Neither: that each message of a write has a hold of its own, up to seven, holds by construction.
+//! Neither: that each message of a write has a hold of its own, up to seven, which holds by construction.
 #![tactic(auto)]
 
 // What an update came to.

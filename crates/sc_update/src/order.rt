@@ -1,12 +1,13 @@
 ghost use Rattle.std.specs.Prelude.{◌≡◌, ◌<◌, ◌+◌, ◌≤◌, [], ◌∷◌, IsSome, length};
 ghost use Rattle.sc_router.specs.Route.{bucket_of};
 ghost use Rattle.sc_journal.specs.Journal.{write_at};
-ghost use Rattle.sc_seen.specs.Moments.{view_of, Keeps};
+ghost use Rattle.sc_seen.specs.Moments.{Keeps};
 ghost use Rattle.sc_bucket.specs.Sound.{IsSound};
 ghost use Rattle.sc_bucket.specs.Events.{outcome_of};
 ghost use Rattle.sc_collection.specs.Kept.{trail_room};
-ghost use Rattle.sc_collection.specs.Desks.{nothing_out, IsDeskAtRest};
-ghost use Rattle.sc_update.specs.Updated.{update_moment};
+ghost use Rattle.sc_collection.specs.Desks.{nothing_out};
+ghost use Rattle.sc_collection.specs.Resting.{looked_at, LeavesAtRest};
+ghost use Rattle.sc_update.specs.Moments.{KeepsCores, moment_at};
 ghost use Rattle.sc_update.specs.Steps.{MakeNoEntry, Holds, HoldsWhereIdle, Tries, SettlesFirst, SettlesWhere, CarriesOut};
 
 use sc_bucket::{AcceptFault, Accepted, Bucket};
@@ -33,11 +34,9 @@ fn accept_at<D: Desk>(
     requires within { b < (D.layout desk.old).buckets }
     requires bucket { b ≡ bucket_of order.now.id (D.layout desk.old).buckets }
     requires room { length trail.old.stops < trail_room }
-    ensures keeps { Keeps (D.layout desk.old) (view_of (D.seen desk.old) trail.old.stops) (view_of (D.seen desk.new) trail.new.stops) (result.0 ∷ []) }
+    ensures keeps { Keeps (D.layout desk.old) (looked_at D.Desk desk.old trail.old) (looked_at D.Desk desk.new trail.new) (result.0 ∷ []) }
     ensures tried { Tries (D.layout desk.old) (D.seen desk.new) order.now now result.0 result.1 }
-    ensures layout { D.layout desk.new ≡ D.layout desk.old }
-    ensures rest { IsDeskAtRest (D.layout desk.new) (D.out desk.new) (D.seen desk.new) }
-    ensures requests { trail.new.requests ≡ trail.old.requests }
+    ensures leaves { LeavesAtRest D.Desk desk.old trail.old desk.new trail.new }
 {
     let mut bucket = desk.hold(b);
     let place = bucket.entries();
@@ -100,10 +99,8 @@ fn settle_at<D: Desk>(desk: &mut D, trail: &mut Trail, first: Stop)
     requires within { first.lock < (D.layout desk.old).buckets }
     requires written { IsSome (write_at ((D.seen desk.old).journals first.lock) first.place) }
     requires room { length trail.old.stops < trail_room }
-    ensures settles { SettlesFirst (D.layout desk.old) (view_of (D.seen desk.old) trail.old.stops) (view_of (D.seen desk.new) trail.new.stops) first }
-    ensures layout { D.layout desk.new ≡ D.layout desk.old }
-    ensures rest { IsDeskAtRest (D.layout desk.new) (D.out desk.new) (D.seen desk.new) }
-    ensures requests { trail.new.requests ≡ trail.old.requests }
+    ensures settles { SettlesFirst (D.layout desk.old) (looked_at D.Desk desk.old trail.old) (looked_at D.Desk desk.new trail.new) first }
+    ensures leaves { LeavesAtRest D.Desk desk.old trail.old desk.new trail.new }
 {
     let mut bucket = hold_delivered(desk, first.lock, first.place);
     let place = bucket.entries();
@@ -142,15 +139,11 @@ pub(crate) fn carry_out<D: Desk, C: Clock, H: Hosts>(
     requires nothing_out { D.out desk.old ≡ nothing_out }
     requires room { length trail.old.stops + 2 ≤ trail_room }
     ensures carried { CarriesOut C.gives (D.layout desk.old) order.now
-        (update_moment (D.seen desk.old) trail.old.stops clock.old (H.reached hosts.old))
-        (update_moment (D.seen desk.new) trail.new.stops clock.new (H.reached hosts.new)) (outcome_of result) }
-    ensures layout { D.layout desk.new ≡ D.layout desk.old }
-    ensures rest { IsDeskAtRest (D.layout desk.new) (D.out desk.new) (D.seen desk.new) }
+        (moment_at D.Desk H.Hosts desk.old clock.old hosts.old trail.old)
+        (moment_at D.Desk H.Hosts desk.new clock.new hosts.new trail.new) (outcome_of result) }
+    ensures leaves { LeavesAtRest D.Desk desk.old trail.old desk.new trail.new }
     ensures stops { length trail.new.stops ≤ length trail.old.stops + 2 }
-    ensures cores { H.started hosts.new ≡ H.started hosts.old }
-    ensures start_faults { H.start_faults hosts.new ≡ H.start_faults hosts.old }
-    ensures stop_faults { H.stop_faults hosts.new ≡ H.stop_faults hosts.old }
-    ensures requests { trail.new.requests ≡ trail.old.requests }
+    ensures cores { KeepsCores H.Hosts hosts.old hosts.new }
 {
     let now = clock.now();
     let buckets = desk.buckets();

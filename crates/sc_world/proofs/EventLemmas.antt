@@ -18,7 +18,11 @@ stays old new same = IsEvent.of_bucket (IsStep.stays same)
 -- nothing changed
 stays_itself : (old new : Bucket) → new ≡ old → IsEvent old new
 stays_itself old new same = stays old new (record {
-  name = record { first = ap (λ (b : Bucket). b.first) same; limit = ap (λ (b : Bucket). b.limit) same };
+  name = record {
+    first = ap (λ (b : Bucket). b.first) same;
+    limit = ap (λ (b : Bucket). b.limit) same;
+    filed = ap (λ (b : Bucket). b.journal.filed) same;
+  };
   split = record { phase = ap (λ (b : Bucket). b.phase) same; feeds = ap (λ (b : Bucket). b.feeds) same };
   map_is = ap (λ (b : Bucket). b.map) same;
   entries = ap (λ (b : Bucket). b.journal.entries) same;

@@ -21,7 +21,8 @@ use Rattle.sc_collection.proofs.RestLemmas.{SeesNothing}
 use Rattle.sc_split.specs.Splits.{Course, refused, given_up, done, noted_by}
 use Rattle.sc_admin.specs.Deletes as deletes
 use Rattle.sc_session.specs.Commands.{CommandEnd, no_command, split_ended, delete_ended, Situation, Leaves}
-use Rattle.sc_session.specs.Connection.{Exchange, AreExchanges, LeaveRest, situation_after, exchanges_of}
+use Rattle.sc_gate.specs.Gates.{SeesOnly}
+use Rattle.sc_session.specs.Connection.{Exchange, AreExchanges, LeaveRest, situation_after, situation_passed, exchanges_of}
 use Rattle.sc_session.specs.States.{ConnectionState, world_of, situation_in}
 use Rattle.sc_session.specs.Served.{IsServed}
 use Rattle.sc_session.specs.declared.end.End.{End}
@@ -76,6 +77,16 @@ seen_after layout old new stops extends within =
     All-weaker (λ (place : ℕ). place < length old.board) Early (λ place early. omega (arith, grown, early)) (old.own layout.buckets) within in
     subst (AllByRecursion Early) (sym extends.notes.own) (All-append Early (old.own layout.buckets) extends.notes.added old_within extends.notes.within)
 
+-- where nothing more is seen of the board, and no more is one's own, neither changes
+pub owned_passed : (layout : Layout) (old new : Seen) → SeesOnly old new → OwnsAll layout new → OwnsAll layout old
+owned_passed layout old new only owns =
+    sym (only.own layout.buckets) ∙ owns ∙ ap (λ (entries : List BoardEntry). range_with_len 0 (length entries)) only.board
+
+pub seen_passed : (layout : Layout) (old new : Seen) → SeesOnly old new → OwnsSeen layout old → OwnsSeen layout new
+seen_passed layout old new only within =
+    subst (λ (entries : List BoardEntry). AllByRecursion (λ (place : ℕ). place < length entries) (new.own layout.buckets)) (sym only.board)
+    (subst (AllByRecursion (λ (place : ℕ). place < length old.board)) (sym (only.own layout.buckets)) within)
+
 -- the same of exchanges
 pub owned_before_all : (layout : Layout) (old new : Seen) (exchanges : List Exchange) → AreExchanges layout old exchanges new
     → OwnsSeen layout old → OwnsAll layout new → OwnsAll layout old
@@ -83,7 +94,8 @@ owned_before_all layout old new [] each within owns = subst (OwnsAll layout) eac
 owned_before_all layout old new (x ∷ exchanges) each within owns =
     let within_x = seen_after layout old x.seen x.trace.stops each.0.extends within in
     owned_before layout old x.seen x.trace.stops each.0.extends within
-    (owned_before_all layout x.seen new exchanges each.1 within_x owns)
+    (owned_passed layout x.seen x.passed each.0.met
+    (owned_before_all layout x.passed new exchanges each.1 (seen_passed layout x.seen x.passed each.0.met within_x) owns))
 
 -- ---- what one request leaves on the board
 -- where a list has so many items more, and ends with them, it is the one before and they
@@ -176,10 +188,11 @@ over_after_all layout old new [] each rest within owns none = ap (λ (s : Situat
 over_after_all layout old new (x ∷ exchanges) each rest within owns none =
     let extends = each.0.extends in
     let within_x = seen_after layout old.seen x.seen x.trace.stops extends within in
-    let owned_x = owned_before_all layout x.seen new.seen exchanges each.1 within_x owns in
+    let within_passed = seen_passed layout x.seen x.passed each.0.met within_x in
+    let owned_x = owned_passed layout x.seen x.passed each.0.met (owned_before_all layout x.passed new.seen exchanges each.1 within_passed owns) in
     let owned = owned_before layout old.seen x.seen x.trace.stops extends within owned_x in
     let none_x = over_after_request layout x.trace.answers x.trace.stops x.trace.command old (situation_after x) rest.0 extends.board owned owned_x none in
-    over_after_all layout (situation_after x) new exchanges each.1 rest.1 within_x owns none_x
+    over_after_all layout (situation_passed x) new exchanges each.1 rest.1 within_passed owns (ap running_split each.0.met.board ∙ none_x)
 
 -- ---- a whole connection
 -- where nothing had happened, each of one's own entries was seen

@@ -25,6 +25,7 @@ with_clock state clock = record {
   written = state.written;
   read_faults = state.read_faults;
   write_faults = state.write_faults;
+  gate = state.gate;
 }
 
 -- what was served with a fixed clock was served with the clock of a script that names its timestamp
@@ -42,6 +43,9 @@ served_at gives timestamp layout before after clock end e s = record {
     stops = s.traces.stops;
     requests = s.traces.requests;
     timestamps = fixed_timestamps gives timestamp clock (timestamps_of (s.exchanges ++ exchanges_of s.last)) before.moment.clock after.moment.clock e s.traces.timestamps;
+    keeps = s.traces.keeps;
+    stays = s.traces.stays;
+    alone = s.traces.alone;
   };
   carries = record {
     requests = s.carries.requests;
@@ -49,6 +53,8 @@ served_at gives timestamp layout before after clock end e s = record {
     end_is = s.carries.end_is;
     read_faults = s.carries.read_faults;
     write_faults = s.carries.write_faults;
+    log_faults = s.carries.log_faults;
+    log_fault = s.carries.log_fault;
   };
   legal = s.legal;
 }

@@ -1,5 +1,5 @@
 -- Once a connection was served, the cores that are started are those of the board's map, where they were so before it.
-use Rattle.std.proofs.Common.{◌≡◌, inl, inr, ◌∙◌, ℕ, ◌≤◌, true, false, List, [], ◌∷◌, ◌++◌, take, Contains, sym, ap, subst, arith}
+use Rattle.std.proofs.Common.{◌≡◌, inl, inr, ◌∙◌, ℕ, ◌≤◌, true, false, List, [], ◌∷◌, ◌++◌, take, Contains, refl, sym, ap, subst, arith}
 use Rattle.std.specs.Prelude.{⊤}
 use Rattle.std.proofs.lemmas.List.{append-nil, append_cancel_right}
 use mathlib.Core.List.{IsPrefix}
@@ -28,12 +28,12 @@ use Rattle.sc_admin.specs.declared.deleting.DeleteEnd.TheVariants as ends
 use Rattle.sc_session.specs.Answers.{Answer, replied, ran_out, Trace, IsAnswer}
 use Rattle.sc_session.specs.Requests.{Asked, refused as refused_request, update, get, get_ids, select, command, asked}
 use Rattle.sc_session.specs.Commands.{CommandEnd, no_command, split_ended, delete_ended, Situation, Leaves}
-use Rattle.sc_session.specs.Connection.{Exchange, AreExchanges, LeaveRest, situation_after, exchanges_of}
+use Rattle.sc_session.specs.Connection.{Exchange, AreExchanges, LeaveRest, situation_after, situation_passed, exchanges_of}
 use Rattle.sc_session.specs.States.{ConnectionState, world_of, situation_in}
 use Rattle.sc_session.specs.Served.{IsServed}
 use Rattle.sc_session.specs.declared.end.End.{End}
 use Rattle.solr_split.specs.Running.{AreStarted}
-use Rattle.solr_split.proofs.RestLemmas.{OwnsAll, OwnsSeen, owned_before, seen_after, owned_before_all, owns_nothing, noted_of, board_after_request}
+use Rattle.solr_split.proofs.RestLemmas.{OwnsAll, OwnsSeen, owned_before, owned_passed, seen_after, seen_passed, owned_before_all, owns_nothing, noted_of, board_after_request}
 use Rattle.solr_split.proofs.MapCoreLemmas.{given_up_leaves, done_adds, dropped_leaves}
 
 -- the cores that are started are those of the board's map
@@ -173,7 +173,8 @@ after_request layout answered stops (delete_ended shard first (deletes.dropped s
 boards_go_on : (layout : Layout) (old new : Seen) (exchanges : List Exchange) → AreExchanges layout old exchanges new → IsPrefix old.board new.board
 boards_go_on layout old new [] each = subst (λ (s : Seen). IsPrefix old.board s.board) (sym each) (IsPrefix-self old.board)
 boards_go_on layout old new (x ∷ exchanges) each =
-    IsPrefix-then old.board x.seen.board new.board each.0.extends.board (boards_go_on layout x.seen new exchanges each.1)
+    IsPrefix-then old.board x.seen.board new.board each.0.extends.board
+    (subst (λ (entries : List BoardEntry). IsPrefix entries new.board) each.0.met.board (boards_go_on layout x.passed new exchanges each.1))
 
 -- no request makes the count of stops that failed less
 count_after_request : (layout : Layout) (answered : List OrderAnswer) (stops : List Stop) (end : CommandEnd) (old new : Situation)
@@ -189,7 +190,7 @@ count_after_all layout old new [] rest = omega (arith, ap (λ (s : Situation). s
 count_after_all layout old new (x ∷ exchanges) rest =
     let first : old.outside.stop_faults ≤ x.outside.stop_faults =
     count_after_request layout x.trace.answers x.trace.stops x.trace.command old (situation_after x) rest.0 in
-    let others : x.outside.stop_faults ≤ new.outside.stop_faults = count_after_all layout (situation_after x) new exchanges rest.1 in
+    let others : x.outside.stop_faults ≤ new.outside.stop_faults = count_after_all layout (situation_passed x) new exchanges rest.1 in
     omega (arith, first, others)
 
 -- after exchanges the cores are still those of the map, unless stopping one failed
@@ -201,18 +202,21 @@ after_all_exchanges layout old new (x ∷ exchanges) each rest within owns is_ma
     let next : Situation = situation_after x in
     let extends = each.0.extends in
     let within_x = seen_after layout old.seen x.seen x.trace.stops extends within in
-    let owned_x = owned_before_all layout x.seen new.seen exchanges each.1 within_x owns in
+    let within_passed = seen_passed layout x.seen x.passed each.0.met within_x in
+    let owned_x = owned_passed layout x.seen x.passed each.0.met (owned_before_all layout x.passed new.seen exchanges each.1 within_passed owns) in
     let owned = owned_before layout old.seen x.seen x.trace.stops extends within owned_x in
     let is = board_after_request layout x.trace.answers x.trace.stops x.trace.command old next rest.0 extends.board owned owned_x in
-    let later = boards_go_on layout x.seen new.seen exchanges each.1 in
+    let later : IsPrefix x.seen.board new.seen.board =
+    subst (λ (entries : List BoardEntry). IsPrefix entries new.seen.board) each.0.met.board (boards_go_on layout x.passed new.seen exchanges each.1) in
     let legal_x = IsLegalBoard-prefix layout.first x.seen.board later.0 (subst (IsLegalBoard layout.first) (sym later.1) legal) in
     let up : old.outside.stop_faults ≤ x.outside.stop_faults = count_after_request layout x.trace.answers x.trace.stops x.trace.command old next rest.0 in
-    let more : x.outside.stop_faults ≤ new.outside.stop_faults = count_after_all layout next new exchanges rest.1 in
+    let more : x.outside.stop_faults ≤ new.outside.stop_faults = count_after_all layout (situation_passed x) new exchanges rest.1 in
     let steady_x : x.outside.stop_faults ≡ old.outside.stop_faults = omega (arith, up, more, steady) in
     let steady_on : new.outside.stop_faults ≡ x.outside.stop_faults = omega (arith, up, more, steady) in
     let says = says_by_reply layout x.seen (asked x.request) x.trace x.answer (each.0.answered x.seen (SeesMore-self x.seen)) in
-    after_all_exchanges layout next new exchanges each.1 rest.1 within_x owns is_map legal steady_on
-    (after_request layout x.trace.answers x.trace.stops x.trace.command old next rest.0 is is_map legal_x says steady_x was)
+    after_all_exchanges layout (situation_passed x) new exchanges each.1 rest.1 within_passed owns is_map legal steady_on
+    (stays layout next (situation_passed x) each.0.met.board refl
+    (after_request layout x.trace.answers x.trace.stops x.trace.command old next rest.0 is is_map legal_x says steady_x was))
 
 -- after a connection over a collection in which nothing had happened, the cores that are started are those of the board's map, where they
 -- were those of the first before, all entries of the board are one's own, and stopping one never failed

@@ -10,6 +10,7 @@ use Rattle.sc_collection.specs.Kept.{Kept}
 use Rattle.sc_collection.specs.Alone.{AloneState, seen_alone, keeping_alone}
 use Rattle.sc_collection.specs.Desks.{AreAtRest}
 use Rattle.sc_collection.specs.Shapes.{HasShape, SeesOpened}
+use Rattle.sc_gate.specs.Gates.{no_gate}
 use Rattle.sc_session.specs.declared.end.End.{End}
 use Rattle.sc_session.specs.declared.end.End.TheVariants as ends
 use Rattle.sc_session.specs.States.{ConnectionState}
@@ -65,6 +66,7 @@ exit_status ends.TooLarge = 3
 exit_status ends.ReadFault = 4
 exit_status ends.WriteFault = 5
 exit_status ends.Memory = 6
+exit_status ends.LogFault = 10
 
 -- the clock of a script: the one that was handed in, or one that stands still and leaves that as it was
 abbrev pub clock_of : {C : Type 0} → Option ℕ → (C → ℕ → C → Type 0) → C → ℕ → C → Type 0
@@ -91,6 +93,7 @@ state_of seen kept machine = record {
   written = machine.written;
   read_faults = machine.read_faults;
   write_faults = machine.write_faults;
+  gate = no_gate;
 }
 
 -- nothing was kept yet

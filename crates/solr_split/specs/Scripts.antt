@@ -1,10 +1,17 @@
 -- What a script leaves that crew 0 of a station runs.
 use Rattle.std.specs.Prelude.{◌≡◌, ◌<◌, ◌⊎◌, ℕ, false, List, Option, Some, None, IfSome}
+use Rattle.sc_io.specs.declared.clock.Clock.{Ghosts as Clock}
+use Rattle.sc_io.specs.declared.hosts.Hosts.{Ghosts as Hosts}
+use Rattle.sc_io.specs.declared.pace.Pace.{Ghosts as Pace}
+use Rattle.sc_io.specs.declared.source.Source.{Ghosts as Source}
+use Rattle.sc_io.specs.declared.sink.Sink.{Ghosts as Sink}
 use Rattle.sc_cores.specs.Cores.{Outside}
 use Rattle.sc_session.specs.declared.station.Crew.{Crew}
+use Rattle.sc_session.specs.declared.station.Station.{Ghosts as Station}
 use Rattle.sc_session.specs.Stations.{SetsAt, SetsReported, AreAsBefore}
 use Rattle.sc_arguments.specs.declared.asked.Script.{Script}
-use Rattle.sc_server.specs.Serving.{Front}
+use Rattle.sc_server.specs.Reports.{outside_by}
+use Rattle.sc_server.specs.Serving.{Front, front_of}
 use Rattle.solr_split.specs.Running.{Machine, RunsOrFails}
 
 -- what a crew reports: its clock the timestamps that it gives, its hosts and its pace what is outside of the collection
@@ -12,12 +19,24 @@ pub record CrewReports (C H P : Type 0) : Type 1 where
   pub gives : C → ℕ → C → Type 0
   pub outside : H → P → Outside
 
+-- what each part of a crew reports by itself
+abbrev pub crew_reports : {C H P : Type 0} → Clock C → Hosts H → Pace P → CrewReports C H P
+crew_reports of_clock of_hosts of_pace = record { gives = of_clock.gives; outside = outside_by of_hosts of_pace }
+
 -- What stands beside a script: what its station and its sink report, the bytes that its source has still to give, and how often that has
 -- failed.
 pub record Beside (C H P L : Type 0) : Type 0 where
   pub front : Front C H P L
   pub unread : Option (List ℕ)
   pub read_faults : ℕ
+
+-- what this station, this source and this sink report
+abbrev pub beside_of : {T C H P L U V S W : Type 0} → Station T C H P L U V → Source S → Sink W → T → S → W → Beside C H P L
+beside_of of_station of_source of_sink station source sink = record {
+  front = front_of of_station of_sink station sink;
+  unread = of_source.rest source;
+  read_faults = of_source.faults source;
+}
 
 module _ {C H P L : Type 0} where
   -- the machine as a crew has it

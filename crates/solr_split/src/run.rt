@@ -1,11 +1,12 @@
 //! All that the program does, by what its arguments ask for.
 ghost use Rattle.std.specs.Prelude.{◌≡◌, ◌≢◌, ◌<◌, ◌↔◌, map, string_bytes};
-ghost use Rattle.sc_cores.specs.Cores.{outside_of};
 ghost use Rattle.sc_collection.specs.Shapes.{IsShape};
 ghost use Rattle.sc_arguments.specs.Arguments.{IsServer, IsDemo};
-ghost use Rattle.sc_server.specs.Serving.{EndsServer};
+ghost use Rattle.sc_server.specs.Reports.{reports_of};
+ghost use Rattle.sc_server.specs.Serving.{EndsServer, front_of};
+ghost use Rattle.sc_demo.specs.Making.{maker_reports};
 ghost use Rattle.sc_demo.specs.Demos.{EndsDemo};
-ghost use Rattle.solr_split.specs.Scripts.{EndsScript};
+ghost use Rattle.solr_split.specs.Scripts.{EndsScript, beside_of, crew_reports};
 ghost use Rattle.solr_split.specs.Runs.{EndsRun};
 
 use crate::script::run_script;
@@ -39,43 +40,10 @@ pub fn run<S: Source, W: Sink, T: Station, R: Threads + Wait + Sync>(
     station: &mut T,
 ) -> u8
     ensures { EndsRun
-        (record {
-          gives = T.C.gives;
-          outside = λ hosts pace. outside_of (T.H.started hosts) (T.H.start_faults hosts) (T.H.stop_faults hosts) (T.P.stops pace) (T.H.reached hosts);
-          coming = T.L.coming;
-          taken = T.L.taken;
-          faults = T.L.faults;
-          out = T.L.out;
-          rest = T.L.S.rest;
-          read_faults = T.L.S.faults;
-          written = T.L.W.written;
-          write_faults = T.L.W.faults;
-        })
+        (reports_of T.C.Clock T.H.Hosts T.P.Pace T.L.Listener T.L.S.Source T.L.W.Sink)
         (map string_bytes arguments.now)
-        (record {
-          front = record {
-            crews = T.crews station.old;
-            crews_back = T.crews_back station.old;
-            out = T.out station.old;
-            open_faults = T.faults station.old;
-            written = W.written sink.old;
-            write_faults = W.faults sink.old;
-          };
-          unread = S.rest source.old;
-          read_faults = S.faults source.old;
-        })
-        (record {
-          front = record {
-            crews = T.crews station.new;
-            crews_back = T.crews_back station.new;
-            out = T.out station.new;
-            open_faults = T.faults station.new;
-            written = W.written sink.new;
-            write_faults = W.faults sink.new;
-          };
-          unread = S.rest source.new;
-          read_faults = S.faults source.new;
-        })
+        (beside_of T.Station S.Source W.Sink station.old source.old sink.old)
+        (beside_of T.Station S.Source W.Sink station.new source.new sink.new)
         (record {
           source = source.new ≡ source.old;
           sink = sink.new ≡ sink.old;
@@ -105,34 +73,9 @@ fn run_by_crew<S: Source, W: Sink, T: Station, R: Threads + Sync>(
 ) -> u8
     requires shape { IsShape script.now.shape }
     ensures script { EndsScript script.now
-        (record {
-          gives = T.C.gives;
-          outside = λ hosts pace. outside_of (T.H.started hosts) (T.H.start_faults hosts) (T.H.stop_faults hosts) (T.P.stops pace) (T.H.reached hosts);
-        })
-        (record {
-          front = record {
-            crews = T.crews station.old;
-            crews_back = T.crews_back station.old;
-            out = T.out station.old;
-            open_faults = T.faults station.old;
-            written = W.written sink.old;
-            write_faults = W.faults sink.old;
-          };
-          unread = S.rest source.old;
-          read_faults = S.faults source.old;
-        })
-        (record {
-          front = record {
-            crews = T.crews station.new;
-            crews_back = T.crews_back station.new;
-            out = T.out station.new;
-            open_faults = T.faults station.new;
-            written = W.written sink.new;
-            write_faults = W.faults sink.new;
-          };
-          unread = S.rest source.new;
-          read_faults = S.faults source.new;
-        })
+        (crew_reports T.C.Clock T.H.Hosts T.P.Pace)
+        (beside_of T.Station S.Source W.Sink station.old source.old sink.old)
+        (beside_of T.Station S.Source W.Sink station.new source.new sink.new)
         ((source.new ≡ source.old) × (sink.new ≡ sink.old)) result }
     ensures status { result ≢ 2 }
     ensures read_fault { (result ≡ 4) ↔ (S.faults source.old < S.faults source.new) }
@@ -165,35 +108,10 @@ fn run_workers<W: Sink, T: Station, R: Threads + Wait + Sync>(
 ) -> u8
     requires server { IsServer server.now }
     ensures ends { EndsServer
-        (record {
-          gives = T.C.gives;
-          outside = λ hosts pace. outside_of (T.H.started hosts) (T.H.start_faults hosts) (T.H.stop_faults hosts) (T.P.stops pace) (T.H.reached hosts);
-          coming = T.L.coming;
-          taken = T.L.taken;
-          faults = T.L.faults;
-          out = T.L.out;
-          rest = T.L.S.rest;
-          read_faults = T.L.S.faults;
-          written = T.L.W.written;
-          write_faults = T.L.W.faults;
-        })
+        (reports_of T.C.Clock T.H.Hosts T.P.Pace T.L.Listener T.L.S.Source T.L.W.Sink)
         server.now
-        (record {
-          crews = T.crews station.old;
-          crews_back = T.crews_back station.old;
-          out = T.out station.old;
-          open_faults = T.faults station.old;
-          written = W.written sink.old;
-          write_faults = W.faults sink.old;
-        })
-        (record {
-          crews = T.crews station.new;
-          crews_back = T.crews_back station.new;
-          out = T.out station.new;
-          open_faults = T.faults station.new;
-          written = W.written sink.new;
-          write_faults = W.faults sink.new;
-        })
+        (front_of T.Station W.Sink station.old sink.old)
+        (front_of T.Station W.Sink station.new sink.new)
         result }
     ensures status { (result ≢ 2) × (result ≢ 4) }
     ensures write_fault { (result ≡ 5) ↔ (W.faults sink.old < W.faults sink.new) }
@@ -211,27 +129,10 @@ fn run_makers<W: Sink, T: Station, R: Threads + Wait + Sync>(
 ) -> u8
     requires demo { IsDemo demo.now }
     ensures ends { EndsDemo
-        (record {
-          gives = T.C.gives;
-          outside = λ hosts pace. outside_of (T.H.started hosts) (T.H.start_faults hosts) (T.H.stop_faults hosts) (T.P.stops pace) (T.H.reached hosts);
-        })
+        (maker_reports T.C.Clock T.H.Hosts T.P.Pace)
         demo.now
-        (record {
-          crews = T.crews station.old;
-          crews_back = T.crews_back station.old;
-          out = T.out station.old;
-          open_faults = T.faults station.old;
-          written = W.written sink.old;
-          write_faults = W.faults sink.old;
-        })
-        (record {
-          crews = T.crews station.new;
-          crews_back = T.crews_back station.new;
-          out = T.out station.new;
-          open_faults = T.faults station.new;
-          written = W.written sink.new;
-          write_faults = W.faults sink.new;
-        })
+        (front_of T.Station W.Sink station.old sink.old)
+        (front_of T.Station W.Sink station.new sink.new)
         result }
     ensures status { (result ≢ 2) × (result ≢ 4) }
     ensures write_fault { (result ≡ 5) ↔ (W.faults sink.old < W.faults sink.new) }

@@ -184,5 +184,6 @@ fn status_of(end: End) -> u8
         End::ReadFault => 4,
         End::WriteFault => 5,
         End::Memory => 6,
+        End::LogFault => 10,
     }
 }

@@ -1,10 +1,5 @@
--- The limit has room for an entry of each follower, and the bucket is sound.
-use Rattle.std.proofs.Common.{arith, ℕ, List, Result, Ok, Err}
-use Rattle.std.specs.Prelude.{IfOk}
-use Rattle.sc_cluster.specs.declared.slice.Slice.{Slice}
-use Rattle.sc_bucket.specs.New.{IsNewBucket}
-use Rattle.sc_bucket.specs.Sound.{IsSound}
-use Rattle.sc_bucket.specs.declared.bucket.Bucket.{Bucket}
+-- The limit has room for an entry of each follower, and the bucket is sound, and its journal empty.
+use Rattle.std.proofs.Common.{arith}
 use Rattle.sc_collection.proofs.FollowerLemmas.{first_followers}
 use Rattle.sc_examples.proofs.bucket.new_bucket.Goals as goal
 
@@ -14,10 +9,8 @@ new-requires-2-clause-least c =
     let limit = c.log_limit-limit.ensures.least in
     omega (arith, few, limit)
 
--- a new bucket is sound
-sound_if_new : {E : Type 0} (slices : List Slice) (most : ℕ) (made : Result Bucket E) → IfOk made (IsNewBucket slices most) → IfOk made IsSound
-sound_if_new slices most (Ok bucket) new = new.sound
-sound_if_new slices most (Err e) new = tt
+pub await_file-requires-clause-sound : goal.await_file-requires-clause-sound
+await_file-requires-clause-sound c = c.in_ok-bucket.ensures.sound
 
-pub returns : goal.returns
-returns c = sound_if_new _ _ c.new-2.result c.new-2.ensures
+pub await_file-requires-clause-empty : goal.await_file-requires-clause-empty
+await_file-requires-clause-empty c = c.in_ok-bucket.ensures.journal

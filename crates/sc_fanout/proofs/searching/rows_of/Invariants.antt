@@ -2,7 +2,7 @@
 use Rattle.std.proofs.Common.{take, All}
 use Rattle.sc_snapshot.specs.Rows.{AreRows}
 use Rattle.sc_replicas.specs.declared.standing.Searcher.{Searcher}
-use Rattle.sc_finding.specs.SearcherRows.{searcher_rows}
+use Rattle.sc_replicas.specs.Searchers.{searcher_rows}
 use Rattle.sc_fanout.proofs.searching.rows_of.Given as goal
 
 abbrev pub invariant-loop-searcher : goal.invariant-loop-searcher

@@ -12,14 +12,15 @@ use Rattle.sc_replicas.specs.declared.standing.Searcher.{Searcher}
 use Rattle.sc_eval.specs.Criteria.{criterion_of}
 use Rattle.sc_seen.specs.Seen.{Layout}
 use Rattle.sc_seen.specs.Moments.{view_of}
-use Rattle.sc_finding.specs.SearcherRows.{found_in, searcher_rows, HaveTerms}
-use Rattle.sc_fanout.specs.Steps.{AreAsked, LooksAtOne}
+use Rattle.sc_finding.specs.SearcherRows.{found_in, HaveTerms}
+use Rattle.sc_replicas.specs.Searchers.{searcher_rows}
+use Rattle.sc_collection.specs.Looks.{AreAsked, LooksAtOne}
 use Rattle.sc_finding.specs.Lists.{all_of}
 use Rattle.sc_fanout.specs.Pages.{IsPageOf}
 use Rattle.sc_finding.specs.Hits.{lists_of}
-use Rattle.sc_fanout.proofs.BucketLemmas.{asked-terms}
+use Rattle.sc_collection.proofs.LookLemmas.{asked-terms, Looked-none, Looked-more}
 use Rattle.sc_finding.proofs.FoundLemmas.{lists-found}
-use Rattle.sc_fanout.proofs.SearchLemmas.{all-left, all-right, Looked-none, FoundSoFar-none, FoundSoFar-more, Looked-more, searched-fault, searched}
+use Rattle.sc_fanout.proofs.SearchLemmas.{all-left, all-right, FoundSoFar-none, FoundSoFar-more, searched-fault, searched}
 use Rattle.sc_fanout.proofs.searching.search.Goals as goal
 
 pub loop-b-init : goal.loop-b-init

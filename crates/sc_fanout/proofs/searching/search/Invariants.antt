@@ -5,8 +5,10 @@ use Rattle.sc_replicas.specs.declared.standing.Searcher.{Searcher}
 use Rattle.sc_eval.specs.Criteria.{criterion_of}
 use Rattle.sc_seen.specs.Moments.{view_of}
 use Rattle.sc_collection.specs.Desks.{IsDeskAtRest}
-use Rattle.sc_finding.specs.SearcherRows.{found_in, searcher_rows, HaveTerms}
-use Rattle.sc_fanout.proofs.SearchLemmas.{FoundSoFar, Looked}
+use Rattle.sc_finding.specs.SearcherRows.{found_in, HaveTerms}
+use Rattle.sc_replicas.specs.Searchers.{searcher_rows}
+use Rattle.sc_collection.proofs.LookLemmas.{Looked}
+use Rattle.sc_fanout.proofs.SearchLemmas.{FoundSoFar}
 use Rattle.sc_fanout.proofs.searching.search.Given as goal
 
 abbrev pub invariant-loop-b : goal.invariant-loop-b

@@ -2,7 +2,7 @@
 use Rattle.std.proofs.Common.{rules}
 use Rattle.sc_eval.specs.Criteria.{criterion_of}
 use Rattle.sc_eval.specs.Matching.{finds}
-use Rattle.sc_finding.specs.SearcherRows.{searcher_rows}
+use Rattle.sc_replicas.specs.Searchers.{searcher_rows}
 use Rattle.sc_finding.proofs.LookedLemmas.{none-looked}
 use Rattle.sc_finding.proofs.finding.look_in.Goals as goal
 

@@ -6,7 +6,7 @@ use Rattle.sc_snapshot.specs.Rows.{SnapshotState}
 use Rattle.sc_eval.specs.Criteria.{criterion_of}
 use Rattle.sc_eval.specs.Matching.{finds}
 use Rattle.sc_eval.specs.Unjoined.{WillBeNumbersOf}
-use Rattle.sc_finding.specs.SearcherRows.{searcher_rows}
+use Rattle.sc_replicas.specs.Searchers.{searcher_rows}
 use Rattle.sc_finding.proofs.finding.looked_in.Goals as goal
 
 pub returns : goal.returns

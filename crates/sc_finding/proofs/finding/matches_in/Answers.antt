@@ -3,7 +3,7 @@ use Rattle.std.proofs.Common.{◌≡◌, ap}
 use Rattle.std.proofs.lemmas.Result.{IfOk-weaker}
 use Rattle.sc_snapshot.specs.Rows.{SnapshotState}
 use Rattle.sc_eval.specs.Criteria.{criterion_of}
-use Rattle.sc_finding.specs.SearcherRows.{searcher_rows}
+use Rattle.sc_replicas.specs.Searchers.{searcher_rows}
 use Rattle.sc_finding.proofs.HitLemmas.{has-matches}
 use Rattle.sc_finding.proofs.finding.matches_in.Goals as goal
 

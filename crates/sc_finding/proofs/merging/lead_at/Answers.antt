@@ -4,7 +4,7 @@ use Rattle.std.specs.Arc.{arc_value}
 use Rattle.std.proofs.lemmas.List.{drop_all, take_rest}
 use Rattle.sc_snapshot.specs.Rows.{SnapshotState, lent}
 use Rattle.sc_finding.specs.Hits.{rows_numbered}
-use Rattle.sc_finding.specs.SearcherRows.{searcher_rows}
+use Rattle.sc_replicas.specs.Searchers.{searcher_rows}
 use Rattle.sc_finding.proofs.StartLemmas.{rows-next}
 use Rattle.sc_finding.proofs.merging.lead_at.Goals as goal
 

@@ -1,7 +1,7 @@
 -- No row stands at the numbers that were passed.
 use Rattle.std.proofs.Common.{◌≡◌, drop}
 use Rattle.sc_finding.specs.Hits.{rows_numbered}
-use Rattle.sc_finding.specs.SearcherRows.{searcher_rows}
+use Rattle.sc_replicas.specs.Searchers.{searcher_rows}
 use Rattle.sc_finding.proofs.merging.lead_at.Given as goal
 
 abbrev pub invariant-loop-at : goal.invariant-loop-at

@@ -3,7 +3,7 @@ use Rattle.std.proofs.Common.{◌≡◌, ◌+◌, ◌<◌, ◌++◌, ◌∷◌, 
 use Rattle.std.proofs.lemmas.List.Elements.{All-append, All-drop, All-set, All-take}
 use Rattle.sc_finding.specs.Hits.{FrontAscends, IsLeast, front_rows, leads_of, rows_numbered, rows_left}
 use Rattle.sc_finding.specs.Merging.{AscendsBy, gathered, goes_before}
-use Rattle.sc_finding.specs.SearcherRows.{searcher_rows}
+use Rattle.sc_replicas.specs.Searchers.{searcher_rows}
 use Rattle.sc_finding.specs.declared.hits.Front.{Front}
 use Rattle.sc_finding.proofs.StartLemmas.{lead, rest-ascends, taken-last, taken-next}
 use Rattle.sc_finding.proofs.merging.take_first.Goals.{in-Some, in-None}

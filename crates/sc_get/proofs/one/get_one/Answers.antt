@@ -2,7 +2,7 @@
 use Rattle.std.proofs.Common.{◌≡◌, ◌<◌, ℕ, false, List, [], ◌∷◌, ◌++◌, refl, sym, ap, ◌∙◌, subst}
 use Rattle.sc_router.specs.Route.{bucket_of}
 use Rattle.sc_seen.specs.Seen.{Layout, Seen}
-use Rattle.sc_seen.specs.Moments.{view_of}
+use Rattle.sc_collection.specs.Resting.{looked_at}
 use Rattle.sc_collection.specs.Kept.{Kept}
 use Rattle.sc_collection.specs.Desks.{Held, Out, SeesGiven, MayReplace}
 use Rattle.sc_collection.proofs.StopLemmas.{stop_at, given-back}
@@ -23,11 +23,15 @@ give-requires g c =
       );
     }
 
-pub returns-clause-rest : goal.returns-clause-rest
-returns-clause-rest g c = record {
-  nothing_out = given-back (g.D.Desk.out c.args.desk.now) (g.D.Desk.out c.hold-bucket.new.self) (g.D.Desk.out c.give.new.self) _
-      c.requires.nothing_out c.hold-bucket.ensures.handed.out c.give.ensures.out;
-  legal = c.give.ensures.legal;
+pub returns-clause-leaves : goal.returns-clause-leaves
+returns-clause-leaves g c = record {
+  layout = c.give.ensures.layout ∙ c.hold-bucket.ensures.handed.layout;
+  rest = record {
+    nothing_out = given-back (g.D.Desk.out c.args.desk.now) (g.D.Desk.out c.hold-bucket.new.self) (g.D.Desk.out c.give.new.self) _
+        c.requires.nothing_out c.hold-bucket.ensures.handed.out c.give.ensures.out;
+    legal = c.give.ensures.legal;
+  };
+  requests = ap (λ (k : Kept). k.requests) c.keep.ensures;
 }
 
 pub returns-clause-got : goal.returns-clause-got
@@ -47,5 +51,5 @@ returns-clause-got g c =
     let sees : SeesGiven (record { number = number; bucket = bucket; by_keeper = false }) bucket old new =
     subst (λ (s : Seen). SeesGiven (record { number = number; bucket = bucket; by_keeper = false }) bucket s new) c.hold-bucket.ensures.handed.seen
     (c.give.ensures.seen (record { number = number; bucket = bucket; by_keeper = false }) (ap (λ (o : Out). o.bucket) c.hold-bucket.ensures.handed.out)) in
-    got layout (view_of old c.args.trail.now.stops) (view_of new c.keep.new.self.stops) bucket number c.args.id.now c.share_live-found.result
+    got layout (looked_at g.D.Desk c.args.desk.now c.args.trail.now) (looked_at g.D.Desk c.give.new.self c.keep.new.self) bucket number c.args.id.now c.share_live-found.result
     here below c.hold-bucket.ensures.handed.extends sees stops (rw c.read.ensures at c.share_live-found.ensures)

@@ -16,11 +16,11 @@ use Rattle.sc_handover.specs.Made.{first_feed}
 
 -- a split that begins with more room for the journal begins without it
 Begins-reserved : (b new : Bucket) (journal : JournalState) (parent : SliceId) (subs others : List SubSlice)
-    → journal.entries ≡ b.journal.entries → subs ≡ others → Begins (record b { journal = journal }) parent subs new
+    → journal.entries ≡ b.journal.entries → journal.filed ≡ b.journal.filed → subs ≡ others → Begins (record b { journal = journal }) parent subs new
     → Begins b parent others new
-Begins-reserved b new journal parent subs others same same_subs is =
+Begins-reserved b new journal parent subs others same same_filed same_subs is =
     subst (λ (these : List SubSlice). Begins b parent these new) same_subs (record {
-      name = record { first = is.name.first; limit = is.name.limit };
+      name = record { first = is.name.first; limit = is.name.limit; filed = is.name.filed ∙ same_filed };
       room = subst (λ (entries : List Entry). length entries + owed b.first entries + entries_of_split subs ≤ b.limit) same is.room;
       map_is = is.map_is;
       entries = is.entries ∙ ap (λ (entries : List Entry). entries ++ entry.Begun parent subs ∷ []) same;
@@ -67,5 +67,6 @@ pub returns-clause-begun : goal.returns-clause-begun
 returns-clause-begun c =
     Begins-reserved c.args.bucket.now c.put_begun.new.bucket c.reserve.new.self c.args.plan.now.parent
     c.in_ok-beginning.beginning.subs c.args.plan.now.subs
-    (ap (λ (journal : JournalState). journal.entries) c.in_ok-reserve.ensures.ok) c.in_ok-beginning.ensures.subs
+    (ap (λ (journal : JournalState). journal.entries) c.in_ok-reserve.ensures.ok)
+    (ap (λ (journal : JournalState). journal.filed) c.in_ok-reserve.ensures.ok) c.in_ok-beginning.ensures.subs
     c.in_ok-put_begun.ensures.begun

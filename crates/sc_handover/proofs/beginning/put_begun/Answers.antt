@@ -21,7 +21,7 @@ returns-clause-begun c =
     let prepared = c.requires.prepared in
     let cores = c.args.bucket.now.replicas in
     record {
-      name = record { first = refl; limit = refl };
+      name = record { first = refl; limit = refl; filed = ap (λ (journal : JournalState). journal.filed) c.append-2.ensures };
       room = c.requires.room;
       map_is = prepared.slices_are;
       entries = ap (λ (journal : JournalState). journal.entries) c.append-2.ensures;

@@ -21,7 +21,7 @@ IsSound-ready b parent sound is led =
     let new : Bucket = in_phase b (phases.Recovering parent) in
     let same_idle : is_idle new.phase ≡ is_idle b.phase = ap is_idle (sym is) in
     record {
-      journal = HasJournal-same b new (record { first = refl; limit = refl }) refl refl refl refl sound.journal.room
+      journal = HasJournal-same b new refl refl refl refl refl refl sound.journal.room
           sound.journal;
       leaders = sound.leaders;
       written = sound.written;

@@ -68,6 +68,7 @@ returns-clause-rejoined c =
     (IsSound-reserved b c.reserve.new.self _ c.in_ok-reserve.ensures.ok c.requires.sound) c.requires.can.follower in
     Rejoins-reserved b c.put_rejoined.new.bucket c.reserve.new.self c.args.core
     (ap (λ (journal : JournalState). journal.entries) c.in_ok-reserve.ensures.ok)
+    (ap (λ (journal : JournalState). journal.filed) c.in_ok-reserve.ensures.ok)
     (subst (λ (n : CoreId). Rejoins (record b { journal = c.reserve.new.self }) n c.put_rejoined.new.bucket)
     (core_named (record b { journal = c.reserve.new.self }) c.args.core slice c.in_ok-fresh.fresh c.in_ok-fresh.feed
     (c.in_ok-fresh.ensures slice follows)) c.in_ok-put_rejoined.ensures.rejoined)

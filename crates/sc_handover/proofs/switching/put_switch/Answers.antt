@@ -11,7 +11,7 @@ pub returns-clause-switched : goal.returns-clause-switched
 returns-clause-switched c =
     let old = c.args.bucket.now in
     record {
-      name = record { first = refl; limit = refl };
+      name = record { first = refl; limit = refl; filed = ap (λ (journal : JournalState). journal.filed) c.append.ensures };
       map_is = c.switched.ensures.change;
       entries = ap (λ (journal : JournalState). journal.entries) c.append.ensures;
       phase_is = refl;

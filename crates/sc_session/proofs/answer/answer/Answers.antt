@@ -115,8 +115,8 @@ returns-in-Update-clause-answers g c =
     let asks : asked c.args.request ≡ update (update_of batch) = sym c.in_ok-refused.ensures.asked ∙ ap asked_by_request c.in-Update.is in
     subst (λ (a : Asked). AnswersAsked gives layout a (record { moment = old; outside = before }) (record { moment = new; outside = after }) answer) (sym asks)
     (updated_asked gives layout batch old new before after c.update-end.result c.update_reply.result c.update-end.ensures.updated
-    (ap (λ started. record after { started = started }) c.update-end.ensures.cores ∙ ap (λ n. record before { start_faults = n; stop_faults = after.stop_faults; reach = after.reach }) c.update-end.ensures.start_faults
-    ∙ ap (λ n. record before { stop_faults = n; reach = after.reach }) c.update-end.ensures.stop_faults)
+    (ap (λ started. record after { started = started }) c.update-end.ensures.cores.cores ∙ ap (λ n. record before { start_faults = n; stop_faults = after.stop_faults; reach = after.reach }) c.update-end.ensures.cores.start_faults
+    ∙ ap (λ n. record before { stop_faults = n; reach = after.reach }) c.update-end.ensures.cores.stop_faults)
     c.update_reply.ensures.reply)
 
 pub returns-in-Command-Status-clause-answers : goal.returns-in-Command-Status-clause-answers

@@ -20,12 +20,8 @@ loop-at-init g c = record {
   far = SoFar-none g.C.Clock.gives (g.D.Desk.layout c.args.desk.now) c.args.batch.now
       (update_moment (g.D.Desk.seen c.args.desk.now) c.args.trail.now.stops c.args.clock.now (g.H.Hosts.reached c.args.hosts.now)) c.in-Ok.shown
       c.in-Ok.ensures.adds c.in-Ok.ensures.deletes;
-  layout = refl;
-  rest = c.requires.rest;
-  cores = refl;
-  start_faults = refl;
-  stop_faults = refl;
-  requests = refl;
+  leaves = record { layout = refl; rest = c.requires.rest; requests = refl };
+  cores = record { cores = refl; start_faults = refl; stop_faults = refl };
   stops = omega arith;
   room = c.in-Ok.ensures.room;
 }
@@ -42,7 +38,7 @@ returns-in-Some-clause-answers g c =
     (update_moment (g.D.Desk.seen c.args.desk.now) c.args.trail.now.stops c.args.clock.now (g.H.Hosts.reached c.args.hosts.now)) between
     (record { moment = moment; shown = c.take_order-end.new.shown; ended = c.take_order-end.result }) c.loop-at.at c.loop-at.invariant.far next
     (subst (λ (layout : Layout). Takes g.C.Clock.gives layout c.args.batch.now.flags c.index-orders-at.result between
-    (record { moment = moment; shown = c.take_order-end.new.shown; ended = c.take_order-end.result })) c.loop-at.invariant.layout c.take_order-end.ensures.takes)
+    (record { moment = moment; shown = c.take_order-end.new.shown; ended = c.take_order-end.result })) c.loop-at.invariant.leaves.layout c.take_order-end.ensures.takes)
     c.end-in-Some.result c.in-Some.fault c.order_fault.result c.in-Some.is c.end-in-Some.ensures.adds c.end-in-Some.ensures.deletes
     c.end-in-Some.ensures.fault c.order_fault.ensures
 
@@ -63,18 +59,22 @@ loop-at-preserved g c =
     let takes : Takes g.C.Clock.gives (g.D.Desk.layout c.args.desk.now) c.args.batch.now.flags c.index-orders-at.result between
     (record { moment = moment; shown = c.take_order-end.new.shown; ended = c.take_order-end.result }) =
     subst (λ (layout : Layout). Takes g.C.Clock.gives layout c.args.batch.now.flags c.index-orders-at.result between
-    (record { moment = moment; shown = c.take_order-end.new.shown; ended = c.take_order-end.result })) c.loop-at.invariant.layout c.take_order-end.ensures.takes in
+    (record { moment = moment; shown = c.take_order-end.new.shown; ended = c.take_order-end.result })) c.loop-at.invariant.leaves.layout c.take_order-end.ensures.takes in
     record {
       far = SoFar-more g.C.Clock.gives (g.D.Desk.layout c.args.desk.now) c.args.batch.now c.index-orders-at.result
           (update_moment (g.D.Desk.seen c.args.desk.now) c.args.trail.now.stops c.args.clock.now (g.H.Hosts.reached c.args.hosts.now)) between
           (record { moment = moment; shown = c.take_order-end.new.shown; ended = c.take_order-end.result }) c.loop-at.at c.loop-at.invariant.far next
           takes c.in_default.is;
-      layout = c.take_order-end.ensures.layout ∙ c.loop-at.invariant.layout;
-      rest = c.take_order-end.ensures.rest;
-      cores = c.take_order-end.ensures.cores ∙ c.loop-at.invariant.cores;
-      start_faults = c.take_order-end.ensures.start_faults ∙ c.loop-at.invariant.start_faults;
-      stop_faults = c.take_order-end.ensures.stop_faults ∙ c.loop-at.invariant.stop_faults;
-      requests = c.take_order-end.ensures.requests ∙ c.loop-at.invariant.requests;
+      leaves = record {
+        layout = c.take_order-end.ensures.leaves.layout ∙ c.loop-at.invariant.leaves.layout;
+        rest = c.take_order-end.ensures.leaves.rest;
+        requests = c.take_order-end.ensures.leaves.requests ∙ c.loop-at.invariant.leaves.requests;
+      };
+      cores = record {
+        cores = c.take_order-end.ensures.cores.cores ∙ c.loop-at.invariant.cores.cores;
+        start_faults = c.take_order-end.ensures.cores.start_faults ∙ c.loop-at.invariant.cores.start_faults;
+        stop_faults = c.take_order-end.ensures.cores.stop_faults ∙ c.loop-at.invariant.cores.stop_faults;
+      };
       stops = omega (arith, c.take_order-end.ensures.stops, c.loop-at.invariant.stops);
       room = λ asked. HasRoomToShow-rest c.loop-at.shown c.take_order-end.new.shown c.index-orders-at.result (drop (c.loop-at.at + 1) c.as_slice-orders.result.now)
           (subst (HasRoomToShow c.loop-at.shown) (drop_place c.as_slice-orders.result.now c.loop-at.at c.index-orders-at.result below c.index-orders-at.is) (c.loop-at.invariant.room asked)) takes.grows;

@@ -22,7 +22,7 @@ returns-then-is_none-clause-updated g c =
     (no_fault before.fault (c.is_none.ensures ∙ ap not c.if-is_none.true))
     c.if-batch.true
     (subst (λ (layout : Layout). CommitsAll layout layout.buckets (view_of (g.D.Desk.seen c.take_orders-end.new.desk) c.take_orders-end.new.trail.stops) new c.commit_all.result)
-    c.take_orders-end.ensures.layout c.commit_all.ensures.committed)
+    c.take_orders-end.ensures.leaves.layout c.commit_all.ensures.committed)
     refl refl c.commit_fault.ensures
 
 pub returns-else-batch-clause-updated : goal.returns-else-batch-clause-updated

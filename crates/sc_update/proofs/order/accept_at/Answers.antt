@@ -1,5 +1,5 @@
 -- One hold in which an order is carried out.
-use Rattle.std.proofs.Common.{[], ◌∷◌, refl, sym, ap, subst, false}
+use Rattle.std.proofs.Common.{[], ◌∷◌, refl, sym, ap, ◌∙◌, subst, false}
 use Rattle.sc_seen.specs.Seen.{Layout, Seen}
 use Rattle.sc_seen.specs.declared.stop.Stop.{Stop}
 use Rattle.sc_collection.specs.Kept.{Kept}
@@ -49,9 +49,13 @@ returns-clause-tried g c =
     (tries (g.D.Desk.layout c.args.desk.now) (g.D.Desk.seen c.args.desk.now) (g.D.Desk.seen c.give.new.self) held c.accept-answer.new.self c.args.order.now c.args.now c.accept-answer.result
     c.hold-bucket.ensures.handed.is_of c.requires.bucket c.accept-answer.ensures.accepted c.accept-answer.ensures.refused c.accept-answer.ensures.outcome sees)
 
-pub returns-clause-rest : goal.returns-clause-rest
-returns-clause-rest g c = record {
-  nothing_out = given-back (g.D.Desk.out c.args.desk.now) (g.D.Desk.out c.hold-bucket.new.self) (g.D.Desk.out c.give.new.self) _
-      c.requires.nothing_out c.hold-bucket.ensures.handed.out c.give.ensures.out;
-  legal = c.give.ensures.legal;
+pub returns-clause-leaves : goal.returns-clause-leaves
+returns-clause-leaves g c = record {
+  layout = c.give.ensures.layout ∙ c.hold-bucket.ensures.handed.layout;
+  rest = record {
+    nothing_out = given-back (g.D.Desk.out c.args.desk.now) (g.D.Desk.out c.hold-bucket.new.self) (g.D.Desk.out c.give.new.self) _
+        c.requires.nothing_out c.hold-bucket.ensures.handed.out c.give.ensures.out;
+    legal = c.give.ensures.legal;
+  };
+  requests = ap (λ (k : Kept). k.requests) c.keep.ensures;
 }

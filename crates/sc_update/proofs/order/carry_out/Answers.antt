@@ -22,7 +22,7 @@ returns-then-is_ok-clause-carried g c =
     between c.accept_at-answer.result.0 c.accept_at-answer.result.1
     (sym c.is_ok.ensures.value ∙ c.if-is_ok.true) below c.now-now.ensures c.accept_at-answer.ensures.keeps c.accept_at-answer.ensures.tried
     (subst (λ (layout : Layout). SettlesFirst layout between new c.accept_at-answer.result.0)
-    c.accept_at-answer.ensures.layout c.settle_at.ensures.settles) refl
+    c.accept_at-answer.ensures.leaves.layout c.settle_at.ensures.settles) refl
 
 pub returns-else-is_ok-clause-carried : goal.returns-else-is_ok-clause-carried
 returns-else-is_ok-clause-carried g c =

@@ -1,5 +1,5 @@
 -- The hold in which a write is settled, after those that deliver its messages.
-use Rattle.std.proofs.Common.{◌≡◌, [], ◌∷◌, refl, sym, ap, subst, false}
+use Rattle.std.proofs.Common.{◌≡◌, [], ◌∷◌, refl, sym, ap, ◌∙◌, subst, false}
 use Rattle.sc_seen.specs.Seen.{Layout, Seen}
 use Rattle.sc_seen.specs.Batches.{IsSettling}
 use Rattle.sc_seen.specs.declared.stop.Stop.{Stop}
@@ -64,9 +64,13 @@ returns-clause-settles g c =
           c.settle_write-made.ensures.settles sees later more);
     }
 
-pub returns-clause-rest : goal.returns-clause-rest
-returns-clause-rest g c = record {
-  nothing_out = given-back nothing_out (g.D.Desk.out c.hold_delivered-bucket.new.desk) (g.D.Desk.out c.give.new.self) _
-      refl c.hold_delivered-bucket.ensures.held.out_is c.give.ensures.out;
-  legal = c.give.ensures.legal;
+pub returns-clause-leaves : goal.returns-clause-leaves
+returns-clause-leaves g c = record {
+  layout = c.give.ensures.layout ∙ c.hold_delivered-bucket.ensures.layout;
+  rest = record {
+    nothing_out = given-back nothing_out (g.D.Desk.out c.hold_delivered-bucket.new.desk) (g.D.Desk.out c.give.new.self) _
+        refl c.hold_delivered-bucket.ensures.held.out_is c.give.ensures.out;
+    legal = c.give.ensures.legal;
+  };
+  requests = ap (λ (k : Kept). k.requests) c.keep.ensures;
 }

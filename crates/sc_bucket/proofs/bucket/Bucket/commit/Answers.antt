@@ -13,6 +13,7 @@ commit_in_room-requires-clause-sound c =
     IsSound-with_parts b c.reserve.new.self b.unsettled b.flight b.replicas
     (record {
       entries = ap (λ (journal : JournalState). journal.entries) c.in_ok-reserve.ensures.ok;
+      filed = ap (λ (journal : JournalState). journal.filed) c.in_ok-reserve.ensures.ok;
       room = omega (arith, room);
       places = refl;
       messages = refl;

@@ -17,7 +17,7 @@ returns-then-are_moved-clause-sound c =
     subst (λ (x : Bucket). IsSound (record x { journal = c.append.new.self })) (sym rest)
     (committed-moved b after.searchers c.append.new.self c.requires.sound (c.is_unchanged.ensures c.if-not-is_unchanged.false) c.requires.memory c.requires.room
     (subst (λ place. AreMoved place b.searchers after.searchers) c.entries-place.ensures.count moved)
-    (c.append.ensures ∙ ap (λ (x : Bucket). record { entries = x.journal.entries ++ entry.Committed ∷ []; room = x.journal.room - 1 }) rest)).1
+    (c.append.ensures ∙ ap (λ (x : Bucket). record x.journal { entries = x.journal.entries ++ entry.Committed ∷ []; room = x.journal.room - 1 }) rest)).1
 
 pub returns-then-are_moved-clause-committed : goal.returns-then-are_moved-clause-committed
 returns-then-are_moved-clause-committed c = λ _.
@@ -28,4 +28,4 @@ returns-then-are_moved-clause-committed c = λ _.
     subst (λ (x : Bucket). Commits b (record x { journal = c.append.new.self })) (sym rest)
     (committed-moved b after.searchers c.append.new.self c.requires.sound (c.is_unchanged.ensures c.if-not-is_unchanged.false) c.requires.memory c.requires.room
     (subst (λ place. AreMoved place b.searchers after.searchers) c.entries-place.ensures.count moved)
-    (c.append.ensures ∙ ap (λ (x : Bucket). record { entries = x.journal.entries ++ entry.Committed ∷ []; room = x.journal.room - 1 }) rest)).0
+    (c.append.ensures ∙ ap (λ (x : Bucket). record x.journal { entries = x.journal.entries ++ entry.Committed ∷ []; room = x.journal.room - 1 }) rest)).0

@@ -20,6 +20,9 @@ use Rattle.sc_bucket.proofs.bucket.Bucket.make_room.Goals as goal
 entries_of : (old new : JournalState) (n : ℕ) → new ≡ record old { room = max old.room n } → new.entries ≡ old.entries
 entries_of old new n is = ap (λ (j : JournalState). j.entries) is
 
+filed_of : (old new : JournalState) (n : ℕ) → new ≡ record old { room = max old.room n } → new.filed ≡ old.filed
+filed_of old new n is = ap (λ (j : JournalState). j.filed) is
+
 room_of : (old new : JournalState) (n : ℕ) → new ≡ record old { room = max old.room n } → new.room ≡ max old.room n
 room_of old new n is = ap (λ (j : JournalState). j.room) is
 
@@ -43,6 +46,7 @@ returns-in_err-reserve-2-clause-sound c =
     IsSound-with_parts c.args.self.now c.reserve.new.self c.reserve-2.new.self c.args.self.now.flight c.args.self.now.replicas
     (record {
       entries = entries_of _ _ _ c.in_ok-reserve.ensures.ok;
+      filed = filed_of _ _ _ c.in_ok-reserve.ensures.ok;
       room = more_room _ _ _ c.in_ok-reserve.ensures.ok;
       places = ap (λ (p : PlacesState). p.places) c.in_err-reserve-2.ensures.err;
       messages = refl;
@@ -54,6 +58,7 @@ returns-in_err-reserve-3-clause-sound c =
     IsSound-with_parts c.args.self.now c.reserve.new.self c.reserve-2.new.self c.reserve-3.new.self c.args.self.now.replicas
     (record {
       entries = entries_of _ _ _ c.in_ok-reserve.ensures.ok;
+      filed = filed_of _ _ _ c.in_ok-reserve.ensures.ok;
       room = more_room _ _ _ c.in_ok-reserve.ensures.ok;
       places = places_of _ _ _ c.in_ok-reserve-2.ensures.ok;
       messages = ap (λ (f : FlightState). f.messages) c.in_err-reserve-3.ensures.err;
@@ -64,6 +69,7 @@ pub returns-clause-sound : goal.returns-clause-sound
 returns-clause-sound c =
     let more : HasMoreRoom c.args.self.now c.reserve.new.self c.reserve-2.new.self c.reserve-3.new.self c.reserve_in_cores.new.self.replicas = record {
       entries = entries_of _ _ _ c.in_ok-reserve.ensures.ok;
+      filed = filed_of _ _ _ c.in_ok-reserve.ensures.ok;
       room = more_room _ _ _ c.in_ok-reserve.ensures.ok;
       places = places_of _ _ _ c.in_ok-reserve-2.ensures.ok;
       messages = messages_of _ _ _ c.in_ok-reserve-3.ensures.ok;
@@ -76,6 +82,7 @@ pub returns-clause-same : goal.returns-clause-same
 returns-clause-same c =
     let more : HasMoreRoom c.args.self.now c.reserve.new.self c.reserve-2.new.self c.reserve-3.new.self c.reserve_in_cores.new.self.replicas = record {
       entries = entries_of _ _ _ c.in_ok-reserve.ensures.ok;
+      filed = filed_of _ _ _ c.in_ok-reserve.ensures.ok;
       room = more_room _ _ _ c.in_ok-reserve.ensures.ok;
       places = places_of _ _ _ c.in_ok-reserve-2.ensures.ok;
       messages = messages_of _ _ _ c.in_ok-reserve-3.ensures.ok;
@@ -89,6 +96,7 @@ returns-clause-memory c =
     let new : List Core = c.reserve_in_cores.new.self.replicas in
     let more : HasMoreRoom c.args.self.now c.reserve.new.self c.reserve-2.new.self c.reserve-3.new.self new = record {
       entries = entries_of _ _ _ c.in_ok-reserve.ensures.ok;
+      filed = filed_of _ _ _ c.in_ok-reserve.ensures.ok;
       room = more_room _ _ _ c.in_ok-reserve.ensures.ok;
       places = places_of _ _ _ c.in_ok-reserve-2.ensures.ok;
       messages = messages_of _ _ _ c.in_ok-reserve-3.ensures.ok;

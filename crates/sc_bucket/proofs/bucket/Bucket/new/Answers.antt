@@ -51,6 +51,7 @@ returns c =
       first = same;
       map_is = c.in_ok-slices.ensures;
       journal = c.in_ok-journal.ensures.entries;
+      filed = c.in_ok-journal.ensures.filed;
       limit = refl;
       cores = c.in_ok-replicas.ensures.new;
       phase = refl;

@@ -20,7 +20,7 @@ returns-clause-sound c =
     let left = ap (λ (journal : JournalState). journal.room) c.append.ensures in
     IsSound-settled old c.args.place _ c.requires.sound c.requires.written c.requires.unsettled c.requires.delivered
     (record {
-      name = record { first = refl; limit = refl };
+      name = record { first = refl; limit = refl; filed = ap (λ (journal : JournalState). journal.filed) c.append.ensures };
       split = record { phase = refl; feeds = refl };
       map_is = refl;
       entries = ap (λ (journal : JournalState). journal.entries) c.append.ensures;

@@ -9,7 +9,7 @@ returns-clause-sound c =
     let left = ap (λ (journal : JournalState). journal.room) c.append.ensures in
     IsSound-committed c.args.self.now _ c.requires.sound
     (record {
-      name = record { first = refl; limit = refl };
+      name = record { first = refl; limit = refl; filed = ap (λ (journal : JournalState). journal.filed) c.append.ensures };
       split = record { phase = refl; feeds = refl };
       map_is = refl;
       room = c.requires.room;

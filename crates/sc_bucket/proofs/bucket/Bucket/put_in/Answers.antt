@@ -20,14 +20,14 @@ with_write b journal unsettled flight cores =
 
 put_into : (b : Bucket) (journal : JournalState) (unsettled : PlacesState) (flight : FlightState) (cores : List Core) (cell share : Arc Write Global)
     (at place : ℕ) (messages : List Sent) → HasMemory b at messages → share.value ≡ cell.value
-    → journal ≡ record { entries = b.journal.entries ++ entry.Write cell ∷ []; room = b.journal.room - 1 }
+    → journal ≡ record b.journal { entries = b.journal.entries ++ entry.Write cell ∷ []; room = b.journal.room - 1 }
     → place ≡ length b.journal.entries
     → unsettled ≡ record { places = b.unsettled.places ++ place ∷ []; room = b.unsettled.room - 1 }
     → flight.messages ≡ b.flight.messages ++ messages
     → ((core : Core) → slice_get b.replicas at ≡ Some core → cores ≡ set b.replicas at (led core share.value))
     → IsPut b cell at messages (with_write b journal unsettled flight cores)
 put_into b journal unsettled flight cores cell share at place messages memory same journal_is place_is unsettled_is flight_is cores_are = record {
-  name = record { first = refl; limit = refl };
+  name = record { first = refl; limit = refl; filed = ap (λ (j : JournalState). j.filed) journal_is };
   split = record { phase = refl; feeds = refl };
   map_is = refl;
   entries = ap (λ (j : JournalState). j.entries) journal_is;

@@ -14,5 +14,6 @@ bench/stress.py || problems=1
 bench/split_under_load.py --svg docs/split_under_load.svg --page docs/SPLIT_UNDER_LOAD.md || problems=1
 bench/throughput.py --page bench/README.md || problems=1
 bench/hostile.py --page bench/README.md || problems=1
+bench/overwritten.py --page bench/README.md || problems=1
 examples/first_steps.sh > /dev/null && echo 'examples/first_steps.sh ended well' || problems=1
 exit $problems

@@ -5,3 +5,4 @@ pub mod Steps
 pub mod Outside
 pub mod Splits
 pub mod Driving
+pub mod Leaving

@@ -5,11 +5,12 @@ ghost use Rattle.sc_record.specs.declared.slice.SliceId.{SliceId};
 ghost use Rattle.sc_cluster.specs.Slices.{forming};
 ghost use Rattle.sc_cluster.specs.Map.{IsMap};
 ghost use Rattle.sc_seen.specs.Board.{MayNote};
-ghost use Rattle.sc_seen.specs.Moments.{view_of};
 ghost use Rattle.sc_board.specs.Splits.{IsCut, asked_for};
-ghost use Rattle.sc_collection.specs.Desks.{IsDeskAtRest, OwnsSplit, AreAtRest, StillFit};
+ghost use Rattle.sc_collection.specs.Desks.{OwnsSplit, AreAtRest, StillFit};
 ghost use Rattle.sc_collection.specs.Kept.{trail_room};
+ghost use Rattle.sc_collection.specs.Resting.{Rests, looked_at, LeavesAtRest};
 ghost use Rattle.sc_split.specs.Steps.{NotesOne, Opens, Refuses};
+ghost use Rattle.sc_split.specs.Leaving.{LeavesDesk};
 
 use sc_board::{BoardFault, Cut};
 use sc_cluster::SplitPlan;
@@ -24,16 +25,14 @@ pub(crate) fn open<D: Desk>(
     shard: &str,
     cut: &Cut,
 ) -> Result<(SplitPlan, D::Keepers), BoardFault>
-    requires rest { IsDeskAtRest (D.layout desk.old) (D.out desk.old) (D.seen desk.old) }
+    requires rest { Rests D.Desk desk.old }
     requires cut { IsCut cut.now }
     requires room { length trail.old.stops < trail_room }
-    ensures layout { D.layout desk.new ≡ D.layout desk.old }
-    ensures rest { IsDeskAtRest (D.layout desk.new) (D.out desk.new) (D.seen desk.new) }
-    ensures requests { trail.new.requests ≡ trail.old.requests }
+    ensures leaves { LeavesAtRest D.Desk desk.old trail.old desk.new trail.new }
     ensures opened { IfOk result (λ begun.
-        (opens : Opens (D.layout desk.old) (asked_for shard.now cut.now) (view_of (D.seen desk.old) trail.old.stops) (view_of (D.seen desk.new) trail.new.stops) begun.0)
+        (opens : Opens (D.layout desk.old) (asked_for shard.now cut.now) (looked_at D.Desk desk.old trail.old) (looked_at D.Desk desk.new trail.new) begun.0)
         × D.fits desk.new begun.1 × AreAtRest (D.layout desk.old) opens.between.board (D.keeping desk.new begun.1)) }
-    ensures refused { IfErr result (Refuses (D.layout desk.old) (asked_for shard.now cut.now) (view_of (D.seen desk.old) trail.old.stops) (view_of (D.seen desk.new) trail.new.stops)) }
+    ensures refused { IfErr result (Refuses (D.layout desk.old) (asked_for shard.now cut.now) (looked_at D.Desk desk.old trail.old) (looked_at D.Desk desk.new trail.new)) }
 {
     let mut board = desk.hold_board();
     let place = board.entries();
@@ -49,11 +48,10 @@ pub(crate) fn open<D: Desk>(
 
 /// Notes on the board that the leaders of the subs are made.
 pub(crate) fn note_recovering<D: Desk>(desk: &mut D)
-    requires rest { IsDeskAtRest (D.layout desk.old) (D.out desk.old) (D.seen desk.old) }
+    requires rest { Rests D.Desk desk.old }
     requires owns { OwnsSplit (D.layout desk.old) (D.seen desk.old) }
     requires may { (parent : SliceId) × MayNote (D.layout desk.old).first (D.seen desk.old).board (BoardEntry.Recovering parent) }
-    ensures layout { D.layout desk.new ≡ D.layout desk.old }
-    ensures rest { IsDeskAtRest (D.layout desk.new) (D.out desk.new) (D.seen desk.new) }
+    ensures leaves { LeavesDesk D.Desk desk.old desk.new }
     ensures noted { (parent : SliceId) → MayNote (D.layout desk.old).first (D.seen desk.old).board (BoardEntry.Recovering parent)
         → NotesOne (D.layout desk.old) (BoardEntry.Recovering parent) (D.seen desk.old) (D.seen desk.new) }
     ensures keepers { (keepers : D.Keepers) → D.fits desk.old keepers
@@ -66,13 +64,12 @@ pub(crate) fn note_recovering<D: Desk>(desk: &mut D)
 
 /// Notes on the board that the split is done, and gives it the keepers back.
 pub(crate) fn note_done<D: Desk>(desk: &mut D, keepers: D::Keepers)
-    requires rest { IsDeskAtRest (D.layout desk.old) (D.out desk.old) (D.seen desk.old) }
+    requires rest { Rests D.Desk desk.old }
     requires owns { OwnsSplit (D.layout desk.old) (D.seen desk.old) }
     requires fits { D.fits desk.old keepers }
     requires may { (parent : SliceId) × MayNote (D.layout desk.old).first (D.seen desk.old).board (BoardEntry.Done parent)
         × AreAtRest (D.layout desk.old) ((D.seen desk.old).board ++ BoardEntry.Done parent ∷ []) (D.keeping desk.old keepers) }
-    ensures layout { D.layout desk.new ≡ D.layout desk.old }
-    ensures rest { IsDeskAtRest (D.layout desk.new) (D.out desk.new) (D.seen desk.new) }
+    ensures leaves { LeavesDesk D.Desk desk.old desk.new }
     ensures noted { (parent : SliceId) → MayNote (D.layout desk.old).first (D.seen desk.old).board (BoardEntry.Done parent)
         → NotesOne (D.layout desk.old) (BoardEntry.Done parent) (D.seen desk.old) (D.seen desk.new) }
 {
@@ -83,13 +80,12 @@ pub(crate) fn note_done<D: Desk>(desk: &mut D, keepers: D::Keepers)
 
 /// Notes on the board that the split failed, and gives it the keepers back.
 pub(crate) fn note_failed<D: Desk>(desk: &mut D, keepers: D::Keepers)
-    requires rest { IsDeskAtRest (D.layout desk.old) (D.out desk.old) (D.seen desk.old) }
+    requires rest { Rests D.Desk desk.old }
     requires owns { OwnsSplit (D.layout desk.old) (D.seen desk.old) }
     requires fits { D.fits desk.old keepers }
     requires may { (parent : SliceId) × MayNote (D.layout desk.old).first (D.seen desk.old).board (BoardEntry.Failed parent)
         × AreAtRest (D.layout desk.old) ((D.seen desk.old).board ++ BoardEntry.Failed parent ∷ []) (D.keeping desk.old keepers) }
-    ensures layout { D.layout desk.new ≡ D.layout desk.old }
-    ensures rest { IsDeskAtRest (D.layout desk.new) (D.out desk.new) (D.seen desk.new) }
+    ensures leaves { LeavesDesk D.Desk desk.old desk.new }
     ensures noted { (parent : SliceId) → MayNote (D.layout desk.old).first (D.seen desk.old).board (BoardEntry.Failed parent)
         → NotesOne (D.layout desk.old) (BoardEntry.Failed parent) (D.seen desk.old) (D.seen desk.new) }
     ensures first_map { IsMap (D.layout desk.old).first }

@@ -11,9 +11,8 @@ ghost use Rattle.sc_journal.specs.Legal.{MayBeSplit};
 ghost use Rattle.sc_keeper.specs.declared.part.Part.{Part};
 ghost use Rattle.sc_keeper.specs.Conditions.{MayBegin, MayFeed, MayStartReplay, MayReplay, MayBeReady, MayGrow, MaySwitch, MayAbort};
 ghost use Rattle.sc_keeper.specs.Events.{PartFeeds, PartStartsReplay, PartReplays, PartGetsReady, PartSwitches};
-ghost use Rattle.sc_collection.specs.Desks.{IsDeskAtRest};
-ghost use Rattle.sc_collection.specs.Known.{known_of};
 ghost use Rattle.sc_split.specs.Buckets.{IsAllSeen, KeeperHeld, IsUnderway, HasBegun, HasGrown, IsGivenUp, HasNoRoomFor};
+ghost use Rattle.sc_split.specs.Leaving.{known, RestsWith, LeavesWith, HoldsBucket};
 
 use sc_cluster::SplitPlan;
 use sc_collection::Desk;
@@ -32,18 +31,15 @@ pub(crate) fn begin_in<D: Desk>(
     plan: &SplitPlan,
 ) -> Result<(), BeginFault>
     requires within { b < (D.layout desk.old).buckets }
-    requires rest { IsDeskAtRest (D.layout desk.old) (D.out desk.old) (D.seen desk.old) }
-    requires fits { D.fits desk.old keepers.old }
+    requires rests { RestsWith D.Desk desk.old keepers.old }
     requires may { MayBegin ((D.keeping desk.old keepers.old).part b) plan.now.parent plan.now.subs }
-    ensures layout { D.layout desk.new ≡ D.layout desk.old }
-    ensures rest { IsDeskAtRest (D.layout desk.new) (D.out desk.new) (D.seen desk.new) }
-    ensures fits { D.fits desk.new keepers.new }
-    ensures seen { IsAllSeen b (known_of (D.seen desk.new) (D.keeping desk.new keepers.new)) }
-    ensures held { OnOk result (KeeperHeld b (known_of (D.seen desk.old) (D.keeping desk.old keepers.old))
-        (known_of (D.seen desk.new) (D.keeping desk.new keepers.new)) (entry.Begun plan.now.parent plan.now.subs ∷ [])) }
+    ensures leaves { LeavesWith D.Desk desk.old desk.new keepers.new }
+    ensures seen { IsAllSeen b (known D.Desk desk.new keepers.new) }
+    ensures held { OnOk result (KeeperHeld b (known D.Desk desk.old keepers.old)
+        (known D.Desk desk.new keepers.new) (entry.Begun plan.now.parent plan.now.subs ∷ [])) }
     ensures begun { OnOk result (HasBegun ((D.keeping desk.old keepers.old).part b) plan.now ((D.keeping desk.new keepers.new).part b)) }
-    ensures looked { OnErr result (KeeperHeld b (known_of (D.seen desk.old) (D.keeping desk.old keepers.old))
-        (known_of (D.seen desk.new) (D.keeping desk.new keepers.new)) []) }
+    ensures looked { OnErr result (KeeperHeld b (known D.Desk desk.old keepers.old)
+        (known D.Desk desk.new keepers.new) []) }
     ensures refused { OnErr result ((D.keeping desk.new keepers.new).part b ≡ (D.keeping desk.old keepers.old).part b) }
     ensures may_still { OnErr result
         (MayBeSplit (D.layout desk.new).first ((D.seen desk.new).journals b) plan.now.parent plan.now.subs) }
@@ -58,15 +54,9 @@ pub(crate) fn begin_in<D: Desk>(
 /// Feeds the core one piece. Says whether no row is left.
 pub(crate) fn feed_in<D: Desk>(desk: &mut D, keepers: &mut D::Keepers, b: u32, core: CoreId) -> bool
     requires within { b < (D.layout desk.old).buckets }
-    requires rest { IsDeskAtRest (D.layout desk.old) (D.out desk.old) (D.seen desk.old) }
-    requires fits { D.fits desk.old keepers.old }
+    requires rests { RestsWith D.Desk desk.old keepers.old }
     requires may { MayFeed ((D.keeping desk.old keepers.old).part b) core }
-    ensures layout { D.layout desk.new ≡ D.layout desk.old }
-    ensures rest { IsDeskAtRest (D.layout desk.new) (D.out desk.new) (D.seen desk.new) }
-    ensures fits { D.fits desk.new keepers.new }
-    ensures seen { IsAllSeen b (known_of (D.seen desk.new) (D.keeping desk.new keepers.new)) }
-    ensures held { KeeperHeld b (known_of (D.seen desk.old) (D.keeping desk.old keepers.old))
-        (known_of (D.seen desk.new) (D.keeping desk.new keepers.new)) [] }
+    ensures leaves { HoldsBucket D.Desk b desk.old keepers.old desk.new keepers.new }
     ensures fed { PartFeeds ((D.keeping desk.old keepers.old).part b) core result ((D.keeping desk.new keepers.new).part b) }
 {
     let mut bucket = desk.hold_keeper(keepers, b);
@@ -78,15 +68,9 @@ pub(crate) fn feed_in<D: Desk>(desk: &mut D, keepers: &mut D::Keepers, b: u32, c
 /// Has the core replay from here on.
 pub(crate) fn start_replay_in<D: Desk>(desk: &mut D, keepers: &mut D::Keepers, b: u32, core: CoreId)
     requires within { b < (D.layout desk.old).buckets }
-    requires rest { IsDeskAtRest (D.layout desk.old) (D.out desk.old) (D.seen desk.old) }
-    requires fits { D.fits desk.old keepers.old }
+    requires rests { RestsWith D.Desk desk.old keepers.old }
     requires may { MayStartReplay ((D.keeping desk.old keepers.old).part b) core }
-    ensures layout { D.layout desk.new ≡ D.layout desk.old }
-    ensures rest { IsDeskAtRest (D.layout desk.new) (D.out desk.new) (D.seen desk.new) }
-    ensures fits { D.fits desk.new keepers.new }
-    ensures seen { IsAllSeen b (known_of (D.seen desk.new) (D.keeping desk.new keepers.new)) }
-    ensures held { KeeperHeld b (known_of (D.seen desk.old) (D.keeping desk.old keepers.old))
-        (known_of (D.seen desk.new) (D.keeping desk.new keepers.new)) [] }
+    ensures leaves { HoldsBucket D.Desk b desk.old keepers.old desk.new keepers.new }
     ensures started { PartStartsReplay ((D.keeping desk.old keepers.old).part b) core ((D.keeping desk.new keepers.new).part b) }
 {
     let mut bucket = desk.hold_keeper(keepers, b);
@@ -102,15 +86,9 @@ pub(crate) fn replay_in<D: Desk>(
     core: CoreId,
 ) -> bool
     requires within { b < (D.layout desk.old).buckets }
-    requires rest { IsDeskAtRest (D.layout desk.old) (D.out desk.old) (D.seen desk.old) }
-    requires fits { D.fits desk.old keepers.old }
+    requires rests { RestsWith D.Desk desk.old keepers.old }
     requires may { MayReplay ((D.keeping desk.old keepers.old).part b) core }
-    ensures layout { D.layout desk.new ≡ D.layout desk.old }
-    ensures rest { IsDeskAtRest (D.layout desk.new) (D.out desk.new) (D.seen desk.new) }
-    ensures fits { D.fits desk.new keepers.new }
-    ensures seen { IsAllSeen b (known_of (D.seen desk.new) (D.keeping desk.new keepers.new)) }
-    ensures held { KeeperHeld b (known_of (D.seen desk.old) (D.keeping desk.old keepers.old))
-        (known_of (D.seen desk.new) (D.keeping desk.new keepers.new)) [] }
+    ensures leaves { HoldsBucket D.Desk b desk.old keepers.old desk.new keepers.new }
     ensures replayed { PartReplays ((D.keeping desk.old keepers.old).part b) core result ((D.keeping desk.new keepers.new).part b) }
 {
     let mut bucket = desk.hold_keeper(keepers, b);
@@ -122,15 +100,9 @@ pub(crate) fn replay_in<D: Desk>(
 /// From here on the further replicas of the subs may join this bucket.
 pub(crate) fn ready_in<D: Desk>(desk: &mut D, keepers: &mut D::Keepers, b: u32)
     requires within { b < (D.layout desk.old).buckets }
-    requires rest { IsDeskAtRest (D.layout desk.old) (D.out desk.old) (D.seen desk.old) }
-    requires fits { D.fits desk.old keepers.old }
+    requires rests { RestsWith D.Desk desk.old keepers.old }
     requires may { (parent : SliceId) × MayBeReady ((D.keeping desk.old keepers.old).part b) parent }
-    ensures layout { D.layout desk.new ≡ D.layout desk.old }
-    ensures rest { IsDeskAtRest (D.layout desk.new) (D.out desk.new) (D.seen desk.new) }
-    ensures fits { D.fits desk.new keepers.new }
-    ensures seen { IsAllSeen b (known_of (D.seen desk.new) (D.keeping desk.new keepers.new)) }
-    ensures held { KeeperHeld b (known_of (D.seen desk.old) (D.keeping desk.old keepers.old))
-        (known_of (D.seen desk.new) (D.keeping desk.new keepers.new)) [] }
+    ensures leaves { HoldsBucket D.Desk b desk.old keepers.old desk.new keepers.new }
     ensures ready { (parent : SliceId) → MayBeReady ((D.keeping desk.old keepers.old).part b) parent
         → PartGetsReady ((D.keeping desk.old keepers.old).part b) parent ((D.keeping desk.new keepers.new).part b) }
     ensures underway { (base : Part) (plan : SplitPlan) → IsUnderway base plan ((D.keeping desk.old keepers.old).part b)
@@ -150,15 +122,9 @@ pub(crate) fn grow_in<D: Desk>(
     core: CoreId,
 ) -> Result<(), AllocError>
     requires within { b < (D.layout desk.old).buckets }
-    requires rest { IsDeskAtRest (D.layout desk.old) (D.out desk.old) (D.seen desk.old) }
-    requires fits { D.fits desk.old keepers.old }
+    requires rests { RestsWith D.Desk desk.old keepers.old }
     requires may { (sub : Slice) × MayGrow ((D.keeping desk.old keepers.old).part b) core sub }
-    ensures layout { D.layout desk.new ≡ D.layout desk.old }
-    ensures rest { IsDeskAtRest (D.layout desk.new) (D.out desk.new) (D.seen desk.new) }
-    ensures fits { D.fits desk.new keepers.new }
-    ensures seen { IsAllSeen b (known_of (D.seen desk.new) (D.keeping desk.new keepers.new)) }
-    ensures held { KeeperHeld b (known_of (D.seen desk.old) (D.keeping desk.old keepers.old))
-        (known_of (D.seen desk.new) (D.keeping desk.new keepers.new)) [] }
+    ensures leaves { HoldsBucket D.Desk b desk.old keepers.old desk.new keepers.new }
     ensures grown { OnOk result (HasGrown ((D.keeping desk.old keepers.old).part b) core ((D.keeping desk.new keepers.new).part b)) }
     ensures refused { OnErr result ((D.keeping desk.new keepers.new).part b ≡ (D.keeping desk.old keepers.old).part b) }
     ensures underway { (base : Part) (plan : SplitPlan) → IsUnderway base plan ((D.keeping desk.old keepers.old).part b)
@@ -173,16 +139,13 @@ pub(crate) fn grow_in<D: Desk>(
 /// Puts the subs in the place of their parent in this bucket.
 pub(crate) fn switch_in<D: Desk>(desk: &mut D, keepers: &mut D::Keepers, b: u32)
     requires within { b < (D.layout desk.old).buckets }
-    requires rest { IsDeskAtRest (D.layout desk.old) (D.out desk.old) (D.seen desk.old) }
-    requires fits { D.fits desk.old keepers.old }
+    requires rests { RestsWith D.Desk desk.old keepers.old }
     requires may { (parent : SliceId) × MaySwitch ((D.keeping desk.old keepers.old).part b) parent }
-    ensures layout { D.layout desk.new ≡ D.layout desk.old }
-    ensures rest { IsDeskAtRest (D.layout desk.new) (D.out desk.new) (D.seen desk.new) }
-    ensures fits { D.fits desk.new keepers.new }
-    ensures seen { IsAllSeen b (known_of (D.seen desk.new) (D.keeping desk.new keepers.new)) }
+    ensures leaves { LeavesWith D.Desk desk.old desk.new keepers.new }
+    ensures seen { IsAllSeen b (known D.Desk desk.new keepers.new) }
     ensures held { (parent : SliceId) → MaySwitch ((D.keeping desk.old keepers.old).part b) parent
-        → KeeperHeld b (known_of (D.seen desk.old) (D.keeping desk.old keepers.old))
-        (known_of (D.seen desk.new) (D.keeping desk.new keepers.new)) (entry.Switched parent ∷ []) }
+        → KeeperHeld b (known D.Desk desk.old keepers.old)
+        (known D.Desk desk.new keepers.new) (entry.Switched parent ∷ []) }
     ensures switched { (parent : SliceId) → MaySwitch ((D.keeping desk.old keepers.old).part b) parent
         → PartSwitches ((D.keeping desk.old keepers.old).part b) parent ((D.keeping desk.new keepers.new).part b) }
 {
@@ -194,16 +157,13 @@ pub(crate) fn switch_in<D: Desk>(desk: &mut D, keepers: &mut D::Keepers, b: u32)
 /// Gives the split up in this bucket.
 pub(crate) fn abort_in<D: Desk>(desk: &mut D, keepers: &mut D::Keepers, b: u32)
     requires within { b < (D.layout desk.old).buckets }
-    requires rest { IsDeskAtRest (D.layout desk.old) (D.out desk.old) (D.seen desk.old) }
-    requires fits { D.fits desk.old keepers.old }
+    requires rests { RestsWith D.Desk desk.old keepers.old }
     requires may { (parent : SliceId) × MayAbort ((D.keeping desk.old keepers.old).part b) parent }
-    ensures layout { D.layout desk.new ≡ D.layout desk.old }
-    ensures rest { IsDeskAtRest (D.layout desk.new) (D.out desk.new) (D.seen desk.new) }
-    ensures fits { D.fits desk.new keepers.new }
-    ensures seen { IsAllSeen b (known_of (D.seen desk.new) (D.keeping desk.new keepers.new)) }
+    ensures leaves { LeavesWith D.Desk desk.old desk.new keepers.new }
+    ensures seen { IsAllSeen b (known D.Desk desk.new keepers.new) }
     ensures held { (parent : SliceId) → MayAbort ((D.keeping desk.old keepers.old).part b) parent
-        → KeeperHeld b (known_of (D.seen desk.old) (D.keeping desk.old keepers.old))
-        (known_of (D.seen desk.new) (D.keeping desk.new keepers.new)) (entry.Failed parent ∷ []) }
+        → KeeperHeld b (known D.Desk desk.old keepers.old)
+        (known D.Desk desk.new keepers.new) (entry.Failed parent ∷ []) }
     ensures given_up { (base : Part) (plan : SplitPlan) → IsUnderway base plan ((D.keeping desk.old keepers.old).part b)
         → IsGivenUp base plan ((D.keeping desk.new keepers.new).part b) }
 {

@@ -1,15 +1,15 @@
 //! The cores of a split are made in all buckets, one bucket after another.
 
-ghost use Rattle.std.specs.Prelude.{◌≡◌, ◌≤◌, ◌<◌, ◌+◌, ◌⊎◌, ℕ, [], Err, OnOk, IfErr};
+ghost use Rattle.std.specs.Prelude.{◌≡◌, ◌≤◌, ◌<◌, ◌+◌, ◌⊎◌, ℕ, Err, OnOk, IfErr};
 ghost use Rattle.sc_cluster.specs.declared.slice.Slice.{Slice};
 ghost use Rattle.sc_cluster.specs.declared.plan.SplitPlan.{SplitPlan};
 ghost use Rattle.sc_keeper.specs.declared.part.Part.{Part};
 ghost use Rattle.sc_keeper.specs.Conditions.{MayBegin, MayGrow};
-ghost use Rattle.sc_collection.specs.Desks.{IsDeskAtRest};
-ghost use Rattle.sc_collection.specs.Known.{known_of, OfBuckets};
-ghost use Rattle.sc_split.specs.Buckets.{LeavesOthers, IsAllSeen, KeeperHeld, IsUnderway, HasGrown, HasNoRoomFor, first_cores};
-ghost use Rattle.sc_split.specs.Stages.{OpenSplit, IsOpenIn, IsAtStage, IsUnbegun, KeepsKnownBoard, Stage, filled, building, leaders_filled, recovering, whole, further_cores_of};
+ghost use Rattle.sc_collection.specs.Known.{OfBuckets};
+ghost use Rattle.sc_split.specs.Buckets.{LeavesOthers, IsUnderway, HasGrown, HasNoRoomFor, first_cores};
+ghost use Rattle.sc_split.specs.Stages.{OpenSplit, IsOpenIn, IsAtStage, IsUnbegun, Stage, filled, building, leaders_filled, recovering, whole, further_cores_of};
 ghost use Rattle.sc_split.specs.declared.end.Fault.TheVariants as faults;
+ghost use Rattle.sc_split.specs.Leaving.{known, begun_from, RestsWith, LeavesWith, HoldsBuckets, HoldsBucket};
 
 use crate::bucket::{begin_in, grow_in, ready_in};
 use crate::end::Fault;
@@ -29,22 +29,18 @@ fn begin_all<D: Desk, P: Pace>(
     plan: &SplitPlan,
     begun: &mut u32,
 ) -> Result<(), Fault>
-    requires rest { IsDeskAtRest (D.layout desk.old) (D.out desk.old) (D.seen desk.old) }
-    requires fits { D.fits desk.old keepers.old }
+    requires rests { RestsWith D.Desk desk.old keepers.old }
     requires may { OfBuckets 0 (D.layout desk.old).buckets
         (λ b. MayBegin ((D.keeping desk.old keepers.old).part b) plan.now.parent plan.now.subs) }
     requires none { begun.old ≡ 0 }
-    ensures layout { D.layout desk.new ≡ D.layout desk.old }
-    ensures rest { IsDeskAtRest (D.layout desk.new) (D.out desk.new) (D.seen desk.new) }
-    ensures fits { D.fits desk.new keepers.new }
-    ensures board { KeepsKnownBoard (known_of (D.seen desk.old) (D.keeping desk.old keepers.old)) (known_of (D.seen desk.new) (D.keeping desk.new keepers.new)) }
+    ensures leaves { HoldsBuckets D.Desk desk.old keepers.old desk.new keepers.new }
     ensures count { begun.new ≤ (D.layout desk.old).buckets }
     ensures opened { OfBuckets 0 begun.new (IsAtStage
-        (record { plan = plan.now; base = known_of (D.seen desk.old) (D.keeping desk.old keepers.old) })
-        (building plan.now) (known_of (D.seen desk.new) (D.keeping desk.new keepers.new))) }
+        (begun_from D.Desk desk.old keepers.old plan.now)
+        (building plan.now) (known D.Desk desk.new keepers.new)) }
     ensures unbegun { OfBuckets begun.new (D.layout desk.old).buckets (IsUnbegun
-        (record { plan = plan.now; base = known_of (D.seen desk.old) (D.keeping desk.old keepers.old) })
-        (D.layout desk.old).first (known_of (D.seen desk.new) (D.keeping desk.new keepers.new))) }
+        (begun_from D.Desk desk.old keepers.old plan.now)
+        (D.layout desk.old).first (known D.Desk desk.new keepers.new)) }
     ensures all { OnOk result (begun.new ≡ (D.layout desk.old).buckets) }
     ensures full { result ≡ Err Fault.LogFull → (b : ℕ) × (begun.new ≤ b) × (b < (D.layout desk.old).buckets)
         × HasNoRoomFor (D.layout desk.old) plan.now.subs ((D.seen desk.new).journals b) }
@@ -70,21 +66,18 @@ fn begin_one<D: Desk, P: Pace>(
     begun: &mut u32,
 ) -> Result<(), Fault>
     requires within { b < (D.layout desk.old).buckets }
-    requires rest { IsDeskAtRest (D.layout desk.old) (D.out desk.old) (D.seen desk.old) }
-    requires fits { D.fits desk.old keepers.old }
+    requires rests { RestsWith D.Desk desk.old keepers.old }
     requires may { MayBegin ((D.keeping desk.old keepers.old).part b) plan.now.parent plan.now.subs }
     requires here { begun.old ≡ b }
     requires few { b + 1 < 4294967296 }
-    ensures layout { D.layout desk.new ≡ D.layout desk.old }
-    ensures rest { IsDeskAtRest (D.layout desk.new) (D.out desk.new) (D.seen desk.new) }
-    ensures fits { D.fits desk.new keepers.new }
-    ensures others { LeavesOthers b (known_of (D.seen desk.old) (D.keeping desk.old keepers.old)) (known_of (D.seen desk.new) (D.keeping desk.new keepers.new)) }
+    ensures leaves { LeavesWith D.Desk desk.old desk.new keepers.new }
+    ensures others { LeavesOthers b (known D.Desk desk.old keepers.old) (known D.Desk desk.new keepers.new) }
     ensures opened { begun.new ≡ b + 1 → IsAtStage
-        (record { plan = plan.now; base = known_of (D.seen desk.old) (D.keeping desk.old keepers.old) })
-        (building plan.now) (known_of (D.seen desk.new) (D.keeping desk.new keepers.new)) b }
+        (begun_from D.Desk desk.old keepers.old plan.now)
+        (building plan.now) (known D.Desk desk.new keepers.new) b }
     ensures unbegun { begun.new ≡ b → IsUnbegun
-        (record { plan = plan.now; base = known_of (D.seen desk.old) (D.keeping desk.old keepers.old) })
-        (D.layout desk.old).first (known_of (D.seen desk.new) (D.keeping desk.new keepers.new)) b }
+        (begun_from D.Desk desk.old keepers.old plan.now)
+        (D.layout desk.old).first (known D.Desk desk.new keepers.new) b }
     ensures count { (begun.new ≡ b) ⊎ (begun.new ≡ b + 1) }
     ensures all { OnOk result (begun.new ≡ b + 1) }
     ensures full { result ≡ Err Fault.LogFull → (begun.new ≡ b) × HasNoRoomFor (D.layout desk.old) plan.now.subs ((D.seen desk.new).journals b) }
@@ -105,20 +98,16 @@ fn fill_all<D: Desk, P: Pace>(
     keepers: &mut D::Keepers,
     cores: &[CoreId],
 ) -> Result<(), Fault>
-    requires rest { IsDeskAtRest (D.layout desk.old) (D.out desk.old) (D.seen desk.old) }
-    requires fits { D.fits desk.old keepers.old }
+    requires rests { RestsWith D.Desk desk.old keepers.old }
     requires stage { (split : OpenSplit) × (stage : Stage) × (stage.to_fill ≡ cores.now) × OfBuckets 0 (D.layout desk.old).buckets
-        (IsAtStage split stage (known_of (D.seen desk.old) (D.keeping desk.old keepers.old))) }
-    ensures layout { D.layout desk.new ≡ D.layout desk.old }
-    ensures rest { IsDeskAtRest (D.layout desk.new) (D.out desk.new) (D.seen desk.new) }
-    ensures fits { D.fits desk.new keepers.new }
-    ensures board { KeepsKnownBoard (known_of (D.seen desk.old) (D.keeping desk.old keepers.old)) (known_of (D.seen desk.new) (D.keeping desk.new keepers.new)) }
+        (IsAtStage split stage (known D.Desk desk.old keepers.old)) }
+    ensures leaves { HoldsBuckets D.Desk desk.old keepers.old desk.new keepers.new }
     ensures opened { (split : OpenSplit) (stage : Stage) → stage.to_fill ≡ cores.now → OfBuckets 0 (D.layout desk.old).buckets
-        (IsAtStage split stage (known_of (D.seen desk.old) (D.keeping desk.old keepers.old)))
-        → OfBuckets 0 (D.layout desk.old).buckets (IsOpenIn split (known_of (D.seen desk.new) (D.keeping desk.new keepers.new))) }
+        (IsAtStage split stage (known D.Desk desk.old keepers.old))
+        → OfBuckets 0 (D.layout desk.old).buckets (IsOpenIn split (known D.Desk desk.new keepers.new)) }
     ensures filled { OnOk result ((split : OpenSplit) (stage : Stage) → stage.to_fill ≡ cores.now → OfBuckets 0 (D.layout desk.old).buckets
-        (IsAtStage split stage (known_of (D.seen desk.old) (D.keeping desk.old keepers.old)))
-        → OfBuckets 0 (D.layout desk.old).buckets (IsAtStage split (filled stage) (known_of (D.seen desk.new) (D.keeping desk.new keepers.new)))) }
+        (IsAtStage split stage (known D.Desk desk.old keepers.old))
+        → OfBuckets 0 (D.layout desk.old).buckets (IsAtStage split (filled stage) (known D.Desk desk.new keepers.new))) }
     ensures steady { OnOk result (P.stops pace.new ≡ P.stops pace.old) }
     ensures stopped { IfErr result (λ fault. (fault ≡ Fault.Stopped) × (P.stops pace.old < P.stops pace.new)) }
     ensures no_fall { P.stops pace.old ≤ P.stops pace.new }
@@ -133,17 +122,13 @@ fn fill_all<D: Desk, P: Pace>(
 
 // The leaders of the subs are made in each bucket.
 fn ready_all<D: Desk>(desk: &mut D, keepers: &mut D::Keepers)
-    requires rest { IsDeskAtRest (D.layout desk.old) (D.out desk.old) (D.seen desk.old) }
-    requires fits { D.fits desk.old keepers.old }
+    requires rests { RestsWith D.Desk desk.old keepers.old }
     requires stage { (split : OpenSplit) × OfBuckets 0 (D.layout desk.old).buckets
-        (IsAtStage split (leaders_filled split.plan) (known_of (D.seen desk.old) (D.keeping desk.old keepers.old))) }
-    ensures layout { D.layout desk.new ≡ D.layout desk.old }
-    ensures rest { IsDeskAtRest (D.layout desk.new) (D.out desk.new) (D.seen desk.new) }
-    ensures fits { D.fits desk.new keepers.new }
-    ensures board { KeepsKnownBoard (known_of (D.seen desk.old) (D.keeping desk.old keepers.old)) (known_of (D.seen desk.new) (D.keeping desk.new keepers.new)) }
+        (IsAtStage split (leaders_filled split.plan) (known D.Desk desk.old keepers.old)) }
+    ensures leaves { HoldsBuckets D.Desk desk.old keepers.old desk.new keepers.new }
     ensures ready { (split : OpenSplit) → OfBuckets 0 (D.layout desk.old).buckets
-        (IsAtStage split (leaders_filled split.plan) (known_of (D.seen desk.old) (D.keeping desk.old keepers.old)))
-        → OfBuckets 0 (D.layout desk.old).buckets (IsAtStage split (recovering split.plan) (known_of (D.seen desk.new) (D.keeping desk.new keepers.new))) }
+        (IsAtStage split (leaders_filled split.plan) (known D.Desk desk.old keepers.old))
+        → OfBuckets 0 (D.layout desk.old).buckets (IsAtStage split (recovering split.plan) (known D.Desk desk.new keepers.new)) }
 {
     for b in 0..desk.buckets() {
         ready_in(desk, keepers, b);
@@ -160,27 +145,23 @@ pub(crate) fn lead_all<D: Desk, P: Pace>(
     leaders: &[CoreId],
     begun: &mut u32,
 ) -> Result<(), Fault>
-    requires rest { IsDeskAtRest (D.layout desk.old) (D.out desk.old) (D.seen desk.old) }
-    requires fits { D.fits desk.old keepers.old }
+    requires rests { RestsWith D.Desk desk.old keepers.old }
     requires may { OfBuckets 0 (D.layout desk.old).buckets
         (λ b. MayBegin ((D.keeping desk.old keepers.old).part b) plan.now.parent plan.now.subs) }
     requires none { begun.old ≡ 0 }
     requires leaders { leaders.now ≡ first_cores plan.now.subs }
-    ensures layout { D.layout desk.new ≡ D.layout desk.old }
-    ensures rest { IsDeskAtRest (D.layout desk.new) (D.out desk.new) (D.seen desk.new) }
-    ensures fits { D.fits desk.new keepers.new }
-    ensures board { KeepsKnownBoard (known_of (D.seen desk.old) (D.keeping desk.old keepers.old)) (known_of (D.seen desk.new) (D.keeping desk.new keepers.new)) }
+    ensures leaves { HoldsBuckets D.Desk desk.old keepers.old desk.new keepers.new }
     ensures count { begun.new ≤ (D.layout desk.old).buckets }
     ensures opened { OfBuckets 0 begun.new (IsOpenIn
-        (record { plan = plan.now; base = known_of (D.seen desk.old) (D.keeping desk.old keepers.old) })
-        (known_of (D.seen desk.new) (D.keeping desk.new keepers.new))) }
+        (begun_from D.Desk desk.old keepers.old plan.now)
+        (known D.Desk desk.new keepers.new)) }
     ensures unbegun { OfBuckets begun.new (D.layout desk.old).buckets (IsUnbegun
-        (record { plan = plan.now; base = known_of (D.seen desk.old) (D.keeping desk.old keepers.old) })
-        (D.layout desk.old).first (known_of (D.seen desk.new) (D.keeping desk.new keepers.new))) }
+        (begun_from D.Desk desk.old keepers.old plan.now)
+        (D.layout desk.old).first (known D.Desk desk.new keepers.new)) }
     ensures all { OnOk result (begun.new ≡ (D.layout desk.old).buckets) }
     ensures led { OnOk result (OfBuckets 0 (D.layout desk.old).buckets (IsAtStage
-        (record { plan = plan.now; base = known_of (D.seen desk.old) (D.keeping desk.old keepers.old) })
-        (recovering plan.now) (known_of (D.seen desk.new) (D.keeping desk.new keepers.new)))) }
+        (begun_from D.Desk desk.old keepers.old plan.now)
+        (recovering plan.now) (known D.Desk desk.new keepers.new))) }
     ensures full { result ≡ Err Fault.LogFull → (b : ℕ) × (begun.new ≤ b) × (b < (D.layout desk.old).buckets)
         × HasNoRoomFor (D.layout desk.old) plan.now.subs ((D.seen desk.new).journals b) }
     ensures steady { OnOk result (P.stops pace.new ≡ P.stops pace.old) }
@@ -202,20 +183,16 @@ pub(crate) fn follow_all<D: Desk, P: Pace>(
     keepers: &mut D::Keepers,
     cores: &[CoreId],
 ) -> Result<(), Fault>
-    requires rest { IsDeskAtRest (D.layout desk.old) (D.out desk.old) (D.seen desk.old) }
-    requires fits { D.fits desk.old keepers.old }
+    requires rests { RestsWith D.Desk desk.old keepers.old }
     requires stage { (split : OpenSplit) × (further_cores_of split.plan ≡ cores.now) × OfBuckets 0 (D.layout desk.old).buckets
-        (IsAtStage split (recovering split.plan) (known_of (D.seen desk.old) (D.keeping desk.old keepers.old))) }
-    ensures layout { D.layout desk.new ≡ D.layout desk.old }
-    ensures rest { IsDeskAtRest (D.layout desk.new) (D.out desk.new) (D.seen desk.new) }
-    ensures fits { D.fits desk.new keepers.new }
-    ensures board { KeepsKnownBoard (known_of (D.seen desk.old) (D.keeping desk.old keepers.old)) (known_of (D.seen desk.new) (D.keeping desk.new keepers.new)) }
+        (IsAtStage split (recovering split.plan) (known D.Desk desk.old keepers.old)) }
+    ensures leaves { HoldsBuckets D.Desk desk.old keepers.old desk.new keepers.new }
     ensures opened { (split : OpenSplit) → further_cores_of split.plan ≡ cores.now → OfBuckets 0 (D.layout desk.old).buckets
-        (IsAtStage split (recovering split.plan) (known_of (D.seen desk.old) (D.keeping desk.old keepers.old)))
-        → OfBuckets 0 (D.layout desk.old).buckets (IsOpenIn split (known_of (D.seen desk.new) (D.keeping desk.new keepers.new))) }
+        (IsAtStage split (recovering split.plan) (known D.Desk desk.old keepers.old))
+        → OfBuckets 0 (D.layout desk.old).buckets (IsOpenIn split (known D.Desk desk.new keepers.new)) }
     ensures whole { OnOk result ((split : OpenSplit) → further_cores_of split.plan ≡ cores.now → OfBuckets 0 (D.layout desk.old).buckets
-        (IsAtStage split (recovering split.plan) (known_of (D.seen desk.old) (D.keeping desk.old keepers.old)))
-        → OfBuckets 0 (D.layout desk.old).buckets (IsAtStage split (whole split.plan) (known_of (D.seen desk.new) (D.keeping desk.new keepers.new)))) }
+        (IsAtStage split (recovering split.plan) (known D.Desk desk.old keepers.old))
+        → OfBuckets 0 (D.layout desk.old).buckets (IsAtStage split (whole split.plan) (known D.Desk desk.new keepers.new))) }
     ensures steady { OnOk result (P.stops pace.new ≡ P.stops pace.old) }
     ensures stopped { result ≡ Err Fault.Stopped → P.stops pace.old < P.stops pace.new }
     ensures no_fall { P.stops pace.old ≤ P.stops pace.new }
@@ -237,19 +214,16 @@ fn follow_one<D: Desk, P: Pace>(
     cores: &[CoreId],
 ) -> Result<(), Fault>
     requires within { b < (D.layout desk.old).buckets }
-    requires rest { IsDeskAtRest (D.layout desk.old) (D.out desk.old) (D.seen desk.old) }
-    requires fits { D.fits desk.old keepers.old }
+    requires rests { RestsWith D.Desk desk.old keepers.old }
     requires stage { (split : OpenSplit) × (further_cores_of split.plan ≡ cores.now)
-        × IsAtStage split (recovering split.plan) (known_of (D.seen desk.old) (D.keeping desk.old keepers.old)) b }
-    ensures layout { D.layout desk.new ≡ D.layout desk.old }
-    ensures rest { IsDeskAtRest (D.layout desk.new) (D.out desk.new) (D.seen desk.new) }
-    ensures fits { D.fits desk.new keepers.new }
-    ensures others { LeavesOthers b (known_of (D.seen desk.old) (D.keeping desk.old keepers.old)) (known_of (D.seen desk.new) (D.keeping desk.new keepers.new)) }
-    ensures opened { (split : OpenSplit) → IsOpenIn split (known_of (D.seen desk.old) (D.keeping desk.old keepers.old)) b
-        → IsOpenIn split (known_of (D.seen desk.new) (D.keeping desk.new keepers.new)) b }
+        × IsAtStage split (recovering split.plan) (known D.Desk desk.old keepers.old) b }
+    ensures leaves { LeavesWith D.Desk desk.old desk.new keepers.new }
+    ensures others { LeavesOthers b (known D.Desk desk.old keepers.old) (known D.Desk desk.new keepers.new) }
+    ensures opened { (split : OpenSplit) → IsOpenIn split (known D.Desk desk.old keepers.old) b
+        → IsOpenIn split (known D.Desk desk.new keepers.new) b }
     ensures whole { OnOk result ((split : OpenSplit) → further_cores_of split.plan ≡ cores.now
-        → IsAtStage split (recovering split.plan) (known_of (D.seen desk.old) (D.keeping desk.old keepers.old)) b
-        → IsAtStage split (whole split.plan) (known_of (D.seen desk.new) (D.keeping desk.new keepers.new)) b) }
+        → IsAtStage split (recovering split.plan) (known D.Desk desk.old keepers.old) b
+        → IsAtStage split (whole split.plan) (known D.Desk desk.new keepers.new) b) }
     ensures steady { OnOk result (P.stops pace.new ≡ P.stops pace.old) }
     ensures stopped { result ≡ Err Fault.Stopped → P.stops pace.old < P.stops pace.new }
     ensures no_fall { P.stops pace.old ≤ P.stops pace.new }
@@ -275,15 +249,9 @@ fn join_one<D: Desk, P: Pace>(
     core: CoreId,
 ) -> Result<(), Fault>
     requires within { b < (D.layout desk.old).buckets }
-    requires rest { IsDeskAtRest (D.layout desk.old) (D.out desk.old) (D.seen desk.old) }
-    requires fits { D.fits desk.old keepers.old }
+    requires rests { RestsWith D.Desk desk.old keepers.old }
     requires may { (sub : Slice) × MayGrow ((D.keeping desk.old keepers.old).part b) core sub }
-    ensures layout { D.layout desk.new ≡ D.layout desk.old }
-    ensures rest { IsDeskAtRest (D.layout desk.new) (D.out desk.new) (D.seen desk.new) }
-    ensures fits { D.fits desk.new keepers.new }
-    ensures seen { IsAllSeen b (known_of (D.seen desk.new) (D.keeping desk.new keepers.new)) }
-    ensures held { KeeperHeld b (known_of (D.seen desk.old) (D.keeping desk.old keepers.old))
-        (known_of (D.seen desk.new) (D.keeping desk.new keepers.new)) [] }
+    ensures leaves { HoldsBucket D.Desk b desk.old keepers.old desk.new keepers.new }
     ensures grown { OnOk result (HasGrown ((D.keeping desk.old keepers.old).part b) core ((D.keeping desk.new keepers.new).part b)) }
     ensures underway { (base : Part) (plan : SplitPlan) → IsUnderway base plan ((D.keeping desk.old keepers.old).part b)
         → IsUnderway base plan ((D.keeping desk.new keepers.new).part b) }

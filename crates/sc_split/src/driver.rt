@@ -7,19 +7,19 @@ ghost use Rattle.sc_handover.specs.Made.{first_core};
 ghost use Rattle.sc_keeper.specs.Conditions.{MayBegin};
 ghost use Rattle.sc_io.specs.declared.hosts.Host.{Host};
 ghost use Rattle.sc_seen.specs.Seen.{Extends};
-ghost use Rattle.sc_seen.specs.Moments.{view_of};
 ghost use Rattle.sc_seen.specs.declared.board.BoardEntry.{BoardEntry};
 ghost use Rattle.sc_board.specs.Splits.{IsCut, asked_for};
-ghost use Rattle.sc_collection.specs.Desks.{IsDeskAtRest};
 ghost use Rattle.sc_collection.specs.Kept.{trail_room};
-ghost use Rattle.sc_collection.specs.Known.{known_of, OfBuckets};
+ghost use Rattle.sc_collection.specs.Known.{OfBuckets};
 ghost use Rattle.sc_split.specs.declared.end.Fault.TheVariants as faults;
 ghost use Rattle.sc_split.specs.Buckets.{HasNoRoomFor};
-ghost use Rattle.sc_cores.specs.Cores.{Outside, outside_of, HasStarted, without_cores};
+ghost use Rattle.sc_cores.specs.Cores.{Outside, HasStarted, without_cores};
+ghost use Rattle.sc_collection.specs.Resting.{Rests, looked_at, LeavesAtRest};
 ghost use Rattle.sc_split.specs.Outside.{cores_of};
-ghost use Rattle.sc_split.specs.Stages.{OpenSplit, IsOpenIn, IsUnbegun, IsAtStage, KeepsKnownBoard, recovering, whole, further_cores_of};
-ghost use Rattle.sc_split.specs.Splits.{IsSplit, split_moment};
+ghost use Rattle.sc_split.specs.Stages.{OpenSplit, IsOpenIn, IsUnbegun, IsAtStage, recovering, whole, further_cores_of};
+ghost use Rattle.sc_split.specs.Splits.{IsSplit};
 ghost use Rattle.sc_split.specs.Driving.{HasBegunOnBoard, IsHalted, IsWholeSplit, Builds, IsFault, GivesUp, Closes, Finishes, IsSplitDone, IsGivenUpOnBoard, IsEndOf};
+ghost use Rattle.sc_split.specs.Leaving.{known, begun_from, RestsWith, LeavesDesk, LeavesWith, HoldsBuckets, moment_at, StartsBeside};
 
 use crate::board::{note_done, note_failed, note_recovering, open};
 use crate::building::{ask, follow_all, lead_all};
@@ -57,17 +57,13 @@ pub fn split<D: Desk, H: Hosts, P: Pace>(
     shard: &str,
     cut: &Cut,
 ) -> SplitEnd
-    requires rest { IsDeskAtRest (D.layout desk.old) (D.out desk.old) (D.seen desk.old) }
+    requires rest { Rests D.Desk desk.old }
     requires cut { IsCut cut.now }
     requires room { length trail.old.stops + 1 + (D.layout desk.old).buckets ≤ trail_room }
     ensures split { IsSplit (D.layout desk.old) (asked_for shard.now cut.now)
-        (split_moment (view_of (D.seen desk.old) trail.old.stops)
-        (outside_of (H.started hosts.old) (H.start_faults hosts.old) (H.stop_faults hosts.old) (P.stops pace.old) (H.reached hosts.old)))
-        (split_moment (view_of (D.seen desk.new) trail.new.stops)
-        (outside_of (H.started hosts.new) (H.start_faults hosts.new) (H.stop_faults hosts.new) (P.stops pace.new) (H.reached hosts.new))) result }
-    ensures layout { D.layout desk.new ≡ D.layout desk.old }
-    ensures rest { IsDeskAtRest (D.layout desk.new) (D.out desk.new) (D.seen desk.new) }
-    ensures requests { trail.new.requests ≡ trail.old.requests }
+        (moment_at D.Desk H.Hosts P.Pace desk.old hosts.old pace.old trail.old.stops)
+        (moment_at D.Desk H.Hosts P.Pace desk.new hosts.new pace.new trail.new.stops) result }
+    ensures leaves { LeavesAtRest D.Desk desk.old trail.old desk.new trail.new }
 {
     match open(alloc, desk, trail, shard, cut) {
         Ok((plan, keepers)) => run(alloc, desk, hosts, pace, trail, keepers, &plan),
@@ -85,19 +81,14 @@ fn run<D: Desk, H: Hosts, P: Pace>(
     mut keepers: D::Keepers,
     plan: &SplitPlan,
 ) -> SplitEnd
-    requires rest { IsDeskAtRest (D.layout desk.old) (D.out desk.old) (D.seen desk.old) }
-    requires fits { D.fits desk.old keepers }
+    requires rests { RestsWith D.Desk desk.old keepers }
     requires begun { (entries : List BoardEntry)
-        × HasBegunOnBoard (D.layout desk.old) plan.now entries (known_of (D.seen desk.old) (D.keeping desk.old keepers)) }
+        × HasBegunOnBoard (D.layout desk.old) plan.now entries (known D.Desk desk.old keepers) }
     requires room { length trail.old.stops + (D.layout desk.old).buckets ≤ trail_room }
-    ensures went { let old = split_moment (view_of (D.seen desk.old) trail.old.stops)
-        (outside_of (H.started hosts.old) (H.start_faults hosts.old) (H.stop_faults hosts.old) (P.stops pace.old) (H.reached hosts.old)) in
-        let new = split_moment (view_of (D.seen desk.new) trail.new.stops)
-        (outside_of (H.started hosts.new) (H.start_faults hosts.new) (H.stop_faults hosts.new) (P.stops pace.new) (H.reached hosts.new)) in
+    ensures went { let old = moment_at D.Desk H.Hosts P.Pace desk.old hosts.old pace.old trail.old.stops in
+        let new = moment_at D.Desk H.Hosts P.Pace desk.new hosts.new pace.new trail.new.stops in
         IsSplitDone (D.layout desk.old) plan.now old new result ⊎ IsGivenUpOnBoard (D.layout desk.old) plan.now old new result }
-    ensures layout { D.layout desk.new ≡ D.layout desk.old }
-    ensures rest { IsDeskAtRest (D.layout desk.new) (D.out desk.new) (D.seen desk.new) }
-    ensures requests { trail.new.requests ≡ trail.old.requests }
+    ensures leaves { LeavesAtRest D.Desk desk.old trail.old desk.new trail.new }
 {
     let cores = match NewCores::of(alloc, desk.nodes(), plan) {
         Ok(cores) => cores,
@@ -136,40 +127,33 @@ fn build<D: Desk, H: Hosts, P: Pace>(
     cores: &NewCores,
     progress: &mut Progress,
 ) -> Result<(), Fault>
-    requires rest { IsDeskAtRest (D.layout desk.old) (D.out desk.old) (D.seen desk.old) }
-    requires fits { D.fits desk.old keepers.old }
+    requires rests { RestsWith D.Desk desk.old keepers.old }
     requires begun { (entries : List BoardEntry)
-        × HasBegunOnBoard (D.layout desk.old) plan.now entries (known_of (D.seen desk.old) (D.keeping desk.old keepers.old)) }
+        × HasBegunOnBoard (D.layout desk.old) plan.now entries (known D.Desk desk.old keepers.old) }
     requires leaders { cores.now.leaders ≡ map first_core plan.now.subs }
     requires followers { cores.now.followers ≡ further_cores_of plan.now }
     requires few { length cores.now.hosts < 4294967296 }
     requires within { length cores.now.leaders ≤ length cores.now.hosts }
     requires start { (progress.old.started ≡ 0) × (progress.old.begun ≡ 0) }
-    ensures layout { D.layout desk.new ≡ D.layout desk.old }
-    ensures rest { IsDeskAtRest (D.layout desk.new) (D.out desk.new) (D.seen desk.new) }
-    ensures fits { D.fits desk.new keepers.new }
+    ensures leaves { LeavesWith D.Desk desk.old desk.new keepers.new }
     ensures count { progress.new.begun ≤ (D.layout desk.old).buckets }
     ensures built { (entries : List BoardEntry)
-        → HasBegunOnBoard (D.layout desk.old) plan.now entries (known_of (D.seen desk.old) (D.keeping desk.old keepers.old))
-        → Builds (D.layout desk.old) (record { plan = plan.now; base = known_of (D.seen desk.old) (D.keeping desk.old keepers.old) }) entries progress.new.begun
-        (known_of (D.seen desk.old) (D.keeping desk.old keepers.old)) (known_of (D.seen desk.new) (D.keeping desk.new keepers.new)) }
+        → HasBegunOnBoard (D.layout desk.old) plan.now entries (known D.Desk desk.old keepers.old)
+        → Builds (D.layout desk.old) (begun_from D.Desk desk.old keepers.old plan.now) entries progress.new.begun
+        (known D.Desk desk.old keepers.old) (known D.Desk desk.new keepers.new) }
     ensures whole { OnOk result ((entries : List BoardEntry)
-        → HasBegunOnBoard (D.layout desk.old) plan.now entries (known_of (D.seen desk.old) (D.keeping desk.old keepers.old))
-        → IsWholeSplit (D.layout desk.old) (record { plan = plan.now; base = known_of (D.seen desk.old) (D.keeping desk.old keepers.old) }) entries
-        (known_of (D.seen desk.new) (D.keeping desk.new keepers.new))) }
+        → HasBegunOnBoard (D.layout desk.old) plan.now entries (known D.Desk desk.old keepers.old)
+        → IsWholeSplit (D.layout desk.old) (begun_from D.Desk desk.old keepers.old plan.now) entries
+        (known D.Desk desk.new keepers.new)) }
     ensures some { progress.new.started ≤ length cores.now.hosts }
     ensures all { OnOk result (progress.new.started ≡ length cores.now.hosts) }
     ensures started { (before : Option (List Host)) → HasStarted cores.now.hosts 0 before (H.started hosts.old)
         → HasStarted cores.now.hosts progress.new.started before (H.started hosts.new) }
     ensures steady { OnOk result ((H.start_faults hosts.new ≡ H.start_faults hosts.old) × (P.stops pace.new ≡ P.stops pace.old)) }
-    ensures no_fall { (H.start_faults hosts.old ≤ H.start_faults hosts.new) × (P.stops pace.old ≤ P.stops pace.new) }
-    ensures none_stopped { H.stop_faults hosts.new ≡ H.stop_faults hosts.old }
-    ensures reached { H.reached hosts.new ≡ H.reached hosts.old }
+    ensures beside { StartsBeside H.Hosts P.Pace hosts.old pace.old hosts.new pace.new }
     ensures cause { IfErr result (IsFault (D.layout desk.old) plan.now cores.now.hosts
-        (split_moment (view_of (D.seen desk.old) [])
-        (outside_of (H.started hosts.old) (H.start_faults hosts.old) (H.stop_faults hosts.old) (P.stops pace.old) (H.reached hosts.old)))
-        (split_moment (view_of (D.seen desk.new) [])
-        (outside_of (H.started hosts.new) (H.start_faults hosts.new) (H.stop_faults hosts.new) (P.stops pace.new) (H.reached hosts.new)))) }
+        (moment_at D.Desk H.Hosts P.Pace desk.old hosts.old pace.old [])
+        (moment_at D.Desk H.Hosts P.Pace desk.new hosts.new pace.new [])) }
 {
     lead(alloc, desk, hosts, pace, keepers, plan, cores, progress)?;
     note_recovering(desk);
@@ -195,36 +179,30 @@ fn lead<D: Desk, H: Hosts, P: Pace>(
     cores: &NewCores,
     progress: &mut Progress,
 ) -> Result<(), Fault>
-    requires rest { IsDeskAtRest (D.layout desk.old) (D.out desk.old) (D.seen desk.old) }
-    requires fits { D.fits desk.old keepers.old }
+    requires rests { RestsWith D.Desk desk.old keepers.old }
     requires may { OfBuckets 0 (D.layout desk.old).buckets
         (λ b. MayBegin ((D.keeping desk.old keepers.old).part b) plan.now.parent plan.now.subs) }
     requires leaders { cores.now.leaders ≡ map first_core plan.now.subs }
     requires few { length cores.now.hosts < 4294967296 }
     requires within { length cores.now.leaders ≤ length cores.now.hosts }
     requires start { (progress.old.started ≡ 0) × (progress.old.begun ≡ 0) }
-    ensures layout { D.layout desk.new ≡ D.layout desk.old }
-    ensures rest { IsDeskAtRest (D.layout desk.new) (D.out desk.new) (D.seen desk.new) }
-    ensures fits { D.fits desk.new keepers.new }
-    ensures board { KeepsKnownBoard (known_of (D.seen desk.old) (D.keeping desk.old keepers.old)) (known_of (D.seen desk.new) (D.keeping desk.new keepers.new)) }
+    ensures leaves { HoldsBuckets D.Desk desk.old keepers.old desk.new keepers.new }
     ensures count { progress.new.begun ≤ (D.layout desk.old).buckets }
     ensures opened { OfBuckets 0 progress.new.begun (IsOpenIn
-        (record { plan = plan.now; base = known_of (D.seen desk.old) (D.keeping desk.old keepers.old) })
-        (known_of (D.seen desk.new) (D.keeping desk.new keepers.new))) }
+        (begun_from D.Desk desk.old keepers.old plan.now)
+        (known D.Desk desk.new keepers.new)) }
     ensures unbegun { OfBuckets progress.new.begun (D.layout desk.old).buckets (IsUnbegun
-        (record { plan = plan.now; base = known_of (D.seen desk.old) (D.keeping desk.old keepers.old) })
-        (D.layout desk.old).first (known_of (D.seen desk.new) (D.keeping desk.new keepers.new))) }
+        (begun_from D.Desk desk.old keepers.old plan.now)
+        (D.layout desk.old).first (known D.Desk desk.new keepers.new)) }
     ensures everywhere { OnOk result (progress.new.begun ≡ (D.layout desk.old).buckets) }
     ensures led { OnOk result (OfBuckets 0 (D.layout desk.old).buckets (IsAtStage
-        (record { plan = plan.now; base = known_of (D.seen desk.old) (D.keeping desk.old keepers.old) })
-        (recovering plan.now) (known_of (D.seen desk.new) (D.keeping desk.new keepers.new)))) }
+        (begun_from D.Desk desk.old keepers.old plan.now)
+        (recovering plan.now) (known D.Desk desk.new keepers.new))) }
     ensures some { progress.new.started ≤ length cores.now.hosts }
     ensures started { (before : Option (List Host)) → HasStarted cores.now.hosts 0 before (H.started hosts.old)
         → HasStarted cores.now.hosts progress.new.started before (H.started hosts.new) }
     ensures steady { OnOk result ((H.start_faults hosts.new ≡ H.start_faults hosts.old) × (P.stops pace.new ≡ P.stops pace.old)) }
-    ensures no_fall { (H.start_faults hosts.old ≤ H.start_faults hosts.new) × (P.stops pace.old ≤ P.stops pace.new) }
-    ensures none_stopped { H.stop_faults hosts.new ≡ H.stop_faults hosts.old }
-    ensures reached { H.reached hosts.new ≡ H.reached hosts.old }
+    ensures beside { StartsBeside H.Hosts P.Pace hosts.old pace.old hosts.new pace.new }
     ensures full { result ≡ Err Fault.LogFull → (b : ℕ) × (progress.new.begun ≤ b) × (b < (D.layout desk.old).buckets)
         × HasNoRoomFor (D.layout desk.old) plan.now.subs ((D.seen desk.new).journals b) }
     ensures failed { (at : ℕ) → result ≡ Err (faults.Host at)
@@ -260,31 +238,25 @@ fn follow<D: Desk, H: Hosts, P: Pace>(
     cores: &NewCores,
     started: &mut usize,
 ) -> Result<(), Fault>
-    requires rest { IsDeskAtRest (D.layout desk.old) (D.out desk.old) (D.seen desk.old) }
-    requires fits { D.fits desk.old keepers.old }
+    requires rests { RestsWith D.Desk desk.old keepers.old }
     requires stage { (split : OpenSplit) × (further_cores_of split.plan ≡ cores.now.followers) × OfBuckets 0 (D.layout desk.old).buckets
-        (IsAtStage split (recovering split.plan) (known_of (D.seen desk.old) (D.keeping desk.old keepers.old))) }
+        (IsAtStage split (recovering split.plan) (known D.Desk desk.old keepers.old)) }
     requires few { length cores.now.hosts < 4294967296 }
     requires some { started.old ≤ length cores.now.hosts }
-    ensures layout { D.layout desk.new ≡ D.layout desk.old }
-    ensures rest { IsDeskAtRest (D.layout desk.new) (D.out desk.new) (D.seen desk.new) }
-    ensures fits { D.fits desk.new keepers.new }
-    ensures board { KeepsKnownBoard (known_of (D.seen desk.old) (D.keeping desk.old keepers.old)) (known_of (D.seen desk.new) (D.keeping desk.new keepers.new)) }
+    ensures leaves { HoldsBuckets D.Desk desk.old keepers.old desk.new keepers.new }
     ensures opened { (split : OpenSplit) → further_cores_of split.plan ≡ cores.now.followers → OfBuckets 0 (D.layout desk.old).buckets
-        (IsAtStage split (recovering split.plan) (known_of (D.seen desk.old) (D.keeping desk.old keepers.old)))
-        → OfBuckets 0 (D.layout desk.old).buckets (IsOpenIn split (known_of (D.seen desk.new) (D.keeping desk.new keepers.new))) }
+        (IsAtStage split (recovering split.plan) (known D.Desk desk.old keepers.old))
+        → OfBuckets 0 (D.layout desk.old).buckets (IsOpenIn split (known D.Desk desk.new keepers.new)) }
     ensures whole { OnOk result ((split : OpenSplit) → further_cores_of split.plan ≡ cores.now.followers
         → OfBuckets 0 (D.layout desk.old).buckets
-        (IsAtStage split (recovering split.plan) (known_of (D.seen desk.old) (D.keeping desk.old keepers.old)))
-        → OfBuckets 0 (D.layout desk.old).buckets (IsAtStage split (whole split.plan) (known_of (D.seen desk.new) (D.keeping desk.new keepers.new)))) }
+        (IsAtStage split (recovering split.plan) (known D.Desk desk.old keepers.old))
+        → OfBuckets 0 (D.layout desk.old).buckets (IsAtStage split (whole split.plan) (known D.Desk desk.new keepers.new))) }
     ensures some { started.new ≤ length cores.now.hosts }
     ensures all { OnOk result (started.new ≡ length cores.now.hosts) }
     ensures started { (before : Option (List Host)) → HasStarted cores.now.hosts started.old before (H.started hosts.old)
         → HasStarted cores.now.hosts started.new before (H.started hosts.new) }
     ensures steady { OnOk result ((H.start_faults hosts.new ≡ H.start_faults hosts.old) × (P.stops pace.new ≡ P.stops pace.old)) }
-    ensures no_fall { (H.start_faults hosts.old ≤ H.start_faults hosts.new) × (P.stops pace.old ≤ P.stops pace.new) }
-    ensures none_stopped { H.stop_faults hosts.new ≡ H.stop_faults hosts.old }
-    ensures reached { H.reached hosts.new ≡ H.reached hosts.old }
+    ensures beside { StartsBeside H.Hosts P.Pace hosts.old pace.old hosts.new pace.new }
     ensures not_full { result ≡ Err Fault.LogFull → ⊥ }
     ensures failed { (at : ℕ) → result ≡ Err (faults.Host at)
         → (at < length cores.now.hosts) × (H.start_faults hosts.old < H.start_faults hosts.new) }
@@ -305,19 +277,16 @@ fn finish<D: Desk>(
     keepers: D::Keepers,
     subs: List<Text>,
 ) -> SplitEnd
-    requires rest { IsDeskAtRest (D.layout desk.old) (D.out desk.old) (D.seen desk.old) }
-    requires fits { D.fits desk.old keepers }
+    requires rests { RestsWith D.Desk desk.old keepers }
     requires whole { (split : OpenSplit) × (entries : List BoardEntry)
-        × IsWholeSplit (D.layout desk.old) split entries (known_of (D.seen desk.old) (D.keeping desk.old keepers)) }
+        × IsWholeSplit (D.layout desk.old) split entries (known D.Desk desk.old keepers) }
     requires room { length trail.old.stops + (D.layout desk.old).buckets ≤ trail_room }
     ensures finished { (split : OpenSplit) (entries : List BoardEntry)
-        → IsWholeSplit (D.layout desk.old) split entries (known_of (D.seen desk.old) (D.keeping desk.old keepers))
+        → IsWholeSplit (D.layout desk.old) split entries (known D.Desk desk.old keepers)
         → subs ≡ map (λ (sub : SubSlice). sub.name) split.plan.subs
-        → Finishes (D.layout desk.old) split.plan split.base.seen (view_of (D.seen desk.old) trail.old.stops)
-        (view_of (D.seen desk.new) trail.new.stops) result }
-    ensures layout { D.layout desk.new ≡ D.layout desk.old }
-    ensures rest { IsDeskAtRest (D.layout desk.new) (D.out desk.new) (D.seen desk.new) }
-    ensures requests { trail.new.requests ≡ trail.old.requests }
+        → Finishes (D.layout desk.old) split.plan split.base.seen (looked_at D.Desk desk.old trail.old)
+        (looked_at D.Desk desk.new trail.new) result }
+    ensures leaves { LeavesAtRest D.Desk desk.old trail.old desk.new trail.new }
 {
     close(desk, keepers);
     SplitEnd::Done {
@@ -328,15 +297,13 @@ fn finish<D: Desk>(
 
 // Puts the subs in their parent's place in each bucket, and notes on the board that the split is done.
 fn close<D: Desk>(desk: &mut D, mut keepers: D::Keepers)
-    requires rest { IsDeskAtRest (D.layout desk.old) (D.out desk.old) (D.seen desk.old) }
-    requires fits { D.fits desk.old keepers }
+    requires rests { RestsWith D.Desk desk.old keepers }
     requires whole { (split : OpenSplit) × (entries : List BoardEntry)
-        × IsWholeSplit (D.layout desk.old) split entries (known_of (D.seen desk.old) (D.keeping desk.old keepers)) }
+        × IsWholeSplit (D.layout desk.old) split entries (known D.Desk desk.old keepers) }
     ensures closed { (split : OpenSplit) (entries : List BoardEntry)
-        → IsWholeSplit (D.layout desk.old) split entries (known_of (D.seen desk.old) (D.keeping desk.old keepers))
+        → IsWholeSplit (D.layout desk.old) split entries (known D.Desk desk.old keepers)
         → Closes (D.layout desk.old) split.plan split.base.seen (D.seen desk.old) (D.seen desk.new) }
-    ensures layout { D.layout desk.new ≡ D.layout desk.old }
-    ensures rest { IsDeskAtRest (D.layout desk.new) (D.out desk.new) (D.seen desk.new) }
+    ensures leaves { LeavesDesk D.Desk desk.old desk.new }
 {
     switch_all(desk, &mut keepers);
     note_done(desk, keepers);
@@ -351,19 +318,17 @@ fn give_up<D: Desk, H: Hosts>(
     progress: Progress,
     fault: Fault,
 ) -> SplitEnd
-    requires rest { IsDeskAtRest (D.layout desk.old) (D.out desk.old) (D.seen desk.old) }
-    requires fits { D.fits desk.old keepers }
+    requires rests { RestsWith D.Desk desk.old keepers }
     requires halted { (split : OpenSplit) × (entries : List BoardEntry) × (recovered : Bool) × IsHalted (D.layout desk.old) split entries recovered
-        progress.begun (known_of (D.seen desk.old) (D.keeping desk.old keepers)) }
+        progress.begun (known D.Desk desk.old keepers) }
     requires count { progress.begun ≤ (D.layout desk.old).buckets }
     requires started { progress.started ≤ length cores.hosts }
     requires host { (at : ℕ) → fault ≡ faults.Host at → at < length cores.hosts }
     ensures given_up { (split : OpenSplit) (entries : List BoardEntry) (recovered : Bool) → IsHalted (D.layout desk.old) split entries recovered
-        progress.begun (known_of (D.seen desk.old) (D.keeping desk.old keepers))
+        progress.begun (known D.Desk desk.old keepers)
         → GivesUp (D.layout desk.old) split.plan split.base.seen (D.seen desk.old) (D.seen desk.new) }
     ensures end { IsEndOf cores.hosts fault result }
-    ensures layout { D.layout desk.new ≡ D.layout desk.old }
-    ensures rest { IsDeskAtRest (D.layout desk.new) (D.out desk.new) (D.seen desk.new) }
+    ensures leaves { LeavesDesk D.Desk desk.old desk.new }
     ensures stopped { H.stop_faults hosts.new ≡ H.stop_faults hosts.old → (all : List Host) → H.started hosts.old ≡ Some all
         → H.started hosts.new ≡ Some (without_cores (take progress.started cores.hosts) all) }
     ensures no_fall { H.stop_faults hosts.old ≤ H.stop_faults hosts.new }
@@ -378,15 +343,13 @@ fn give_up<D: Desk, H: Hosts>(
 
 // Leaves the map as it was before a split that has not begun in any bucket.
 fn fail_unbegun<D: Desk>(desk: &mut D, keepers: D::Keepers)
-    requires rest { IsDeskAtRest (D.layout desk.old) (D.out desk.old) (D.seen desk.old) }
-    requires fits { D.fits desk.old keepers }
+    requires rests { RestsWith D.Desk desk.old keepers }
     requires begun { (plan : SplitPlan) × (entries : List BoardEntry)
-        × HasBegunOnBoard (D.layout desk.old) plan entries (known_of (D.seen desk.old) (D.keeping desk.old keepers)) }
+        × HasBegunOnBoard (D.layout desk.old) plan entries (known D.Desk desk.old keepers) }
     ensures given_up { (plan : SplitPlan) (entries : List BoardEntry)
-        → HasBegunOnBoard (D.layout desk.old) plan entries (known_of (D.seen desk.old) (D.keeping desk.old keepers))
+        → HasBegunOnBoard (D.layout desk.old) plan entries (known D.Desk desk.old keepers)
         → GivesUp (D.layout desk.old) plan (D.seen desk.old) (D.seen desk.old) (D.seen desk.new) }
-    ensures layout { D.layout desk.new ≡ D.layout desk.old }
-    ensures rest { IsDeskAtRest (D.layout desk.new) (D.out desk.new) (D.seen desk.new) }
+    ensures leaves { LeavesDesk D.Desk desk.old desk.new }
 {
     note_failed(desk, keepers);
 }

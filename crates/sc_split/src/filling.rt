@@ -1,13 +1,12 @@
 //! The new cores of one bucket are filled: each is fed the rows of its snapshot, and then replays what it buffered meanwhile.
 
-ghost use Rattle.std.specs.Prelude.{◌≡◌, ◌<◌, ◌≤◌, [], ◌∷◌, List, IsTrue, IsFalse};
+ghost use Rattle.std.specs.Prelude.{◌≡◌, ◌<◌, [], ◌∷◌, List, IsTrue};
 ghost use Rattle.sc_record.specs.declared.slice.CoreId.{CoreId};
 ghost use Rattle.sc_cluster.specs.declared.plan.SplitPlan.{SplitPlan};
 ghost use Rattle.sc_keeper.specs.declared.part.Part.{Part};
-ghost use Rattle.sc_collection.specs.Desks.{IsDeskAtRest};
-ghost use Rattle.sc_collection.specs.Known.{known_of};
-ghost use Rattle.sc_split.specs.Buckets.{fed_names, IsAllSeen, KeeperHeld, AreToFill, IsToFill, IsFirstFed, IsFilled};
+ghost use Rattle.sc_split.specs.Buckets.{fed_names, IsAllSeen, AreToFill, IsToFill, IsFirstFed, IsFilled};
 ghost use Rattle.sc_split.specs.Buckets.{IsUnderway, KeepsSeats, KeepsCores};
+ghost use Rattle.sc_split.specs.Leaving.{known, RestsWith, HoldsBucket, AsksPace};
 
 use crate::bucket::{feed_in, replay_in, start_replay_in};
 use sc_collection::Desk;
@@ -24,23 +23,15 @@ pub(crate) fn fill<D: Desk, P: Pace>(
     cores: &[CoreId],
 ) -> bool
     requires within { b < (D.layout desk.old).buckets }
-    requires rest { IsDeskAtRest (D.layout desk.old) (D.out desk.old) (D.seen desk.old) }
-    requires fits { D.fits desk.old keepers.old }
-    requires seen { IsAllSeen b (known_of (D.seen desk.old) (D.keeping desk.old keepers.old)) }
+    requires rests { RestsWith D.Desk desk.old keepers.old }
+    requires seen { IsAllSeen b (known D.Desk desk.old keepers.old) }
     requires to_fill { IsToFill ((D.keeping desk.old keepers.old).part b) cores.now }
-    ensures layout { D.layout desk.new ≡ D.layout desk.old }
-    ensures rest { IsDeskAtRest (D.layout desk.new) (D.out desk.new) (D.seen desk.new) }
-    ensures fits { D.fits desk.new keepers.new }
-    ensures seen { IsAllSeen b (known_of (D.seen desk.new) (D.keeping desk.new keepers.new)) }
-    ensures held { KeeperHeld b (known_of (D.seen desk.old) (D.keeping desk.old keepers.old))
-        (known_of (D.seen desk.new) (D.keeping desk.new keepers.new)) [] }
+    ensures leaves { HoldsBucket D.Desk b desk.old keepers.old desk.new keepers.new }
     ensures seats { KeepsSeats ((D.keeping desk.old keepers.old).part b) ((D.keeping desk.new keepers.new).part b) }
     ensures underway { (base : Part) (plan : SplitPlan) → IsUnderway base plan ((D.keeping desk.old keepers.old).part b)
         → IsUnderway base plan ((D.keeping desk.new keepers.new).part b) }
     ensures filled { IsTrue result → IsFilled ((D.keeping desk.new keepers.new).part b) }
-    ensures steady { IsTrue result → P.stops pace.new ≡ P.stops pace.old }
-    ensures stopped { IsFalse result → P.stops pace.old < P.stops pace.new }
-    ensures no_fall { P.stops pace.old ≤ P.stops pace.new }
+    ensures pace { AsksPace P.Pace pace.old pace.new result }
 {
     for core in cores {
         if !feed_all(desk, pace, keepers, b, *core) {
@@ -64,21 +55,13 @@ fn feed_all<D: Desk, P: Pace>(
     core: CoreId,
 ) -> bool
     requires within { b < (D.layout desk.old).buckets }
-    requires rest { IsDeskAtRest (D.layout desk.old) (D.out desk.old) (D.seen desk.old) }
-    requires fits { D.fits desk.old keepers.old }
+    requires rests { RestsWith D.Desk desk.old keepers.old }
     requires first { IsFirstFed ((D.keeping desk.old keepers.old).part b) core }
-    ensures layout { D.layout desk.new ≡ D.layout desk.old }
-    ensures rest { IsDeskAtRest (D.layout desk.new) (D.out desk.new) (D.seen desk.new) }
-    ensures fits { D.fits desk.new keepers.new }
-    ensures seen { IsAllSeen b (known_of (D.seen desk.new) (D.keeping desk.new keepers.new)) }
-    ensures held { KeeperHeld b (known_of (D.seen desk.old) (D.keeping desk.old keepers.old))
-        (known_of (D.seen desk.new) (D.keeping desk.new keepers.new)) [] }
+    ensures leaves { HoldsBucket D.Desk b desk.old keepers.old desk.new keepers.new }
     ensures kept { KeepsCores ((D.keeping desk.old keepers.old).part b) ((D.keeping desk.new keepers.new).part b) }
     ensures fed { IsTrue result → (names : List CoreId) → fed_names ((D.keeping desk.old keepers.old).part b) ≡ core ∷ names
         → fed_names ((D.keeping desk.new keepers.new).part b) ≡ names }
-    ensures steady { IsTrue result → P.stops pace.new ≡ P.stops pace.old }
-    ensures stopped { IsFalse result → P.stops pace.old < P.stops pace.new }
-    ensures no_fall { P.stops pace.old ≤ P.stops pace.new }
+    ensures pace { AsksPace P.Pace pace.old pace.new result }
 {
     loop {
         let is_fed = feed_in(desk, keepers, b, core);
@@ -101,25 +84,17 @@ fn replay_all<D: Desk, P: Pace>(
     core: CoreId,
 ) -> bool
     requires within { b < (D.layout desk.old).buckets }
-    requires rest { IsDeskAtRest (D.layout desk.old) (D.out desk.old) (D.seen desk.old) }
-    requires fits { D.fits desk.old keepers.old }
+    requires rests { RestsWith D.Desk desk.old keepers.old }
     requires unfed { ((D.keeping desk.old keepers.old).part b).feeds ≡ [] }
     requires first { (names : List CoreId) × AreToFill ((D.keeping desk.old keepers.old).part b) (core ∷ names) }
-    ensures layout { D.layout desk.new ≡ D.layout desk.old }
-    ensures rest { IsDeskAtRest (D.layout desk.new) (D.out desk.new) (D.seen desk.new) }
-    ensures fits { D.fits desk.new keepers.new }
-    ensures seen { IsAllSeen b (known_of (D.seen desk.new) (D.keeping desk.new keepers.new)) }
-    ensures held { KeeperHeld b (known_of (D.seen desk.old) (D.keeping desk.old keepers.old))
-        (known_of (D.seen desk.new) (D.keeping desk.new keepers.new)) [] }
+    ensures leaves { HoldsBucket D.Desk b desk.old keepers.old desk.new keepers.new }
     ensures seats { KeepsSeats ((D.keeping desk.old keepers.old).part b) ((D.keeping desk.new keepers.new).part b) }
     ensures unfed { ((D.keeping desk.new keepers.new).part b).feeds ≡ [] }
     ensures underway { (base : Part) (plan : SplitPlan) → IsUnderway base plan ((D.keeping desk.old keepers.old).part b)
         → IsUnderway base plan ((D.keeping desk.new keepers.new).part b) }
     ensures filled { IsTrue result → (names : List CoreId) → AreToFill ((D.keeping desk.old keepers.old).part b) (core ∷ names)
         → AreToFill ((D.keeping desk.new keepers.new).part b) names }
-    ensures steady { IsTrue result → P.stops pace.new ≡ P.stops pace.old }
-    ensures stopped { IsFalse result → P.stops pace.old < P.stops pace.new }
-    ensures no_fall { P.stops pace.old ≤ P.stops pace.new }
+    ensures pace { AsksPace P.Pace pace.old pace.new result }
 {
     start_replay_in(desk, keepers, b, core);
     loop {

@@ -64,11 +64,13 @@ returns g c =
     let parent = c.requires.may.0 in
     let can = (aborts_by_part bucket parent).1 (subst (λ (one : Part). MayAbort one parent) (sym part) c.requires.may.1) in
     record {
-      layout = c.give_keeper.ensures.layout ∙ c.hold_keeper-bucket.ensures.handed.layout;
-      rest = rest-held (g.D.Desk.layout c.give_keeper.new.self) new.seen held (g.D.Desk.out c.args.desk.now)
-          (g.D.Desk.out c.hold_keeper-bucket.new.self) (g.D.Desk.out c.give_keeper.new.self) c.requires.rest.nothing_out
-          c.hold_keeper-bucket.ensures.handed.out c.give_keeper.ensures.out c.give_keeper.ensures.legal;
-      fits = c.give_keeper.ensures.fits;
+      leaves = record {
+        layout = c.give_keeper.ensures.layout ∙ c.hold_keeper-bucket.ensures.handed.layout;
+        rest = rest-held (g.D.Desk.layout c.give_keeper.new.self) new.seen held (g.D.Desk.out c.args.desk.now)
+            (g.D.Desk.out c.hold_keeper-bucket.new.self) (g.D.Desk.out c.give_keeper.new.self) c.requires.rests.rest.nothing_out
+            c.hold_keeper-bucket.ensures.handed.out c.give_keeper.ensures.out c.give_keeper.ensures.legal;
+        fits = c.give_keeper.ensures.fits;
+      };
       seen = all_seen c.args.b bucket given old new is;
       held = λ parent may.
           let can_abort = (aborts_by_part bucket parent).1 (subst (λ (one : Part). MayAbort one parent) (sym part) may) in

@@ -82,11 +82,13 @@ returns g c =
     subst (λ (layout : Layout). IsBucketOf layout c.args.b bucket)
     (sym (c.give_keeper.ensures.layout ∙ c.hold_keeper-bucket.ensures.handed.layout)) c.hold_keeper-bucket.ensures.handed.is_of in
     record {
-      layout = c.give_keeper.ensures.layout ∙ c.hold_keeper-bucket.ensures.handed.layout;
-      rest = rest-held (g.D.Desk.layout c.give_keeper.new.self) new.seen held (g.D.Desk.out c.args.desk.now)
-          (g.D.Desk.out c.hold_keeper-bucket.new.self) (g.D.Desk.out c.give_keeper.new.self) c.requires.rest.nothing_out
-          c.hold_keeper-bucket.ensures.handed.out c.give_keeper.ensures.out c.give_keeper.ensures.legal;
-      fits = c.give_keeper.ensures.fits;
+      leaves = record {
+        layout = c.give_keeper.ensures.layout ∙ c.hold_keeper-bucket.ensures.handed.layout;
+        rest = rest-held (g.D.Desk.layout c.give_keeper.new.self) new.seen held (g.D.Desk.out c.args.desk.now)
+            (g.D.Desk.out c.hold_keeper-bucket.new.self) (g.D.Desk.out c.give_keeper.new.self) c.requires.rests.rest.nothing_out
+            c.hold_keeper-bucket.ensures.handed.out c.give_keeper.ensures.out c.give_keeper.ensures.legal;
+        fits = c.give_keeper.ensures.fits;
+      };
       seen = all_seen c.args.b bucket given old new is;
       held = on_ok Begun (KeeperHeld c.args.b old new (entry.Begun plan.parent plan.subs ∷ [])) c.begin-answer.result
           (λ begun. held-made c.args.b bucket given old new is (entry.Begun plan.parent plan.subs ∷ []) begun.entries

@@ -82,16 +82,18 @@ returns g c =
     let Done : Type 0 = (one : Slice) → CanGrow bucket c.args.core one → Grows bucket c.args.core one c.grow-answer.new.bucket in
     let Refused : Type 0 = DeliversAllTo bucket (leader_of c.args.core.slice) c.grow-answer.new.bucket in
     record {
-      layout = c.give_keeper.ensures.layout ∙ c.hold_keeper-bucket.ensures.handed.layout;
-      rest = rest-held (g.D.Desk.layout c.give_keeper.new.self) new.seen held (g.D.Desk.out c.args.desk.now)
-          (g.D.Desk.out c.hold_keeper-bucket.new.self) (g.D.Desk.out c.give_keeper.new.self) c.requires.rest.nothing_out
-          c.hold_keeper-bucket.ensures.handed.out c.give_keeper.ensures.out c.give_keeper.ensures.legal;
-      fits = c.give_keeper.ensures.fits;
-      seen = all_seen c.args.b bucket given old new is;
-      held = by_answer Done Refused (KeeperHeld c.args.b old new []) c.grow-answer.result
-          (λ grown. held-none c.args.b bucket given old new is (grown sub can).entries)
-          (λ delivered. held-none c.args.b bucket given old new is delivered.entries) c.grow-answer.ensures.grown
-          c.grow-answer.ensures.refused;
+      leaves = record {
+        layout = c.give_keeper.ensures.layout ∙ c.hold_keeper-bucket.ensures.handed.layout;
+        rest = rest-held (g.D.Desk.layout c.give_keeper.new.self) new.seen held (g.D.Desk.out c.args.desk.now)
+            (g.D.Desk.out c.hold_keeper-bucket.new.self) (g.D.Desk.out c.give_keeper.new.self) c.requires.rests.rest.nothing_out
+            c.hold_keeper-bucket.ensures.handed.out c.give_keeper.ensures.out c.give_keeper.ensures.legal;
+        fits = c.give_keeper.ensures.fits;
+        seen = all_seen c.args.b bucket given old new is;
+        held = by_answer Done Refused (KeeperHeld c.args.b old new []) c.grow-answer.result
+            (λ grown. held-none c.args.b bucket given old new is (grown sub can).entries)
+            (λ delivered. held-none c.args.b bucket given old new is delivered.entries) c.grow-answer.ensures.grown
+            c.grow-answer.ensures.refused;
+      };
       grown = on_ok Done (HasGrown (old.keeping.part c.args.b) c.args.core (new.keeping.part c.args.b)) c.grow-answer.result
           (λ grown. kept_parts (λ was one. HasGrown was c.args.core one) now part
           (has_grown (part_of bucket) (part_of given) c.args.core (grows_part bucket given c.args.core sub (grown sub can))

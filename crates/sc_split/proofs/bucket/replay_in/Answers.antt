@@ -59,13 +59,15 @@ returns g c =
     let now = part-given c.args.b bucket given old new is in
     let can = (replays_by_part bucket c.args.core).1 (subst (λ (one : Part). MayReplay one c.args.core) (sym part) c.requires.may) in
     record {
-      layout = c.give_keeper.ensures.layout ∙ c.hold_keeper-bucket.ensures.handed.layout;
-      rest = rest-held (g.D.Desk.layout c.give_keeper.new.self) new.seen held (g.D.Desk.out c.args.desk.now)
-          (g.D.Desk.out c.hold_keeper-bucket.new.self) (g.D.Desk.out c.give_keeper.new.self) c.requires.rest.nothing_out
-          c.hold_keeper-bucket.ensures.handed.out c.give_keeper.ensures.out c.give_keeper.ensures.legal;
-      fits = c.give_keeper.ensures.fits;
-      seen = all_seen c.args.b bucket given old new is;
-      held = held-none c.args.b bucket given old new is c.replay_piece-is_done.ensures.replayed.rest.entries;
+      leaves = record {
+        layout = c.give_keeper.ensures.layout ∙ c.hold_keeper-bucket.ensures.handed.layout;
+        rest = rest-held (g.D.Desk.layout c.give_keeper.new.self) new.seen held (g.D.Desk.out c.args.desk.now)
+            (g.D.Desk.out c.hold_keeper-bucket.new.self) (g.D.Desk.out c.give_keeper.new.self) c.requires.rests.rest.nothing_out
+            c.hold_keeper-bucket.ensures.handed.out c.give_keeper.ensures.out c.give_keeper.ensures.legal;
+        fits = c.give_keeper.ensures.fits;
+        seen = all_seen c.args.b bucket given old new is;
+        held = held-none c.args.b bucket given old new is c.replay_piece-is_done.ensures.replayed.rest.entries;
+      };
       replayed = kept_parts (λ was one. PartReplays was c.args.core c.replay_piece-is_done.result one) now part
           (replays_part bucket given c.args.core c.replay_piece-is_done.result c.hold_keeper-bucket.ensures.handed.sound can
           c.replay_piece-is_done.ensures.replayed);

@@ -62,13 +62,15 @@ returns g c =
     let can = (starts_replay_by_part bucket c.args.core).1 (subst (λ (one : Part). MayStartReplay one c.args.core)
     (sym part) c.requires.may) in
     record {
-      layout = c.give_keeper.ensures.layout ∙ c.hold_keeper-bucket.ensures.handed.layout;
-      rest = rest-held (g.D.Desk.layout c.give_keeper.new.self) new.seen held (g.D.Desk.out c.args.desk.now)
-          (g.D.Desk.out c.hold_keeper-bucket.new.self) (g.D.Desk.out c.give_keeper.new.self) c.requires.rest.nothing_out
-          c.hold_keeper-bucket.ensures.handed.out c.give_keeper.ensures.out c.give_keeper.ensures.legal;
-      fits = c.give_keeper.ensures.fits;
-      seen = all_seen c.args.b bucket given old new is;
-      held = held-none c.args.b bucket given old new is c.start_replay.ensures.started.rest.entries;
+      leaves = record {
+        layout = c.give_keeper.ensures.layout ∙ c.hold_keeper-bucket.ensures.handed.layout;
+        rest = rest-held (g.D.Desk.layout c.give_keeper.new.self) new.seen held (g.D.Desk.out c.args.desk.now)
+            (g.D.Desk.out c.hold_keeper-bucket.new.self) (g.D.Desk.out c.give_keeper.new.self) c.requires.rests.rest.nothing_out
+            c.hold_keeper-bucket.ensures.handed.out c.give_keeper.ensures.out c.give_keeper.ensures.legal;
+        fits = c.give_keeper.ensures.fits;
+        seen = all_seen c.args.b bucket given old new is;
+        held = held-none c.args.b bucket given old new is c.start_replay.ensures.started.rest.entries;
+      };
       started = kept_parts (λ was one. PartStartsReplay was c.args.core one) now part
           (starts_replay_of_part bucket given c.args.core c.start_replay.ensures.started);
     }

@@ -26,20 +26,22 @@ returns-in_err-begin_one-clause-unbegun g c =
     c.loop-b.b (g.D.Desk.layout c.args.desk.now).buckets c.begin_one.new.begun
     c.loop-b.invariant.same below c.begin_one.ensures.others c.begin_one.ensures.count
     (λ here. subst (λ (layout : Layout). IsUnbegun (record { plan = c.args.plan.now; base = (known_of (g.D.Desk.seen c.loop-b.desk) (g.D.Desk.keeping c.loop-b.desk c.loop-b.keepers)) })
-    layout.first (known_of (g.D.Desk.seen c.begin_one.new.desk) (g.D.Desk.keeping c.begin_one.new.desk c.begin_one.new.keepers)) c.loop-b.b) c.loop-b.invariant.layout (c.begin_one.ensures.unbegun here))
+    layout.first (known_of (g.D.Desk.seen c.begin_one.new.desk) (g.D.Desk.keeping c.begin_one.new.desk c.begin_one.new.keepers)) c.loop-b.b) c.loop-b.invariant.leaves.layout (c.begin_one.ensures.unbegun here))
 
 pub loop-b-preserved : goal.loop-b-preserved
 loop-b-preserved g c =
     let below : c.loop-b.b < (g.D.Desk.layout c.args.desk.now).buckets = omega (arith, c.buckets-b-end.ensures.count) in
     record {
-      layout = c.begin_one.ensures.layout ∙ c.loop-b.invariant.layout;
-      rest = c.begin_one.ensures.rest;
-      fits = c.begin_one.ensures.fits;
-      board = board-then (known_of (g.D.Desk.seen c.args.desk.now) (g.D.Desk.keeping c.args.desk.now c.args.keepers.now))
-          (known_of (g.D.Desk.seen c.loop-b.desk) (g.D.Desk.keeping c.loop-b.desk c.loop-b.keepers))
-          (known_of (g.D.Desk.seen c.begin_one.new.desk) (g.D.Desk.keeping c.begin_one.new.desk c.begin_one.new.keepers))
-          c.loop-b.invariant.board (board-kept c.loop-b.b (known_of (g.D.Desk.seen c.loop-b.desk) (g.D.Desk.keeping c.loop-b.desk c.loop-b.keepers))
-          (known_of (g.D.Desk.seen c.begin_one.new.desk) (g.D.Desk.keeping c.begin_one.new.desk c.begin_one.new.keepers)) c.begin_one.ensures.others);
+      leaves = record {
+        layout = c.begin_one.ensures.leaves.layout ∙ c.loop-b.invariant.leaves.layout;
+        rest = c.begin_one.ensures.leaves.rest;
+        fits = c.begin_one.ensures.leaves.fits;
+        board = board-then (known_of (g.D.Desk.seen c.args.desk.now) (g.D.Desk.keeping c.args.desk.now c.args.keepers.now))
+            (known_of (g.D.Desk.seen c.loop-b.desk) (g.D.Desk.keeping c.loop-b.desk c.loop-b.keepers))
+            (known_of (g.D.Desk.seen c.begin_one.new.desk) (g.D.Desk.keeping c.begin_one.new.desk c.begin_one.new.keepers))
+            c.loop-b.invariant.leaves.board (board-kept c.loop-b.b (known_of (g.D.Desk.seen c.loop-b.desk) (g.D.Desk.keeping c.loop-b.desk c.loop-b.keepers))
+            (known_of (g.D.Desk.seen c.begin_one.new.desk) (g.D.Desk.keeping c.begin_one.new.desk c.begin_one.new.keepers)) c.begin_one.ensures.others);
+      };
       begun = c.in_ok-begin_one.ensures.all;
       opened = opened-so-far c.args.plan.now (building c.args.plan.now) (known_of (g.D.Desk.seen c.args.desk.now) (g.D.Desk.keeping c.args.desk.now c.args.keepers.now))
           (known_of (g.D.Desk.seen c.loop-b.desk) (g.D.Desk.keeping c.loop-b.desk c.loop-b.keepers))

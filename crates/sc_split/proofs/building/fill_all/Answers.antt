@@ -17,9 +17,9 @@ returns-then-not-fill-clause-opened g c split stage to_fill at =
     open-in-all split stage (filled stage) (known_of (g.D.Desk.seen c.args.desk.now) (g.D.Desk.keeping c.args.desk.now c.args.keepers.now))
     (known_of (g.D.Desk.seen c.loop-b.desk) (g.D.Desk.keeping c.loop-b.desk c.loop-b.keepers))
     (known_of (g.D.Desk.seen c.fill.new.desk) (g.D.Desk.keeping c.fill.new.desk c.fill.new.keepers)) c.loop-b.b (g.D.Desk.layout c.args.desk.now).buckets at
-    (c.loop-b.invariant.filled split stage to_fill at) c.loop-b.invariant.same below c.fill.ensures.held.others
+    (c.loop-b.invariant.filled split stage to_fill at) c.loop-b.invariant.same below c.fill.ensures.leaves.held.others
     (λ was. open-held split (known_of (g.D.Desk.seen c.loop-b.desk) (g.D.Desk.keeping c.loop-b.desk c.loop-b.keepers)) (known_of (g.D.Desk.seen c.fill.new.desk) (g.D.Desk.keeping c.fill.new.desk c.fill.new.keepers)) c.loop-b.b
-    c.fill.ensures.held c.fill.ensures.seen (c.fill.ensures.underway (part_in split.base c.loop-b.b) split.plan was.underway) was)
+    c.fill.ensures.leaves.held c.fill.ensures.leaves.seen (c.fill.ensures.underway (part_in split.base c.loop-b.b) split.plan was.underway) was)
 
 pub loop-b-preserved : goal.loop-b-preserved
 loop-b-preserved g c =
@@ -27,27 +27,29 @@ loop-b-preserved g c =
     let here : c.loop-b.b ≤ c.loop-b.b = omega arith in
     let zero : 0 ≤ c.loop-b.b = omega arith in
     record {
-      layout = c.fill.ensures.layout ∙ c.loop-b.invariant.layout;
-      rest = c.fill.ensures.rest;
-      fits = c.fill.ensures.fits;
-      board = board-then (known_of (g.D.Desk.seen c.args.desk.now) (g.D.Desk.keeping c.args.desk.now c.args.keepers.now)) (known_of (g.D.Desk.seen c.loop-b.desk) (g.D.Desk.keeping c.loop-b.desk c.loop-b.keepers))
-          (known_of (g.D.Desk.seen c.fill.new.desk) (g.D.Desk.keeping c.fill.new.desk c.fill.new.keepers)) c.loop-b.invariant.board
-          (board-kept c.loop-b.b (known_of (g.D.Desk.seen c.loop-b.desk) (g.D.Desk.keeping c.loop-b.desk c.loop-b.keepers)) (known_of (g.D.Desk.seen c.fill.new.desk) (g.D.Desk.keeping c.fill.new.desk c.fill.new.keepers)) c.fill.ensures.held.others);
+      leaves = record {
+        layout = c.fill.ensures.leaves.layout ∙ c.loop-b.invariant.leaves.layout;
+        rest = c.fill.ensures.leaves.rest;
+        fits = c.fill.ensures.leaves.fits;
+        board = board-then (known_of (g.D.Desk.seen c.args.desk.now) (g.D.Desk.keeping c.args.desk.now c.args.keepers.now)) (known_of (g.D.Desk.seen c.loop-b.desk) (g.D.Desk.keeping c.loop-b.desk c.loop-b.keepers))
+            (known_of (g.D.Desk.seen c.fill.new.desk) (g.D.Desk.keeping c.fill.new.desk c.fill.new.keepers)) c.loop-b.invariant.leaves.board
+            (board-kept c.loop-b.b (known_of (g.D.Desk.seen c.loop-b.desk) (g.D.Desk.keeping c.loop-b.desk c.loop-b.keepers)) (known_of (g.D.Desk.seen c.fill.new.desk) (g.D.Desk.keeping c.fill.new.desk c.fill.new.keepers)) c.fill.ensures.leaves.held.others);
+      };
       filled = λ split stage to_fill at.
           let was : IsAtStage split stage (known_of (g.D.Desk.seen c.loop-b.desk) (g.D.Desk.keeping c.loop-b.desk c.loop-b.keepers)) c.loop-b.b = stage-same split stage (known_of (g.D.Desk.seen c.args.desk.now) (g.D.Desk.keeping c.args.desk.now c.args.keepers.now)) (known_of (g.D.Desk.seen c.loop-b.desk) (g.D.Desk.keeping c.loop-b.desk c.loop-b.keepers)) c.loop-b.b
           (c.loop-b.invariant.same c.loop-b.b here below) (at c.loop-b.b zero below) in
           one-more (IsAtStage split (filled stage)) (known_of (g.D.Desk.seen c.loop-b.desk) (g.D.Desk.keeping c.loop-b.desk c.loop-b.keepers))
           (known_of (g.D.Desk.seen c.fill.new.desk) (g.D.Desk.keeping c.fill.new.desk c.fill.new.keepers)) 0 c.loop-b.b
           (λ k. stage-same split (filled stage) (known_of (g.D.Desk.seen c.loop-b.desk) (g.D.Desk.keeping c.loop-b.desk c.loop-b.keepers)) (known_of (g.D.Desk.seen c.fill.new.desk) (g.D.Desk.keeping c.fill.new.desk c.fill.new.keepers)) k)
-          c.fill.ensures.held.others (c.loop-b.invariant.filled split stage to_fill at)
+          c.fill.ensures.leaves.held.others (c.loop-b.invariant.filled split stage to_fill at)
           (stage-filled split stage (known_of (g.D.Desk.seen c.loop-b.desk) (g.D.Desk.keeping c.loop-b.desk c.loop-b.keepers)) (known_of (g.D.Desk.seen c.fill.new.desk) (g.D.Desk.keeping c.fill.new.desk c.fill.new.keepers)) c.loop-b.b
-          c.fill.ensures.held c.fill.ensures.seen c.fill.ensures.seats
+          c.fill.ensures.leaves.held c.fill.ensures.leaves.seen c.fill.ensures.seats
           (c.fill.ensures.underway (part_in split.base c.loop-b.b) split.plan was.opened.underway)
           (c.fill.ensures.filled c.if-not-fill.false) was);
       same = same-after (known_of (g.D.Desk.seen c.args.desk.now) (g.D.Desk.keeping c.args.desk.now c.args.keepers.now)) (known_of (g.D.Desk.seen c.loop-b.desk) (g.D.Desk.keeping c.loop-b.desk c.loop-b.keepers))
           (known_of (g.D.Desk.seen c.fill.new.desk) (g.D.Desk.keeping c.fill.new.desk c.fill.new.keepers)) c.loop-b.b (g.D.Desk.layout c.args.desk.now).buckets
-          c.loop-b.invariant.same c.fill.ensures.held.others;
-      stops = c.fill.ensures.steady c.if-not-fill.false ∙ c.loop-b.invariant.stops;
+          c.loop-b.invariant.same c.fill.ensures.leaves.held.others;
+      stops = c.fill.ensures.pace.steady c.if-not-fill.false ∙ c.loop-b.invariant.stops;
     }
 
 pub returns-clause-opened : goal.returns-clause-opened

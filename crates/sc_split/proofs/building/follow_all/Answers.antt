@@ -36,12 +36,14 @@ loop-b-preserved g c =
     let here : c.loop-b.b ≤ c.loop-b.b = omega arith in
     let zero : 0 ≤ c.loop-b.b = omega arith in
     record {
-      layout = c.follow_one.ensures.layout ∙ c.loop-b.invariant.layout;
-      rest = c.follow_one.ensures.rest;
-      fits = c.follow_one.ensures.fits;
-      board = board-then (known_of (g.D.Desk.seen c.args.desk.now) (g.D.Desk.keeping c.args.desk.now c.args.keepers.now)) (known_of (g.D.Desk.seen c.loop-b.desk) (g.D.Desk.keeping c.loop-b.desk c.loop-b.keepers))
-          (known_of (g.D.Desk.seen c.follow_one.new.desk) (g.D.Desk.keeping c.follow_one.new.desk c.follow_one.new.keepers)) c.loop-b.invariant.board
-          (board-kept c.loop-b.b (known_of (g.D.Desk.seen c.loop-b.desk) (g.D.Desk.keeping c.loop-b.desk c.loop-b.keepers)) (known_of (g.D.Desk.seen c.follow_one.new.desk) (g.D.Desk.keeping c.follow_one.new.desk c.follow_one.new.keepers)) c.follow_one.ensures.others);
+      leaves = record {
+        layout = c.follow_one.ensures.leaves.layout ∙ c.loop-b.invariant.leaves.layout;
+        rest = c.follow_one.ensures.leaves.rest;
+        fits = c.follow_one.ensures.leaves.fits;
+        board = board-then (known_of (g.D.Desk.seen c.args.desk.now) (g.D.Desk.keeping c.args.desk.now c.args.keepers.now)) (known_of (g.D.Desk.seen c.loop-b.desk) (g.D.Desk.keeping c.loop-b.desk c.loop-b.keepers))
+            (known_of (g.D.Desk.seen c.follow_one.new.desk) (g.D.Desk.keeping c.follow_one.new.desk c.follow_one.new.keepers)) c.loop-b.invariant.leaves.board
+            (board-kept c.loop-b.b (known_of (g.D.Desk.seen c.loop-b.desk) (g.D.Desk.keeping c.loop-b.desk c.loop-b.keepers)) (known_of (g.D.Desk.seen c.follow_one.new.desk) (g.D.Desk.keeping c.follow_one.new.desk c.follow_one.new.keepers)) c.follow_one.ensures.others);
+      };
       whole = λ split cores at.
           one-more (IsAtStage split (whole split.plan)) (known_of (g.D.Desk.seen c.loop-b.desk) (g.D.Desk.keeping c.loop-b.desk c.loop-b.keepers)) (known_of (g.D.Desk.seen c.follow_one.new.desk) (g.D.Desk.keeping c.follow_one.new.desk c.follow_one.new.keepers)) 0 c.loop-b.b
           (λ k. stage-same split (whole split.plan) (known_of (g.D.Desk.seen c.loop-b.desk) (g.D.Desk.keeping c.loop-b.desk c.loop-b.keepers)) (known_of (g.D.Desk.seen c.follow_one.new.desk) (g.D.Desk.keeping c.follow_one.new.desk c.follow_one.new.keepers)) k)

@@ -1,21 +1,17 @@
 -- All cores are there in the buckets so far, and nothing was done of the others.
 use Rattle.std.proofs.Common.{◌≡◌}
-use Rattle.sc_collection.specs.Desks.{IsDeskAtRest}
-use Rattle.sc_collection.specs.Known.{known_of, OfBuckets, IsSameIn}
-use Rattle.sc_split.specs.Stages.{OpenSplit, IsAtStage, KeepsKnownBoard, recovering, whole, further_cores_of}
+use Rattle.sc_collection.specs.Known.{OfBuckets, IsSameIn}
+use Rattle.sc_split.specs.Leaving.{known, HoldsBuckets}
+use Rattle.sc_split.specs.Stages.{OpenSplit, IsAtStage, recovering, whole, further_cores_of}
 use Rattle.sc_split.proofs.building.follow_all.Given as goal
 
 abbrev pub invariant-loop-b : goal.invariant-loop-b
 invariant-loop-b g l = record {
-  layout : g.D.Desk.layout l.desk ≡ g.D.Desk.layout l.fn.desk;
-  rest : IsDeskAtRest (g.D.Desk.layout l.desk) (g.D.Desk.out l.desk) (g.D.Desk.seen l.desk);
-  fits : g.D.Desk.fits l.desk l.keepers;
-  board : KeepsKnownBoard (known_of (g.D.Desk.seen l.fn.desk) (g.D.Desk.keeping l.fn.desk l.fn.keepers))
-      (known_of (g.D.Desk.seen l.desk) (g.D.Desk.keeping l.desk l.keepers));
+  leaves : HoldsBuckets g.D.Desk l.fn.desk l.fn.keepers l.desk l.keepers;
   whole : (split : OpenSplit) → further_cores_of split.plan ≡ l.cores
-      → OfBuckets 0 (g.D.Desk.layout l.fn.desk).buckets (IsAtStage split (recovering split.plan) (known_of (g.D.Desk.seen l.fn.desk) (g.D.Desk.keeping l.fn.desk l.fn.keepers)))
-      → OfBuckets 0 l.b (IsAtStage split (whole split.plan) (known_of (g.D.Desk.seen l.desk) (g.D.Desk.keeping l.desk l.keepers)));
-  same : OfBuckets l.b (g.D.Desk.layout l.fn.desk).buckets (IsSameIn (known_of (g.D.Desk.seen l.fn.desk) (g.D.Desk.keeping l.fn.desk l.fn.keepers))
-      (known_of (g.D.Desk.seen l.desk) (g.D.Desk.keeping l.desk l.keepers)));
+      → OfBuckets 0 (g.D.Desk.layout l.fn.desk).buckets (IsAtStage split (recovering split.plan) (known g.D.Desk l.fn.desk l.fn.keepers))
+      → OfBuckets 0 l.b (IsAtStage split (whole split.plan) (known g.D.Desk l.desk l.keepers));
+  same : OfBuckets l.b (g.D.Desk.layout l.fn.desk).buckets (IsSameIn (known g.D.Desk l.fn.desk l.fn.keepers)
+      (known g.D.Desk l.desk l.keepers));
   stops : g.P.Pace.stops l.pace ≡ g.P.Pace.stops l.fn.pace;
 }

@@ -21,25 +21,27 @@ pub returns-in_err-join_one-clause-opened : goal.returns-in_err-join_one-clause-
 returns-in_err-join_one-clause-opened g c split at =
     let was = c.loop-core.invariant.opened split at in
     open-held split (known_of (g.D.Desk.seen c.loop-core.desk) (g.D.Desk.keeping c.loop-core.desk c.loop-core.keepers)) (known_of (g.D.Desk.seen c.join_one.new.desk) (g.D.Desk.keeping c.join_one.new.desk c.join_one.new.keepers)) c.args.b
-    c.join_one.ensures.held c.join_one.ensures.seen (c.join_one.ensures.underway (part_in split.base c.args.b) split.plan was.underway) was
+    c.join_one.ensures.leaves.held c.join_one.ensures.leaves.seen (c.join_one.ensures.underway (part_in split.base c.args.b) split.plan was.underway) was
 
 pub loop-core-preserved : goal.loop-core-preserved
 loop-core-preserved g c = record {
-  layout = c.join_one.ensures.layout ∙ c.loop-core.invariant.layout;
-  rest = c.join_one.ensures.rest;
-  fits = c.join_one.ensures.fits;
-  others = others-then c.args.b (known_of (g.D.Desk.seen c.args.desk.now) (g.D.Desk.keeping c.args.desk.now c.args.keepers.now)) (known_of (g.D.Desk.seen c.loop-core.desk) (g.D.Desk.keeping c.loop-core.desk c.loop-core.keepers)) (known_of (g.D.Desk.seen c.join_one.new.desk) (g.D.Desk.keeping c.join_one.new.desk c.join_one.new.keepers)) c.loop-core.invariant.others c.join_one.ensures.held.others;
+  leaves = record {
+    layout = c.join_one.ensures.leaves.layout ∙ c.loop-core.invariant.leaves.layout;
+    rest = c.join_one.ensures.leaves.rest;
+    fits = c.join_one.ensures.leaves.fits;
+  };
+  others = others-then c.args.b (known_of (g.D.Desk.seen c.args.desk.now) (g.D.Desk.keeping c.args.desk.now c.args.keepers.now)) (known_of (g.D.Desk.seen c.loop-core.desk) (g.D.Desk.keeping c.loop-core.desk c.loop-core.keepers)) (known_of (g.D.Desk.seen c.join_one.new.desk) (g.D.Desk.keeping c.join_one.new.desk c.join_one.new.keepers)) c.loop-core.invariant.others c.join_one.ensures.leaves.held.others;
   opened = λ split at.
       let was = c.loop-core.invariant.opened split at in
       open-held split (known_of (g.D.Desk.seen c.loop-core.desk) (g.D.Desk.keeping c.loop-core.desk c.loop-core.keepers)) (known_of (g.D.Desk.seen c.join_one.new.desk) (g.D.Desk.keeping c.join_one.new.desk c.join_one.new.keepers)) c.args.b
-      c.join_one.ensures.held c.join_one.ensures.seen (c.join_one.ensures.underway (part_in split.base c.args.b) split.plan was.underway) was;
+      c.join_one.ensures.leaves.held c.join_one.ensures.leaves.seen (c.join_one.ensures.underway (part_in split.base c.args.b) split.plan was.underway) was;
   joined = λ split cores at.
       let was = c.loop-core.invariant.joined split cores at in
       subst (λ (names : List CoreId). IsAtStage split (joining split.plan names) (known_of (g.D.Desk.seen c.join_one.new.desk) (g.D.Desk.keeping c.join_one.new.desk c.join_one.new.keepers)) c.args.b)
       (ap (λ (name : CoreId). take c.loop-core.core-index c.args.cores.now ++ name ∷ []) c.core-item.is
       ∙ sym (take_more c.args.cores.now c.loop-core.core-index c.core-item.result c.loop-core-test.true))
       (stage-grown split (take c.loop-core.core-index c.args.cores.now) c.core-item.result (known_of (g.D.Desk.seen c.loop-core.desk) (g.D.Desk.keeping c.loop-core.desk c.loop-core.keepers)) (known_of (g.D.Desk.seen c.join_one.new.desk) (g.D.Desk.keeping c.join_one.new.desk c.join_one.new.keepers)) c.args.b
-      c.join_one.ensures.held c.join_one.ensures.seen
+      c.join_one.ensures.leaves.held c.join_one.ensures.leaves.seen
       (c.join_one.ensures.underway (part_in split.base c.args.b) split.plan was.opened.underway) c.in_ok-join_one.ensures.grown was);
   stops = c.in_ok-join_one.ensures.steady ∙ c.loop-core.invariant.stops;
 }
@@ -54,7 +56,7 @@ pub returns-then-fill-clause-opened : goal.returns-then-fill-clause-opened
 returns-then-fill-clause-opened g c split at =
     let was = c.loop-core.invariant.opened split at in
     open-held split (known_of (g.D.Desk.seen c.loop-core.desk) (g.D.Desk.keeping c.loop-core.desk c.loop-core.keepers)) (known_of (g.D.Desk.seen c.fill.new.desk) (g.D.Desk.keeping c.fill.new.desk c.fill.new.keepers)) c.args.b
-    c.fill.ensures.held c.fill.ensures.seen (c.fill.ensures.underway (part_in split.base c.args.b) split.plan was.underway) was
+    c.fill.ensures.leaves.held c.fill.ensures.leaves.seen (c.fill.ensures.underway (part_in split.base c.args.b) split.plan was.underway) was
 
 pub returns-then-fill-clause-whole : goal.returns-then-fill-clause-whole
 returns-then-fill-clause-whole g c split cores at =
@@ -63,11 +65,11 @@ returns-then-fill-clause-whole g c split cores at =
     (take_all c.loop-core.core-index c.args.cores.now c.loop-core-test.false) (c.loop-core.invariant.joined split cores at) in
     whole-filled split c.args.cores.now (known_of (g.D.Desk.seen c.fill.new.desk) (g.D.Desk.keeping c.fill.new.desk c.fill.new.keepers)) c.args.b cores
     (stage-filled split (joining split.plan c.args.cores.now) (known_of (g.D.Desk.seen c.loop-core.desk) (g.D.Desk.keeping c.loop-core.desk c.loop-core.keepers)) (known_of (g.D.Desk.seen c.fill.new.desk) (g.D.Desk.keeping c.fill.new.desk c.fill.new.keepers)) c.args.b
-    c.fill.ensures.held c.fill.ensures.seen c.fill.ensures.seats
+    c.fill.ensures.leaves.held c.fill.ensures.leaves.seen c.fill.ensures.seats
     (c.fill.ensures.underway (part_in split.base c.args.b) split.plan was.opened.underway) (c.fill.ensures.filled c.if-fill.true) was)
 
 pub returns-else-fill-clause-opened : goal.returns-else-fill-clause-opened
 returns-else-fill-clause-opened g c split at =
     let was = c.loop-core.invariant.opened split at in
     open-held split (known_of (g.D.Desk.seen c.loop-core.desk) (g.D.Desk.keeping c.loop-core.desk c.loop-core.keepers)) (known_of (g.D.Desk.seen c.fill.new.desk) (g.D.Desk.keeping c.fill.new.desk c.fill.new.keepers)) c.args.b
-    c.fill.ensures.held c.fill.ensures.seen (c.fill.ensures.underway (part_in split.base c.args.b) split.plan was.underway) was
+    c.fill.ensures.leaves.held c.fill.ensures.leaves.seen (c.fill.ensures.underway (part_in split.base c.args.b) split.plan was.underway) was

@@ -28,12 +28,14 @@ loop-b-preserved g c =
     let here : c.loop-b.b ≤ c.loop-b.b = omega arith in
     let zero : 0 ≤ c.loop-b.b = omega arith in
     record {
-      layout = c.ready_in.ensures.layout ∙ c.loop-b.invariant.layout;
-      rest = c.ready_in.ensures.rest;
-      fits = c.ready_in.ensures.fits;
-      board = board-then (known_of (g.D.Desk.seen c.args.desk.now) (g.D.Desk.keeping c.args.desk.now c.args.keepers.now)) (known_of (g.D.Desk.seen c.loop-b.desk) (g.D.Desk.keeping c.loop-b.desk c.loop-b.keepers))
-          (known_of (g.D.Desk.seen c.ready_in.new.desk) (g.D.Desk.keeping c.ready_in.new.desk c.ready_in.new.keepers)) c.loop-b.invariant.board
-          (board-kept c.loop-b.b (known_of (g.D.Desk.seen c.loop-b.desk) (g.D.Desk.keeping c.loop-b.desk c.loop-b.keepers)) (known_of (g.D.Desk.seen c.ready_in.new.desk) (g.D.Desk.keeping c.ready_in.new.desk c.ready_in.new.keepers)) c.ready_in.ensures.held.others);
+      leaves = record {
+        layout = c.ready_in.ensures.leaves.layout ∙ c.loop-b.invariant.leaves.layout;
+        rest = c.ready_in.ensures.leaves.rest;
+        fits = c.ready_in.ensures.leaves.fits;
+        board = board-then (known_of (g.D.Desk.seen c.args.desk.now) (g.D.Desk.keeping c.args.desk.now c.args.keepers.now)) (known_of (g.D.Desk.seen c.loop-b.desk) (g.D.Desk.keeping c.loop-b.desk c.loop-b.keepers))
+            (known_of (g.D.Desk.seen c.ready_in.new.desk) (g.D.Desk.keeping c.ready_in.new.desk c.ready_in.new.keepers)) c.loop-b.invariant.leaves.board
+            (board-kept c.loop-b.b (known_of (g.D.Desk.seen c.loop-b.desk) (g.D.Desk.keeping c.loop-b.desk c.loop-b.keepers)) (known_of (g.D.Desk.seen c.ready_in.new.desk) (g.D.Desk.keeping c.ready_in.new.desk c.ready_in.new.keepers)) c.ready_in.ensures.leaves.held.others);
+      };
       ready = λ split at.
           let was : IsAtStage split (leaders_filled split.plan) (known_of (g.D.Desk.seen c.loop-b.desk) (g.D.Desk.keeping c.loop-b.desk c.loop-b.keepers)) c.loop-b.b = stage-same split (leaders_filled split.plan) (known_of (g.D.Desk.seen c.args.desk.now) (g.D.Desk.keeping c.args.desk.now c.args.keepers.now)) (known_of (g.D.Desk.seen c.loop-b.desk) (g.D.Desk.keeping c.loop-b.desk c.loop-b.keepers)) c.loop-b.b
           (c.loop-b.invariant.same c.loop-b.b here below) (at c.loop-b.b zero below) in
@@ -41,14 +43,14 @@ loop-b-preserved g c =
           (known_of (g.D.Desk.seen c.ready_in.new.desk) (g.D.Desk.keeping c.ready_in.new.desk c.ready_in.new.keepers)) 0 c.loop-b.b
           (λ k. stage-same split (recovering split.plan) (known_of (g.D.Desk.seen c.loop-b.desk) (g.D.Desk.keeping c.loop-b.desk c.loop-b.keepers))
           (known_of (g.D.Desk.seen c.ready_in.new.desk) (g.D.Desk.keeping c.ready_in.new.desk c.ready_in.new.keepers)) k)
-          c.ready_in.ensures.held.others (c.loop-b.invariant.ready split at)
+          c.ready_in.ensures.leaves.held.others (c.loop-b.invariant.ready split at)
           (stage-ready split (known_of (g.D.Desk.seen c.loop-b.desk) (g.D.Desk.keeping c.loop-b.desk c.loop-b.keepers)) (known_of (g.D.Desk.seen c.ready_in.new.desk) (g.D.Desk.keeping c.ready_in.new.desk c.ready_in.new.keepers)) c.loop-b.b
-          c.ready_in.ensures.held c.ready_in.ensures.seen
+          c.ready_in.ensures.leaves.held c.ready_in.ensures.leaves.seen
           (c.ready_in.ensures.ready split.plan.parent (may-be-ready split (known_of (g.D.Desk.seen c.loop-b.desk) (g.D.Desk.keeping c.loop-b.desk c.loop-b.keepers)) c.loop-b.b was))
           (c.ready_in.ensures.underway (part_in split.base c.loop-b.b) split.plan was.opened.underway) was);
       same = same-after (known_of (g.D.Desk.seen c.args.desk.now) (g.D.Desk.keeping c.args.desk.now c.args.keepers.now)) (known_of (g.D.Desk.seen c.loop-b.desk) (g.D.Desk.keeping c.loop-b.desk c.loop-b.keepers))
           (known_of (g.D.Desk.seen c.ready_in.new.desk) (g.D.Desk.keeping c.ready_in.new.desk c.ready_in.new.keepers)) c.loop-b.b (g.D.Desk.layout c.args.desk.now).buckets
-          c.loop-b.invariant.same c.ready_in.ensures.held.others;
+          c.loop-b.invariant.same c.ready_in.ensures.leaves.held.others;
     }
 
 pub returns-clause-ready : goal.returns-clause-ready

@@ -15,7 +15,7 @@ use Rattle.sc_split.proofs.driver.build.Goals as goal
 pub returns-in_err-lead-clause-built : goal.returns-in_err-lead-clause-built
 returns-in_err-lead-clause-built g c entries begun =
     builds-led (g.D.Desk.layout c.args.desk.now) c.args.plan.now entries c.lead.new.progress.begun (known_of (g.D.Desk.seen c.args.desk.now) (g.D.Desk.keeping c.args.desk.now c.args.keepers.now)) (known_of (g.D.Desk.seen c.lead.new.desk) (g.D.Desk.keeping c.lead.new.desk c.lead.new.keepers))
-    c.requires.rest.legal begun c.lead.ensures.board c.lead.ensures.opened c.lead.ensures.unbegun
+    c.requires.rests.rest.legal begun c.lead.ensures.leaves.board c.lead.ensures.opened c.lead.ensures.unbegun
 
 pub returns-in_err-lead-clause-cause : goal.returns-in_err-lead-clause-cause
 returns-in_err-lead-clause-cause g c =
@@ -32,22 +32,22 @@ returns-in_err-lead-clause-cause g c =
 
 pub note_recovering-requires-clause-owns : goal.note_recovering-requires-clause-owns
 note_recovering-requires-clause-owns g c =
-    led-owns (g.D.Desk.layout c.args.desk.now) (g.D.Desk.layout c.lead.new.desk) c.args.plan.now c.requires.begun.0 (known_of (g.D.Desk.seen c.args.desk.now) (g.D.Desk.keeping c.args.desk.now c.args.keepers.now)) (known_of (g.D.Desk.seen c.lead.new.desk) (g.D.Desk.keeping c.lead.new.desk c.lead.new.keepers)) c.lead.ensures.layout c.lead.ensures.board c.requires.begun.1
+    led-owns (g.D.Desk.layout c.args.desk.now) (g.D.Desk.layout c.lead.new.desk) c.args.plan.now c.requires.begun.0 (known_of (g.D.Desk.seen c.args.desk.now) (g.D.Desk.keeping c.args.desk.now c.args.keepers.now)) (known_of (g.D.Desk.seen c.lead.new.desk) (g.D.Desk.keeping c.lead.new.desk c.lead.new.keepers)) c.lead.ensures.leaves.layout c.lead.ensures.leaves.board c.requires.begun.1
 
 pub note_recovering-requires-clause-may : goal.note_recovering-requires-clause-may
 note_recovering-requires-clause-may g c =
-    (c.args.plan.now.parent, led-may-recover (g.D.Desk.layout c.args.desk.now) (g.D.Desk.layout c.lead.new.desk) c.args.plan.now c.requires.begun.0 (known_of (g.D.Desk.seen c.args.desk.now) (g.D.Desk.keeping c.args.desk.now c.args.keepers.now)) (known_of (g.D.Desk.seen c.lead.new.desk) (g.D.Desk.keeping c.lead.new.desk c.lead.new.keepers)) c.lead.ensures.rest.legal c.lead.ensures.board c.requires.begun.1)
+    (c.args.plan.now.parent, led-may-recover (g.D.Desk.layout c.args.desk.now) (g.D.Desk.layout c.lead.new.desk) c.args.plan.now c.requires.begun.0 (known_of (g.D.Desk.seen c.args.desk.now) (g.D.Desk.keeping c.args.desk.now c.args.keepers.now)) (known_of (g.D.Desk.seen c.lead.new.desk) (g.D.Desk.keeping c.lead.new.desk c.lead.new.keepers)) c.lead.ensures.leaves.rest.legal c.lead.ensures.leaves.board c.requires.begun.1)
 
 pub follow-requires-clause-stage : goal.follow-requires-clause-stage
 follow-requires-clause-stage g c =
     let split : OpenSplit = record { plan = c.args.plan.now; base = (known_of (g.D.Desk.seen c.args.desk.now) (g.D.Desk.keeping c.args.desk.now c.args.keepers.now)) } in
     let notes : NotesOne (g.D.Desk.layout c.lead.new.desk) (board.Recovering c.args.plan.now.parent) (g.D.Desk.seen c.lead.new.desk) (g.D.Desk.seen c.note_recovering.new.desk) =
     c.note_recovering.ensures.noted c.args.plan.now.parent
-    (led-may-recover (g.D.Desk.layout c.args.desk.now) (g.D.Desk.layout c.lead.new.desk) c.args.plan.now c.requires.begun.0 (known_of (g.D.Desk.seen c.args.desk.now) (g.D.Desk.keeping c.args.desk.now c.args.keepers.now)) (known_of (g.D.Desk.seen c.lead.new.desk) (g.D.Desk.keeping c.lead.new.desk c.lead.new.keepers)) c.lead.ensures.rest.legal c.lead.ensures.board c.requires.begun.1) in
+    (led-may-recover (g.D.Desk.layout c.args.desk.now) (g.D.Desk.layout c.lead.new.desk) c.args.plan.now c.requires.begun.0 (known_of (g.D.Desk.seen c.args.desk.now) (g.D.Desk.keeping c.args.desk.now c.args.keepers.now)) (known_of (g.D.Desk.seen c.lead.new.desk) (g.D.Desk.keeping c.lead.new.desk c.lead.new.keepers)) c.lead.ensures.leaves.rest.legal c.lead.ensures.leaves.board c.requires.begun.1) in
     let at : OfBuckets 0 (g.D.Desk.layout c.note_recovering.new.desk).buckets (IsAtStage split (recovering c.args.plan.now) (known_of (g.D.Desk.seen c.note_recovering.new.desk) (g.D.Desk.keeping c.note_recovering.new.desk c.lead.new.keepers))) =
-    on-layout (IsAtStage split (recovering c.args.plan.now) (known_of (g.D.Desk.seen c.note_recovering.new.desk) (g.D.Desk.keeping c.note_recovering.new.desk c.lead.new.keepers))) (g.D.Desk.layout c.note_recovering.new.desk) (g.D.Desk.layout c.args.desk.now) (sym (c.note_recovering.ensures.layout ∙ c.lead.ensures.layout))
+    on-layout (IsAtStage split (recovering c.args.plan.now) (known_of (g.D.Desk.seen c.note_recovering.new.desk) (g.D.Desk.keeping c.note_recovering.new.desk c.lead.new.keepers))) (g.D.Desk.layout c.note_recovering.new.desk) (g.D.Desk.layout c.args.desk.now) (sym (c.note_recovering.ensures.leaves.layout ∙ c.lead.ensures.leaves.layout))
     (stage-noted (g.D.Desk.layout c.lead.new.desk) (board.Recovering c.args.plan.now.parent) split (recovering c.args.plan.now) (known_of (g.D.Desk.seen c.lead.new.desk) (g.D.Desk.keeping c.lead.new.desk c.lead.new.keepers)) (known_of (g.D.Desk.seen c.note_recovering.new.desk) (g.D.Desk.keeping c.note_recovering.new.desk c.lead.new.keepers)) (g.D.Desk.layout c.args.desk.now).buckets notes
-    (c.note_recovering.ensures.keepers c.lead.new.keepers c.lead.ensures.fits).1 c.in_ok-lead.ensures.led) in
+    (c.note_recovering.ensures.keepers c.lead.new.keepers c.lead.ensures.leaves.fits).1 c.in_ok-lead.ensures.led) in
     (split, sym c.requires.followers, at)
 
 pub returns-clause-built : goal.returns-clause-built
@@ -55,17 +55,17 @@ returns-clause-built g c entries begun =
     let split : OpenSplit = record { plan = c.args.plan.now; base = (known_of (g.D.Desk.seen c.args.desk.now) (g.D.Desk.keeping c.args.desk.now c.args.keepers.now)) } in
     let notes : NotesOne (g.D.Desk.layout c.lead.new.desk) (board.Recovering c.args.plan.now.parent) (g.D.Desk.seen c.lead.new.desk) (g.D.Desk.seen c.note_recovering.new.desk) =
     c.note_recovering.ensures.noted c.args.plan.now.parent
-    (led-may-recover (g.D.Desk.layout c.args.desk.now) (g.D.Desk.layout c.lead.new.desk) c.args.plan.now c.requires.begun.0 (known_of (g.D.Desk.seen c.args.desk.now) (g.D.Desk.keeping c.args.desk.now c.args.keepers.now)) (known_of (g.D.Desk.seen c.lead.new.desk) (g.D.Desk.keeping c.lead.new.desk c.lead.new.keepers)) c.lead.ensures.rest.legal c.lead.ensures.board c.requires.begun.1) in
+    (led-may-recover (g.D.Desk.layout c.args.desk.now) (g.D.Desk.layout c.lead.new.desk) c.args.plan.now c.requires.begun.0 (known_of (g.D.Desk.seen c.args.desk.now) (g.D.Desk.keeping c.args.desk.now c.args.keepers.now)) (known_of (g.D.Desk.seen c.lead.new.desk) (g.D.Desk.keeping c.lead.new.desk c.lead.new.keepers)) c.lead.ensures.leaves.rest.legal c.lead.ensures.leaves.board c.requires.begun.1) in
     let at : OfBuckets 0 (g.D.Desk.layout c.note_recovering.new.desk).buckets (IsAtStage split (recovering c.args.plan.now) (known_of (g.D.Desk.seen c.note_recovering.new.desk) (g.D.Desk.keeping c.note_recovering.new.desk c.lead.new.keepers))) =
-    on-layout (IsAtStage split (recovering c.args.plan.now) (known_of (g.D.Desk.seen c.note_recovering.new.desk) (g.D.Desk.keeping c.note_recovering.new.desk c.lead.new.keepers))) (g.D.Desk.layout c.note_recovering.new.desk) (g.D.Desk.layout c.args.desk.now) (sym (c.note_recovering.ensures.layout ∙ c.lead.ensures.layout))
+    on-layout (IsAtStage split (recovering c.args.plan.now) (known_of (g.D.Desk.seen c.note_recovering.new.desk) (g.D.Desk.keeping c.note_recovering.new.desk c.lead.new.keepers))) (g.D.Desk.layout c.note_recovering.new.desk) (g.D.Desk.layout c.args.desk.now) (sym (c.note_recovering.ensures.leaves.layout ∙ c.lead.ensures.leaves.layout))
     (stage-noted (g.D.Desk.layout c.lead.new.desk) (board.Recovering c.args.plan.now.parent) split (recovering c.args.plan.now) (known_of (g.D.Desk.seen c.lead.new.desk) (g.D.Desk.keeping c.lead.new.desk c.lead.new.keepers)) (known_of (g.D.Desk.seen c.note_recovering.new.desk) (g.D.Desk.keeping c.note_recovering.new.desk c.lead.new.keepers)) (g.D.Desk.layout c.args.desk.now).buckets notes
-    (c.note_recovering.ensures.keepers c.lead.new.keepers c.lead.ensures.fits).1 c.in_ok-lead.ensures.led) in
+    (c.note_recovering.ensures.keepers c.lead.new.keepers c.lead.ensures.leaves.fits).1 c.in_ok-lead.ensures.led) in
     let here : NotesOne (g.D.Desk.layout c.args.desk.now) (board.Recovering c.args.plan.now.parent) (g.D.Desk.seen c.lead.new.desk) (g.D.Desk.seen c.note_recovering.new.desk) =
     subst (λ (layout : Layout). NotesOne layout (board.Recovering c.args.plan.now.parent) (g.D.Desk.seen c.lead.new.desk) (g.D.Desk.seen c.note_recovering.new.desk))
-    c.lead.ensures.layout notes in
+    c.lead.ensures.leaves.layout notes in
     builds-followed (g.D.Desk.layout c.args.desk.now) c.args.plan.now entries (known_of (g.D.Desk.seen c.args.desk.now) (g.D.Desk.keeping c.args.desk.now c.args.keepers.now)) (known_of (g.D.Desk.seen c.lead.new.desk) (g.D.Desk.keeping c.lead.new.desk c.lead.new.keepers)) (known_of (g.D.Desk.seen c.note_recovering.new.desk) (g.D.Desk.keeping c.note_recovering.new.desk c.lead.new.keepers)) (known_of (g.D.Desk.seen c.follow.new.desk) (g.D.Desk.keeping c.follow.new.desk c.follow.new.keepers))
-    c.requires.rest.legal begun c.lead.ensures.board here c.follow.ensures.board c.lead.new.progress.begun c.in_ok-lead.ensures.everywhere
-    (on-layout (IsOpenIn split (known_of (g.D.Desk.seen c.follow.new.desk) (g.D.Desk.keeping c.follow.new.desk c.follow.new.keepers))) (g.D.Desk.layout c.args.desk.now) (g.D.Desk.layout c.note_recovering.new.desk) (c.note_recovering.ensures.layout ∙ c.lead.ensures.layout)
+    c.requires.rests.rest.legal begun c.lead.ensures.leaves.board here c.follow.ensures.leaves.board c.lead.new.progress.begun c.in_ok-lead.ensures.everywhere
+    (on-layout (IsOpenIn split (known_of (g.D.Desk.seen c.follow.new.desk) (g.D.Desk.keeping c.follow.new.desk c.follow.new.keepers))) (g.D.Desk.layout c.args.desk.now) (g.D.Desk.layout c.note_recovering.new.desk) (c.note_recovering.ensures.leaves.layout ∙ c.lead.ensures.leaves.layout)
     (c.follow.ensures.opened split (sym c.requires.followers) at))
 
 pub returns-clause-whole : goal.returns-clause-whole
@@ -73,17 +73,17 @@ returns-clause-whole g c =
     let split : OpenSplit = record { plan = c.args.plan.now; base = (known_of (g.D.Desk.seen c.args.desk.now) (g.D.Desk.keeping c.args.desk.now c.args.keepers.now)) } in
     let notes : NotesOne (g.D.Desk.layout c.lead.new.desk) (board.Recovering c.args.plan.now.parent) (g.D.Desk.seen c.lead.new.desk) (g.D.Desk.seen c.note_recovering.new.desk) =
     c.note_recovering.ensures.noted c.args.plan.now.parent
-    (led-may-recover (g.D.Desk.layout c.args.desk.now) (g.D.Desk.layout c.lead.new.desk) c.args.plan.now c.requires.begun.0 (known_of (g.D.Desk.seen c.args.desk.now) (g.D.Desk.keeping c.args.desk.now c.args.keepers.now)) (known_of (g.D.Desk.seen c.lead.new.desk) (g.D.Desk.keeping c.lead.new.desk c.lead.new.keepers)) c.lead.ensures.rest.legal c.lead.ensures.board c.requires.begun.1) in
+    (led-may-recover (g.D.Desk.layout c.args.desk.now) (g.D.Desk.layout c.lead.new.desk) c.args.plan.now c.requires.begun.0 (known_of (g.D.Desk.seen c.args.desk.now) (g.D.Desk.keeping c.args.desk.now c.args.keepers.now)) (known_of (g.D.Desk.seen c.lead.new.desk) (g.D.Desk.keeping c.lead.new.desk c.lead.new.keepers)) c.lead.ensures.leaves.rest.legal c.lead.ensures.leaves.board c.requires.begun.1) in
     let at : OfBuckets 0 (g.D.Desk.layout c.note_recovering.new.desk).buckets (IsAtStage split (recovering c.args.plan.now) (known_of (g.D.Desk.seen c.note_recovering.new.desk) (g.D.Desk.keeping c.note_recovering.new.desk c.lead.new.keepers))) =
-    on-layout (IsAtStage split (recovering c.args.plan.now) (known_of (g.D.Desk.seen c.note_recovering.new.desk) (g.D.Desk.keeping c.note_recovering.new.desk c.lead.new.keepers))) (g.D.Desk.layout c.note_recovering.new.desk) (g.D.Desk.layout c.args.desk.now) (sym (c.note_recovering.ensures.layout ∙ c.lead.ensures.layout))
+    on-layout (IsAtStage split (recovering c.args.plan.now) (known_of (g.D.Desk.seen c.note_recovering.new.desk) (g.D.Desk.keeping c.note_recovering.new.desk c.lead.new.keepers))) (g.D.Desk.layout c.note_recovering.new.desk) (g.D.Desk.layout c.args.desk.now) (sym (c.note_recovering.ensures.leaves.layout ∙ c.lead.ensures.leaves.layout))
     (stage-noted (g.D.Desk.layout c.lead.new.desk) (board.Recovering c.args.plan.now.parent) split (recovering c.args.plan.now) (known_of (g.D.Desk.seen c.lead.new.desk) (g.D.Desk.keeping c.lead.new.desk c.lead.new.keepers)) (known_of (g.D.Desk.seen c.note_recovering.new.desk) (g.D.Desk.keeping c.note_recovering.new.desk c.lead.new.keepers)) (g.D.Desk.layout c.args.desk.now).buckets notes
-    (c.note_recovering.ensures.keepers c.lead.new.keepers c.lead.ensures.fits).1 c.in_ok-lead.ensures.led) in
+    (c.note_recovering.ensures.keepers c.lead.new.keepers c.lead.ensures.leaves.fits).1 c.in_ok-lead.ensures.led) in
     let here : NotesOne (g.D.Desk.layout c.args.desk.now) (board.Recovering c.args.plan.now.parent) (g.D.Desk.seen c.lead.new.desk) (g.D.Desk.seen c.note_recovering.new.desk) =
     subst (λ (layout : Layout). NotesOne layout (board.Recovering c.args.plan.now.parent) (g.D.Desk.seen c.lead.new.desk) (g.D.Desk.seen c.note_recovering.new.desk))
-    c.lead.ensures.layout notes in
+    c.lead.ensures.leaves.layout notes in
     on_ok_weaker c.follow.result
     (λ all entries begun. whole-followed (g.D.Desk.layout c.args.desk.now) c.args.plan.now entries (known_of (g.D.Desk.seen c.args.desk.now) (g.D.Desk.keeping c.args.desk.now c.args.keepers.now)) (known_of (g.D.Desk.seen c.lead.new.desk) (g.D.Desk.keeping c.lead.new.desk c.lead.new.keepers)) (known_of (g.D.Desk.seen c.note_recovering.new.desk) (g.D.Desk.keeping c.note_recovering.new.desk c.lead.new.keepers)) (known_of (g.D.Desk.seen c.follow.new.desk) (g.D.Desk.keeping c.follow.new.desk c.follow.new.keepers))
-    c.requires.rest.legal begun c.lead.ensures.board here c.follow.ensures.board
-    (on-layout (IsAtStage split (whole c.args.plan.now) (known_of (g.D.Desk.seen c.follow.new.desk) (g.D.Desk.keeping c.follow.new.desk c.follow.new.keepers))) (g.D.Desk.layout c.args.desk.now) (g.D.Desk.layout c.note_recovering.new.desk) (c.note_recovering.ensures.layout ∙ c.lead.ensures.layout)
+    c.requires.rests.rest.legal begun c.lead.ensures.leaves.board here c.follow.ensures.leaves.board
+    (on-layout (IsAtStage split (whole c.args.plan.now) (known_of (g.D.Desk.seen c.follow.new.desk) (g.D.Desk.keeping c.follow.new.desk c.follow.new.keepers))) (g.D.Desk.layout c.args.desk.now) (g.D.Desk.layout c.note_recovering.new.desk) (c.note_recovering.ensures.leaves.layout ∙ c.lead.ensures.leaves.layout)
     (all split (sym c.requires.followers) at)))
     c.follow.ensures.whole

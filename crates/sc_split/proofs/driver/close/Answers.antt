@@ -13,7 +13,7 @@ note_done-requires-clause-owns g c =
     owns-closing (g.D.Desk.layout c.args.desk.now) (g.D.Desk.layout c.switch_all.new.desk) c.requires.whole.0 c.requires.whole.1
     (known_of (g.D.Desk.seen c.args.desk.now) (g.D.Desk.keeping c.args.desk.now c.args.keepers))
     (known_of (g.D.Desk.seen c.switch_all.new.desk) (g.D.Desk.keeping c.switch_all.new.desk c.switch_all.new.keepers))
-    c.switch_all.ensures.layout c.switch_all.ensures.board c.requires.whole.2
+    c.switch_all.ensures.leaves.layout c.switch_all.ensures.leaves.board c.requires.whole.2
 
 pub note_done-requires-clause-may : goal.note_done-requires-clause-may
 note_done-requires-clause-may g c =
@@ -21,7 +21,7 @@ note_done-requires-clause-may g c =
     let may = may-close (g.D.Desk.layout c.args.desk.now) (g.D.Desk.layout c.switch_all.new.desk) split c.requires.whole.1
     (known_of (g.D.Desk.seen c.args.desk.now) (g.D.Desk.keeping c.args.desk.now c.args.keepers))
     (known_of (g.D.Desk.seen c.switch_all.new.desk) (g.D.Desk.keeping c.switch_all.new.desk c.switch_all.new.keepers))
-    c.switch_all.ensures.layout c.switch_all.ensures.rest.legal c.switch_all.ensures.board c.requires.whole.2
+    c.switch_all.ensures.leaves.layout c.switch_all.ensures.leaves.rest.legal c.switch_all.ensures.leaves.board c.requires.whole.2
     (c.switch_all.ensures.switched split c.requires.whole.2.whole) in
     (split.plan.parent, may.0, may.1)
 
@@ -31,11 +31,11 @@ returns-clause-closed g c split entries was =
     let may = may-close (g.D.Desk.layout c.args.desk.now) (g.D.Desk.layout c.switch_all.new.desk) split entries
     (known_of (g.D.Desk.seen c.args.desk.now) (g.D.Desk.keeping c.args.desk.now c.args.keepers))
     (known_of (g.D.Desk.seen c.switch_all.new.desk) (g.D.Desk.keeping c.switch_all.new.desk c.switch_all.new.keepers))
-    c.switch_all.ensures.layout c.switch_all.ensures.rest.legal c.switch_all.ensures.board was done in
+    c.switch_all.ensures.leaves.layout c.switch_all.ensures.leaves.rest.legal c.switch_all.ensures.leaves.board was done in
     let notes : NotesOne (g.D.Desk.layout c.args.desk.now) (board.Done split.plan.parent) (g.D.Desk.seen c.switch_all.new.desk) (g.D.Desk.seen c.note_done.new.desk) =
     subst (λ (l : Layout). NotesOne l (board.Done split.plan.parent) (g.D.Desk.seen c.switch_all.new.desk) (g.D.Desk.seen c.note_done.new.desk))
-    c.switch_all.ensures.layout (c.note_done.ensures.noted split.plan.parent may.0) in
+    c.switch_all.ensures.leaves.layout (c.note_done.ensures.noted split.plan.parent may.0) in
     closes-by (g.D.Desk.layout c.args.desk.now) split
     (known_of (g.D.Desk.seen c.args.desk.now) (g.D.Desk.keeping c.args.desk.now c.args.keepers))
     (known_of (g.D.Desk.seen c.switch_all.new.desk) (g.D.Desk.keeping c.switch_all.new.desk c.switch_all.new.keepers))
-    (g.D.Desk.seen c.note_done.new.desk) c.switch_all.ensures.went_on c.switch_all.ensures.board done notes
+    (g.D.Desk.seen c.note_done.new.desk) c.switch_all.ensures.went_on c.switch_all.ensures.leaves.board done notes

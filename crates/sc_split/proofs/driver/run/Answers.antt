@@ -19,7 +19,7 @@ build-requires-clause-few g c =
     subst (λ (hosts : List Host). length hosts < 4294967296) (sym c.in-Ok.ensures.hosts)
     (few-cores c.nodes.result c.args.plan.now c.in-Ok.ensures.few
     (few-subs (g.D.Desk.layout c.args.desk.now) c.args.plan.now c.requires.begun.0
-    (known_of (g.D.Desk.seen c.args.desk.now) (g.D.Desk.keeping c.args.desk.now c.args.keepers)) c.requires.rest.legal c.requires.begun.1))
+    (known_of (g.D.Desk.seen c.args.desk.now) (g.D.Desk.keeping c.args.desk.now c.args.keepers)) c.requires.rests.rest.legal c.requires.begun.1))
 
 pub returns-in-Ok-build-clause-went : goal.returns-in-Ok-build-clause-went
 returns-in-Ok-build-clause-went g c =
@@ -33,13 +33,13 @@ returns-in-Ok-build-clause-went g c =
     let is_whole : IsWholeSplit layout split entries between = c.in-Ok-build.ensures.whole entries c.requires.begun.1 in
     inl (done-by layout (g.D.Desk.layout c.build.new.desk) split entries c.build.new.progress.begun between c.args.trail.now.stops
     (view_of (g.D.Desk.seen c.finish.new.desk) c.finish.new.trail.stops) c.finish.result before later
-    c.build.ensures.layout (c.build.ensures.built entries c.requires.begun.1) is_whole
-    (c.finish.ensures.finished split entries (subst (λ (l : Layout). IsWholeSplit l split entries between) (sym c.build.ensures.layout) is_whole)
+    c.build.ensures.leaves.layout (c.build.ensures.built entries c.requires.begun.1) is_whole
+    (c.finish.ensures.finished split entries (subst (λ (l : Layout). IsWholeSplit l split entries between) (sym c.build.ensures.leaves.layout) is_whole)
     c.in-Ok.ensures.subs)
     (starts-by layout.nodes c.nodes.result c.args.plan.now c.in-Ok.cores.hosts c.build.new.progress.started before later
     c.in-Ok.ensures.hosts c.nodes.ensures.count c.in-Ok-build.ensures.all
     (c.build.ensures.started before.started (started-none c.in-Ok.cores.hosts before.started))
-    c.in-Ok-build.ensures.steady.0 c.build.ensures.none_stopped c.in-Ok-build.ensures.steady.1 c.build.ensures.reached))
+    c.in-Ok-build.ensures.steady.0 c.build.ensures.beside.stop_faults c.in-Ok-build.ensures.steady.1 c.build.ensures.beside.reached))
 
 pub returns-in-Err-build-clause-went : goal.returns-in-Err-build-clause-went
 returns-in-Err-build-clause-went g c =
@@ -55,15 +55,15 @@ returns-in-Err-build-clause-went g c =
     let later : Outside = outside_of (g.H.Hosts.started c.give_up.new.hosts) (g.H.Hosts.start_faults c.give_up.new.hosts) (g.H.Hosts.stop_faults c.give_up.new.hosts) (g.P.Pace.stops c.build.new.pace) (g.H.Hosts.reached c.give_up.new.hosts) in
     let built = c.build.ensures.built entries c.requires.begun.1 in
     inr (given-up-by layout (g.D.Desk.layout c.build.new.desk) split entries c.build.new.progress.begun between c.args.trail.now.stops
-    (g.D.Desk.seen c.give_up.new.desk) c.give_up.result before later c.build.ensures.layout built
+    (g.D.Desk.seen c.give_up.new.desk) c.give_up.result before later c.build.ensures.leaves.layout built
     (c.give_up.ensures.given_up split entries built.recovered
-    (subst (λ (l : Layout). IsHalted l split entries built.recovered c.build.new.progress.begun between) (sym c.build.ensures.layout) built.halted))
+    (subst (λ (l : Layout). IsHalted l split entries built.recovered c.build.new.progress.begun between) (sym c.build.ensures.leaves.layout) built.halted))
     (λ extends. cause-by layout plan cores (g.D.Desk.seen c.args.desk.now) (g.D.Desk.seen c.build.new.desk) (g.D.Desk.seen c.give_up.new.desk)
     c.args.trail.now.stops c.args.trail.now.stops before halted later c.in-Err-build.fault c.give_up.result
     (subst (All (λ (host : Host). IsCoreOfSub plan host.core)) (sym c.in-Ok.ensures.hosts) (cores-of-subs c.nodes.result plan))
     extends c.give_up.ensures.other_count refl c.in-Err-build.ensures.cause c.give_up.ensures.end)
     (leaves-by layout.nodes c.nodes.result plan cores c.build.new.progress.started before halted later c.in-Ok.ensures.hosts c.nodes.ensures.count
-    (c.build.ensures.started before.started (started-none cores before.started)) c.build.ensures.none_stopped c.give_up.ensures.stopped)
-    (counts-by before halted later c.build.ensures.no_fall.0 c.build.ensures.none_stopped c.build.ensures.no_fall.1
-    c.give_up.ensures.other_count c.give_up.ensures.no_fall refl (c.give_up.ensures.reached ∙ c.build.ensures.reached))
-    (c.give_up.ensures.reached ∙ c.build.ensures.reached))
+    (c.build.ensures.started before.started (started-none cores before.started)) c.build.ensures.beside.stop_faults c.give_up.ensures.stopped)
+    (counts-by before halted later c.build.ensures.beside.start_faults c.build.ensures.beside.stop_faults c.build.ensures.beside.stops
+    c.give_up.ensures.other_count c.give_up.ensures.no_fall refl (c.give_up.ensures.reached ∙ c.build.ensures.beside.reached))
+    (c.give_up.ensures.reached ∙ c.build.ensures.beside.reached))

@@ -15,7 +15,7 @@ returns-in-Ok-clause-split g c =
     (view_of (g.D.Desk.seen c.run.new.desk) c.run.new.trail.stops) c.in-Ok.plan
     (outside_of (g.H.Hosts.started c.args.hosts.now) (g.H.Hosts.start_faults c.args.hosts.now) (g.H.Hosts.stop_faults c.args.hosts.now) (g.P.Pace.stops c.args.pace.now) (g.H.Hosts.reached c.args.hosts.now))
     (outside_of (g.H.Hosts.started c.run.new.hosts) (g.H.Hosts.start_faults c.run.new.hosts) (g.H.Hosts.stop_faults c.run.new.hosts) (g.P.Pace.stops c.run.new.pace) (g.H.Hosts.reached c.run.new.hosts))
-    c.run.result c.open.ensures.layout c.in-Ok.ensures.opened.0 c.run.ensures.went
+    c.run.result c.open.ensures.leaves.layout c.in-Ok.ensures.opened.0 c.run.ensures.went
 
 pub returns-in-Err-clause-split : goal.returns-in-Err-clause-split
 returns-in-Err-clause-split g c =

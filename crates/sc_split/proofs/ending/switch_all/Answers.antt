@@ -31,12 +31,14 @@ loop-b-preserved g c =
     (c.loop-b.invariant.same c.loop-b.b here below) (c.requires.stage.1 c.loop-b.b zero below) in
     let held = c.switch_in.ensures.held first.plan.parent (may-switch first (known_of (g.D.Desk.seen c.loop-b.desk) (g.D.Desk.keeping c.loop-b.desk c.loop-b.keepers)) c.loop-b.b ready) in
     record {
-      layout = c.switch_in.ensures.layout ∙ c.loop-b.invariant.layout;
-      rest = c.switch_in.ensures.rest;
-      fits = c.switch_in.ensures.fits;
-      board = board-then (known_of (g.D.Desk.seen c.args.desk.now) (g.D.Desk.keeping c.args.desk.now c.args.keepers.now)) (known_of (g.D.Desk.seen c.loop-b.desk) (g.D.Desk.keeping c.loop-b.desk c.loop-b.keepers))
-          (known_of (g.D.Desk.seen c.switch_in.new.desk) (g.D.Desk.keeping c.switch_in.new.desk c.switch_in.new.keepers)) c.loop-b.invariant.board
-          (board-kept c.loop-b.b (known_of (g.D.Desk.seen c.loop-b.desk) (g.D.Desk.keeping c.loop-b.desk c.loop-b.keepers)) (known_of (g.D.Desk.seen c.switch_in.new.desk) (g.D.Desk.keeping c.switch_in.new.desk c.switch_in.new.keepers)) held.others);
+      leaves = record {
+        layout = c.switch_in.ensures.leaves.layout ∙ c.loop-b.invariant.leaves.layout;
+        rest = c.switch_in.ensures.leaves.rest;
+        fits = c.switch_in.ensures.leaves.fits;
+        board = board-then (known_of (g.D.Desk.seen c.args.desk.now) (g.D.Desk.keeping c.args.desk.now c.args.keepers.now)) (known_of (g.D.Desk.seen c.loop-b.desk) (g.D.Desk.keeping c.loop-b.desk c.loop-b.keepers))
+            (known_of (g.D.Desk.seen c.switch_in.new.desk) (g.D.Desk.keeping c.switch_in.new.desk c.switch_in.new.keepers)) c.loop-b.invariant.leaves.board
+            (board-kept c.loop-b.b (known_of (g.D.Desk.seen c.loop-b.desk) (g.D.Desk.keeping c.loop-b.desk c.loop-b.keepers)) (known_of (g.D.Desk.seen c.switch_in.new.desk) (g.D.Desk.keeping c.switch_in.new.desk c.switch_in.new.keepers)) held.others);
+      };
       went_on = λ lock. IsPrefix-then ((g.D.Desk.seen c.args.desk.now).journals lock) ((g.D.Desk.seen c.loop-b.desk).journals lock) ((g.D.Desk.seen c.switch_in.new.desk).journals lock)
           (c.loop-b.invariant.went_on lock)
           (went-on c.loop-b.b (known_of (g.D.Desk.seen c.loop-b.desk) (g.D.Desk.keeping c.loop-b.desk c.loop-b.keepers)) (known_of (g.D.Desk.seen c.switch_in.new.desk) (g.D.Desk.keeping c.switch_in.new.desk c.switch_in.new.keepers)) _ held lock);

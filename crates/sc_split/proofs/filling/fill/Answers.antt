@@ -10,9 +10,11 @@ use Rattle.sc_split.proofs.filling.fill.Goals as goal
 
 pub loop-core-init : goal.loop-core-init
 loop-core-init g c = record {
-  layout = refl;
-  rest = c.requires.rest;
-  fits = c.requires.fits;
+  leaves = record {
+    layout = refl;
+    rest = c.requires.rests.rest;
+    fits = c.requires.rests.fits;
+  };
   seen = c.requires.seen;
   held = held-not c.args.b (known_of (g.D.Desk.seen c.args.desk.now) (g.D.Desk.keeping c.args.desk.now c.args.keepers.now));
   kept = record { rest = record { map_is = refl; phase_is = refl; entries_are = refl }; cores_are = refl };
@@ -22,9 +24,8 @@ loop-core-init g c = record {
 
 pub feed_all-requires : goal.feed_all-requires
 feed_all-requires g c = record {
-  within = subst (λ (layout : Layout). c.args.b < layout.buckets) (sym c.loop-core.invariant.layout) c.requires.within;
-  rest = c.loop-core.invariant.rest;
-  fits = c.loop-core.invariant.fits;
+  within = subst (λ (layout : Layout). c.args.b < layout.buckets) (sym c.loop-core.invariant.leaves.layout) c.requires.within;
+  rests = record { rest = c.loop-core.invariant.leaves.rest; fits = c.loop-core.invariant.leaves.fits };
   first = first_fed ((g.D.Desk.keeping c.loop-core.desk c.loop-core.keepers).part c.args.b) c.args.cores.now c.loop-core.core-index
       c.core-item.result
       c.loop-core-test.true c.core-item.is c.requires.to_fill.cores.once c.loop-core.invariant.fed;
@@ -32,21 +33,23 @@ feed_all-requires g c = record {
 
 pub loop-core-preserved : goal.loop-core-preserved
 loop-core-preserved g c = record {
-  layout = c.feed_all.ensures.layout ∙ c.loop-core.invariant.layout;
-  rest = c.feed_all.ensures.rest;
-  fits = c.feed_all.ensures.fits;
-  seen = c.feed_all.ensures.seen;
+  leaves = record {
+    layout = c.feed_all.ensures.leaves.layout ∙ c.loop-core.invariant.leaves.layout;
+    rest = c.feed_all.ensures.leaves.rest;
+    fits = c.feed_all.ensures.leaves.fits;
+  };
+  seen = c.feed_all.ensures.leaves.seen;
   held = held-then c.args.b (known_of (g.D.Desk.seen c.args.desk.now) (g.D.Desk.keeping c.args.desk.now c.args.keepers.now))
       (known_of (g.D.Desk.seen c.loop-core.desk) (g.D.Desk.keeping c.loop-core.desk c.loop-core.keepers))
       (known_of (g.D.Desk.seen c.feed_all.new.desk) (g.D.Desk.keeping c.feed_all.new.desk c.feed_all.new.keepers)) []
-      c.loop-core.invariant.held c.feed_all.ensures.held;
+      c.loop-core.invariant.held c.feed_all.ensures.leaves.held;
   kept = kept-then ((g.D.Desk.keeping c.args.desk.now c.args.keepers.now).part c.args.b)
       ((g.D.Desk.keeping c.loop-core.desk c.loop-core.keepers).part c.args.b)
       ((g.D.Desk.keeping c.feed_all.new.desk c.feed_all.new.keepers).part c.args.b) c.loop-core.invariant.kept c.feed_all.ensures.kept;
   fed = c.feed_all.ensures.fed c.if-not-feed_all.false (drop (c.loop-core.core-index + 1) c.args.cores.now)
       (c.loop-core.invariant.fed
       ∙ names_from c.args.cores.now c.loop-core.core-index c.core-item.result c.loop-core-test.true c.core-item.is);
-  steady = c.feed_all.ensures.steady c.if-not-feed_all.false ∙ c.loop-core.invariant.steady;
+  steady = c.feed_all.ensures.pace.steady c.if-not-feed_all.false ∙ c.loop-core.invariant.steady;
 }
 
 pub returns-then-not-feed_all : goal.returns-then-not-feed_all
@@ -56,31 +59,37 @@ returns-then-not-feed_all g c =
     ((g.D.Desk.keeping c.loop-core.desk c.loop-core.keepers).part c.args.b)
     ((g.D.Desk.keeping c.feed_all.new.desk c.feed_all.new.keepers).part c.args.b) c.loop-core.invariant.kept c.feed_all.ensures.kept in
     record {
-      layout = c.feed_all.ensures.layout ∙ c.loop-core.invariant.layout;
-      rest = c.feed_all.ensures.rest;
-      fits = c.feed_all.ensures.fits;
-      seen = c.feed_all.ensures.seen;
-      held = held-then c.args.b (known_of (g.D.Desk.seen c.args.desk.now) (g.D.Desk.keeping c.args.desk.now c.args.keepers.now))
-          (known_of (g.D.Desk.seen c.loop-core.desk) (g.D.Desk.keeping c.loop-core.desk c.loop-core.keepers))
-          (known_of (g.D.Desk.seen c.feed_all.new.desk) (g.D.Desk.keeping c.feed_all.new.desk c.feed_all.new.keepers)) []
-          c.loop-core.invariant.held c.feed_all.ensures.held;
+      leaves = record {
+        layout = c.feed_all.ensures.leaves.layout ∙ c.loop-core.invariant.leaves.layout;
+        rest = c.feed_all.ensures.leaves.rest;
+        fits = c.feed_all.ensures.leaves.fits;
+        seen = c.feed_all.ensures.leaves.seen;
+        held = held-then c.args.b (known_of (g.D.Desk.seen c.args.desk.now) (g.D.Desk.keeping c.args.desk.now c.args.keepers.now))
+            (known_of (g.D.Desk.seen c.loop-core.desk) (g.D.Desk.keeping c.loop-core.desk c.loop-core.keepers))
+            (known_of (g.D.Desk.seen c.feed_all.new.desk) (g.D.Desk.keeping c.feed_all.new.desk c.feed_all.new.keepers)) []
+            c.loop-core.invariant.held c.feed_all.ensures.leaves.held;
+      };
       seats = seats-kept ((g.D.Desk.keeping c.args.desk.now c.args.keepers.now).part c.args.b)
           ((g.D.Desk.keeping c.feed_all.new.desk c.feed_all.new.keepers).part c.args.b) kept;
       underway = λ base plan. underway-kept base ((g.D.Desk.keeping c.args.desk.now c.args.keepers.now).part c.args.b)
           ((g.D.Desk.keeping c.feed_all.new.desk c.feed_all.new.keepers).part c.args.b) plan kept;
       filled = λ filled. absurd (cc);
-      steady = λ going. absurd (cc);
-      stopped = λ stopped.
-          subst (λ n. n < g.P.Pace.stops c.feed_all.new.pace) c.loop-core.invariant.steady
-          (c.feed_all.ensures.stopped c.if-not-feed_all.true);
-      no_fall = subst (λ n. n ≤ g.P.Pace.stops c.feed_all.new.pace) c.loop-core.invariant.steady c.feed_all.ensures.no_fall;
+      pace = record {
+        steady = λ going. absurd (cc);
+        stopped = λ stopped.
+            subst (λ n. n < g.P.Pace.stops c.feed_all.new.pace) c.loop-core.invariant.steady
+            (c.feed_all.ensures.pace.stopped c.if-not-feed_all.true);
+        no_fall = subst (λ n. n ≤ g.P.Pace.stops c.feed_all.new.pace) c.loop-core.invariant.steady c.feed_all.ensures.pace.no_fall;
+      };
     }
 
 pub loop-core-2-init : goal.loop-core-2-init
 loop-core-2-init g c = record {
-  layout = c.loop-core.invariant.layout;
-  rest = c.loop-core.invariant.rest;
-  fits = c.loop-core.invariant.fits;
+  leaves = record {
+    layout = c.loop-core.invariant.leaves.layout;
+    rest = c.loop-core.invariant.leaves.rest;
+    fits = c.loop-core.invariant.leaves.fits;
+  };
   seen = c.loop-core.invariant.seen;
   held = c.loop-core.invariant.held;
   seats = seats-kept ((g.D.Desk.keeping c.args.desk.now c.args.keepers.now).part c.args.b)
@@ -97,9 +106,8 @@ loop-core-2-init g c = record {
 
 pub replay_all-requires : goal.replay_all-requires
 replay_all-requires g c = record {
-  within = subst (λ (layout : Layout). c.args.b < layout.buckets) (sym c.loop-core-2.invariant.layout) c.requires.within;
-  rest = c.loop-core-2.invariant.rest;
-  fits = c.loop-core-2.invariant.fits;
+  within = subst (λ (layout : Layout). c.args.b < layout.buckets) (sym c.loop-core-2.invariant.leaves.layout) c.requires.within;
+  rests = record { rest = c.loop-core-2.invariant.leaves.rest; fits = c.loop-core-2.invariant.leaves.fits };
   unfed = c.loop-core-2.invariant.unfed;
   first = (
     drop (c.loop-core-2.core-index + 1) c.args.cores.now,
@@ -111,14 +119,16 @@ replay_all-requires g c = record {
 
 pub loop-core-2-preserved : goal.loop-core-2-preserved
 loop-core-2-preserved g c = record {
-  layout = c.replay_all.ensures.layout ∙ c.loop-core-2.invariant.layout;
-  rest = c.replay_all.ensures.rest;
-  fits = c.replay_all.ensures.fits;
-  seen = c.replay_all.ensures.seen;
+  leaves = record {
+    layout = c.replay_all.ensures.leaves.layout ∙ c.loop-core-2.invariant.leaves.layout;
+    rest = c.replay_all.ensures.leaves.rest;
+    fits = c.replay_all.ensures.leaves.fits;
+  };
+  seen = c.replay_all.ensures.leaves.seen;
   held = held-then c.args.b (known_of (g.D.Desk.seen c.args.desk.now) (g.D.Desk.keeping c.args.desk.now c.args.keepers.now))
       (known_of (g.D.Desk.seen c.loop-core-2.desk) (g.D.Desk.keeping c.loop-core-2.desk c.loop-core-2.keepers))
       (known_of (g.D.Desk.seen c.replay_all.new.desk) (g.D.Desk.keeping c.replay_all.new.desk c.replay_all.new.keepers)) []
-      c.loop-core-2.invariant.held c.replay_all.ensures.held;
+      c.loop-core-2.invariant.held c.replay_all.ensures.leaves.held;
   seats = seats-then ((g.D.Desk.keeping c.args.desk.now c.args.keepers.now).part c.args.b)
       ((g.D.Desk.keeping c.loop-core-2.desk c.loop-core-2.keepers).part c.args.b)
       ((g.D.Desk.keeping c.replay_all.new.desk c.replay_all.new.keepers).part c.args.b) c.loop-core-2.invariant.seats
@@ -129,46 +139,54 @@ loop-core-2-preserved g c = record {
       (names_from c.args.cores.now c.loop-core-2.core-index c.core-item-in-loop-core-2.result c.loop-core-2-test.true
       c.core-item-in-loop-core-2.is) c.loop-core-2.invariant.to_fill);
   underway = λ base plan underway. c.replay_all.ensures.underway base plan (c.loop-core-2.invariant.underway base plan underway);
-  steady = c.replay_all.ensures.steady c.if-not-replay_all.false ∙ c.loop-core-2.invariant.steady;
+  steady = c.replay_all.ensures.pace.steady c.if-not-replay_all.false ∙ c.loop-core-2.invariant.steady;
 }
 
 pub returns-then-not-replay_all : goal.returns-then-not-replay_all
 returns-then-not-replay_all g c = record {
-  layout = c.replay_all.ensures.layout ∙ c.loop-core-2.invariant.layout;
-  rest = c.replay_all.ensures.rest;
-  fits = c.replay_all.ensures.fits;
-  seen = c.replay_all.ensures.seen;
-  held = held-then c.args.b (known_of (g.D.Desk.seen c.args.desk.now) (g.D.Desk.keeping c.args.desk.now c.args.keepers.now))
-      (known_of (g.D.Desk.seen c.loop-core-2.desk) (g.D.Desk.keeping c.loop-core-2.desk c.loop-core-2.keepers))
-      (known_of (g.D.Desk.seen c.replay_all.new.desk) (g.D.Desk.keeping c.replay_all.new.desk c.replay_all.new.keepers)) []
-      c.loop-core-2.invariant.held c.replay_all.ensures.held;
+  leaves = record {
+    layout = c.replay_all.ensures.leaves.layout ∙ c.loop-core-2.invariant.leaves.layout;
+    rest = c.replay_all.ensures.leaves.rest;
+    fits = c.replay_all.ensures.leaves.fits;
+    seen = c.replay_all.ensures.leaves.seen;
+    held = held-then c.args.b (known_of (g.D.Desk.seen c.args.desk.now) (g.D.Desk.keeping c.args.desk.now c.args.keepers.now))
+        (known_of (g.D.Desk.seen c.loop-core-2.desk) (g.D.Desk.keeping c.loop-core-2.desk c.loop-core-2.keepers))
+        (known_of (g.D.Desk.seen c.replay_all.new.desk) (g.D.Desk.keeping c.replay_all.new.desk c.replay_all.new.keepers)) []
+        c.loop-core-2.invariant.held c.replay_all.ensures.leaves.held;
+  };
   seats = seats-then ((g.D.Desk.keeping c.args.desk.now c.args.keepers.now).part c.args.b)
       ((g.D.Desk.keeping c.loop-core-2.desk c.loop-core-2.keepers).part c.args.b)
       ((g.D.Desk.keeping c.replay_all.new.desk c.replay_all.new.keepers).part c.args.b) c.loop-core-2.invariant.seats
       c.replay_all.ensures.seats;
   underway = λ base plan underway. c.replay_all.ensures.underway base plan (c.loop-core-2.invariant.underway base plan underway);
   filled = λ filled. absurd (cc);
-  steady = λ going. absurd (cc);
-  stopped = λ stopped.
-      subst (λ n. n < g.P.Pace.stops c.replay_all.new.pace) c.loop-core-2.invariant.steady
-      (c.replay_all.ensures.stopped c.if-not-replay_all.true);
-  no_fall = subst (λ n. n ≤ g.P.Pace.stops c.replay_all.new.pace) c.loop-core-2.invariant.steady c.replay_all.ensures.no_fall;
+  pace = record {
+    steady = λ going. absurd (cc);
+    stopped = λ stopped.
+        subst (λ n. n < g.P.Pace.stops c.replay_all.new.pace) c.loop-core-2.invariant.steady
+        (c.replay_all.ensures.pace.stopped c.if-not-replay_all.true);
+    no_fall = subst (λ n. n ≤ g.P.Pace.stops c.replay_all.new.pace) c.loop-core-2.invariant.steady c.replay_all.ensures.pace.no_fall;
+  };
 }
 
 pub returns : goal.returns
 returns g c = record {
-  layout = c.loop-core-2.invariant.layout;
-  rest = c.loop-core-2.invariant.rest;
-  fits = c.loop-core-2.invariant.fits;
-  seen = c.loop-core-2.invariant.seen;
-  held = c.loop-core-2.invariant.held;
+  leaves = record {
+    layout = c.loop-core-2.invariant.leaves.layout;
+    rest = c.loop-core-2.invariant.leaves.rest;
+    fits = c.loop-core-2.invariant.leaves.fits;
+    seen = c.loop-core-2.invariant.seen;
+    held = c.loop-core-2.invariant.held;
+  };
   seats = c.loop-core-2.invariant.seats;
   underway = c.loop-core-2.invariant.underway;
   filled = λ filled.
       is_filled ((g.D.Desk.keeping c.loop-core-2.desk c.loop-core-2.keepers).part c.args.b) (drop c.loop-core-2.core-index c.args.cores.now)
       (names_past c.args.cores.now c.loop-core-2.core-index c.loop-core-2-test.false) c.loop-core-2.invariant.unfed
       c.loop-core-2.invariant.to_fill;
-  steady = λ going. c.loop-core-2.invariant.steady;
-  stopped = λ stopped. absurd (cc);
-  no_fall = subst (λ n. g.P.Pace.stops c.args.pace.now ≤ n) (sym c.loop-core-2.invariant.steady) (le_refl (g.P.Pace.stops c.args.pace.now));
+  pace = record {
+    steady = λ going. c.loop-core-2.invariant.steady;
+    stopped = λ stopped. absurd (cc);
+    no_fall = subst (λ n. g.P.Pace.stops c.args.pace.now ≤ n) (sym c.loop-core-2.invariant.steady) (le_refl (g.P.Pace.stops c.args.pace.now));
+  };
 }

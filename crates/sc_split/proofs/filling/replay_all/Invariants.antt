@@ -1,8 +1,7 @@
 -- The core replays.
+use Rattle.sc_split.specs.Leaving.{known, LeavesWith}
 use Rattle.std.proofs.Common.{◌≡◌, []}
 use Rattle.sc_ulog.specs.declared.mode.Mode.TheVariants.{Replaying}
-use Rattle.sc_collection.specs.Desks.{IsDeskAtRest}
-use Rattle.sc_collection.specs.Known.{known_of}
 use Rattle.sc_split.specs.Buckets.{KeeperHeld}
 use Rattle.sc_split.proofs.ReplayLemmas.{HasPutMode}
 use Rattle.sc_split.proofs.MeasureLemmas.{writes_left_in}
@@ -11,11 +10,8 @@ use Rattle.sc_split.proofs.filling.replay_all.Given as goal
 -- pieces were replayed, and none was the last
 abbrev pub invariant-loop-core : goal.invariant-loop-core
 invariant-loop-core g l = record {
-  layout : g.D.Desk.layout l.desk ≡ g.D.Desk.layout l.fn.desk;
-  rest : IsDeskAtRest (g.D.Desk.layout l.desk) (g.D.Desk.out l.desk) (g.D.Desk.seen l.desk);
-  fits : g.D.Desk.fits l.desk l.keepers;
-  held : KeeperHeld l.b (known_of (g.D.Desk.seen l.fn.desk) (g.D.Desk.keeping l.fn.desk l.fn.keepers)) (known_of
-      (g.D.Desk.seen l.desk) (g.D.Desk.keeping l.desk l.keepers)) [];
+  leaves : LeavesWith g.D.Desk l.fn.desk l.desk l.keepers;
+  held : KeeperHeld l.b (known g.D.Desk l.fn.desk l.fn.keepers) (known g.D.Desk l.desk l.keepers) [];
   replays : HasPutMode ((g.D.Desk.keeping l.fn.desk l.fn.keepers).part l.b) l.core Replaying ((g.D.Desk.keeping l.desk l.keepers).part l.b);
   steady : g.P.Pace.stops l.pace ≡ g.P.Pace.stops l.fn.pace;
 }

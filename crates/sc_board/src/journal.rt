@@ -1,4 +1,4 @@
-ghost use Rattle.std.specs.Prelude.{◌≡◌, ◌<◌, ◌≤◌, ◌-◌, [], ◌∷◌, ◌++◌, length, max, IfOk, OnOk, OnErr};
+ghost use Rattle.std.specs.Prelude.{◌≡◌, ◌<◌, ◌≤◌, ◌-◌, [], ◌∷◌, ◌++◌, length, max, OnOk, OnErr};
 
 use sc_seen::BoardEntry;
 use std::alloc::{AllocError, Global};
@@ -32,16 +32,6 @@ impl BoardJournal {
             entries: Vec::new(alloc),
             room: 0,
         }
-    }
-
-    /// No entries, and room for at least `n`. An error means out of memory.
-    pub fn with_room(alloc: Global, n: usize) -> Result<BoardJournal, AllocError>
-        ensures entries { IfOk result (λ journal. journal.entries ≡ []) }
-        ensures room { IfOk result (λ journal. n ≤ journal.room) }
-    {
-        let mut journal = BoardJournal::new(alloc);
-        journal.reserve(n)?;
-        Ok(journal)
     }
 
     pub fn len(&self) -> u64

@@ -2,16 +2,19 @@ ghost use Rattle.std.specs.Prelude.{◌≡◌, ◌<◌, ◌≤◌, ◌+◌, ◌-
 ghost use Rattle.std.specs.Option.{option_map};
 ghost use Rattle.std.specs.Arc.{arc_value};
 ghost use Rattle.sc_record.specs.declared.write.Write.{Write};
-ghost use Rattle.sc_snapshot.specs.Rows.{is_within};
+ghost use Rattle.sc_keys.specs.Fresh.{IsFresh};
+ghost use Rattle.sc_snapshot.specs.Rows.{AreRows, is_within};
 ghost use Rattle.sc_bucket.specs.Pending.{left_of, new_feed};
 
 use sc_hash::Range;
+use sc_keys::Steps;
 use sc_record::{Cell, CoreId};
 use sc_snapshot::Rows;
 use std::alloc::{AllocError, Global};
 use std::collections::VecDeque;
-use std::marker::Model;
+use std::marker::{Brand, Model};
 use std::sync::Arc;
+use std::sync::ledger::{Blank, Ledger};
 
 /// A snapshot from which a core is fed the rows of its range, a piece at a time, which contracts see as a `FeedState`. It has its own
 /// share of each row that it has still to feed, so that feeding takes no memory.
@@ -56,10 +59,7 @@ impl Feed {
     ) -> Result<Feed, AllocError>
         ensures { IfOk result (λ feed. feed ≡ new_feed core range (arc_value snapshot)) }
     {
-        let mut shares = VecDeque::new(alloc);
-        for at in 0..snapshot.rows() {
-            push_share(&mut shares, &range, snapshot.row(at).unwrap())?;
-        }
+        let shares = shares_of::<Brand>(alloc, &range, &snapshot, Blank::new(1))?;
         Ok(Feed {
             core,
             range,
@@ -97,7 +97,12 @@ impl Feed {
         ensures row { (row : Write) → slice_get self.old.rows self.old.next ≡ Some row
             → option_map arc_value result ≡ (if is_within self.old.range row then Some row else None) }
     {
-        let is_within = is_within(&self.range, self.snapshot.row(self.next).unwrap());
+        let is_within = is_within_at::<Brand>(
+            &self.range,
+            &self.snapshot,
+            self.next,
+            Blank::new(1),
+        );
         self.next += 1;
         if is_within {
             self.shares.pop_front()
@@ -112,6 +117,35 @@ pub(crate) fn is_within(range: &Range, row: &Cell) -> bool
     ensures { result ≡ is_within range.now (arc_value row.now) }
 {
     range.contains(row.hash)
+}
+
+// Shares of the rows whose hashes are in the range, in order. Each row is read, by a count of steps of its own, which is for proofs alone.
+fn shares_of<L: Ledger>(
+    alloc: Global,
+    range: &Range,
+    snapshot: &Rows,
+    blank: Blank,
+) -> Result<VecDeque<Cell>, AllocError>
+    requires { IsFresh blank L.name L.parts }
+    ensures shares { IfOk result (λ shares. map arc_value shares.items ≡ filter (is_within range.now) snapshot.now.rows) }
+    ensures rows { AreRows snapshot.now.rows }
+{
+    let mut steps = Steps::<L>::new(blank);
+    let mut shares = VecDeque::new(alloc);
+    for at in 0..snapshot.rows() {
+        push_share(&mut shares, range, snapshot.row(at, &mut steps).unwrap())?;
+    }
+    Ok(shares)
+}
+
+// Whether the hash of this row is in the range. It is read, by a count of steps of its own.
+fn is_within_at<L: Ledger>(range: &Range, snapshot: &Rows, at: u32, blank: Blank) -> bool
+    requires within { at < length snapshot.now.rows }
+    requires fresh { IsFresh blank L.name L.parts }
+    ensures { (row : Write) → slice_get snapshot.now.rows at ≡ Some row → result ≡ is_within range.now row }
+{
+    let mut steps = Steps::<L>::new(blank);
+    is_within(range, snapshot.row(at, &mut steps).unwrap())
 }
 
 // Puts a share of the row at the end where its hash is in the range.

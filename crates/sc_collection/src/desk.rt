@@ -1,4 +1,4 @@
-ghost use Rattle.std.specs.Prelude.{◌≡◌, ◌<◌, ◌≤◌, ℕ, List, [], Option, Some, None, true, false};
+ghost use Rattle.std.specs.Prelude.{◌≡◌, ◌<◌, ◌≤◌, List, Some, None, true, false};
 ghost use Rattle.sc_record.specs.declared.entry.Entry.{Entry};
 ghost use Rattle.sc_router.specs.Route.{IsBucketCount};
 ghost use Rattle.sc_seen.specs.Seen.{Layout, Seen, AreLegal};
@@ -12,20 +12,11 @@ ghost use Rattle.sc_collection.specs.Handing.{HandsOut, HandsOutBoard, TakesBack
 use sc_board::Board;
 use sc_bucket::Bucket;
 
-/// The keepers of all buckets of a collection, as whoever changes all buckets alike has them.
-pub trait Parts {
-    /// The part of the bucket of this number, as its keeper left it; none where these keepers do not tell.
-    ghost parts: { Self → ℕ → Option Part };
+/// The keepers of all buckets of a collection, as whoever changes all buckets alike has them. What they left in each bucket is told by the
+/// desk that they belong to (`keeping`).
+pub trait Parts {}
 
-    /// The entries that the keeper of the bucket of this number made since the collection was opened.
-    ghost own: { Self → ℕ → List Entry };
-}
-
-impl Parts for () {
-    ghost parts = { λ keepers number. None };
-
-    ghost own = { λ keepers number. [] };
-}
+impl Parts for () {}
 
 /// What hands out the buckets of a collection, one at a time, and its board. A bucket is taken, one event at most is done on it, and it
 /// is given back. Others may do so in between: what is handed out extends what was seen of it. What was seen is legal.

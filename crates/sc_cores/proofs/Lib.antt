@@ -1,5 +1,5 @@
 -- Facts on lists of cores.
 mod MapLemmas
-mod StopLemmas
+pub mod StopLemmas
 pub mod AmongLemmas
 pub mod ChangeLemmas

@@ -1,11 +1,12 @@
 -- What stopping one core more came to.
 use Rattle.std.proofs.Common.{◌≡◌, ◌∙◌, ℕ, suc, ◌+◌, ◌<◌, ◌≤◌, Bool, true, false, not, cond, nat_lt, List, [], ◌∷◌, ◌++◌, length, get_or, take, Option, Some, None, IfSome, Result, Ok, Err, OnOk, OnErr, refl, sym, ap, subst, arith}
-use Rattle.std.specs.Prelude.{is_some, is_err}
+use Rattle.std.specs.Prelude.{count_by, is_some, is_err}
 use Rattle.std.specs.List.{items_where_true, position, position_or_len}
 use Rattle.std.specs.Option.{option_map}
 use Rattle.std.proofs.lemmas.Bool.Decides.{nat_tests}
 use Rattle.std.proofs.lemmas.List.{take_more, append-nil, length-take-le, length_push}
 use Rattle.std.proofs.lemmas.List.Sums.{fold-append, sum_by_push}
+use Rattle.sc_cluster.proofs.CountLemmas.{count_by-cons}
 use Rattle.sc_io.specs.declared.hosts.Host.{Host}
 use Rattle.sc_io.specs.Hosts.{without_core}
 use Rattle.sc_cores.specs.Cores.{without_cores, StopsEach}
@@ -64,6 +65,30 @@ marked-push (true ∷ marks) mark (other ∷ cores) core same =
 marked-push (false ∷ marks) mark (other ∷ cores) core same =
     let fewer : length marks ≡ length cores = omega (arith, same) in
     marked-push marks mark cores core fewer
+
+-- where none fails to be marked all are
+all-marked : (marks : List Bool) (cores : List Host) → length marks ≡ length cores → count_by not marks ≡ 0
+    → items_where_true marks cores ≡ cores
+all-marked [] [] same none = refl
+all-marked [] (core ∷ cores) same none = absurd (omega (arith, same))
+all-marked (mark ∷ marks) [] same none = absurd (omega (arith, same))
+all-marked (true ∷ marks) (core ∷ cores) same none =
+    let fewer : length marks ≡ length cores = omega (arith, same) in
+    let rest : count_by not (true ∷ marks) ≡ 0 + count_by not marks = count_by-cons not true marks in
+    let left : count_by not marks ≡ 0 = omega (arith, none, rest) in
+    ap (λ (xs : List Host). core ∷ xs) (all-marked marks cores fewer left)
+all-marked (false ∷ marks) (core ∷ cores) same none =
+    let more : count_by not (false ∷ marks) ≡ 1 + count_by not marks = count_by-cons not false marks in
+    absurd (omega (arith, none, more))
+
+-- where stopping none of them failed each was stopped
+pub none_failed : (cores : List Host) (before now : Option (List Host)) (faults_before faults_now : ℕ) (failed : Option ℕ)
+    → StopsEach cores before now faults_before faults_now failed → faults_now ≡ faults_before
+    → IfSome before (λ all. now ≡ Some (without_cores cores all))
+none_failed cores before now faults_before faults_now failed was steady =
+    let most = was.faults in
+    let none : count_by not was.stopped ≡ 0 = omega (arith, most, steady) in
+    subst (λ (some : List Host). IfSome before (λ all. now ≡ Some (without_cores some all))) (all-marked was.stopped cores was.each none) was.left
 
 -- where some were stopped and then one more, all are
 left_more : (before now next : Option (List Host)) (some : List Host) (core : Host)

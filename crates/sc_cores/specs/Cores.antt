@@ -1,5 +1,5 @@
 -- The cores of slices: what they are called and where they stand, and which of them are started.
-use Rattle.std.specs.Prelude.{◌≡◌, ◌≤◌, ℕ, ◌+◌, Bool, false, not, List, length, map, fold, take, count_by, Option, Some, IfSome, All}
+use Rattle.std.specs.Prelude.{◌≡◌, ◌≤◌, ◌<◌, ℕ, ◌+◌, Bool, false, not, List, length, map, fold, take, count_by, Option, Some, IfSome, All}
 use Rattle.std.specs.List.{flat_map, range_with_len, items_where_true, position}
 use Rattle.sc_cluster.specs.declared.slice.Slice.{Slice}
 use Rattle.sc_cluster.specs.Slices.{core_name, node_of}
@@ -72,6 +72,20 @@ pub record StartsCores (cores : List Host) (old new : Outside) : Type 0 where
   pub stops : new.stops ≡ old.stops
   pub reach : new.reach ≡ old.reach
 
+-- Starting one of these cores failed: those before it were started, in order, and no other; and none was stopped.
+pub record FailsToStartCores (cores : List Host) (old new : Outside) : Type 0 where
+  pub count : ℕ
+  pub some : count < length cores
+  pub started : HasStarted cores count old.started new.started
+  pub start_faults : old.start_faults < new.start_faults
+  pub stop_faults : new.stop_faults ≡ old.stop_faults
+  pub stops : new.stops ≡ old.stops
+  pub reach : new.reach ≡ old.reach
+
 -- Each core of the first map was started, slice by slice, and no call failed.
 abbrev pub StartsFirst : (nodes : ℕ) → List Slice → (old new : Outside) → Type 0
 StartsFirst nodes first = StartsCores (cores_of_map nodes first)
+
+-- Starting a core of the first map failed: those before it were started, slice by slice, and no other.
+abbrev pub FailsToStartFirst : (nodes : ℕ) → List Slice → (old new : Outside) → Type 0
+FailsToStartFirst nodes first = FailsToStartCores (cores_of_map nodes first)

@@ -4,11 +4,11 @@
 //! It depends on the slices of `sc_cluster`, on the lists of `sc_record` and on the `Hosts` of `sc_io`. The layers above, which make and
 //! take away slices, use the clauses of its calls, and say by `specs/Cores` which cores are started.
 //!
-//! Proved: `core_of`, `cores_of` and `cores_of_map` give the defined cores; where `start_cores` succeeds each core is started, in order,
-//! and where it fails the count of failed starts rose; `stop_cores` asks for each to be stopped, also where one fails: no more are left
-//! than faults were counted, and the first of them is told.
+//! Proved: `core_of`, `cores_of` and `cores_of_map` give the defined cores; `start_cores` starts each, in order, up to the first that
+//! fails, of which there is one exactly where the count of failed starts rose; `stop_cores` asks for each to be stopped, also where one
+//! fails: no more are left than faults were counted, and the first of them is told.
 //!
-//! Neither: which cores are started once starting one failed (by construction, those before it); want of memory.
+//! Neither: want of memory.
 #![tactic(auto)]
 
 mod naming;

@@ -2,13 +2,15 @@
 
 ghost use Rattle.std.specs.Prelude.{◌≡◌, ◌≤◌, ◌<◌, ℕ, List, Option, Some, None, length, IfSome, OnOk, OnErr};
 ghost use Rattle.sc_io.specs.declared.hosts.Host.{Host};
-ghost use Rattle.sc_cores.specs.Cores.{with_cores, without_cores, StopsEach};
+ghost use Rattle.sc_cores.specs.Cores.{HasStarted, with_cores, without_cores, StopsEach};
 
 use sc_io::{Failed, Host, Hosts};
 
 /// Starts each of the cores, in order, up to the first that fails. Those before it stay started.
 pub fn start_cores<H: Hosts>(hosts: &mut H, cores: &[Host]) -> Result<(), Failed>
     ensures started { OnOk result (IfSome (H.started hosts.old) (λ before. H.started hosts.new ≡ Some (with_cores cores.now before))) }
+    ensures rest { OnErr result ((count : ℕ) × (count < length cores.now)
+        × HasStarted cores.now count (H.started hosts.old) (H.started hosts.new)) }
     ensures steady { OnOk result (H.start_faults hosts.new ≡ H.start_faults hosts.old) }
     ensures cause { OnErr result (H.start_faults hosts.old < H.start_faults hosts.new) }
     ensures no_fall { H.start_faults hosts.old ≤ H.start_faults hosts.new }

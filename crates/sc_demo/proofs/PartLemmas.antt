@@ -100,7 +100,7 @@ pub record AddsNotes (layout : Layout) (all part : Seen) (end : SplitEnd) : Type
 stops_quiet : (layout : Layout) (all : Seen) (first : Stop) (course : Course) (end : SplitEnd) → IsAnswered layout all first_shard first course end
     → AllByRecursion (IsQuiet layout all) (split_stops first course)
 stops_quiet layout all first refused end is = (inl is.lock, tt)
-stops_quiet layout all first (given_up plan recovered) end is = (inl is.lock, tt)
+stops_quiet layout all first (given_up plan recovered started) end is = (inl is.lock, tt)
 stops_quiet layout all first (done plan answers) end is = (inl is.0.lock, commits_quiet layout all answers is.1.each)
 
 refusal_not_done : (fault : BoardFault) → is_done_end (refusal fault) ≡ false
@@ -113,24 +113,24 @@ refusal_not_done faults.TooManySlices = refl
 refusal_not_done faults.LogFull = refl
 refusal_not_done faults.Memory = refl
 
-cause_not_done : (layout : Layout) (plan : SplitPlan) (old new : SplitMoment) (end : SplitEnd) → IsCause layout plan old new end → is_done_end end ≡ false
-cause_not_done layout plan old new (splits.Done subs committed) cause = absurd cause
-cause_not_done layout plan old new splits.UnknownShard cause = refl
-cause_not_done layout plan old new (splits.Running shard) cause = refl
-cause_not_done layout plan old new (splits.NotActive state) cause = refl
-cause_not_done layout plan old new splits.RangeTooSmall cause = refl
-cause_not_done layout plan old new splits.BadRanges cause = refl
-cause_not_done layout plan old new splits.TooManySlices cause = refl
-cause_not_done layout plan old new splits.LogFull cause = refl
-cause_not_done layout plan old new (splits.HostFault core) cause = refl
-cause_not_done layout plan old new splits.Stopped cause = refl
-cause_not_done layout plan old new splits.Memory cause = refl
+cause_not_done : (layout : Layout) (plan : SplitPlan) (started : ℕ) (old new : SplitMoment) (end : SplitEnd) → IsCause layout plan started old new end → is_done_end end ≡ false
+cause_not_done layout plan started old new (splits.Done subs committed) cause = absurd cause
+cause_not_done layout plan started old new splits.UnknownShard cause = refl
+cause_not_done layout plan started old new (splits.Running shard) cause = refl
+cause_not_done layout plan started old new (splits.NotActive state) cause = refl
+cause_not_done layout plan started old new splits.RangeTooSmall cause = refl
+cause_not_done layout plan started old new splits.BadRanges cause = refl
+cause_not_done layout plan started old new splits.TooManySlices cause = refl
+cause_not_done layout plan started old new splits.LogFull cause = refl
+cause_not_done layout plan started old new (splits.HostFault core) cause = refl
+cause_not_done layout plan started old new splits.Stopped cause = refl
+cause_not_done layout plan started old new splits.Memory cause = refl
 
 notes_done : (layout : Layout) (all : Seen) (first : Stop) (course : Course) (old new : SplitMoment) (end : SplitEnd)
     → IsAnswered layout all first_shard first course end → HasCause layout course old new end → list_any is_done_entry (noted_by course) ≡ is_done_end end
 notes_done layout all first refused old new end is cause = sym (ap is_done_end is.end_is ∙ refusal_not_done is.fault)
-notes_done layout all first (given_up plan true) old new end is cause = sym (cause_not_done layout plan old new end cause)
-notes_done layout all first (given_up plan false) old new end is cause = sym (cause_not_done layout plan old new end cause)
+notes_done layout all first (given_up plan true started) old new end is cause = sym (cause_not_done layout plan started old new end cause)
+notes_done layout all first (given_up plan false started) old new end is cause = sym (cause_not_done layout plan started old new end cause)
 notes_done layout all first (done plan answers) old new end is cause = sym (ap is_done_end is.2)
 
 pub adds_notes : (layout : Layout) (old new all : Seen) (outside next : Outside) (end : SplitEnd)

@@ -93,6 +93,7 @@ module _ {R C H P L : Type 0} where
     pub out : SetsBelow (length makers) true old.out new.out
     pub crews_back : new.crews_back ≡ old.crews_back
     pub faults : new.faults ≡ old.faults
+    pub opened : new.opened ≡ old.opened
 
   -- the crews of these makers are back, and all else of the station is as it was
   pub record MakersHaveGivenBack (makers : List (Maker R C H P L)) (old new : StationState C H P L) : Type 0 where
@@ -100,6 +101,7 @@ module _ {R C H P L : Type 0} where
     pub out : SetsBelow (length makers) false old.out new.out
     pub crews : new.crews ≡ old.crews
     pub faults : new.faults ≡ old.faults
+    pub opened : new.opened ≡ old.opened
 
   -- the passes have seen what all of these makers have, which is one story, and made what they made
   pub record MakersHaveJoined (collection : Locks) (makers : List (Maker R C H P L)) (passes : Passes) : Type 0 where

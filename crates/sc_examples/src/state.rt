@@ -1,15 +1,19 @@
 //! All that a bucket shows, as one line.
 
 ghost use Rattle.sc_bucket.specs.Sound.{IsSound};
+ghost use Rattle.sc_keys.specs.Fresh.{IsFresh};
 
 use crate::line::Line;
 use sc_bucket::{Bucket, EntryRef};
 use sc_cluster::Slice;
+use sc_keys::Steps;
 use sc_record::{Cell, CoreId, Entry, Id};
 use sc_replica::Replica;
 use sc_replicas::Standing;
 use sc_snapshot::Rows;
 use std::alloc::{AllocError, Global};
+use std::marker::Brand;
+use std::sync::ledger::{Blank, Ledger};
 
 /// The phase, how many entries are owed and how many the journal may have; then the entries, the slices, the cores, what is in flight, the
 /// searchers, and those that a switch will leave.
@@ -192,15 +196,18 @@ fn put_searcher(line: &mut Line, searcher: &Standing) -> Result<(), AllocError> 
     line.put(" | ", &searcher.slice.0);
     line.put(" ", &searcher.range.min);
     line.put("..", &searcher.range.max);
-    put_rows(line, &rows);
+    put_rows::<Brand>(line, &rows, Blank::new(1));
     Ok(())
 }
 
 /// How many entries the rows are after, and the rows.
-fn put_rows(line: &mut Line, rows: &Rows) {
+fn put_rows<L: Ledger>(line: &mut Line, rows: &Rows, blank: Blank)
+    requires { IsFresh blank L.name L.parts }
+{
+    let mut steps = Steps::<L>::new(blank);
     line.put(" ", &rows.place());
     for at in 0..rows.rows() {
-        if let Some(cell) = rows.row(at) {
+        if let Some(cell) = rows.row(at, &mut steps) {
             put_cell(line, cell);
         }
     }

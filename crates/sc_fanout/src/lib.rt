@@ -14,7 +14,7 @@
 //! page of both, and pages laid end to end are all that is found), `searches_are_determined` (the journals at its stops determine what a
 //! search shows: one count, and of each page one list).
 //!
-//! Tested alone: the worked searches, each in one part.
+//! Tested alone: the worked searches, each in one part; of several parts the tests of `sc_finding`.
 //!
 //! Neither: speed; that parts run beside each other; that each bucket is held once, that rows are read after the holds, and that no row is
 //! read to be shown where the page is empty, which hold by construction.

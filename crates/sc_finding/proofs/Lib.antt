@@ -5,6 +5,7 @@ pub mod AscendLemmas
 mod GatherLemmas
 mod StartLemmas
 mod CountLemmas
+mod StepLemmas
 pub mod HitLemmas
 mod LookedLemmas
 pub mod FoundLemmas

@@ -2,4 +2,5 @@
 pub mod Lists
 pub mod Merging
 pub mod SearcherRows
+pub mod Steps
 pub mod Hits

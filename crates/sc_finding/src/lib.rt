@@ -10,10 +10,11 @@
 //! of the first rows that the searchers have left. `find_in_parts` waits for the threads of its parts and for nothing else; these wait for nothing.
 //!
 //! Proved: how many rows the query finds with all searchers, and of each the numbers of the first ones (`HasFound`), in however many
-//! parts they are cut (`find_in_parts`), which are at most eight (`parts_for`); the first of all in order of id, of hits that begin as
-//! all that is found does (`first_of_all`).
+//! parts they are cut (`find_in_parts`), which are at most eight (`parts_for`); the searchers of one part are searched in no more steps than
+//! a look-up with each for each leaf of the query and one for each live row that matches (`find_all`: `AreStepsOfSearches`); the first of all
+//! in order of id, of hits that begin as all that is found does (`first_of_all`).
 //!
-//! Tested alone: nothing; the worked searches of `sc_fanout` come through it.
+//! Tested alone: a search in one to five parts; the worked searches of `sc_fanout` come through it in one.
 //!
 //! Neither: speed; that parts run beside each other; that terms are looked up and the outermost lists read before these are joined, that
 //! no row is read where none is asked for, that of a searcher of which none comes in only the first is read, and that no more is kept than

@@ -2,6 +2,7 @@ ghost use Rattle.std.specs.Prelude.{◌≡◌, ℕ, ◌<◌, ◌≤◌, length, 
 ghost use Rattle.std.specs.Fork.{slice_chunk};
 ghost use Rattle.std.specs.declared.alloc.AllocError.{AllocError};
 ghost use Rattle.sc_eval.specs.Criteria.{criterion_of};
+ghost use Rattle.sc_keys.specs.Fresh.{IsFresh};
 ghost use Rattle.sc_finding.specs.Hits.{HasFound};
 ghost use Rattle.sc_finding.specs.SearcherRows.{HaveTerms};
 ghost use Rattle.sc_finding.specs.declared.hits.Found.{Found};
@@ -9,8 +10,11 @@ ghost use Rattle.sc_finding.specs.declared.hits.Found.{Found};
 use crate::finding::find_all;
 use crate::hits::Found;
 use sc_eval::Bound;
+use sc_keys::Steps;
 use sc_replicas::Searcher;
 use std::alloc::{AllocError, Global};
+use std::marker::Brand;
+use std::sync::ledger::{Blank, Ledger};
 use std::thread;
 use std::thread::Threads;
 
@@ -46,7 +50,7 @@ pub fn find_in_parts<'a, R: Threads + Sync>(
     ensures { IfOk result (HasFound (criterion_of query.now) most searchers.now) }
 {
     if parts == 1 {
-        return find_all(alloc, query, searchers, most);
+        return find_part(alloc, query, searchers, most);
     }
     let size = searchers.len().div_ceil(parts);
     let mut all = Found {
@@ -85,8 +89,39 @@ fn find_each<'a, R: Threads + Sync>(
         &|n: usize| -> Result<Found, AllocError>
             requires { All HaveTerms searchers.now × (length searchers.now ≤ 65536) }
             ensures { IfOk result (HasFound (criterion_of query.entry.now) most (slice_chunk searchers.entry.now size n)) }
-        { find_all(alloc, query, part_of(searchers, size, n), most) },
+        { find_part(alloc, query, part_of(searchers, size, n), most) },
     )
+}
+
+// What the query finds with the searchers of one part, by a count of steps of its own, which is for proofs alone.
+fn find_part<'a>(
+    alloc: Global,
+    query: &Bound,
+    searchers: &'a [Searcher],
+    most: usize,
+) -> Result<Found<'a>, AllocError>
+    requires terms { All HaveTerms searchers.now }
+    requires few { length searchers.now ≤ 65536 }
+    ensures { IfOk result (HasFound (criterion_of query.now) most searchers.now) }
+{
+    find_counted::<Brand>(alloc, query, searchers, most, Blank::new(1))
+}
+
+// The same, by a count that begins here. No step is taken but those of `find_all`, whose bound it is.
+fn find_counted<'a, L: Ledger>(
+    alloc: Global,
+    query: &Bound,
+    searchers: &'a [Searcher],
+    most: usize,
+    blank: Blank,
+) -> Result<Found<'a>, AllocError>
+    requires terms { All HaveTerms searchers.now }
+    requires few { length searchers.now ≤ 65536 }
+    requires fresh { IsFresh blank L.name L.parts }
+    ensures { IfOk result (HasFound (criterion_of query.now) most searchers.now) }
+{
+    let mut steps = Steps::<L>::new(blank);
+    find_all(alloc, query, searchers, most, &mut steps)
 }
 
 // The part of this number, counted from 0, where each part has so many searchers, and the last ones fewer or none.

@@ -1,5 +1,5 @@
 -- Keys by their places among stored keys.
-use Rattle.std.specs.Prelude.{◌≡◌, ℕ, ◌<◌, ⊤, List, [], ◌∷◌, All, length, slice_get}
+use Rattle.std.specs.Prelude.{◌≡◌, ℕ, ◌+◌, ◌/◌, ◌<◌, ◌≤◌, ⊤, List, [], ◌∷◌, All, length, max, slice_get}
 use Rattle.std.specs.Arc.{arc_value}
 use Rattle.std.specs.declared.cmp.Ordering.{Ordering}
 use Rattle.std.specs.declared.cmp.Ordering.TheVariants.{Equal}
@@ -14,10 +14,16 @@ keys_in piece = (arc_value piece.keys).items
 abbrev pub stored_in : {K : Type 0} → List (Piece K) → List K
 stored_in pieces = flat_map keys_in pieces
 
--- the keys of an index, and the stored keys that they are among
+-- the keys of an index, and the stored keys that they are among, in so many pieces
 pub record KeysState (K : Type 0) : Type 0 where
   pub stored : List K
   pub keys : List K
+  pub pieces : ℕ
+
+-- of the stored keys few are none of the index, no more than a sixteenth of its keys or than 64, and they stand in at most 64 pieces
+pub record AreTrim {K : Type 0} (state : KeysState K) : Type 0 where
+  pub gone : length state.stored ≤ length state.keys + max (length state.keys / 16) 64
+  pub few : state.pieces ≤ 64
 
 module _ {K : Type 0} (stored : List K) where
   -- the keys at these places

@@ -3,12 +3,13 @@ ghost use Rattle.std.specs.declared.cmp.Ordering.{Ordering};
 ghost use Rattle.std.specs.declared.cmp.Ordering.TheVariants.{Less, Equal};
 ghost use Rattle.std.specs.Cmp.{IsTotalOrder};
 
+use crate::heads::Head;
 use crate::steps::Steps;
 use std::alloc::AllocError;
 use std::cmp::Ordering;
 use std::sync::ledger::Ledger;
 
-/// What rows are found by. Two keys can be compared only at the cost of a step, by themselves or by their heads.
+/// What rows are found by. What is learnt of the order of two keys costs a step, be it by comparing them or their heads.
 pub trait Key: Sized {
     ghost order: { Self → Self → Ordering };
 
@@ -20,7 +21,7 @@ pub trait Key: Sized {
         ensures counted { steps.new ≡ steps.old + 1 };
 
     /// The key's head: a number that goes with the order, by which keys are compared where their heads differ.
-    fn head(&self) -> u64
+    fn head(&self) -> Head
         ensures { result ≡ heading self.now };
 
     /// One more key that compares equal. An error means out of memory.

@@ -1,7 +1,8 @@
-ghost use Rattle.std.specs.Prelude.{◌≡◌, ◌+◌, ◌*◌, ◌/◌, ◌<◌, ◌≤◌, ◌++◌, length, map, take, slice_get, Some, IfOk, IfSome, OnOk};
+ghost use Rattle.std.specs.Prelude.{◌≡◌, ◌+◌, ◌*◌, ◌/◌, ◌<◌, ◌≤◌, ◌++◌, length, map, take, slice_get, Some, IfOk, IfSome, IsFalse, OnOk};
 ghost use Rattle.sc_keys.specs.Heads.{AreTops};
-ghost use Rattle.sc_keys.specs.Storing.{AreAlike, ArePlaces, HasPlaces, keys_at, keys_in, stored_in};
+ghost use Rattle.sc_keys.specs.Storing.{AreAlike, ArePlaces, AreTrim, HasPlaces, keys_at, keys_in, stored_in};
 
+use crate::heads::Head;
 use crate::key::Key;
 use std::alloc::{AllocError, Global};
 use std::marker::Model;
@@ -43,8 +44,8 @@ pub struct Keys<K: Key> {
     pieces: Vec<Piece<K>>,
     stored: u32,
     places: Vec<u32>,
-    heads: Vec<u64>,
-    tops: Vec<u64>,
+    heads: Vec<Head>,
+    tops: Vec<Head>,
 }
 
 impl<K: Key> Model for Keys<K> {
@@ -54,7 +55,11 @@ impl<K: Key> Model for Keys<K> {
 
     ghost Value = { KeysState K };
 
-    ghost view = { λ a. record { stored = stored_in a.pieces.items; keys = keys_at (stored_in a.pieces.items) a.places.items } };
+    ghost view = { λ a. record {
+      stored = stored_in a.pieces.items;
+      keys = keys_at (stored_in a.pieces.items) a.places.items;
+      pieces = length a.pieces.items;
+    } };
 
     ghost invariant = { λ a. (a.stored ≡ length (stored_in a.pieces.items)) × ArePlaces (stored_in a.pieces.items) a.places.items
         × (a.heads.items ≡ map K.heading (keys_at (stored_in a.pieces.items) a.places.items)) × AreTops a.heads.items a.tops.items };
@@ -78,7 +83,7 @@ impl<K: Key> Keys<K> {
 
     /// The head of the key with this number.
     #[inline(always)]
-    pub(crate) fn head(&self, at: usize) -> u64
+    pub(crate) fn head(&self, at: usize) -> Head
         requires { at < length self.now.keys }
         ensures { (key : K) → slice_get self.now.keys at ≡ Some key → result ≡ K.heading key }
     {
@@ -94,7 +99,7 @@ impl<K: Key> Keys<K> {
 
     /// The top with this number: the head of the last key of the block with this number.
     #[inline(always)]
-    pub(crate) fn top(&self, block: usize) -> u64
+    pub(crate) fn top(&self, block: usize) -> Head
         requires { 32 * block + 31 < length self.now.keys }
         ensures { (key : K) → slice_get self.now.keys (32 * block + 31) ≡ Some key → result ≡ K.heading key }
     {
@@ -114,7 +119,7 @@ impl<K: Key> Keys<K> {
 
     // The head of the stored key at this place, if it is the key with this number.
     #[inline(always)]
-    fn head_at(&self, at: usize, place: u32) -> Option<u64>
+    fn head_at(&self, at: usize, place: u32) -> Option<Head>
         ensures { IfSome result (λ head. (key : K) → slice_get self.now.stored place ≡ Some key → head ≡ K.heading key) }
     {
         if at < self.places.len() && self.places[at] == place {
@@ -126,7 +131,7 @@ impl<K: Key> Keys<K> {
 
     // The heads of the keys from this number on, as many as stand at these places one after another. The number decides only how many they are.
     #[inline(always)]
-    fn heads_of_run(&self, from: usize, places: &[u32]) -> &[u64]
+    fn heads_of_run(&self, from: usize, places: &[u32]) -> &[Head]
         ensures within { length result.now ≤ length places.now }
         ensures are_places { ArePlaces self.now.stored (take (length result.now) places.now) }
         ensures heads { result.now ≡ map K.heading (keys_at self.now.stored (take (length result.now) places.now)) }
@@ -154,7 +159,8 @@ impl<K: Key> Keys<K> {
 impl<K: Key + Drop> Keys<K> {
     /// These keys, as one piece. An error means out of memory, or that there are more than 2^32 - 1.
     pub fn of(alloc: Global, keys: Vec<K>) -> Result<Keys<K>, AllocError>
-        ensures { IfOk result (λ state. state.keys ≡ keys.items) }
+        ensures keys { IfOk result (λ state. state.keys ≡ keys.items) }
+        ensures trim { IfOk result AreTrim }
     {
         let Ok(stored) = u32::try_from(keys.len()) else {
             return Err(AllocError);
@@ -185,7 +191,8 @@ impl<K: Key + Drop> Keys<K> {
         places: Vec<u32>,
     ) -> Result<Keys<K>, AllocError>
         requires { ArePlaces (old.now.stored ++ added.now.stored) places.items }
-        ensures { IfOk result (λ state. AreAlike K.order (keys_at (old.now.stored ++ added.now.stored) places.items) state.keys) }
+        ensures alike { IfOk result (λ state. AreAlike K.order (keys_at (old.now.stored ++ added.now.stored) places.items) state.keys) }
+        ensures trim { IfOk result AreTrim }
     {
         let pieces = pieces_of_both(alloc, old, added)?;
         let stored = old.stored.checked_add(added.stored).ok_or(AllocError)?;
@@ -206,7 +213,9 @@ impl<K: Key + Drop> Keys<K> {
     }
 
     // Whether it is time to share each key alone.
-    fn is_worn(&self) -> bool {
+    fn is_worn(&self) -> bool
+        ensures { IsFalse result → AreTrim self.now }
+    {
         let count = self.places.len();
         let gone = (self.stored as usize).saturating_sub(count);
         MOST_PIECES < self.pieces.len() || (count / KEPT_FOR_GONE).max(ALWAYS_GONE) < gone
@@ -214,7 +223,8 @@ impl<K: Key + Drop> Keys<K> {
 
     // Keys that compare equal to these, each shared alone, in one piece without any other.
     fn renewed(&self, alloc: Global) -> Result<Keys<K>, AllocError>
-        ensures { IfOk result (λ state. AreAlike K.order self.now.keys state.keys) }
+        ensures alike { IfOk result (λ state. AreAlike K.order self.now.keys state.keys) }
+        ensures trim { IfOk result AreTrim }
     {
         let count = self.len();
         let mut keys = Vec::with_capacity(alloc, count)?;
@@ -240,7 +250,7 @@ fn places_of<K>(alloc: Global, keys: &[K], count: u32) -> Result<Vec<u32>, Alloc
 }
 
 // The heads of keys.
-fn heads_of<K: Key>(alloc: Global, keys: &[K]) -> Result<Vec<u64>, AllocError>
+fn heads_of<K: Key>(alloc: Global, keys: &[K]) -> Result<Vec<Head>, AllocError>
     ensures { IfOk result (λ heads. heads.items ≡ map K.heading keys.now) }
 {
     let mut heads = Vec::with_capacity(alloc, keys.len())?;
@@ -251,7 +261,7 @@ fn heads_of<K: Key>(alloc: Global, keys: &[K]) -> Result<Vec<u64>, AllocError>
 }
 
 // The tops of heads, in a list with room for no more.
-fn tops_of(alloc: Global, heads: &[u64]) -> Result<Vec<u64>, AllocError>
+fn tops_of(alloc: Global, heads: &[Head]) -> Result<Vec<Head>, AllocError>
     ensures { IfOk result (λ tops. AreTops heads.now tops.items) }
 {
     let count = heads.len() / HEADS_OF_A_TOP;
@@ -287,7 +297,7 @@ fn heads_at<K: Key>(
     added: &Keys<K>,
     pieces: &[Piece<K>],
     places: &[u32],
-) -> Result<Vec<u64>, AllocError>
+) -> Result<Vec<Head>, AllocError>
     requires stored { stored_in pieces.now ≡ old.now.stored ++ added.now.stored }
     requires places { ArePlaces (stored_in pieces.now) places.now }
     ensures { IfOk result (λ heads. heads.items ≡ map K.heading (keys_at (stored_in pieces.now) places.now)) }
@@ -320,7 +330,7 @@ fn head_of<K: Key>(
     high: &mut usize,
     pieces: &[Piece<K>],
     place: u32,
-) -> u64
+) -> Head
     requires stored { stored_in pieces.now ≡ old.now.stored ++ added.now.stored }
     requires within { place < length (stored_in pieces.now) }
     ensures { (key : K) → slice_get (stored_in pieces.now) place ≡ Some key → result ≡ K.heading key }
@@ -339,7 +349,7 @@ fn known_head<K: Key>(
     low: &mut usize,
     high: &mut usize,
     place: u32,
-) -> Option<u64>
+) -> Option<Head>
     ensures { IfSome result (λ head. (key : K) → slice_get (old.now.stored ++ added.now.stored) place ≡ Some key → head ≡ K.heading key) }
 {
     let count = old.stored();

@@ -3,6 +3,7 @@ ghost use Rattle.std.specs.declared.cmp.Ordering.TheVariants.{Greater};
 ghost use Rattle.std.specs.List.Sorted.{IsStrictlySortedBy};
 ghost use Rattle.sc_keys.specs.Searching.{IsKeyPlace, IsRangeFor, StandsAt};
 
+use crate::heads::Head;
 use crate::key::Key;
 use crate::keys::{HEADS_OF_A_TOP, Keys};
 use crate::steps::Steps;
@@ -44,7 +45,7 @@ fn block_of<K: Key, L: Ledger>(
     keys: &Keys<K>,
     first: usize,
     key: &K,
-    head: u64,
+    head: Head,
     steps: &mut Steps<L>,
 ) -> Result<usize, usize>
     requires ascending { IsStrictlySortedBy K.order keys.now.keys }
@@ -79,7 +80,7 @@ fn search_between<K: Key, L: Ledger>(
     from: usize,
     to: usize,
     key: &K,
-    head: u64,
+    head: Head,
     steps: &mut Steps<L>,
 ) -> Result<usize, usize>
     requires ascending { IsStrictlySortedBy K.order keys.now.keys }
@@ -112,9 +113,9 @@ fn search_between<K: Key, L: Ledger>(
 fn compare_at<K: Key, L: Ledger>(
     keys: &Keys<K>,
     at: usize,
-    other: u64,
+    other: Head,
     key: &K,
-    head: u64,
+    head: Head,
     steps: &mut Steps<L>,
 ) -> Ordering
     requires within { at < length keys.now.keys }
@@ -123,14 +124,9 @@ fn compare_at<K: Key, L: Ledger>(
     ensures answer { (found : K) → slice_get keys.now.keys at ≡ Some found → result ≡ K.order key.now found }
     ensures counted { steps.new ≡ steps.old + 1 }
 {
-    if head == other {
-        key.compare(keys.get(at), steps)
-    } else {
-        steps.tick();
-        if head < other {
-            Ordering::Less
-        } else {
-            Ordering::Greater
-        }
+    match head.compare(&other, steps) {
+        Ordering::Less => Ordering::Less,
+        Ordering::Equal => key.compare(keys.get(at), steps),
+        Ordering::Greater => Ordering::Greater,
     }
 }

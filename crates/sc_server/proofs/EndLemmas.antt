@@ -1,5 +1,5 @@
 -- How a server ended, by what opening the port, enlisting the workers and dismissing them left of its station.
-use Rattle.std.proofs.Common.{◌≡◌, ◌≤◌, ◌<◌, ℕ, Bool, true, false, List, length, map, Option, None, Vec, refl, sym, ap, subst, ◌∙◌, arith}
+use Rattle.std.proofs.Common.{◌≡◌, ◌≤◌, ◌<◌, ℕ, Bool, true, false, List, length, map, Option, Some, None, IfSome, Vec, refl, sym, ap, subst, ◌∙◌, arith}
 use Rattle.std.specs.Vec.{with_items}
 use Rattle.std.proofs.lemmas.List.{with_items_is}
 use Rattle.sc_cores.specs.Cores.{cores_of_map}
@@ -15,7 +15,7 @@ use Rattle.sc_server.specs.Reports.{Reports}
 use Rattle.sc_server.specs.Working.{Told, ServesAll, serving}
 use Rattle.sc_server.specs.Needs.{listening_line}
 use Rattle.sc_server.specs.Crews.{SetsBelow, SetsReportedBelow, AreEnlisted, AreReportedBack, StationState, HaveCrews, HaveGivenBack, seen_by_worker}
-use Rattle.sc_server.specs.Serving.{IsOneStory, Front, AreGivenAndBack, WritesNothing, IsEnd, EndsServer}
+use Rattle.sc_server.specs.Serving.{IsOneStory, Front, AreGivenAndBack, HasOpened, WritesNothing, IsEnd, EndsServer}
 use Rattle.sc_server.proofs.FrontLemmas.{none_given_and_back, given_and_back, unused}
 use Rattle.sc_server.proofs.CauseLemmas.{with_causes}
 use Rattle.sc_server.proofs.RunLemmas.{ends}
@@ -50,14 +50,16 @@ served_as {R} {C} {H} {P} {L} reports cores line as_old old as_new new before as
     (subst (λ (ones : List (Worker R C H P L)). ServesAll reports cores line (serving ones before) (serving as_new as_after) as_status) old_is served)))
 
 -- what a station reports
-abbrev pub station_of : {C H P L : Type 0} (crews crews_back : Option (ℕ → Option (Crew C H P L))) → (ℕ → Bool) → ℕ → StationState C H P L
-station_of crews crews_back out faults = record { crews = crews; crews_back = crews_back; out = out; faults = faults }
+abbrev pub station_of : {C H P L : Type 0} (crews crews_back : Option (ℕ → Option (Crew C H P L))) → (ℕ → Bool) → ℕ → Option (Option ℕ)
+    → StationState C H P L
+station_of crews crews_back out faults opened =
+    record { crews = crews; crews_back = crews_back; out = out; faults = faults; opened = opened }
 
 -- the same, by a front
 abbrev pub station_at : {C H P L : Type 0} → Front C H P L → StationState C H P L
-station_at front = station_of front.crews front.crews_back front.out front.open_faults
+station_at front = station_of front.crews front.crews_back front.out front.open_faults front.opened
 
--- nothing of it has changed
+-- nothing of it has changed but the port
 pub record IsSame {C H P L : Type 0} (before : Front C H P L) (opened : StationState C H P L) : Type 0 where
   pub crews : opened.crews ≡ before.crews
   pub crews_back : opened.crews_back ≡ before.crews_back
@@ -76,6 +78,14 @@ module _ {R C H P L : Type 0} (server : Server) (locks : Locks) where
 
     pub open_faults : after.open_faults ≡ before.open_faults
     open_faults = done.faults ∙ has.faults ∙ same.faults
+
+    -- the port that was opened before is open
+    pub port : IfSome before.opened (λ was. opened.opened ≡ Some (Some server.port)) → HasOpened before after server.port
+    port = by before.opened where
+      by : (was : Option (Option ℕ)) → IfSome was (λ old. opened.opened ≡ Some (Some server.port))
+          → IfSome was (λ old. after.opened ≡ Some (Some server.port))
+      by None is = tt
+      by (Some old) is = done.opened ∙ has.opened ∙ is
 
     pub crews : AreGivenAndBack before after (length enlisted)
     crews =
@@ -100,9 +110,10 @@ module _ {C H P L S W : Type 0} (reports : Reports C H P L S W) (server : Server
 
   -- the port was not opened
   pub not_opened : after.crews ≡ before.crews → after.crews_back ≡ before.crews_back → AreAsBefore before.out after.out
-      → before.open_faults < after.open_faults → WritesNothing before after → EndsServer reports server before after 7
-  not_opened crews crews_back out fault silent = with_causes reports server before after (IsEnd.port_fails (record {
+      → before.open_faults < after.open_faults → after.opened ≡ before.opened → WritesNothing before after → EndsServer reports server before after 7
+  not_opened crews crews_back out fault opened silent = with_causes reports server before after (IsEnd.port_fails (record {
     fault = fault;
+    opened = opened;
     crews = none_given_and_back before after crews crews_back out;
     silent = silent;
   }))
@@ -127,11 +138,13 @@ module _ {C H P L S W : Type 0} (reports : Reports C H P L S W) (server : Server
     pub all_given : (cores : List Host) (line : List ℕ) (all : Seen) {status : ℕ} → HasShape server.shape (layout_of locks)
         → (layout_of locks).opened ≡ nothing_opened → cores ≡ cores_of_map server.shape.nodes (layout_of locks).first → line ≡ listening_line server.port → length enlisted ≡ server.workers
         → length new ≡ length enlisted → IsOneStory (layout_of locks) (map seen_by_worker new) all
+        → IfSome before.opened (λ was. opened.opened ≡ Some (Some server.port))
         → ServesAll reports cores line (serving enlisted (told_of before.written before.write_faults))
         (serving new (told_of after.written after.write_faults)) status
         → EndsServer reports server before after status
-    all_given cores line all shape opened_none cores_are line_is count still story served =
+    all_given cores line all shape opened_none cores_are line_is count still story port_is served =
         ends reports server locks before after enlisted new (are server locks before after opened now enlisted new same has done still)
         (back server locks before after opened now enlisted new same has done still) cores line all shape opened_none cores_are line_is count story
         (subst (AreGivenAndBack before after) count (crews server locks before after opened now enlisted new same has done still))
-        (open_faults server locks before after opened now enlisted new same has done still) served
+        (open_faults server locks before after opened now enlisted new same has done still)
+        (port server locks before after opened now enlisted new same has done still port_is) served

@@ -8,7 +8,7 @@ use Rattle.sc_server.specs.declared.worker.Worker.{Worker}
 use Rattle.sc_server.specs.Reports.{WorkerCrew, without_moment}
 use Rattle.sc_server.specs.Working.{with_hosts, HasFirstHosts}
 use Rattle.sc_server.specs.Crews.{SetsBelow, SetsReportedBelow, AreEnlisted, AreReportedBack}
-use Rattle.sc_server.specs.Serving.{Front, AreGivenAndBack, AreUnused, NoneBegins}
+use Rattle.sc_server.specs.Serving.{Front, AreGivenAndBack, AreUnused, HasOpened, NoneBegins}
 use Rattle.sc_server.proofs.CrewLemmas.{none_set_reported}
 use Rattle.sc_server.proofs.MatchLemmas.{some_at}
 
@@ -73,9 +73,9 @@ module _ {C H P L : Type 0} (before after : Front C H P L) where
 
     -- and so do those of whom the hosts of the first alone have changed
     pub none_begins : (hosts : H) (first : Worker R C H P L) (is : HasFirstHosts hosts first enlisted new) → length enlisted ≡ server.workers
-        → AreGivenAndBack before after server.workers → after.open_faults ≡ before.open_faults
+        → AreGivenAndBack before after server.workers → after.open_faults ≡ before.open_faults → HasOpened before after server.port
         → NoneBegins before after server (are 0 first is.old_is).given (without_moment (with_hosts hosts first).crew)
-    none_begins hosts first is count crews open_faults =
+    none_begins hosts first is count crews open_faults port =
         let enlisted_is = are 0 first is.old_is in
         record {
           crews = crews;
@@ -87,4 +87,5 @@ module _ {C H P L : Type 0} (before after : Front C H P L) where
           unused = subst (λ (last : ℕ). AreUnused before after 1 last) count
               (unused 1 (λ number from. is.rest number (λ none. absurd (omega (arith, from, none)))));
           open_faults = open_faults;
+          port = port;
         }

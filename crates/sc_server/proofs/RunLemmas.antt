@@ -2,7 +2,7 @@
 use Rattle.std.proofs.Common.{◌≡◌, ◌≢◌, ◌⊎◌, inl, inr, ◌≤◌, ◌<◌, ℕ, Bool, cond, List, ◌++◌, length, map, Option, Some, IfSome, slice_get, sym, ap, subst, ◌∙◌, arith}
 use Rattle.std.proofs.lemmas.Bool.{cases_eq}
 use Rattle.std.proofs.lemmas.Option.{same_Some, slice_get_within}
-use Rattle.sc_cores.specs.Cores.{cores_of_map, StartsCores, StartsFirst}
+use Rattle.sc_cores.specs.Cores.{cores_of_map, StartsCores, FailsToStartCores, StartsFirst}
 use Rattle.sc_io.specs.declared.hosts.Host.{Host}
 use Rattle.sc_seen.specs.Seen.{nothing_opened, Seen}
 use Rattle.sc_collection.specs.Shapes.{HasShape, SeesOpened}
@@ -18,7 +18,7 @@ use Rattle.sc_server.specs.Working.{IsReady, with_hosts, HasFirstHosts, ended_by
 use Rattle.sc_io.specs.Pieces.{AddsPrefix}
 use Rattle.sc_server.specs.Needs.{listening_line}
 use Rattle.sc_server.specs.Crews.{IsEnlisted, AreEnlisted, AreReportedBack, seen_with, seen_by_worker}
-use Rattle.sc_server.specs.Serving.{IsOneStory, Front, AreGivenAndBack, WorkerRun, status_of, IsWorkerRun, RunsServer, WritesNothing, FailsToStart, FailsToWrite, IsEnd, EndsServer}
+use Rattle.sc_server.specs.Serving.{IsOneStory, Front, AreGivenAndBack, HasOpened, WorkerRun, status_of, IsWorkerRun, RunsServer, WritesNothing, FailsToStart, FailsToWrite, IsEnd, EndsServer}
 use Rattle.sc_server.proofs.FrontLemmas.{one_back, none_begins}
 use Rattle.sc_server.proofs.CauseLemmas.{with_causes}
 use Rattle.sc_server.proofs.MatchLemmas.{some_at, AreMatched, all_matched, same_map, same_any}
@@ -56,17 +56,25 @@ module _ {R C H P L S W : Type 0} (reports : Reports C H P L S W) (server : Serv
     (enlisted new : List (Worker R C H P L)) (are : AreEnlisted server locks before.crews enlisted)
     (back : AreReportedBack new before.crews_back after.crews_back) where
   module _ (count : length enlisted ≡ server.workers) (crews : AreGivenAndBack before after server.workers)
-      (open_faults : after.open_faults ≡ before.open_faults) where
+      (open_faults : after.open_faults ≡ before.open_faults) (port : HasOpened before after server.port) where
     -- a core was not started by the first one's hosts
-    pub fails_to_start : FirstFails reports enlisted new → WritesNothing before after → FailsToStart reports server before after
-    fails_to_start fails silent =
+    pub fails_to_start : (cores : List Host) → FirstFails reports cores enlisted new → HasShape server.shape (layout_of locks)
+        → cores ≡ cores_of_map server.shape.nodes (layout_of locks).first → WritesNothing before after → FailsToStart reports server before after
+    fails_to_start cores fails shape cores_are silent =
         let crew = (are 0 fails.first fails.is.old_is).crew in
+        let given = (are 0 fails.first fails.is.old_is).given in
         record {
-          given = (are 0 fails.first fails.is.old_is).given;
+          given = given;
           back = without_moment (with_hosts fails.hosts fails.first).crew;
-          crews = none_begins before after server locks enlisted new are back fails.hosts fails.first fails.is count crews open_faults;
-          fault = subst (λ (one : WorkerCrew C H P L). (reports.outside one.hosts one.pace).start_faults
-              < (reports.outside fails.hosts fails.first.crew.pace).start_faults) crew fails.fault;
+          crews = none_begins before after server locks enlisted new are back fails.hosts fails.first fails.is count crews open_faults port;
+          layout = layout_of locks;
+          shape = shape;
+          cores = subst (λ (nodes : ℕ). FailsToStartCores (cores_of_map nodes (layout_of locks).first)
+              (reports.outside given.hosts given.pace) (reports.outside fails.hosts fails.first.crew.pace)) (sym shape.nodes)
+              (subst (λ (ones : List Host). FailsToStartCores ones
+              (reports.outside given.hosts given.pace) (reports.outside fails.hosts fails.first.crew.pace)) cores_are
+              (subst (λ (one : WorkerCrew C H P L). FailsToStartCores cores
+              (reports.outside one.hosts one.pace) (reports.outside fails.hosts fails.first.crew.pace)) crew fails.fails));
           silent = silent;
         }
 
@@ -80,7 +88,7 @@ module _ {R C H P L S W : Type 0} (reports : Reports C H P L S W) (server : Serv
         record {
           given = given;
           back = without_moment (with_hosts starts.hosts starts.first).crew;
-          crews = none_begins before after server locks enlisted new are back starts.hosts starts.first starts.is count crews open_faults;
+          crews = none_begins before after server locks enlisted new are back starts.hosts starts.first starts.is count crews open_faults port;
           layout = layout_of locks;
           shape = shape;
           cores = subst (λ (nodes : ℕ). StartsCores (cores_of_map nodes (layout_of locks).first)
@@ -206,10 +214,11 @@ module _ {R C H P L S W : Type 0} (reports : Reports C H P L S W) (server : Serv
 
     pub runs_server : (all : Seen) → HasShape server.shape (layout_of locks) → (layout_of locks).opened ≡ nothing_opened → length enlisted ≡ server.workers
         → IsOneStory (layout_of locks) (map seen_by_worker new) all → AreGivenAndBack before after server.workers → after.open_faults ≡ before.open_faults
+        → HasOpened before after server.port
         → IfSome before.written (λ old. after.written ≡ Some (old ++ listening_line server.port)) → after.write_faults ≡ before.write_faults
         → RunsServer reports server before after runs
     unfolding runs all_runs
-    runs_server all shape opened count story crews open_faults line faults = record {
+    runs_server all shape opened count story crews open_faults port line faults = record {
       layout = layout_of locks;
       shape = shape;
       opened = opened;
@@ -223,6 +232,7 @@ module _ {R C H P L S W : Type 0} (reports : Reports C H P L S W) (server : Serv
           (same_map seen_by_worker (λ (run : WorkerRun C H P L). run.after) IsRunOf new runs all_runs.1 (λ number worker run is. is.after_is)) story;
       crews = crews;
       open_faults = open_faults;
+      port = port;
       line = line;
       write_faults = faults;
     }
@@ -232,21 +242,22 @@ module _ {R C H P L S W : Type 0} (reports : Reports C H P L S W) (server : Serv
       (opened : (layout_of locks).opened ≡ nothing_opened)
       (cores_are : cores ≡ cores_of_map server.shape.nodes (layout_of locks).first) (line_is : line ≡ listening_line server.port)
       (count : length enlisted ≡ server.workers) (story : IsOneStory (layout_of locks) (map seen_by_worker new) all)
-      (crews : AreGivenAndBack before after server.workers) (open_faults : after.open_faults ≡ before.open_faults) where
+      (crews : AreGivenAndBack before after server.workers) (open_faults : after.open_faults ≡ before.open_faults)
+      (port : HasOpened before after server.port) where
     is_end : {status : ℕ} → ServesAll reports cores line (serving enlisted (record { written = before.written; faults = before.write_faults }))
         (serving new (record { written = after.written; faults = after.write_faults })) status → IsEnd reports server before after status
     is_end (ServesAll.host_fails fails same) =
-        IsEnd.host_fails (fails_to_start count crews open_faults fails
+        IsEnd.host_fails (fails_to_start count crews open_faults port cores fails shape cores_are
         (record { written = ap (λ (told : Told). told.written) same; write_faults = ap (λ (told : Told). told.faults) same }))
     is_end (ServesAll.line_fails starts fault part) =
-        IsEnd.line_fails (fails_to_write count crews open_faults cores starts shape cores_are fault
+        IsEnd.line_fails (fails_to_write count crews open_faults port cores starts shape cores_are fault
         (subst (λ (bytes : List ℕ). IfSome before.written (λ old. AddsPrefix old bytes after.written)) line_is part))
     is_end (ServesAll.works began starts told faults have) =
         let begins = subst (λ (ones : List Host). FirstStarts reports ones enlisted began) cores_are starts in
         let written = subst (λ (bytes : List ℕ). IfSome before.written (λ old. after.written ≡ Some (old ++ bytes))) line_is told in
         subst (IsEnd reports server before after) (sym (same_status began server.shape.nodes shape.nodes begins have))
         (IsEnd.runs (runs began server.shape.nodes shape.nodes begins have)
-        (runs_server began server.shape.nodes shape.nodes begins have all shape opened count story crews open_faults written faults))
+        (runs_server began server.shape.nodes shape.nodes begins have all shape opened count story crews open_faults port written faults))
 
     pub ends : {status : ℕ} → ServesAll reports cores line (serving enlisted (record { written = before.written; faults = before.write_faults }))
         (serving new (record { written = after.written; faults = after.write_faults })) status → EndsServer reports server before after status

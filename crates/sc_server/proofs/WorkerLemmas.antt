@@ -9,7 +9,7 @@ use Rattle.sc_session.specs.declared.worker.WorkEnd.{WorkEnd}
 use Rattle.sc_session.specs.Working.{IsWorked}
 use Rattle.sc_shared.specs.Collections.{Locks}
 use Rattle.sc_server.specs.declared.worker.Worker.{Worker}
-use Rattle.sc_cores.specs.Cores.{StartsCores}
+use Rattle.sc_cores.specs.Cores.{StartsCores, FailsToStartCores}
 use Rattle.sc_server.specs.Reports.{Reports, WorkerCrew, clock_gives, setting, beside}
 use Rattle.sc_server.specs.Working.{IsReady, IsReadyToWork, ended_by_fault, with_hosts, HasFirstHosts, status_after, HasWorked, HaveWorked, FirstStarts, Told, ServesAll, serving}
 
@@ -105,11 +105,11 @@ module _ {R C H P L S W : Type 0} (reports : Reports C H P L S W) (cores : List 
 
   -- the hosts of the first have not started them all
   pub serves_host_fails : (before : Told)
-      → (reports.outside (get_or workers 0 d).crew.hosts (get_or workers 0 d).crew.pace).start_faults
-      < (reports.outside hosts (get_or workers 0 d).crew.pace).start_faults
+      → FailsToStartCores cores (reports.outside (get_or workers 0 d).crew.hosts (get_or workers 0 d).crew.pace)
+      (reports.outside hosts (get_or workers 0 d).crew.pace)
       → ServesAll reports cores line (serving workers before) (serving (set workers 0 (with_hosts hosts (get_or workers 0 d))) before) 8
-  serves_host_fails before fault =
-      ServesAll.host_fails (record { first = get_or workers 0 d; hosts = hosts; is = first_hosts hosts d workers some; fault = fault }) refl
+  serves_host_fails before fails =
+      ServesAll.host_fails (record { first = get_or workers 0 d; hosts = hosts; is = first_hosts hosts d workers some; fails = fails }) refl
 
   -- the line was not written
   pub serves_line_fails : (before after : Told)

@@ -21,12 +21,13 @@ abbrev pub SetsReportedBelow : {A : Type 0} → ℕ → A → (old new : Option 
 SetsReportedBelow {A} count value old new = IfSome old (λ before. (after : ℕ → A) × (new ≡ Some after) × SetsBelow count value before after)
 
 -- What a station reports at one moment: the crews that are still to be given, those that are back and those that are out, by the worker's
--- number; and how often opening the port has failed.
+-- number; how often opening the port has failed; and the port that was opened last, if one was.
 pub record StationState (C H P L : Type 0) : Type 0 where
   pub crews : Option (ℕ → Option (Crew C H P L))
   pub crews_back : Option (ℕ → Option (Crew C H P L))
   pub out : ℕ → Bool
   pub faults : ℕ
+  pub opened : Option (Option ℕ)
 
 -- what this station reports
 abbrev pub station_state : {T C H P L S W : Type 0} → Station T C H P L S W → T → StationState C H P L
@@ -35,6 +36,7 @@ station_state of_station station = record {
   crews_back = of_station.crews_back station;
   out = of_station.out station;
   faults = of_station.faults station;
+  opened = of_station.opened station;
 }
 
 -- what these passes have seen; none have seen nothing
@@ -81,6 +83,7 @@ module _ {R C H P L : Type 0} where
     pub out : SetsBelow (length workers) true old.out new.out
     pub crews_back : new.crews_back ≡ old.crews_back
     pub faults : new.faults ≡ old.faults
+    pub opened : new.opened ≡ old.opened
 
   -- the crews of these workers are back, and all else of the station is as it was
   pub record HaveGivenBack (workers : List (Worker R C H P L)) (old new : StationState C H P L) : Type 0 where
@@ -88,3 +91,4 @@ module _ {R C H P L : Type 0} where
     pub out : SetsBelow (length workers) false old.out new.out
     pub crews : new.crews ≡ old.crews
     pub faults : new.faults ≡ old.faults
+    pub opened : new.opened ≡ old.opened

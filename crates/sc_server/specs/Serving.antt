@@ -1,7 +1,7 @@
 -- What a server and its workers leave.
 use Rattle.std.specs.Prelude.{◌≡◌, ◌≢◌, ◌⊎◌, ◌↔◌, ◌≤◌, ◌<◌, ◌++◌, ℕ, Bool, false, List, length, map, slice_get, if◌then◌else◌, Option, Some, None, IfSome}
 use Rattle.std.specs.List.{list_any}
-use Rattle.sc_cores.specs.Cores.{StartsFirst}
+use Rattle.sc_cores.specs.Cores.{StartsFirst, FailsToStartFirst}
 use Rattle.sc_io.specs.Pieces.{AddsPrefix}
 use Rattle.sc_io.specs.declared.sink.Sink.{Ghosts as Sink}
 use Rattle.sc_seen.specs.Seen.{nothing_opened, Layout, Seen, SeesMore, AreLegal}
@@ -25,12 +25,14 @@ pub record IsOneStory (layout : Layout) (parts : List Seen) (all : Seen) : Type 
       → (lock : ℕ) → AreDisjoint (one.own lock) (other.own lock)
 
 -- What a station and a sink report: the crews that are still to be given, those that are back and those that are out, by the worker's
--- number; how often opening the port has failed; the bytes that were written, and how often writing has failed.
+-- number; how often opening the port has failed, and the port that was opened last; the bytes that were written, and how often writing has
+-- failed.
 pub record Front (C H P L : Type 0) : Type 0 where
   pub crews : Option (ℕ → Option (Crew C H P L))
   pub crews_back : Option (ℕ → Option (Crew C H P L))
   pub out : ℕ → Bool
   pub open_faults : ℕ
+  pub opened : Option (Option ℕ)
   pub written : Option (List ℕ)
   pub write_faults : ℕ
 
@@ -41,6 +43,7 @@ front_of of_station of_sink station sink = record {
   crews_back = of_station.crews_back station;
   out = of_station.out station;
   open_faults = of_station.faults station;
+  opened = of_station.opened station;
   written = of_sink.written sink;
   write_faults = of_sink.faults sink;
 }
@@ -62,6 +65,10 @@ module _ {C H P L : Type 0} (before after : Front C H P L) where
   abbrev pub AreUnused : (first last : ℕ) → Type 0
   AreUnused first last = (number : ℕ) → first ≤ number → number < last → (crew : Crew C H P L) × IsGivenAndBack number crew crew
 
+  -- the port that was opened last is the one of this number, where the station reports it
+  abbrev pub HasOpened : (port : ℕ) → Type 0
+  HasOpened port = IfSome before.opened (λ was. after.opened ≡ Some (Some port))
+
   -- nothing was written
   pub record WritesNothing : Type 0 where
     pub written : after.written ≡ before.written
@@ -70,6 +77,7 @@ module _ {C H P L : Type 0} (before after : Front C H P L) where
   -- The port was not opened: no crew was given, and nothing was written.
   pub record FailsToOpen : Type 0 where
     pub fault : before.open_faults < after.open_faults
+    pub opened : after.opened ≡ before.opened
     pub crews : AreGivenAndBack 0
     pub silent : WritesNothing
 
@@ -82,13 +90,15 @@ module _ {C H P L : Type 0} (before after : Front C H P L) where
     pub open_faults : after.open_faults ≡ before.open_faults
     pub silent : WritesNothing
 
-  -- The hosts of crew 0 were to start the first cores, and no worker began: each crew is back, all but those hosts as it was given.
+  -- The port was opened, and the hosts of crew 0 were to start the first cores, but no worker began: each crew is back, all but those hosts as
+  -- it was given.
   pub record NoneBegins (server : Server) (given back : Crew C H P L) : Type 0 where
     pub crews : AreGivenAndBack server.workers
     pub first : IsGivenAndBack 0 given back
     pub first_is : back ≡ record given { hosts = back.hosts }
     pub unused : AreUnused 1 server.workers
     pub open_faults : after.open_faults ≡ before.open_faults
+    pub port : HasOpened server.port
 
 -- a worker that has worked: its crew as the station gave it, as it began to work, and as it was given back; what its passes had seen
 -- before and after; and how it ended
@@ -124,12 +134,14 @@ module _ {C H P L S W : Type 0} (common : WorkerSetting C H P L S W) where
         (beside common.reports run.before run.began) (beside common.reports run.after run.back) run.end
 
 module _ {C H P L S W : Type 0} (reports : Reports C H P L S W) where
-  -- Starting one of the first cores failed, and nothing was written.
+  -- Starting one of the cores of the first map failed, those before it were started, and nothing was written.
   pub record FailsToStart (server : Server) (before after : Front C H P L) : Type 0 where
     pub given : Crew C H P L
     pub back : Crew C H P L
     pub crews : NoneBegins before after server given back
-    pub fault : (reports.outside given.hosts given.pace).start_faults < (reports.outside back.hosts back.pace).start_faults
+    pub layout : Layout
+    pub shape : HasShape server.shape layout
+    pub cores : FailsToStartFirst layout.nodes layout.first (reports.outside given.hosts given.pace) (reports.outside back.hosts back.pace)
     pub silent : WritesNothing before after
 
   -- The cores of the first map were started, and writing the line failed: a prefix of it was written.
@@ -144,7 +156,7 @@ module _ {C H P L S W : Type 0} (reports : Reports C H P L S W) where
     pub part : IfSome before.written (λ old. AddsPrefix old (listening_line server.port) after.written)
 
   -- All workers of a server worked over one new collection of its shape, in which nothing had happened: what they have seen of each journal are
-  -- beginnings of one, and no two of them made the same entry. The line was written before, and the port didn't fail.
+  -- beginnings of one, and no two of them made the same entry. The port that was asked for was opened before, and the line was written.
   pub record RunsServer (server : Server) (before after : Front C H P L) (runs : List (WorkerRun C H P L)) : Type 0 where
     pub layout : Layout
     pub shape : HasShape server.shape layout
@@ -156,6 +168,7 @@ module _ {C H P L S W : Type 0} (reports : Reports C H P L S W) where
     pub story : IsOneStory layout (map (λ (run : WorkerRun C H P L). run.after) runs) all
     pub crews : AreGivenAndBack before after server.workers
     pub open_faults : after.open_faults ≡ before.open_faults
+    pub port : HasOpened before after server.port
     pub line : IfSome before.written (λ old. after.written ≡ Some (old ++ listening_line server.port))
     pub write_faults : after.write_faults ≡ before.write_faults
 

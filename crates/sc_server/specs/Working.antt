@@ -11,7 +11,7 @@ use Rattle.sc_shared.specs.Passes.{seen_of}
 use Rattle.sc_shared.specs.Collections.{Locks, layout_of}
 use Rattle.sc_shared.specs.Sharing.{ArePasses}
 use Rattle.sc_server.specs.declared.worker.Worker.{Worker}
-use Rattle.sc_cores.specs.Cores.{StartsCores}
+use Rattle.sc_cores.specs.Cores.{StartsCores, FailsToStartCores}
 use Rattle.sc_server.specs.Reports.{Reports, clock_gives, setting, beside}
 
 -- its listener failed
@@ -85,12 +85,12 @@ module _ {R C H P L S W : Type 0} (reports : Reports C H P L S W) where
     pub each : (number : ℕ) (before after : Worker R C H P L) → slice_get old number ≡ Some before → slice_get new number ≡ Some after
         → HasWorked before after
 
-  -- starting a core failed by the hosts of the first worker, and all else of the workers is as it was
-  pub record FirstFails (old new : List (Worker R C H P L)) : Type 0 where
+  -- starting one of these cores failed by the hosts of the first worker, and all else of the workers is as it was
+  pub record FirstFails (cores : List Host) (old new : List (Worker R C H P L)) : Type 0 where
     pub first : Worker R C H P L
     pub hosts : H
     pub is : HasFirstHosts hosts first old new
-    pub fault : (reports.outside first.crew.hosts first.crew.pace).start_faults < (reports.outside hosts first.crew.pace).start_faults
+    pub fails : FailsToStartCores cores (reports.outside first.crew.hosts first.crew.pace) (reports.outside hosts first.crew.pace)
 
   -- the hosts of the first worker have started these cores, and all else of the workers is as it was
   pub record FirstStarts (cores : List Host) (old new : List (Worker R C H P L)) : Type 0 where
@@ -103,7 +103,7 @@ module _ {R C H P L S W : Type 0} (reports : Reports C H P L S W) where
   -- was written; the cores were started, and writing the line failed after a prefix of it; or the line was written as well, and each worker has worked from
   -- there.
   pub data ServesAll (cores : List Host) (line : List ℕ) (old new : ServerState R C H P L) : (status : ℕ) → Type 0 where
-    host_fails : FirstFails old.workers new.workers → new.told ≡ old.told → ServesAll cores line old new 8
+    host_fails : FirstFails cores old.workers new.workers → new.told ≡ old.told → ServesAll cores line old new 8
     line_fails : FirstStarts cores old.workers new.workers → old.told.faults < new.told.faults
         → IfSome old.told.written (λ bytes. AddsPrefix bytes line new.told.written) → ServesAll cores line old new 5
     works : (began : List (Worker R C H P L)) → FirstStarts cores old.workers began

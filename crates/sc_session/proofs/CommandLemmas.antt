@@ -138,23 +138,23 @@ cause_at : (layout : Layout) (course : Course) (old new : SplitMoment) (end : Sp
     → HasCause layout course (moment_at (situation old.view.seen old.outside)) (moment_at (situation new.view.seen new.outside)) end
 cause_at layout refused old new end cause = tt
 cause_at layout (done plan answers) old new end cause = tt
-cause_at layout (given_up plan recovered) old new splits.LogFull cause = cause
-cause_at layout (given_up plan recovered) old new (splits.HostFault core) cause = cause
-cause_at layout (given_up plan recovered) old new splits.Stopped cause = cause
-cause_at layout (given_up plan recovered) old new splits.Memory cause = tt
-cause_at layout (given_up plan recovered) old new (splits.Done subs committed) cause = absurd cause
-cause_at layout (given_up plan recovered) old new splits.UnknownShard cause = absurd cause
-cause_at layout (given_up plan recovered) old new (splits.Running shard) cause = absurd cause
-cause_at layout (given_up plan recovered) old new (splits.NotActive state) cause = absurd cause
-cause_at layout (given_up plan recovered) old new splits.RangeTooSmall cause = absurd cause
-cause_at layout (given_up plan recovered) old new splits.BadRanges cause = absurd cause
-cause_at layout (given_up plan recovered) old new splits.TooManySlices cause = absurd cause
+cause_at layout (given_up plan recovered started) old new splits.LogFull cause = cause
+cause_at layout (given_up plan recovered started) old new (splits.HostFault core) cause = cause
+cause_at layout (given_up plan recovered started) old new splits.Stopped cause = cause
+cause_at layout (given_up plan recovered started) old new splits.Memory cause = tt
+cause_at layout (given_up plan recovered started) old new (splits.Done subs committed) cause = absurd cause
+cause_at layout (given_up plan recovered started) old new splits.UnknownShard cause = absurd cause
+cause_at layout (given_up plan recovered started) old new (splits.Running shard) cause = absurd cause
+cause_at layout (given_up plan recovered started) old new (splits.NotActive state) cause = absurd cause
+cause_at layout (given_up plan recovered started) old new splits.RangeTooSmall cause = absurd cause
+cause_at layout (given_up plan recovered started) old new splits.BadRanges cause = absurd cause
+cause_at layout (given_up plan recovered started) old new splits.TooManySlices cause = absurd cause
 
 -- a split made no write
 split_once : (layout : Layout) (seen : Seen) (asked : board.AskedSplit) (first : Stop) (course : Course) (end : SplitEnd)
     → IsAnswered layout seen asked first course end → filter_map (ack_made layout seen) (split_stops first course) ≡ []
 split_once layout seen asked first refused end is = board_once layout seen first is.lock
-split_once layout seen asked first (given_up plan recovered) end is = board_once layout seen first is.lock
+split_once layout seen asked first (given_up plan recovered started) end is = board_once layout seen first is.lock
 split_once layout seen asked first (done plan answers) end is =
     ap (λ (ack : Option Ack). cons_option ack (filter_map (ack_made layout seen) (commit_stops answers))) (board_unmade layout seen first is.0.lock)
     ∙ commits_unmade layout seen answers is.1.each

@@ -1,6 +1,6 @@
 -- What ends an open connection.
-use Rattle.std.proofs.Common.{◌≡◌, ℕ, Bool, true, false, List, [], ◌∷◌, ◌++◌, Option, Some, None, refl, sym, ap, ◌∙◌, subst, inl, inr}
-use Rattle.std.specs.Prelude.{◌≢◌, ◌<◌, map, IfSome, IsSome, is_some}
+use Rattle.std.proofs.Common.{◌≡◌, ℕ, Bool, true, false, List, [], ◌++◌, Option, Some, None, refl, sym, ap, ◌∙◌, subst, inl, inr}
+use Rattle.std.specs.Prelude.{◌≢◌, map, IfSome, IsSome, is_some}
 use Rattle.std.specs.List.{AllByRecursion}
 use Rattle.std.proofs.lemmas.List.{append-nil}
 use Rattle.sc_io.specs.Pieces.{AddsPrefix}
@@ -19,7 +19,7 @@ use Rattle.sc_session.specs.declared.end.End.TheVariants as ends
 use Rattle.sc_session.specs.Connection.{GateOutcome, kept, log_failed, no_memory, Exchange, IsKept, IsLogFailed, reply_of_exchange, Last, ended, answered, out_of_memory, read_failed, exchanges_of, AreExchanges, LeaveRest, stops_of, timestamps_of, texts_of, end_after, end_of, last_text, EndsWith, IsReadFrom, HasEnd, IsWritten}
 use Rattle.sc_session.specs.States.{ConnectionState, CountsFault, world_of, situation_in}
 use Rattle.sc_session.specs.Served.{LeavesTraces, IsServed}
-use Rattle.sc_session.specs.Serving.{Exchanges, Writes, EndsWriting, end_by}
+use Rattle.sc_session.specs.Serving.{Exchanges, Writes, EndsWriting}
 use Rattle.sc_session.proofs.OpenLemmas.{IsOpen, HasRead, without_source, traces_after, end_same, read_after, some_of}
 
 -- no answer ends a connection by a fault of the sink or of the source

@@ -19,6 +19,7 @@ pub mod OwnReadsLemmas
 pub mod SplitJournalLemmas
 pub mod SplitSearchLemmas
 pub mod SplitPlaceLemmas
+pub mod SplitOrderLemmas
 pub mod SplitRefusedLemmas
 pub mod SplitRouteLemmas
 pub mod SplitExchangeLemmas

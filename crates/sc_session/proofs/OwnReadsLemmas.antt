@@ -4,15 +4,14 @@ use Rattle.std.specs.Prelude.{ℤ, option_to_list}
 use Rattle.sc_record.specs.declared.write.Write.{Write}
 use Rattle.sc_router.specs.Route.{bucket_of}
 use Rattle.sc_model.specs.Replies.{Reply}
-use Rattle.sc_journal.specs.Journal.{last_write}
-use Rattle.sc_seen.specs.Seen.{Layout, Seen, SeesMore, ComeInOrder, AreLegal, journal_at, stops_at, entries_at}
+use Rattle.sc_seen.specs.Seen.{Layout, Seen, ComeInOrder, AreLegal, journal_at, stops_at, entries_at}
 use Rattle.sc_seen.specs.declared.stop.Stop.{Stop}
 use Rattle.sc_get.specs.Got.{live, ReadsAt, live_at, ReadsEach, live_writes}
 use Rattle.sc_session.specs.Requests.{Asked, asked, get, get_ids}
 use Rattle.sc_session.specs.Answers.{Answer, replied, Trace, IsAnswer, get_reply, ids_reply}
 use Rattle.sc_session.specs.Connection.{Exchange, IsExchange, exchanges_of}
 use Rattle.sc_session.specs.Laws.{IsLastSince, ShowsSince, ShowsAmongSince, id_among, GetsShowOwnWrites, GetsOfIdsShowOwnWrites, HoldsOfExchanges, HoldsOfConnections}
-use Rattle.sc_session.proofs.OwnWritesLemmas.{IsMade, from_on, since_at, ReadsAfter, reads_after}
+use Rattle.sc_session.proofs.OwnWritesLemmas.{from_on, since_at, ReadsAfter, reads_after}
 
 -- Ids that were each read at a stop: the stops of those before one of them, its own, and those of the ids after it; and what is
 -- live of all of them.

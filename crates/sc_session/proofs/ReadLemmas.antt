@@ -27,7 +27,7 @@ use Rattle.sc_session.specs.Requests.{Select, get, get_ids, select}
 use Rattle.sc_session.specs.Answers.{Answer, replied, ran_out, IsAnswer, read_trace, ids_reply}
 use Rattle.sc_session.specs.Answering.{AnswersOfBuckets, unread, reply_of, answer_of}
 use Rattle.sc_session.specs.declared.reply.Reply.{Reply}
-use Rattle.sc_seen.specs.Moments.{Moment, moment_of}
+use Rattle.sc_seen.specs.Moments.{Moment}
 use Rattle.sc_seen.proofs.GoesOnLemmas.{SeesMore-self}
 
 -- what is live is no deletion

@@ -16,7 +16,7 @@ use Rattle.sc_admin.specs.declared.deleting.DeleteEnd.{DeleteEnd}
 use Rattle.sc_board.specs.Splits.{AskedSplit, asked_for}
 use Rattle.sc_cores.specs.Cores.{Outside}
 use Rattle.sc_seen.specs.Moments.{view_of}
-use Rattle.sc_seen.specs.Seen.{Layout, Seen, Extends, EndAtLast, SeesMore, FromNowOn, IsStopWithin, ComeInOrder, place_after, journal_at, stops_at, entries_at}
+use Rattle.sc_seen.specs.Seen.{Layout, Seen, Extends, EndAtLast, FromNowOn, IsStopWithin, ComeInOrder, place_after, journal_at, stops_at, entries_at}
 use Rattle.sc_seen.specs.declared.stop.Stop.{Stop}
 use Rattle.sc_seen.proofs.GoesOnLemmas.{SeesMore-self}
 use Rattle.sc_split.specs.declared.end.SplitEnd.{SplitEnd}
@@ -39,17 +39,17 @@ cause_by_seen : (layout : Layout) (course : Course) (old : SplitMoment) (seen : 
     → HasCause layout course old (split_moment (view_of seen one) outside) end → HasCause layout course old (split_moment (view_of seen other) outside) end
 cause_by_seen layout refused old seen outside one other end cause = tt
 cause_by_seen layout (done plan answers) old seen outside one other end cause = tt
-cause_by_seen layout (given_up plan recovered) old seen outside one other ends.LogFull cause = cause
-cause_by_seen layout (given_up plan recovered) old seen outside one other (ends.HostFault core) cause = cause
-cause_by_seen layout (given_up plan recovered) old seen outside one other ends.Stopped cause = cause
-cause_by_seen layout (given_up plan recovered) old seen outside one other ends.Memory cause = tt
-cause_by_seen layout (given_up plan recovered) old seen outside one other (ends.Done subs commits) cause = absurd cause
-cause_by_seen layout (given_up plan recovered) old seen outside one other ends.UnknownShard cause = absurd cause
-cause_by_seen layout (given_up plan recovered) old seen outside one other (ends.Running shard) cause = absurd cause
-cause_by_seen layout (given_up plan recovered) old seen outside one other (ends.NotActive state) cause = absurd cause
-cause_by_seen layout (given_up plan recovered) old seen outside one other ends.RangeTooSmall cause = absurd cause
-cause_by_seen layout (given_up plan recovered) old seen outside one other ends.BadRanges cause = absurd cause
-cause_by_seen layout (given_up plan recovered) old seen outside one other ends.TooManySlices cause = absurd cause
+cause_by_seen layout (given_up plan recovered started) old seen outside one other ends.LogFull cause = cause
+cause_by_seen layout (given_up plan recovered started) old seen outside one other (ends.HostFault core) cause = cause
+cause_by_seen layout (given_up plan recovered started) old seen outside one other ends.Stopped cause = cause
+cause_by_seen layout (given_up plan recovered started) old seen outside one other ends.Memory cause = tt
+cause_by_seen layout (given_up plan recovered started) old seen outside one other (ends.Done subs commits) cause = absurd cause
+cause_by_seen layout (given_up plan recovered started) old seen outside one other ends.UnknownShard cause = absurd cause
+cause_by_seen layout (given_up plan recovered started) old seen outside one other (ends.Running shard) cause = absurd cause
+cause_by_seen layout (given_up plan recovered started) old seen outside one other (ends.NotActive state) cause = absurd cause
+cause_by_seen layout (given_up plan recovered started) old seen outside one other ends.RangeTooSmall cause = absurd cause
+cause_by_seen layout (given_up plan recovered started) old seen outside one other ends.BadRanges cause = absurd cause
+cause_by_seen layout (given_up plan recovered started) old seen outside one other ends.TooManySlices cause = absurd cause
 
 -- the command was a split that went so
 abbrev CameTo : CommandEnd → AskedSplit → Stop → Course → SplitEnd → Type 0

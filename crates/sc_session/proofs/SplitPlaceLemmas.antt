@@ -143,7 +143,7 @@ went_done : (layout : Layout) (asked : AskedSplit) (old new : SplitMoment) (subs
     → LeavesBuckets layout.buckets course old.view.seen new.view.seen → WentDone layout old.view.seen new.view.seen subs course
 went_done layout asked old new subs commits first refused answered cause buckets =
     let none : true ≡ false = not_done_unbegun layout new.view.seen asked first (ends.Done subs commits) answered in absurd (cc)
-went_done layout asked old new subs commits first (given_up plan recovered) answered cause buckets = absurd cause
+went_done layout asked old new subs commits first (given_up plan recovered started) answered cause buckets = absurd cause
 went_done layout asked old new subs commits first (done plan answers) answered cause buckets = record {
   plan = plan;
   answers = answers;

@@ -43,6 +43,7 @@ use Rattle.sc_session.specs.SplitLaws.{Journals, seen_in_journals, FindsOver}
 use Rattle.sc_session.specs.SplitRefusalLaws.{is_done, IsGivenUpIn, IsWithout, FailsWhereBegun, GoesOnWithout, IsAsIfNotAsked, at_end_of_board, AreAnsweredAlike, RefusedSplitsLeaveNothing}
 use Rattle.sc_session.proofs.SplitJournalLemmas.{writes-without, shown_alike}
 use Rattle.sc_session.proofs.SplitPlaceLemmas.{Parts, find-parts}
+use Rattle.sc_session.proofs.SplitOrderLemmas.{orders_alike}
 use Rattle.sc_session.proofs.SplitSearchLemmas.{found_in, found_over, shows_alike}
 
 -- ---- journals with the same writes, of which the same were committed
@@ -200,8 +201,8 @@ answer_alike-append first one other more answers = record {
 without_alike : (first : List Slice) (course : Course) (seen journal other : List Entry) → IsLegal first journal
     → IsWithout course seen journal other → AnswerAlike first journal other
 without_alike first refused seen journal other legal is = answer_alike-self first journal other is
-without_alike first (given_up plan recovered) seen journal other legal (inl none) = answer_alike-self first journal other none.1
-without_alike first (given_up plan recovered) seen journal other legal (inr given) = record {
+without_alike first (given_up plan recovered started) seen journal other legal (inl none) = answer_alike-self first journal other none.1
+without_alike first (given_up plan recovered started) seen journal other legal (inr given) = record {
   alike = given_up_alike first plan seen journal other given;
   slices = given_up_slices first plan seen journal other given legal;
 }
@@ -239,14 +240,14 @@ noted_leaves : (layout : Layout) (asked : AskedSplit) (seen : Seen) (first : Sto
     → IsAnswered layout seen asked first course end → is_done end ≡ false → before ≡ take first.place seen.board
     → board_map layout.first (before ++ noted_by course) ≡ board_map layout.first before
 noted_leaves layout asked seen first refused end before answered not_done is = ap (board_map layout.first) (append-nil before)
-noted_leaves layout asked seen first (given_up plan recovered) end before answered not_done is = by recovered where
+noted_leaves layout asked seen first (given_up plan recovered started) end before answered not_done is = by recovered where
   undone : (board_map layout.first (before ++ board.Begun plan ∷ board.Failed plan.parent ∷ []) ≡ board_map layout.first before)
       × (board_map layout.first (before ++ board.Begun plan ∷ board.Recovering plan.parent ∷ board.Failed plan.parent ∷ [])
       ≡ board_map layout.first before)
   undone = failed_leaves_the_map layout.first before plan
       (subst (λ (entries : List BoardEntry). IsPlan (board_map layout.first entries) plan.parent plan.subs) (sym is) answered.plan_is.plan_is)
 
-  by : (recovered : Bool) → board_map layout.first (before ++ noted_by (given_up plan recovered)) ≡ board_map layout.first before
+  by : (recovered : Bool) → board_map layout.first (before ++ noted_by (given_up plan recovered started)) ≡ board_map layout.first before
   by true = undone.1
   by false = undone.0
 noted_leaves layout asked seen first (done plan answers) end before answered not_done is =
@@ -330,7 +331,7 @@ fails_where_begun : (layout : Layout) (asked : AskedSplit) (old new : Seen) (fir
     → ((lock : ℕ) → IsPrefix (old.journals lock) (new.journals lock))
     → (lock : ℕ) → lock < layout.buckets → FailsWhereBegun course (old.journals lock) (new.journals lock)
 fails_where_begun layout asked old new first refused end answered not_done leaves grown lock is_bucket = leaves lock
-fails_where_begun layout asked old new first (given_up plan recovered) end answered not_done leaves grown lock is_bucket =
+fails_where_begun layout asked old new first (given_up plan recovered started) end answered not_done leaves grown lock is_bucket =
     failed_where_begun plan (old.journals lock) (new.journals lock) (grown lock) (leaves lock is_bucket)
 fails_where_begun layout asked old new first (done plan answers) end answered not_done leaves grown lock is_bucket =
     let none : true ≡ false = sym (ap is_done answered.2) ∙ not_done in absurd (cc)
@@ -368,5 +369,11 @@ refused_splits_leave_nothing layout asked old new end split not_done = (
             shows_alike layout (seen_in_journals other.journals) (seen_in_journals later.journals) _ _ page
                 (λ write. finds_alike layout other.journals later.journals criterion route write back)
                 (λ write. finds_alike layout later.journals other.journals criterion route write alike),
+          );
+          updates = λ lock is_bucket room room_there order moment outcome more. (
+            orders_alike layout (later.journals lock) (other.journals lock) (alike lock is_bucket).alike.writes_are order room room_there
+                moment outcome more,
+            orders_alike layout (other.journals lock) (later.journals lock) (back lock is_bucket).alike.writes_are order room_there room
+                moment outcome more,
           );
         }

@@ -11,7 +11,6 @@ use Rattle.sc_collection.specs.Kept.{Kept}
 use Rattle.sc_gate.specs.Gates.{Gated}
 use Rattle.sc_session.specs.Listening.{GivesFirst, nothing_kept}
 use Rattle.sc_session.specs.Served.{IsServed}
-use Rattle.sc_session.specs.States.{CountsFault}
 use Rattle.sc_session.specs.Working.{LinkSetting, Surroundings, ServedLink, WorkState, HasWorkEnd, IsWorked, IsLinkServed, AreServed, over_link, stops_of_links}
 use Rattle.sc_session.specs.declared.listener.Link.{Link}
 use Rattle.sc_session.specs.declared.listener.Taken.{Taken}

@@ -2,13 +2,15 @@
 use Rattle.std.specs.Prelude.{◌≡◌, ◌⊎◌, ◌↔◌, ◌≤◌, ◌<◌, ℕ, Bool, true, false, List, ◌∷◌, ◌++◌, length, Option, All}
 use mathlib.Core.List.{IsPrefix}
 use Rattle.sc_hash.specs.declared.range.Range.{Range}
+use Rattle.sc_record.specs.declared.order.Order.{Order}
 use Rattle.sc_record.specs.declared.entry.Entry.{Entry}
 use Rattle.sc_record.specs.declared.entry.Entry.TheVariants as entry
 use Rattle.sc_cluster.specs.declared.plan.SplitPlan.{SplitPlan}
 use Rattle.sc_eval.specs.Criteria.{Criterion}
 use Rattle.sc_journal.specs.Journal.{last_write}
+use Rattle.sc_journal.specs.Outcomes.{Outcome, HasRoom, IsOutcome}
 use Rattle.sc_journal.specs.Splits.{map_after}
-use Rattle.sc_seen.specs.Seen.{Layout, Seen, AreLegal}
+use Rattle.sc_seen.specs.Seen.{Layout, Seen, AreLegal, basis_of}
 use Rattle.sc_seen.specs.declared.board.BoardEntry.{BoardEntry}
 use Rattle.sc_seen.specs.declared.stop.Stop.{Stop}
 use Rattle.sc_fanout.specs.Searches.{SearchPage}
@@ -42,14 +44,14 @@ HasNotBegun plan seen journal = (place : ℕ) (later : List Entry) → BeginsAt 
 -- the other journal is this one as if a split that went so had not come, but for its commit; it is the same where that did not begin
 abbrev pub IsWithout : Course → (seen journal other : List Entry) → Type 0
 IsWithout refused seen journal other = other ≡ journal
-IsWithout (given_up plan recovered) seen journal other =
+IsWithout (given_up plan recovered started) seen journal other =
     (HasNotBegun plan seen journal × (other ≡ journal)) ⊎ IsGivenUpIn plan seen journal other
 IsWithout (done plan answers) seen journal other = ⊥
 
 -- wherever a split that went so has begun in the journal, it failed there
 abbrev pub FailsWhereBegun : Course → (seen journal : List Entry) → Type 0
 FailsWhereBegun refused seen journal = journal ≡ seen
-FailsWhereBegun (given_up plan recovered) seen journal = (place : ℕ) (later : List Entry) → BeginsAt plan journal place later
+FailsWhereBegun (given_up plan recovered started) seen journal = (place : ℕ) (later : List Entry) → BeginsAt plan journal place later
     → length seen ≤ place → (other : List Entry) × IsGivenUpIn plan seen journal other
 FailsWhereBegun (done plan answers) seen journal = ⊥
 
@@ -76,7 +78,15 @@ pub record IsAsIfNotAsked (layout : Layout) (course : Course) (old new later oth
 abbrev pub at_end_of_board : Layout → Seen → Stop
 at_end_of_board layout seen = record { lock = layout.buckets; place = length seen.board; made = false }
 
--- The status, each get and each search are answered alike by what was seen and by the other, and the slices are the same.
+-- Where both journals have room, an order is answered alike at the end of the one and of the other, at the same timestamp; and where it is
+-- accepted the same write comes next.
+abbrev pub AnswerOrdersAlike : Layout → (one other : List Entry) → Type 0
+AnswerOrdersAlike layout one other = HasRoom layout.limit layout.first one → HasRoom layout.limit layout.first other
+    → (order : Order) (now : ℕ) (outcome : Outcome) (more : List Entry)
+    → IsOutcome (basis_of layout) one order now outcome (one ++ more) ↔ IsOutcome (basis_of layout) other order now outcome (other ++ more)
+
+-- The status, each get, each search and, where there is room, each order are answered alike by what was seen and by the other, and the
+-- slices are the same.
 pub record AreAnsweredAlike (layout : Layout) (one other : Seen) : Type 0 where
   pub status : status_reply layout one (at_end_of_board layout one) ≡ status_reply layout other (at_end_of_board layout other)
   pub slices : (lock : ℕ) → lock < layout.buckets
@@ -84,6 +94,7 @@ pub record AreAnsweredAlike (layout : Layout) (one other : Seen) : Type 0 where
   pub gets : (lock : ℕ) → lock < layout.buckets → (id : List ℕ) → last_write (one.journals lock) id ≡ last_write (other.journals lock) id
   pub searches : (criterion : Criterion) (route : Option Range) (page : SearchPage)
       → ShowsOver layout one.journals criterion route page ↔ ShowsOver layout other.journals criterion route page
+  pub updates : (lock : ℕ) → lock < layout.buckets → AnswerOrdersAlike layout (one.journals lock) (other.journals lock)
 
 -- After a split that was refused all is answered as if it had not come, but for the commit of each bucket in which it had begun; there
 -- it failed.

@@ -41,11 +41,16 @@ pub trait Station {
     /// How often opening the port has failed.
     ghost faults: { Self → ℕ };
 
+    /// The port that was opened last, if one was, where it reports that.
+    ghost opened: { Self → Option (Option ℕ) };
+
     /// Opens the port of this number, at which the listeners of the crews that are made from then on listen.
     fn open(&mut self, port: u16) -> Result<(), Failed>
         ensures steady { OnOk result (faults self.new ≡ faults self.old) }
         ensures cause { OnErr result (faults self.old < faults self.new) }
         ensures no_fall { faults self.old ≤ faults self.new }
+        ensures opened { OnOk result (IfSome (opened self.old) (λ _. opened self.new ≡ Some (Some port))) }
+        ensures not_opened { OnErr result (opened self.new ≡ opened self.old) }
         ensures crews { crews self.new ≡ crews self.old }
         ensures crews_back { crews_back self.new ≡ crews_back self.old }
         ensures out { AreAsBefore (out self.old) (out self.new) };
@@ -63,7 +68,8 @@ pub trait Station {
         ensures refused { OnErr result (crews self.new ≡ crews self.old) }
         ensures refused_out { OnErr result (AreAsBefore (out self.old) (out self.new)) }
         ensures crews_back { crews_back self.new ≡ crews_back self.old }
-        ensures faults { faults self.new ≡ faults self.old };
+        ensures faults { faults self.new ≡ faults self.old }
+        ensures opened { opened self.new ≡ opened self.old };
 
     /// Takes the crew of this number back.
     fn back(&mut self, worker: u32, crew: Crew<Self::C, Self::H, Self::P, Self::L>)
@@ -71,10 +77,12 @@ pub trait Station {
         ensures crews_back { SetsReported worker (Some crew) (crews_back self.old) (crews_back self.new) }
         ensures out { SetsAt worker false (out self.old) (out self.new) }
         ensures crews { crews self.new ≡ crews self.old }
-        ensures faults { faults self.new ≡ faults self.old };
+        ensures faults { faults self.new ≡ faults self.old }
+        ensures opened { opened self.new ≡ opened self.old };
 }
 
-/// A station that has the crews in a list, by the worker's number, and keeps those that are back in another. The calls of `open` whose
+/// A station that has the crews in a list, by the worker's number, and keeps those that are back in another, and the port that was opened
+/// last. The calls of `open` whose
 /// numbers, counted from 0, are in `fails` fail. `calls` is the number of the next call; at 2^64 - 1 it stands still, and each call
 /// from there on has that number. For a number that has no crew, or
 /// none any more, `crew` answers that there is no memory.
@@ -85,6 +93,7 @@ pub struct MemStation<C, H, P, L> {
     pub fails: List<u64>,
     pub calls: u64,
     pub faults: Faults,
+    pub opened: Option<u16>,
     pub ghost same_length: { vec_len back ≡ vec_len crews },
 }
 
@@ -105,6 +114,7 @@ impl<C, H, P, L> MemStation<C, H, P, L> {
         ensures fails { IfOk result (λ station. station.fails ≡ fails) }
         ensures calls { IfOk result (λ station. station.calls ≡ 0) }
         ensures faults { IfOk result (λ station. station.faults ≡ 0) }
+        ensures opened { IfOk result (λ station. station.opened ≡ None) }
     {
         let (given, back) = placed(alloc, crews)?;
         Ok(MemStation {
@@ -113,6 +123,7 @@ impl<C, H, P, L> MemStation<C, H, P, L> {
             fails,
             calls: 0,
             faults: Faults::none(),
+            opened: None,
         })
     }
 }
@@ -186,9 +197,13 @@ impl<C: Clock + Send, H: Hosts + Send, P: Pace + Send, L: Listener + Send> Stati
 
     ghost faults = { λ s. s.faults };
 
-    fn open(&mut self, _: u16) -> Result<(), Failed>
+    ghost opened = { λ s. Some s.opened };
+
+    fn open(&mut self, port: u16) -> Result<(), Failed>
         ensures steady { OnOk result (self.new.faults ≡ self.old.faults) }
         ensures cause { OnErr result (self.new.faults ≡ self.old.faults + 1) }
+        ensures opened { OnOk result (self.new.opened ≡ Some port) }
+        ensures not_opened { OnErr result (self.new.opened ≡ self.old.opened) }
         ensures crews { self.new.crews ≡ self.old.crews }
         ensures back { self.new.back ≡ self.old.back }
 
@@ -202,6 +217,7 @@ impl<C: Clock + Send, H: Hosts + Send, P: Pace + Send, L: Listener + Send> Stati
             self.faults.rise();
             return Err(Failed);
         }
+        self.opened = Some(port);
         Ok(())
     }
 
@@ -212,6 +228,7 @@ impl<C: Clock + Send, H: Hosts + Send, P: Pace + Send, L: Listener + Send> Stati
         ensures refused { OnErr result (self.new.crews ≡ self.old.crews) }
         ensures back { self.new.back ≡ self.old.back }
         ensures faults { self.new.faults ≡ self.old.faults }
+        ensures opened { self.new.opened ≡ self.old.opened }
     {
         take_out(&mut self.crews, &self.back, worker)
     }
@@ -222,6 +239,7 @@ impl<C: Clock + Send, H: Hosts + Send, P: Pace + Send, L: Listener + Send> Stati
         ensures out { SetsAt worker false (is_out self.old.crews.items self.old.back.items) (is_out self.new.crews.items self.new.back.items) }
         ensures crews { self.new.crews ≡ self.old.crews }
         ensures faults { self.new.faults ≡ self.old.faults }
+        ensures opened { self.new.opened ≡ self.old.opened }
     {
         put_back(&self.crews, &mut self.back, worker, crew);
     }

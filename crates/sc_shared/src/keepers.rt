@@ -1,5 +1,4 @@
 //! The keepers of all buckets, as the board has them while no split runs.
-ghost use Rattle.sc_shared.specs.Keepers.{part_at, own_at};
 
 use crate::numbered::Numbered;
 use sc_collection::Parts;
@@ -11,8 +10,4 @@ pub struct Keepers {
     pub keepers: Vec<Keeper<Numbered>>,
 }
 
-impl Parts for Keepers {
-    ghost parts = { λ keepers number. part_at keepers.keepers.items number };
-
-    ghost own = { λ keepers number. own_at keepers.keepers.items number };
-}
+impl Parts for Keepers {}

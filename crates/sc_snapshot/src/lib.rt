@@ -11,7 +11,7 @@
 //!
 //! Proved: `Snapshot::of`, `from_list` and `Rows::from_list` have the rows of the cells that they are given, deletions too; `next` has of
 //! each id the change, where there is one, else the old row, ascending; `within` has exactly the rows whose hashes are in the range;
-//! `row` gives each by its place; `Snapshot::postings` gives exactly the live rows that have a term, ascending and within a bound on
+//! `row` gives each by its place, at a step; `Snapshot::postings` gives exactly the live rows that have a term, ascending and within a bound on
 //! comparisons; `live` gives exactly the live rows and `is_live` tells them; `at`, `move_to` and `share_rows` have the same rows.
 //!
 //! Tested alone: the worked rows; in the scenarios and in the stored run `next` runs in each commit of a bucket that was written to (`at`

@@ -1,13 +1,15 @@
-ghost use Rattle.std.specs.Prelude.{◌≡◌, length, map, slice_get, IfOk, option_copied, option_map};
+ghost use Rattle.std.specs.Prelude.{◌≡◌, ◌+◌, length, map, slice_get, IfOk, option_copied, option_map};
 ghost use Rattle.std.specs.Arc.{arc_value};
 ghost use Rattle.sc_snapshot.specs.Rows.{AreRows};
 
 use crate::cutting::pieces_of;
 use crate::pieces::Pieces;
+use sc_keys::Steps;
 use sc_record::{Cell, List};
 use std::alloc::{AllocError, Global};
 use std::marker::Model;
 use std::sync::Arc;
+use std::sync::ledger::Ledger;
 
 /// The cells of a core as they were when the journal had `place` entries, without an index: what a feed reads. Contracts see it as
 /// a `SnapshotState`. It shares each cell with the core, and most with the rows before it by whole pieces. The rows never change.
@@ -78,11 +80,13 @@ impl Rows {
         self.pieces.len() as u32
     }
 
-    /// The row at this index, counted from 0; None from the number of rows on.
-    pub fn row(&self, at: u32) -> Option<&Cell>
+    /// The row at this index, counted from 0; None from the number of rows on. It takes one step.
+    pub fn row<L: Ledger>(&self, at: u32, steps: &mut Steps<L>) -> Option<&Cell>
         ensures row { option_map arc_value (option_copied result) ≡ slice_get self.now.rows at }
         ensures rows { AreRows self.now.rows }
+        ensures counted { steps.new ≡ steps.old + 1 }
     {
+        steps.tick();
         self.pieces.row(at as usize)
     }
 

@@ -151,8 +151,7 @@ impl Snapshot {
         ensures row { option_map arc_value (option_copied result) ≡ slice_get self.now.rows at }
         ensures counted { steps.new ≡ steps.old + 1 }
     {
-        steps.tick();
-        self.rows.row(at)
+        self.rows.row(at, steps)
     }
 
     /// The numbers of the live rows that have the term. A step is one comparison of terms, or of ids where the term is of the field of ids.

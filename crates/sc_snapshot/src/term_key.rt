@@ -10,7 +10,7 @@ ghost use Rattle.sc_keys.proofs.FrontLemmas.{front_number-first};
 ghost use Rattle.sc_keys.specs.Heads.{front_number};
 ghost use Rattle.sc_snapshot.specs.Keys.{key_cmp};
 
-use sc_keys::{Key, Steps, front_number};
+use sc_keys::{Head, Key, Steps, front_number};
 use sc_record::Term;
 use std::alloc::AllocError;
 use std::cmp::Ordering;
@@ -113,8 +113,8 @@ impl Key for TermKey {
     }
 
     /// The first bytes of the text.
-    fn head(&self) -> u64 {
-        front_number(self.term.key.as_str().as_bytes())
+    fn head(&self) -> Head {
+        Head::new(front_number(self.term.key.as_str().as_bytes()))
     }
 
     /// The first bytes of the text and of the field: of two terms the lesser one has the lesser number, but where long texts begin alike.

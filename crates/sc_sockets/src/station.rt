@@ -1,4 +1,4 @@
-ghost use Rattle.std.specs.Prelude.{◌≡◌, ◌+◌, true, false, [], None, OnOk, OnErr};
+ghost use Rattle.std.specs.Prelude.{◌≡◌, ◌+◌, true, false, [], Some, None, OnOk, OnErr};
 ghost use Rattle.sc_session.specs.Stations.{SetsAt};
 ghost use Rattle.sc_sockets.specs.Moves.{was_given};
 
@@ -15,19 +15,21 @@ use std::rt::{Clock, Files};
 use std::sync::Arc;
 
 /// What gives workers the machine's clock and folders and a port of this machine's own address, 127.0.0.1. A split by its crews always
-/// goes on. Contracts see its count of faults, and of which workers the crew is out.
+/// goes on. Contracts see its count of faults, which port it opened last, and of which workers the crew is out.
 #[derive(Drop)]
 pub struct TcpStation<R: Clock> {
     runtime: R,
     alloc: Global,
     port: Option<Arc<Port>>,
     pub faults: Faults,
+    pub opened: Option<u16>,
     pub out: CrewsOut,
 }
 
 impl<R: Clock> TcpStation<R> {
     pub fn new(alloc: Global, runtime: R) -> TcpStation<R>
         ensures faults { result.faults ≡ 0 }
+        ensures opened { result.opened ≡ None }
         ensures out { result.out.moves.items ≡ [] }
     {
         TcpStation {
@@ -35,6 +37,7 @@ impl<R: Clock> TcpStation<R> {
             alloc,
             port: None,
             faults: Faults::none(),
+            opened: None,
             out: CrewsOut::none(),
         }
     }
@@ -58,14 +61,19 @@ impl<R: Clock + Files + Net<Listener = TcpListener, Stream = TcpStream> + Copy +
 
     ghost faults = { λ s. s.faults };
 
+    ghost opened = { λ s. Some s.opened };
+
     fn open(&mut self, port: u16) -> Result<(), Failed>
         ensures steady { OnOk result (self.new.faults ≡ self.old.faults) }
         ensures cause { OnErr result (self.new.faults ≡ self.old.faults + 1) }
+        ensures opened { OnOk result (self.new.opened ≡ Some port) }
+        ensures not_opened { OnErr result (self.new.opened ≡ self.old.opened) }
         ensures out { self.new.out ≡ self.old.out }
     {
         match open_port(&self.runtime, self.alloc, port) {
-            Ok(port) => {
-                self.port = Some(port);
+            Ok(open) => {
+                self.port = Some(open);
+                self.opened = Some(port);
                 Ok(())
             }
             Err(_) => {
@@ -83,6 +91,7 @@ impl<R: Clock + Files + Net<Listener = TcpListener, Stream = TcpStream> + Copy +
         ensures out { OnOk result (SetsAt worker true (was_given self.old.out.moves.items) (was_given self.new.out.moves.items)) }
         ensures refused { OnErr result (self.new.out ≡ self.old.out) }
         ensures faults { self.new.faults ≡ self.old.faults }
+        ensures opened { self.new.opened ≡ self.old.opened }
     {
         let port = match &self.port {
             Some(port) => Some(Arc::try_clone(port)?),
@@ -105,6 +114,7 @@ impl<R: Clock + Files + Net<Listener = TcpListener, Stream = TcpStream> + Copy +
         requires { was_given self.old.out.moves.items worker ≡ true }
         ensures out { SetsAt worker false (was_given self.old.out.moves.items) (was_given self.new.out.moves.items) }
         ensures faults { self.new.faults ≡ self.old.faults }
+        ensures opened { self.new.opened ≡ self.old.opened }
     {
         self.out.take(worker);
     }

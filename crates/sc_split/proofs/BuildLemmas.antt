@@ -19,7 +19,6 @@ use Rattle.sc_seen.specs.Board.{IsLegalBoard, MayNote}
 use Rattle.sc_seen.specs.Seen.{Layout, Seen, AreLegal, Extends, is_noted}
 use Rattle.sc_seen.proofs.BoardLemmas.{MayNote_end}
 use Rattle.sc_seen.proofs.ExtendsLemmas.{IsPrefix-self, IsPrefix-then, IsPrefix-length, NotesBoard-same}
-use Rattle.sc_io.specs.declared.hosts.Host.{Host}
 use Rattle.sc_keeper.specs.Conditions.{MayBegin}
 use Rattle.sc_collection.specs.Desks.{KeepsOn, OwnsSplit}
 use Rattle.sc_collection.specs.Known.{Known, OfBuckets}
@@ -178,20 +177,20 @@ had-no-room layout split begun new unbegun (b, from, below, full) = (
 )
 
 -- why making the leaders ended
-pub fault-led : (layout : Layout) (split : OpenSplit) (begun : ℕ) (new : Known) (cores : List Host) (was now : SplitMoment) (fault : Fault)
+pub fault-led : (layout : Layout) (split : OpenSplit) (begun : ℕ) (new : Known) (was now : SplitMoment) (fault : Fault)
     → was.view.seen ≡ split.base.seen → now.view.seen ≡ new.seen → OfBuckets begun layout.buckets (IsUnbegun split layout.first new)
     → (fault ≡ faults.LogFull
     → (b : ℕ) × (begun ≤ b) × (b < layout.buckets) × HasNoRoomFor layout split.plan.subs (new.seen.journals b))
-    → ((at : ℕ) → fault ≡ faults.Host at → (at < length cores) × (was.outside.start_faults < now.outside.start_faults))
+    → (fault ≡ faults.Host → was.outside.start_faults < now.outside.start_faults)
     → (fault ≡ faults.Stopped → was.outside.stops < now.outside.stops)
-    → IsFault layout split.plan cores was now fault
-fault-led layout split begun new cores was now faults.LogFull first last unbegun full failed stopped =
+    → IsFault layout split.plan was now fault
+fault-led layout split begun new was now faults.LogFull first last unbegun full failed stopped =
     subst (λ (seen : Seen). (lock : ℕ) × HadNoRoom layout split.plan seen now.view.seen lock) (sym first)
     (subst (λ (seen : Seen). (lock : ℕ) × HadNoRoom layout split.plan split.base.seen seen lock) (sym last)
     (had-no-room layout split begun new unbegun (full refl)))
-fault-led layout split begun new cores was now (faults.Host at) first last unbegun full failed stopped = failed at refl
-fault-led layout split begun new cores was now faults.Stopped first last unbegun full failed stopped = stopped refl
-fault-led layout split begun new cores was now faults.Memory first last unbegun full failed stopped = tt
+fault-led layout split begun new was now faults.Host first last unbegun full failed stopped = failed refl
+fault-led layout split begun new was now faults.Stopped first last unbegun full failed stopped = stopped refl
+fault-led layout split begun new was now faults.Memory first last unbegun full failed stopped = tt
 
 -- The slices of a split were recovered, and further replicas joined after that, as far as that went.
 module _ (layout : Layout) (plan : SplitPlan) (entries : List BoardEntry) (base before noted new : Known)

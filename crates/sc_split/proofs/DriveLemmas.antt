@@ -1,9 +1,7 @@
 -- How a split that has begun on the board goes on, by what its steps leave one after another: it is done, or given up.
-use Rattle.std.proofs.Common.{◌≡◌, ◌≤◌, ◌<◌, ◌+◌, ℕ, zero, suc, Bool, true, false, List, [], ◌∷◌, ◌++◌, length, All, refl, sym, ap, ◌∙◌, subst, arith, append_assoc, length-append}
+use Rattle.std.proofs.Common.{◌≡◌, ◌≤◌, ◌<◌, ◌+◌, ℕ, zero, suc, Bool, true, false, List, [], ◌∷◌, ◌++◌, length, slice_get, Some, refl, sym, ap, ◌∙◌, subst, arith, append_assoc, length-append}
 use Rattle.std.specs.List.{range_with_len}
 use Rattle.std.proofs.lemmas.List.{append_cancel_left}
-use Rattle.std.proofs.lemmas.List.Elements.{All-get_or}
-use Rattle.std.proofs.lemmas.Option.{get_or_from_slice_get}
 use mathlib.Core.List.{IsPrefix}
 use Rattle.sc_record.specs.declared.slice.SliceId.{SliceId}
 use Rattle.sc_cluster.specs.declared.plan.SplitPlan.{SplitPlan}
@@ -21,12 +19,14 @@ use Rattle.sc_seen.proofs.ExtendsLemmas.{IsPrefix-then, Extends-then}
 use Rattle.sc_split.specs.declared.end.Fault.{Fault}
 use Rattle.sc_split.specs.declared.end.Fault.TheVariants as faults
 use Rattle.sc_split.specs.declared.end.SplitEnd.{SplitEnd}
+use Rattle.sc_split.specs.declared.end.SplitEnd.TheVariants as ends
 use Rattle.sc_collection.specs.Known.{Known}
 use Rattle.sc_cores.specs.Cores.{Outside, CountsGoUp}
-use Rattle.sc_split.specs.Outside.{StartsCoresOfPlan, LeavesCores}
+use Rattle.sc_split.specs.Outside.{cores_of, StartsCoresOfPlan, LeavesCores}
 use Rattle.sc_split.specs.Stages.{OpenSplit}
-use Rattle.sc_split.specs.Splits.{split_moment, IsCoreOfSub, HadNoRoom, IsCause}
+use Rattle.sc_split.specs.Splits.{split_moment, HadNoRoom, IsCause}
 use Rattle.sc_split.specs.Driving.{HasBegunOnBoard, recovering_entries, IsWholeSplit, NotesMore, Builds, IsFault, GivesUp, Finishes, IsSplitDone, IsGivenUpOnBoard, IsEndOf}
+use Rattle.sc_split.proofs.StartedLemmas.{leaves-none}
 
 -- a split that has begun on the board is one into at most 256 subs
 pub few-subs : (layout : Layout) (plan : SplitPlan) (entries : List BoardEntry) (known : Known) → AreLegal layout known.seen
@@ -102,11 +102,13 @@ done-by layout layout' split entries begun between stops new end before later sa
 pub given-up-by : (layout layout' : Layout) (split : OpenSplit) (entries : List BoardEntry) (begun : ℕ) (between : Known) (stops : List Stop)
     (new : Seen) (end : SplitEnd) (before later : Outside) → layout' ≡ layout → Builds layout split entries begun split.base between
     → GivesUp layout' split.plan split.base.seen between.seen new
-    → (Extends layout between.seen new [] → IsCause layout split.plan (split_moment (view_of split.base.seen stops) before) (split_moment (view_of new stops) later) end)
-    → LeavesCores layout.nodes split.plan before later → CountsGoUp before later → later.reach ≡ before.reach
+    → (started : ℕ)
+    → (Extends layout between.seen new [] → IsCause layout split.plan started (split_moment (view_of split.base.seen stops) before) (split_moment (view_of new stops) later) end)
+    → LeavesCores layout.nodes split.plan started before later → CountsGoUp before later → later.reach ≡ before.reach
     → IsGivenUpOnBoard layout split.plan (split_moment (view_of split.base.seen stops) before) (split_moment (view_of new stops) later) end
-given-up-by layout layout' split entries begun between stops new end before later same built gives' cause leaves up reach = record {
+given-up-by layout layout' split entries begun between stops new end before later same built gives' started cause leaves up reach = record {
   recovered = built.recovered;
+  started = started;
   stops = refl;
   extends = Extends-then layout split.base.seen between.seen new [] [] built.extends gives.extends;
   noted = NotesMore-then layout (recovering_entries split.plan.parent built.recovered) (board.Failed split.plan.parent ∷ [])
@@ -119,6 +121,22 @@ given-up-by layout layout' split entries begun between stops new end before late
 } where
   gives : GivesUp layout split.plan split.base.seen between.seen new
   gives = subst (λ (l : Layout). GivesUp l split.plan split.base.seen between.seen new) same gives'
+
+-- it was given up where it had begun on the board alone, for want of memory
+pub given-up-at-once : (layout : Layout) (plan : SplitPlan) (old new : Seen) (stops : List Stop) (before : Outside) → GivesUp layout plan old old new
+    → IsGivenUpOnBoard layout plan (split_moment (view_of old stops) before) (split_moment (view_of new stops) before) ends.Memory
+given-up-at-once layout plan old new stops before gives = record {
+  recovered = false;
+  started = 0;
+  stops = refl;
+  extends = gives.extends;
+  noted = gives.noted;
+  failed = gives.failed;
+  cause = tt;
+  outside = leaves-none layout.nodes plan before;
+  counts = record { starting = omega arith; stopping = omega arith; pace = omega arith; reaching = omega arith };
+  no_reach = refl;
+}
 
 -- a bucket that had no room had none as more was seen
 room-later : (layout : Layout) (plan : SplitPlan) (old between new : Seen) (lock : ℕ)
@@ -134,22 +152,21 @@ room-later layout plan old between new lock more had = record {
 }
 
 -- why making the cores ended is why the split was given up
-pub cause-by : (layout : Layout) (plan : SplitPlan) (cores : List Host) (old between new : Seen) (stops stops' : List Stop)
-    (before mid later : Outside) (fault : Fault) (end : SplitEnd) → All (λ (host : Host). IsCoreOfSub plan host.core) cores
+pub cause-by : (layout : Layout) (plan : SplitPlan) (cores : List Host) (started : ℕ) (old between new : Seen) (stops stops' : List Stop)
+    (before mid later : Outside) (fault : Fault) (end : SplitEnd) → cores ≡ cores_of layout.nodes plan
     → Extends layout between new [] → later.start_faults ≡ mid.start_faults → later.stops ≡ mid.stops
-    → IsFault layout plan cores (split_moment (view_of old []) before) (split_moment (view_of between []) mid) fault → IsEndOf cores fault end
-    → IsCause layout plan (split_moment (view_of old stops) before) (split_moment (view_of new stops') later) end
-cause-by layout plan cores old between new stops stops' before mid later faults.LogFull end named extends starting pace (lock, had) is =
-    subst (IsCause layout plan (split_moment (view_of old stops) before) (split_moment (view_of new stops') later)) (sym is)
+    → IsFault layout plan (split_moment (view_of old []) before) (split_moment (view_of between []) mid) fault → IsEndOf cores started fault end
+    → IsCause layout plan started (split_moment (view_of old stops) before) (split_moment (view_of new stops') later) end
+cause-by layout plan cores started old between new stops stops' before mid later faults.LogFull end are extends starting pace (lock, had) is =
+    subst (IsCause layout plan started (split_moment (view_of old stops) before) (split_moment (view_of new stops') later)) (sym is)
     (lock, room-later layout plan old between new lock extends.seen had)
-cause-by layout plan cores old between new stops stops' before mid later (faults.Host at) end named extends starting pace (below, rose) (host, found, is) =
-    subst (IsCause layout plan (split_moment (view_of old stops) before) (split_moment (view_of new stops') later)) (sym is) (
-      subst (λ (one : Host). IsCoreOfSub plan one.core) (get_or_from_slice_get cores at host host found)
-          (All-get_or (λ (one : Host). IsCoreOfSub plan one.core) cores at host below named),
+cause-by layout plan cores started old between new stops stops' before mid later faults.Host end are extends starting pace rose (host, found, is) =
+    subst (IsCause layout plan started (split_moment (view_of old stops) before) (split_moment (view_of new stops') later)) (sym is) (
+      (host, subst (λ (hosts : List Host). slice_get hosts started ≡ Some host) are found, refl),
       (let up : before.start_faults < mid.start_faults = rose in let all : before.start_faults < later.start_faults = omega arith in all),
     )
-cause-by layout plan cores old between new stops stops' before mid later faults.Stopped end named extends starting pace rose is =
-    subst (IsCause layout plan (split_moment (view_of old stops) before) (split_moment (view_of new stops') later)) (sym is)
+cause-by layout plan cores started old between new stops stops' before mid later faults.Stopped end are extends starting pace rose is =
+    subst (IsCause layout plan started (split_moment (view_of old stops) before) (split_moment (view_of new stops') later)) (sym is)
     (let up : before.stops < mid.stops = rose in let all : before.stops < later.stops = omega arith in all)
-cause-by layout plan cores old between new stops stops' before mid later faults.Memory end named extends starting pace free is =
-    subst (IsCause layout plan (split_moment (view_of old stops) before) (split_moment (view_of new stops') later)) (sym is) tt
+cause-by layout plan cores started old between new stops stops' before mid later faults.Memory end are extends starting pace free is =
+    subst (IsCause layout plan started (split_moment (view_of old stops) before) (split_moment (view_of new stops') later)) (sym is) tt

@@ -256,11 +256,11 @@ split-done layout asked old between new plan before later end opens went = recor
   first = board_stop layout (length opens.between.board) true
 
 -- the cause is one of the whole split
-cause-of-all : (layout : Layout) (plan : SplitPlan) (old between new : View) (before later : Outside) (end : SplitEnd)
+cause-of-all : (layout : Layout) (plan : SplitPlan) (started : ℕ) (old between new : View) (before later : Outside) (end : SplitEnd)
     → ((lock : ℕ) → length (between.seen.journals lock) ≡ length (old.seen.journals lock))
-    → IsCause layout plan (split_moment between before) (split_moment new later) end
-    → IsCause layout plan (split_moment old before) (split_moment new later) end
-cause-of-all layout plan old between new before later ends.LogFull same (lock, had) = (
+    → IsCause layout plan started (split_moment between before) (split_moment new later) end
+    → IsCause layout plan started (split_moment old before) (split_moment new later) end
+cause-of-all layout plan started old between new before later ends.LogFull same (lock, had) = (
   lock,
   record {
     is_bucket = had.is_bucket;
@@ -271,22 +271,22 @@ cause-of-all layout plan old between new before later ends.LogFull same (lock, h
     full = had.full;
   },
 )
-cause-of-all layout plan old between new before later (ends.HostFault core) same cause = cause
-cause-of-all layout plan old between new before later ends.Stopped same cause = cause
-cause-of-all layout plan old between new before later ends.Memory same cause = cause
-cause-of-all layout plan old between new before later (ends.Done subs committed) same cause = absurd cause
-cause-of-all layout plan old between new before later ends.UnknownShard same cause = absurd cause
-cause-of-all layout plan old between new before later (ends.Running shard) same cause = absurd cause
-cause-of-all layout plan old between new before later (ends.NotActive state) same cause = absurd cause
-cause-of-all layout plan old between new before later ends.RangeTooSmall same cause = absurd cause
-cause-of-all layout plan old between new before later ends.BadRanges same cause = absurd cause
-cause-of-all layout plan old between new before later ends.TooManySlices same cause = absurd cause
+cause-of-all layout plan started old between new before later (ends.HostFault core) same cause = cause
+cause-of-all layout plan started old between new before later ends.Stopped same cause = cause
+cause-of-all layout plan started old between new before later ends.Memory same cause = cause
+cause-of-all layout plan started old between new before later (ends.Done subs committed) same cause = absurd cause
+cause-of-all layout plan started old between new before later ends.UnknownShard same cause = absurd cause
+cause-of-all layout plan started old between new before later (ends.Running shard) same cause = absurd cause
+cause-of-all layout plan started old between new before later (ends.NotActive state) same cause = absurd cause
+cause-of-all layout plan started old between new before later ends.RangeTooSmall same cause = absurd cause
+cause-of-all layout plan started old between new before later ends.BadRanges same cause = absurd cause
+cause-of-all layout plan started old between new before later ends.TooManySlices same cause = absurd cause
 
 -- what it noted then
-noted-failed : (plan : SplitPlan) (recovered : Bool)
-    → board.Begun plan ∷ (recovering_entries plan.parent recovered ++ board.Failed plan.parent ∷ []) ≡ noted_by (given_up plan recovered)
-noted-failed plan true = refl
-noted-failed plan false = refl
+noted-failed : (plan : SplitPlan) (recovered : Bool) (started : ℕ)
+    → board.Begun plan ∷ (recovering_entries plan.parent recovered ++ board.Failed plan.parent ∷ []) ≡ noted_by (given_up plan recovered started)
+noted-failed plan true started = refl
+noted-failed plan false started = refl
 
 -- a split that was given up
 split-given-up : (layout : Layout) (asked : AskedSplit) (old between new : View) (plan : SplitPlan) (before later : Outside) (end : SplitEnd)
@@ -294,15 +294,15 @@ split-given-up : (layout : Layout) (asked : AskedSplit) (old between new : View)
     → IsSplit layout asked (split_moment old before) (split_moment new later) end
 split-given-up layout asked old between new plan before later end opens went = record {
   first = first;
-  course = given_up plan went.recovered;
+  course = given_up plan went.recovered went.started;
   kept = went.stops ∙ opens.stops;
   extends = Extends-then layout old.seen between.seen new.seen (first ∷ []) [] (opens-extends layout asked old between plan opens) went.extends;
   last = last-after layout new.seen (length opens.between.board) true [] (last-none layout new.seen);
   answered = λ seen more. opens-begins layout asked old between plan opens seen
       (IsPrefix-then between.seen.board new.seen.board seen.board went.extends.board more.board);
-  cause = cause-of-all layout plan old between new before later end (opens-journals layout asked old between plan opens) went.cause;
+  cause = cause-of-all layout plan went.started old between new before later end (opens-journals layout asked old between plan opens) went.cause;
   board = opens-board layout asked old between new.seen plan opens (recovering_entries plan.parent went.recovered ++ board.Failed plan.parent ∷ [])
-      (given_up plan went.recovered) went.noted (noted-failed plan went.recovered);
+      (given_up plan went.recovered went.started) went.noted (noted-failed plan went.recovered went.started);
   buckets = λ lock below. subst (λ (n : ℕ). IsFailedIfBegun plan n (new.seen.journals lock)) (opens-journals layout asked old between plan opens lock)
       (went.failed lock below);
   outside = went.outside;

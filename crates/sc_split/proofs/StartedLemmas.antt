@@ -1,22 +1,22 @@
--- The cores of a split: started and then stopped they leave those from before; they are few, and each is one of a sub.
-use Rattle.std.proofs.Common.{◌≡◌, ◌≤◌, ◌<◌, ◌+◌, ◌-◌, ◌*◌, ℕ, suc, Bool, true, false, cond, not, List, [], ◌∷◌, ◌++◌, length, map, take, Option, Some, None, All, Contains, refl, sym, ap, ◌∙◌, subst, arith, append_assoc, length-append}
+-- The cores of a split: started and then stopped they leave those from before; and they are few.
+use Rattle.std.proofs.Common.{◌≡◌, ◌≤◌, ◌<◌, ◌+◌, ◌-◌, ◌*◌, ℕ, suc, Bool, true, false, cond, not, List, [], ◌∷◌, ◌++◌, length, map, take, Option, Some, None, All, refl, sym, ap, ◌∙◌, subst, arith, append_assoc, length-append}
 use Rattle.std.specs.Prelude.{◌==◌, ◌&&◌, IfSome}
-use Rattle.std.specs.List.{flat_map, range_with_len, list_any}
+use Rattle.std.specs.List.{flat_map, list_any}
+use Rattle.std.specs.Option.{option_map}
 use Rattle.std.specs.Str.{bytes_eq}
 use Rattle.std.proofs.lemmas.Bool.Decides.{nat_tests}
 use Rattle.std.proofs.lemmas.Cmp.{nat_list_eq_equiv}
 use Rattle.std.proofs.lemmas.List.{append-nil, take_all, length-map}
 use Rattle.std.proofs.lemmas.List.FromFn.{length-map-range_with_len}
-use Rattle.std.proofs.lemmas.List.Elements.{All-nil, All-head, All-tail, All-append, All-map, All-take, All-weaker, All-contains_itself, filter-append}
+use Rattle.std.proofs.lemmas.List.Elements.{All-head, All-tail, All-take, All-weaker, filter-append}
 use Rattle.sc_record.specs.declared.slice.SubSlice.{SubSlice}
 use Rattle.sc_io.specs.declared.hosts.Host.{Host}
 use Rattle.sc_io.specs.Hosts.{Reached, is_core_on, with_core, without_core}
 use Rattle.sc_cluster.specs.declared.plan.SplitPlan.{SplitPlan}
 use Rattle.sc_cluster.proofs.ListLemmas.{filter-all}
-use Rattle.sc_cores.specs.Cores.{Outside, with_cores, without_cores, HasStarted, IsNew, CountsGoUp}
-use Rattle.sc_split.specs.Outside.{sub_core_at, further_cores, cores_of, StartsCoresOfPlan, LeavesCores}
-use Rattle.sc_split.specs.Splits.{IsCoreOfSub}
-use Rattle.sc_split.proofs.SwitchLemmas.{in-range}
+use Rattle.sc_cores.specs.Cores.{Outside, with_cores, without_cores, HasStarted, StopsEach, IsNew, CountsGoUp}
+use Rattle.sc_cores.proofs.StopLemmas.{none_failed}
+use Rattle.sc_split.specs.Outside.{sub_core_at, further_cores, cores_of, first_of, StartsCoresOfPlan, LeavesCores}
 
 -- the first of two lists of cores, and then the other
 without-append : (gone xs ys : List Host) → without_cores gone (xs ++ ys) ≡ without_cores gone xs ++ without_cores gone ys
@@ -74,14 +74,14 @@ without-new (core ∷ cores) all new =
 pub started-stopped : (cores all : List Host) → All (IsNew all) cores → without_cores cores (with_cores cores all) ≡ all
 started-stopped cores all new = started-gone [] cores all ∙ without-new cores all new
 
--- so it is of those that were started
-leaves-started : (cores : List Host) (count : ℕ) (before now later : Option (List Host)) → HasStarted cores count before now
-    → ((all : List Host) → now ≡ Some all → later ≡ Some (without_cores (take count cores) all))
-    → IfSome before (λ all. All (IsNew all) cores → later ≡ Some all)
-leaves-started cores count None now later started stopped = tt
-leaves-started cores count (Some all) now later started stopped =
-    λ new. stopped (with_cores (take count cores) all) started
-    ∙ ap Some (started-stopped (take count cores) all (All-take (IsNew all) count cores new))
+-- what is stopped of those that were started, by what was started before
+stops-started : (cores : List Host) (count : ℕ) (before now later : Option (List Host)) (faults faults_later : ℕ) (failed : Option ℕ)
+    → HasStarted cores count before now → StopsEach (take count cores) now later faults faults_later failed
+    → StopsEach (take count cores) (option_map (with_cores (take count cores)) before) later faults faults_later failed
+stops-started cores count None now later faults faults_later failed started each =
+    record { stopped = each.stopped; each = each.each; left = tt; faults = each.faults; first = each.first }
+stops-started cores count (Some all) now later faults faults_later failed started each =
+    subst (λ (o : Option (List Host)). StopsEach (take count cores) o later faults faults_later failed) started each
 
 -- none is started yet
 pub started-none : (cores : List Host) (before : Option (List Host)) → HasStarted cores 0 before before
@@ -97,7 +97,7 @@ started-all cores count (Some all) now each started =
     started ∙ ap (λ (these : List Host). Some (with_cores these all)) (ap (λ (n : ℕ). take n cores) each ∙ take_all (length cores) cores most)
 
 -- the cores of a split on so many nodes
-cores-on : (nodes nodes' : ℕ) (plan : SplitPlan) (cores : List Host) → cores ≡ cores_of nodes' plan → nodes' ≡ nodes → cores ≡ cores_of nodes plan
+pub cores-on : (nodes nodes' : ℕ) (plan : SplitPlan) (cores : List Host) → cores ≡ cores_of nodes' plan → nodes' ≡ nodes → cores ≡ cores_of nodes plan
 cores-on nodes nodes' plan cores are same = are ∙ ap (λ (n : ℕ). cores_of n plan) same
 
 -- all cores of a split were started
@@ -114,17 +114,51 @@ starts-by nodes nodes' plan cores count before later are same each started start
   reach = reach;
 }
 
--- those of its cores that were started are stopped
-pub leaves-by : (nodes nodes' : ℕ) (plan : SplitPlan) (cores : List Host) (count : ℕ) (before between later : Outside)
-    → cores ≡ cores_of nodes' plan → nodes' ≡ nodes → HasStarted cores count before.started between.started
+-- each of its cores that were started was stopped, or failed to be
+pub leaves-by : (nodes nodes' : ℕ) (plan : SplitPlan) (cores : List Host) (count : ℕ) (before between later : Outside) (failed : Option ℕ)
+    → cores ≡ cores_of nodes' plan → nodes' ≡ nodes → count ≤ length cores → HasStarted cores count before.started between.started
     → between.stop_faults ≡ before.stop_faults
-    → (later.stop_faults ≡ between.stop_faults → (all : List Host) → between.started ≡ Some all
-    → later.started ≡ Some (without_cores (take count cores) all))
-    → LeavesCores nodes plan before later
-leaves-by nodes nodes' plan cores count before between later are same started steady stopped none =
-    subst (λ (hosts : List Host). IfSome before.started (λ all. All (IsNew all) hosts → later.started ≡ Some all))
-    (cores-on nodes nodes' plan cores are same)
-    (leaves-started cores count before.started between.started later.started started (stopped (none ∙ sym steady)))
+    → StopsEach (take count cores) between.started later.started between.stop_faults later.stop_faults failed
+    → LeavesCores nodes plan count before later
+leaves-by nodes nodes' plan cores count before between later failed are same some started steady each = record {
+  some = subst (λ (hosts : List Host). count ≤ length hosts) is some;
+  failed = failed;
+  each = subst (λ (hosts : List Host). StopsEach (take count hosts) (option_map (with_cores (take count hosts)) before.started) later.started
+      before.stop_faults later.stop_faults failed) is
+      (stops-started cores count before.started between.started later.started before.stop_faults later.stop_faults failed started
+      (subst (λ (n : ℕ). StopsEach (take count cores) between.started later.started n later.stop_faults failed) steady each));
+} where
+  is : cores ≡ cores_of nodes plan
+  is = cores-on nodes nodes' plan cores are same
+
+-- where none was started all is as it was
+pub leaves-none : (nodes : ℕ) (plan : SplitPlan) (before : Outside) → LeavesCores nodes plan 0 before before
+leaves-none nodes plan before = record {
+  some = omega arith;
+  failed = None;
+  each = record { stopped = []; each = refl; left = by before.started; faults = most; first = refl };
+} where
+  by : (was : Option (List Host)) → IfSome (option_map (with_cores []) was) (λ all. was ≡ Some (without_cores [] all))
+  by None = tt
+  by (Some all) = refl
+
+  most : before.stop_faults + 0 ≤ before.stop_faults
+  most = omega arith
+
+-- Where no stop failed the cores are those from before, if none of the plan's was among them.
+pub leaves-those-before : (nodes : ℕ) (plan : SplitPlan) (count : ℕ) (old new : Outside) → LeavesCores nodes plan count old new
+    → new.stop_faults ≡ old.stop_faults
+    → IfSome old.started (λ cores. All (IsNew cores) (cores_of nodes plan) → new.started ≡ Some cores)
+leaves-those-before nodes plan count old new leaves steady =
+    by old.started (none_failed (first_of nodes plan count) (option_map (with_cores (first_of nodes plan count)) old.started) new.started
+    old.stop_faults new.stop_faults leaves.failed leaves.each steady)
+  where
+    by : (was : Option (List Host))
+        → IfSome (option_map (with_cores (first_of nodes plan count)) was) (λ all. new.started ≡ Some (without_cores (first_of nodes plan count) all))
+        → IfSome was (λ cores. All (IsNew cores) (cores_of nodes plan) → new.started ≡ Some cores)
+    by None stopped = tt
+    by (Some all) stopped = λ fresh.
+        stopped ∙ ap Some (started-stopped (first_of nodes plan count) all (All-take (IsNew all) count (cores_of nodes plan) fresh))
 
 -- no count fell
 pub counts-by : (before between later : Outside) → before.start_faults ≤ between.start_faults → between.stop_faults ≡ before.stop_faults
@@ -164,35 +198,3 @@ few-cores nodes plan few within =
     let more : length (flat_map (further_cores nodes) plan.subs) ≤ 255 * length plan.subs = few-further nodes plan.subs few in
     let all : length plan.subs + length (flat_map (further_cores nodes) plan.subs) < 4294967296 = omega arith in
     subst (λ (n : ℕ). n < 4294967296) (sym (count-cores nodes plan)) all
-
--- what is so of all that each element gives
-all-flat_map : {A B : Type 0} (IsSo : B → Type 0) (f : A → List B) (xs : List A) → All (λ x. All IsSo (f x)) xs → All IsSo (flat_map f xs)
-all-flat_map IsSo f [] each = All-nil IsSo
-all-flat_map IsSo f (x ∷ xs) each =
-    All-append IsSo (f x) (flat_map f xs) (All-head (λ y. All IsSo (f y)) x xs each)
-    (all-flat_map IsSo f xs (All-tail (λ y. All IsSo (f y)) x xs each))
-
--- each core is one of a sub
-pub cores-of-subs : (nodes : ℕ) (plan : SplitPlan) → All (λ (host : Host). IsCoreOfSub plan host.core) (cores_of nodes plan)
-cores-of-subs nodes plan =
-    All-append IsOfSub (map (λ (sub : SubSlice). sub_core_at nodes sub 1) plan.subs) (flat_map (further_cores nodes) plan.subs)
-    (All-map IsOfSub (λ (sub : SubSlice). sub_core_at nodes sub 1) plan.subs
-    (All-weaker (Contains plan.subs) (λ (sub : SubSlice). IsOfSub (sub_core_at nodes sub 1)) first plan.subs (All-contains_itself plan.subs)))
-    (all-flat_map IsOfSub (further_cores nodes) plan.subs
-    (All-weaker (Contains plan.subs) (λ (sub : SubSlice). All IsOfSub (further_cores nodes sub)) further plan.subs (All-contains_itself plan.subs)))
-  where
-    IsOfSub : Host → Type 0
-    IsOfSub host = IsCoreOfSub plan host.core
-
-    first : (sub : SubSlice) → Contains plan.subs sub → IsOfSub (sub_core_at nodes sub 1)
-    first sub there = let some : 0 < sub.replicas = sub.replicated in (sub, 1, there, omega arith, omega arith, refl)
-
-    further : (sub : SubSlice) → Contains plan.subs sub → All IsOfSub (further_cores nodes sub)
-    further sub there =
-        All-map IsOfSub (sub_core_at nodes sub) (range_with_len 2 (sub.replicas - 1))
-        (All-weaker (Contains (range_with_len 2 (sub.replicas - 1))) (λ (k : ℕ). IsOfSub (sub_core_at nodes sub k))
-        (λ k among.
-        let (j, below, is) = in-range 2 (sub.replicas - 1) k among in
-        let some : 0 < sub.replicas = sub.replicated in
-        (sub, k, there, omega (arith, is), omega (arith, is, below), refl))
-        (range_with_len 2 (sub.replicas - 1)) (All-contains_itself (range_with_len 2 (sub.replicas - 1))))

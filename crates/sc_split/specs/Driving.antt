@@ -64,12 +64,12 @@ pub record Builds (layout : Layout) (split : OpenSplit) (entries : List BoardEnt
   pub extends : Extends layout old.seen new.seen []
   pub noted : NotesMore layout (recovering_entries split.plan.parent recovered) old.seen new.seen
 
--- why making the cores ended, by what came before: a fault is reported only so; these are the cores
-abbrev pub IsFault : Layout → SplitPlan → List Host → SplitMoment → SplitMoment → Fault → Type 0
-IsFault layout plan cores old new faults.LogFull = (lock : ℕ) × HadNoRoom layout plan old.view.seen new.view.seen lock
-IsFault layout plan cores old new (faults.Host at) = (at < length cores) × (old.outside.start_faults < new.outside.start_faults)
-IsFault layout plan cores old new faults.Stopped = old.outside.stops < new.outside.stops
-IsFault layout plan cores old new faults.Memory = ⊤
+-- why making the cores ended, by what came before: a fault is reported only so
+abbrev pub IsFault : Layout → SplitPlan → SplitMoment → SplitMoment → Fault → Type 0
+IsFault layout plan old new faults.LogFull = (lock : ℕ) × HadNoRoom layout plan old.view.seen new.view.seen lock
+IsFault layout plan old new faults.Host = old.outside.start_faults < new.outside.start_faults
+IsFault layout plan old new faults.Stopped = old.outside.stops < new.outside.stops
+IsFault layout plan old new faults.Memory = ⊤
 
 -- the split was given up: where it had begun in a bucket it failed there, the board says so, and no stop was kept
 pub record GivesUp (layout : Layout) (plan : SplitPlan) (base old new : Seen) : Type 0 where
@@ -106,21 +106,23 @@ pub record IsSplitDone (layout : Layout) (plan : SplitPlan) (old new : SplitMome
   pub end_is : end ≡ ends.Done (map (λ (sub : SubSlice). sub.name) plan.subs) (commits_told (worst answers))
   pub outside : StartsCoresOfPlan layout.nodes plan old.outside new.outside
 
--- A split that had begun on the board was given up, after its slices were recovered or before, and its cores are stopped.
+-- A split that had begun on the board was given up, after its slices were recovered or before, once so many of its cores were started; each
+-- of those was stopped, or stopping it failed.
 pub record IsGivenUpOnBoard (layout : Layout) (plan : SplitPlan) (old new : SplitMoment) (end : SplitEnd) : Type 0 where
   pub recovered : Bool
+  pub started : ℕ
   pub stops : new.view.stops ≡ old.view.stops
   pub extends : Extends layout old.view.seen new.view.seen []
   pub noted : NotesMore layout (recovering_entries plan.parent recovered ++ board.Failed plan.parent ∷ []) old.view.seen new.view.seen
   pub failed : (lock : ℕ) → lock < layout.buckets → IsFailedIfBegun plan (length (old.view.seen.journals lock)) (new.view.seen.journals lock)
-  pub cause : IsCause layout plan old new end
-  pub outside : LeavesCores layout.nodes plan old.outside new.outside
+  pub cause : IsCause layout plan started old new end
+  pub outside : LeavesCores layout.nodes plan started old.outside new.outside
   pub counts : CountsGoUp old.outside new.outside
   pub no_reach : new.outside.reach ≡ old.outside.reach
 
--- what a split came to that is given up for this reason; these are its cores
-abbrev pub IsEndOf : List Host → Fault → SplitEnd → Type 0
-IsEndOf cores faults.LogFull end = end ≡ ends.LogFull
-IsEndOf cores (faults.Host at) end = (host : Host) × (slice_get cores at ≡ Some host) × (end ≡ ends.HostFault host.core)
-IsEndOf cores faults.Stopped end = end ≡ ends.Stopped
-IsEndOf cores faults.Memory end = end ≡ ends.Memory
+-- what a split came to that is given up for this reason; these are its cores, of which so many were started
+abbrev pub IsEndOf : List Host → ℕ → Fault → SplitEnd → Type 0
+IsEndOf cores started faults.LogFull end = end ≡ ends.LogFull
+IsEndOf cores started faults.Host end = (host : Host) × (slice_get cores started ≡ Some host) × (end ≡ ends.HostFault host.core)
+IsEndOf cores started faults.Stopped end = end ≡ ends.Stopped
+IsEndOf cores started faults.Memory end = end ≡ ends.Memory

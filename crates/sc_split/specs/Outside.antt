@@ -1,11 +1,12 @@
 -- What a split leaves outside of the collection: which cores are started, and what was counted.
-use Rattle.std.specs.Prelude.{◌≡◌, ℕ, ◌-◌, List, ◌++◌, map, Some, IfSome, All}
+use Rattle.std.specs.Prelude.{◌≤◌, ℕ, ◌-◌, List, ◌++◌, length, map, take, Option}
 use Rattle.std.specs.List.{flat_map, range_with_len}
+use Rattle.std.specs.Option.{option_map}
 use Rattle.sc_record.specs.declared.slice.SubSlice.{SubSlice}
 use Rattle.sc_cluster.specs.declared.plan.SplitPlan.{SplitPlan}
 use Rattle.sc_io.specs.declared.hosts.Host.{Host}
 use Rattle.sc_cores.specs.Cores as cores
-use Rattle.sc_cores.specs.Cores.{Outside, IsNew, StartsCores}
+use Rattle.sc_cores.specs.Cores.{Outside, with_cores, StopsEach, StartsCores}
 
 -- replica k of a sub, from 1, among so many nodes
 abbrev pub sub_core_at : (nodes : ℕ) → SubSlice → (k : ℕ) → Host
@@ -23,7 +24,14 @@ cores_of nodes plan = map (λ sub. sub_core_at nodes sub 1) plan.subs ++ flat_ma
 abbrev pub StartsCoresOfPlan : (nodes : ℕ) → SplitPlan → (old new : Outside) → Type 0
 StartsCoresOfPlan nodes plan = StartsCores (cores_of nodes plan)
 
--- Where stopping a core did not fail, the cores are those from before, if none of the plan's was among them.
-abbrev pub LeavesCores : ℕ → SplitPlan → Outside → Outside → Type 0
-LeavesCores nodes plan old new = new.stop_faults ≡ old.stop_faults
-    → IfSome old.started (λ cores. All (IsNew cores) (cores_of nodes plan) → new.started ≡ Some cores)
+-- the first cores of the plan, so many of them
+abbrev pub first_of : (nodes : ℕ) → SplitPlan → (count : ℕ) → List Host
+first_of nodes plan count = take count (cores_of nodes plan)
+
+-- What a split that was given up leaves of the cores. The first so many of the plan's were started, besides those from before, where the
+-- hosts tell them; then each of these was stopped, or stopping it failed, and the others were stopped still.
+pub record LeavesCores (nodes : ℕ) (plan : SplitPlan) (count : ℕ) (old new : Outside) : Type 0 where
+  pub some : count ≤ length (cores_of nodes plan)
+  pub failed : Option ℕ
+  pub each : StopsEach (first_of nodes plan count) (option_map (with_cores (first_of nodes plan count)) old.started) new.started
+      old.stop_faults new.stop_faults failed

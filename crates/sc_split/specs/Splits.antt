@@ -1,12 +1,12 @@
 -- What a split leaves of its desk, its hosts and its trail, and what it is answered.
-use Rattle.std.specs.Prelude.{◌≡◌, ◌≤◌, ◌<◌, ℕ, Bool, true, false, List, [], ◌∷◌, ◌++◌, length, map, take, slice_get, find, Some, None, Contains, ⊤}
+use Rattle.std.specs.Prelude.{◌≡◌, ◌≤◌, ◌<◌, ℕ, Bool, true, false, List, [], ◌∷◌, ◌++◌, length, map, take, slice_get, find, Some, None, ⊤}
 use Rattle.std.specs.List.{range_with_len}
 use mathlib.Core.List.{IsPrefix}
 use Rattle.sc_record.specs.declared.slice.SubSlice.{SubSlice}
 use Rattle.sc_record.specs.declared.entry.Entry.{Entry}
 use Rattle.sc_record.specs.declared.entry.Entry.TheVariants as entry
 use Rattle.sc_cluster.specs.declared.plan.SplitPlan.{SplitPlan}
-use Rattle.sc_cluster.specs.Slices.{core_name}
+use Rattle.sc_io.specs.declared.hosts.Host.{Host}
 use Rattle.sc_journal.specs.Splits.{open_split, entries_of_split, IsFullFor}
 use Rattle.sc_seen.specs.Seen.{Layout, Seen, Extends, EndAtLast, FromNowOn}
 use Rattle.sc_seen.specs.Moments.{View}
@@ -23,7 +23,7 @@ use Rattle.sc_collection.specs.Committing.{commits_told}
 use Rattle.sc_split.specs.declared.end.SplitEnd.{SplitEnd}
 use Rattle.sc_split.specs.declared.end.SplitEnd.TheVariants as ends
 use Rattle.sc_cores.specs.Cores.{Outside, CountsGoUp}
-use Rattle.sc_split.specs.Outside.{StartsCoresOfPlan, LeavesCores}
+use Rattle.sc_split.specs.Outside.{cores_of, StartsCoresOfPlan, LeavesCores}
 
 -- what stands at one moment of a split: what was looked at so far, and what is outside
 pub record SplitMoment : Type 0 where
@@ -38,21 +38,21 @@ split_moment view outside = record { view = view; outside = outside }
 pub data Course : Type 0 where
   -- it did not begin
   refused : Course
-  -- it began by this plan, and was given up, after its slices were recovered or before
-  given_up : SplitPlan → (recovered : Bool) → Course
+  -- it began by this plan, and was given up, after its slices were recovered or before, once so many of its cores were started
+  given_up : SplitPlan → (recovered : Bool) → (started : ℕ) → Course
   -- it was done by this plan, and then came these commits
   done : SplitPlan → List CommitAnswer → Course
 
 -- the entries that a split notes on the board
 abbrev pub noted_by : Course → List BoardEntry
 noted_by refused = []
-noted_by (given_up plan recovered) = board_entries (rounds.failed plan recovered true)
+noted_by (given_up plan recovered started) = board_entries (rounds.failed plan recovered true)
 noted_by (done plan answers) = board_entries (rounds.done plan)
 
 -- the stops of a split: that of the board, and then those of the commits
 abbrev pub split_stops : Stop → Course → List Stop
 split_stops first refused = first ∷ []
-split_stops first (given_up plan recovered) = first ∷ []
+split_stops first (given_up plan recovered started) = first ∷ []
 split_stops first (done plan answers) = first ∷ commit_stops answers
 
 -- the entry begins a split, or ends one
@@ -83,7 +83,7 @@ IsFailedIfBegun plan seen journal = (place : ℕ) (later : List Entry) → Begin
 -- one that was done was switched in each
 abbrev pub LeavesBuckets : ℕ → Course → Seen → Seen → Type 0
 LeavesBuckets buckets refused old new = (lock : ℕ) → new.journals lock ≡ old.journals lock
-LeavesBuckets buckets (given_up plan recovered) old new =
+LeavesBuckets buckets (given_up plan recovered started) old new =
     (lock : ℕ) → lock < buckets → IsFailedIfBegun plan (length (old.journals lock)) (new.journals lock)
 LeavesBuckets buckets (done plan answers) old new =
     (lock : ℕ) → lock < buckets → IsSwitchedIn plan (length (old.journals lock)) (new.journals lock)
@@ -96,17 +96,16 @@ pub record LeavesBoard (layout : Layout) (first : Stop) (course : Course) (old n
   pub board_is : new.board ≡ before ++ noted_by course
   pub own : new.own layout.buckets ≡ old.own layout.buckets ++ range_with_len first.place (length (noted_by course))
 
--- What a split leaves outside: one that did not begin all as it was, one that was given up the cores from before, and one that was done
--- those and its own.
+-- What a split leaves outside: one that did not begin all as it was, one that was given up the cores from before and those of its own that
+-- failed to stop, and one that was done those from before and its own.
 abbrev pub LeavesOutside : ℕ → Course → Outside → Outside → Type 0
 LeavesOutside nodes refused old new = new ≡ old
-LeavesOutside nodes (given_up plan recovered) old new = LeavesCores nodes plan old new
+LeavesOutside nodes (given_up plan recovered started) old new = LeavesCores nodes plan started old new
 LeavesOutside nodes (done plan answers) old new = StartsCoresOfPlan nodes plan old new
 
--- the name is that of a core of one of the plan's subs
-abbrev pub IsCoreOfSub : SplitPlan → List ℕ → Type 0
-IsCoreOfSub plan name =
-    (sub : SubSlice) × (k : ℕ) × Contains plan.subs sub × (1 ≤ k) × (k ≤ sub.replicas) × (name ≡ core_name sub.name k)
+-- the name is that of the plan's core at this place
+abbrev pub IsNameOfCore : (nodes : ℕ) → SplitPlan → (place : ℕ) → List ℕ → Type 0
+IsNameOfCore nodes plan place name = (host : Host) × (slice_get (cores_of nodes plan) place ≡ Some host) × (name ≡ host.core)
 
 -- A bucket's journal had no room for the split, no earlier than what was seen of it before, while no split was open in it.
 pub record HadNoRoom (layout : Layout) (plan : SplitPlan) (old new : Seen) (lock : ℕ) : Type 0 where
@@ -117,17 +116,18 @@ pub record HadNoRoom (layout : Layout) (plan : SplitPlan) (old new : Seen) (lock
   pub idle : open_split journal ≡ None
   pub full : IsFullFor (entries_of_split plan.subs) layout.limit layout.first journal
 
--- why a split was given up that had begun: it is answered so only then
-abbrev pub IsCause : Layout → SplitPlan → SplitMoment → SplitMoment → SplitEnd → Type 0
-IsCause layout plan old new ends.LogFull = (lock : ℕ) × HadNoRoom layout plan old.view.seen new.view.seen lock
-IsCause layout plan old new (ends.HostFault core) = IsCoreOfSub plan core × (old.outside.start_faults < new.outside.start_faults)
-IsCause layout plan old new ends.Stopped = old.outside.stops < new.outside.stops
-IsCause layout plan old new ends.Memory = ⊤
-IsCause layout plan old new _ = ⊥
+-- why a split was given up that had begun, once so many of its cores were started: it is answered so only then; the core that failed is
+-- the next
+abbrev pub IsCause : Layout → SplitPlan → (started : ℕ) → SplitMoment → SplitMoment → SplitEnd → Type 0
+IsCause layout plan started old new ends.LogFull = (lock : ℕ) × HadNoRoom layout plan old.view.seen new.view.seen lock
+IsCause layout plan started old new (ends.HostFault core) = IsNameOfCore layout.nodes plan started core × (old.outside.start_faults < new.outside.start_faults)
+IsCause layout plan started old new ends.Stopped = old.outside.stops < new.outside.stops
+IsCause layout plan started old new ends.Memory = ⊤
+IsCause layout plan started old new _ = ⊥
 
 -- the cause of the answer to a split that went so, where it was given up
 abbrev pub HasCause : Layout → Course → SplitMoment → SplitMoment → SplitEnd → Type 0
-HasCause layout (given_up plan recovered) old new end = IsCause layout plan old new end
+HasCause layout (given_up plan recovered started) old new end = IsCause layout plan started old new end
 HasCause layout _ old new end = ⊤
 
 -- the answer to a split that the board refused
@@ -159,7 +159,7 @@ pub record IsRefusedOnBoard (layout : Layout) (seen : Seen) (asked : AskedSplit)
 -- a split that went so is answered so, by its stop of the board and by its commits
 abbrev pub IsAnswered : Layout → Seen → AskedSplit → Stop → Course → SplitEnd → Type 0
 IsAnswered layout seen asked first refused end = IsRefusedOnBoard layout seen asked first end
-IsAnswered layout seen asked first (given_up plan recovered) end = BeginsOnBoard layout seen asked first plan
+IsAnswered layout seen asked first (given_up plan recovered started) end = BeginsOnBoard layout seen asked first plan
 IsAnswered layout seen asked first (done plan answers) end =
     BeginsOnBoard layout seen asked first plan × AnswersCommits layout seen layout.buckets answers
     × (end ≡ ends.Done (map (λ (sub : SubSlice). sub.name) plan.subs) (commits_told (worst answers)))

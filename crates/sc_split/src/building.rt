@@ -47,7 +47,7 @@ fn begin_all<D: Desk, P: Pace>(
     ensures steady { OnOk result (P.stops pace.new ≡ P.stops pace.old) }
     ensures stopped { result ≡ Err Fault.Stopped → P.stops pace.old < P.stops pace.new }
     ensures no_fall { P.stops pace.old ≤ P.stops pace.new }
-    ensures no_host { (at : ℕ) → result ≡ Err (faults.Host at) → ⊥ }
+    ensures no_host { result ≡ Err Fault.Host → ⊥ }
 {
     for b in 0..desk.buckets() {
         begin_one(alloc, desk, pace, keepers, b, plan, begun)?;
@@ -84,7 +84,7 @@ fn begin_one<D: Desk, P: Pace>(
     ensures steady { OnOk result (P.stops pace.new ≡ P.stops pace.old) }
     ensures stopped { result ≡ Err Fault.Stopped → P.stops pace.old < P.stops pace.new }
     ensures no_fall { P.stops pace.old ≤ P.stops pace.new }
-    ensures no_host { (at : ℕ) → result ≡ Err (faults.Host at) → ⊥ }
+    ensures no_host { result ≡ Err Fault.Host → ⊥ }
 {
     begin_in(alloc, desk, keepers, b, plan)?;
     *begun = b + 1;
@@ -167,7 +167,7 @@ pub(crate) fn lead_all<D: Desk, P: Pace>(
     ensures steady { OnOk result (P.stops pace.new ≡ P.stops pace.old) }
     ensures stopped { result ≡ Err Fault.Stopped → P.stops pace.old < P.stops pace.new }
     ensures no_fall { P.stops pace.old ≤ P.stops pace.new }
-    ensures no_host { (at : ℕ) → result ≡ Err (faults.Host at) → ⊥ }
+    ensures no_host { result ≡ Err Fault.Host → ⊥ }
 {
     begin_all(alloc, desk, pace, keepers, plan, begun)?;
     fill_all(desk, pace, keepers, leaders)?;

@@ -1,13 +1,12 @@
 //! The cores that a split makes: what they are called, and their start and stop.
 
-ghost use Rattle.std.specs.Prelude.{◌≡◌, ◌≤◌, ◌<◌, ◌++◌, ℕ, length, map, All, IfOk, OnOk, Err, Some, List, Option};
+ghost use Rattle.std.specs.Prelude.{◌≡◌, ◌≤◌, ◌<◌, ◌++◌, ℕ, length, map, All, IfOk, OnOk, Err, List, Option};
 ghost use Rattle.std.specs.List.{flat_map};
 ghost use Rattle.sc_record.specs.declared.slice.SubSlice.{SubSlice};
 ghost use Rattle.sc_handover.specs.Made.{first_core};
-ghost use Rattle.sc_cores.specs.Cores.{HasStarted, without_cores};
+ghost use Rattle.sc_cores.specs.Cores.{HasStarted, StopsEach};
 ghost use Rattle.sc_split.specs.Outside.{sub_core_at, further_cores, cores_of};
 ghost use Rattle.sc_split.specs.Stages.{further_names};
-ghost use Rattle.sc_split.specs.declared.end.Fault.TheVariants as faults;
 
 use crate::end::Fault;
 use sc_cluster::SplitPlan;
@@ -153,7 +152,7 @@ fn push_hosts_of(
 }
 
 /// Starts the cores that come after the first `started`, up to the first `to`, and asks the pace after each. Counts those that were
-/// started.
+/// started, so that where one failed it is the one at that place.
 pub(crate) fn start_cores<H: Hosts, P: Pace>(
     hosts: &mut H,
     pace: &mut P,
@@ -170,8 +169,7 @@ pub(crate) fn start_cores<H: Hosts, P: Pace>(
     ensures started { (before : Option (List Host)) → HasStarted cores.now started.old before (H.started hosts.old)
         → HasStarted cores.now started.new before (H.started hosts.new) }
     ensures steady { OnOk result (H.start_faults hosts.new ≡ H.start_faults hosts.old) }
-    ensures failed { (at : ℕ) → result ≡ Err (faults.Host at)
-        → (at < length cores.now) × (H.start_faults hosts.old < H.start_faults hosts.new) }
+    ensures failed { result ≡ Err Fault.Host → (started.new < to) × (H.start_faults hosts.old < H.start_faults hosts.new) }
     ensures no_fall { H.start_faults hosts.old ≤ H.start_faults hosts.new }
     ensures other_count { H.stop_faults hosts.new ≡ H.stop_faults hosts.old }
     ensures reached { H.reached hosts.new ≡ H.reached hosts.old }
@@ -183,7 +181,7 @@ pub(crate) fn start_cores<H: Hosts, P: Pace>(
     for at in *started..to {
         let core = &cores[at];
         if hosts.start_core(core.node, core.core.as_str()).is_err() {
-            return Err(Fault::Host { at });
+            return Err(Fault::Host);
         }
         *started = at + 1;
         if !pace.between(SplitStep::Started { core: at as u32 }) {
@@ -195,8 +193,8 @@ pub(crate) fn start_cores<H: Hosts, P: Pace>(
 
 /// Stops the cores, in order. Where stopping one fails the others are stopped still.
 pub(crate) fn stop_all<H: Hosts>(hosts: &mut H, cores: &[Host])
-    ensures stopped { H.stop_faults hosts.new ≡ H.stop_faults hosts.old → (all : List Host) → H.started hosts.old ≡ Some all
-        → H.started hosts.new ≡ Some (without_cores cores.now all) }
+    ensures each { (failed : Option ℕ) × StopsEach cores.now (H.started hosts.old) (H.started hosts.new)
+        (H.stop_faults hosts.old) (H.stop_faults hosts.new) failed }
     ensures no_fall { H.stop_faults hosts.old ≤ H.stop_faults hosts.new }
     ensures other_count { H.start_faults hosts.new ≡ H.start_faults hosts.old }
     ensures reached { H.reached hosts.new ≡ H.reached hosts.old }

@@ -1,6 +1,6 @@
 //! A split of a shard, as a whole.
 
-ghost use Rattle.std.specs.Prelude.{◌≡◌, ◌≤◌, ◌<◌, ◌+◌, ◌⊎◌, ℕ, Bool, List, [], length, map, take, Option, Some, Err, OnOk, IfErr};
+ghost use Rattle.std.specs.Prelude.{◌≡◌, ◌≤◌, ◌<◌, ◌+◌, ◌⊎◌, ℕ, Bool, List, [], length, map, take, Option, Err, OnOk, IfErr};
 ghost use Rattle.sc_record.specs.declared.slice.SubSlice.{SubSlice};
 ghost use Rattle.sc_cluster.specs.declared.plan.SplitPlan.{SplitPlan};
 ghost use Rattle.sc_handover.specs.Made.{first_core};
@@ -11,9 +11,8 @@ ghost use Rattle.sc_seen.specs.declared.board.BoardEntry.{BoardEntry};
 ghost use Rattle.sc_board.specs.Splits.{IsCut, asked_for};
 ghost use Rattle.sc_collection.specs.Kept.{trail_room};
 ghost use Rattle.sc_collection.specs.Known.{OfBuckets};
-ghost use Rattle.sc_split.specs.declared.end.Fault.TheVariants as faults;
 ghost use Rattle.sc_split.specs.Buckets.{HasNoRoomFor};
-ghost use Rattle.sc_cores.specs.Cores.{Outside, HasStarted, without_cores};
+ghost use Rattle.sc_cores.specs.Cores.{Outside, HasStarted, StopsEach};
 ghost use Rattle.sc_collection.specs.Resting.{Rests, looked_at, LeavesAtRest};
 ghost use Rattle.sc_split.specs.Outside.{cores_of};
 ghost use Rattle.sc_split.specs.Stages.{OpenSplit, IsOpenIn, IsUnbegun, IsAtStage, recovering, whole, further_cores_of};
@@ -46,8 +45,8 @@ struct Progress {
 /// Each step of a bucket is one hold of it, and each of the board one hold of the board. The first of the board is a stop of the trail,
 /// and so is the commit of each bucket. The pace is asked after each step that a `SplitStep` names, while nothing is held, and not after
 /// the first switch. Memory is asked for before that too. Once the split has begun on the board, whatever refuses it has it given up in
-/// each bucket in which it has begun, noted on the board, and each core stopped that was started; where stopping one fails the answer is
-/// the same.
+/// each bucket in which it has begun, noted on the board, and each core stopped that was started, also where stopping one fails: the
+/// answer is the same.
 pub fn split<D: Desk, H: Hosts, P: Pace>(
     alloc: Global,
     desk: &mut D,
@@ -151,7 +150,8 @@ fn build<D: Desk, H: Hosts, P: Pace>(
         → HasStarted cores.now.hosts progress.new.started before (H.started hosts.new) }
     ensures steady { OnOk result ((H.start_faults hosts.new ≡ H.start_faults hosts.old) × (P.stops pace.new ≡ P.stops pace.old)) }
     ensures beside { StartsBeside H.Hosts P.Pace hosts.old pace.old hosts.new pace.new }
-    ensures cause { IfErr result (IsFault (D.layout desk.old) plan.now cores.now.hosts
+    ensures next { result ≡ Err Fault.Host → progress.new.started < length cores.now.hosts }
+    ensures cause { IfErr result (IsFault (D.layout desk.old) plan.now
         (moment_at D.Desk H.Hosts P.Pace desk.old hosts.old pace.old [])
         (moment_at D.Desk H.Hosts P.Pace desk.new hosts.new pace.new [])) }
 {
@@ -205,8 +205,8 @@ fn lead<D: Desk, H: Hosts, P: Pace>(
     ensures beside { StartsBeside H.Hosts P.Pace hosts.old pace.old hosts.new pace.new }
     ensures full { result ≡ Err Fault.LogFull → (b : ℕ) × (progress.new.begun ≤ b) × (b < (D.layout desk.old).buckets)
         × HasNoRoomFor (D.layout desk.old) plan.now.subs ((D.seen desk.new).journals b) }
-    ensures failed { (at : ℕ) → result ≡ Err (faults.Host at)
-        → (at < length cores.now.hosts) × (H.start_faults hosts.old < H.start_faults hosts.new) }
+    ensures failed { result ≡ Err Fault.Host
+        → (progress.new.started < length cores.now.hosts) × (H.start_faults hosts.old < H.start_faults hosts.new) }
     ensures stopped { result ≡ Err Fault.Stopped → P.stops pace.old < P.stops pace.new }
 {
     ask(pace, SplitStep::Begun)?;
@@ -258,8 +258,8 @@ fn follow<D: Desk, H: Hosts, P: Pace>(
     ensures steady { OnOk result ((H.start_faults hosts.new ≡ H.start_faults hosts.old) × (P.stops pace.new ≡ P.stops pace.old)) }
     ensures beside { StartsBeside H.Hosts P.Pace hosts.old pace.old hosts.new pace.new }
     ensures not_full { result ≡ Err Fault.LogFull → ⊥ }
-    ensures failed { (at : ℕ) → result ≡ Err (faults.Host at)
-        → (at < length cores.now.hosts) × (H.start_faults hosts.old < H.start_faults hosts.new) }
+    ensures failed { result ≡ Err Fault.Host
+        → (started.new < length cores.now.hosts) × (H.start_faults hosts.old < H.start_faults hosts.new) }
     ensures stopped { result ≡ Err Fault.Stopped → P.stops pace.old < P.stops pace.new }
 {
     ask(pace, SplitStep::Recovering)?;
@@ -323,14 +323,14 @@ fn give_up<D: Desk, H: Hosts>(
         progress.begun (known D.Desk desk.old keepers) }
     requires count { progress.begun ≤ (D.layout desk.old).buckets }
     requires started { progress.started ≤ length cores.hosts }
-    requires host { (at : ℕ) → fault ≡ faults.Host at → at < length cores.hosts }
+    requires host { fault ≡ Fault.Host → progress.started < length cores.hosts }
     ensures given_up { (split : OpenSplit) (entries : List BoardEntry) (recovered : Bool) → IsHalted (D.layout desk.old) split entries recovered
         progress.begun (known D.Desk desk.old keepers)
         → GivesUp (D.layout desk.old) split.plan split.base.seen (D.seen desk.old) (D.seen desk.new) }
-    ensures end { IsEndOf cores.hosts fault result }
+    ensures end { IsEndOf cores.hosts progress.started fault result }
     ensures leaves { LeavesDesk D.Desk desk.old desk.new }
-    ensures stopped { H.stop_faults hosts.new ≡ H.stop_faults hosts.old → (all : List Host) → H.started hosts.old ≡ Some all
-        → H.started hosts.new ≡ Some (without_cores (take progress.started cores.hosts) all) }
+    ensures stopped { (failed : Option ℕ) × StopsEach (take progress.started cores.hosts) (H.started hosts.old) (H.started hosts.new)
+        (H.stop_faults hosts.old) (H.stop_faults hosts.new) failed }
     ensures no_fall { H.stop_faults hosts.old ≤ H.stop_faults hosts.new }
     ensures other_count { H.start_faults hosts.new ≡ H.start_faults hosts.old }
     ensures reached { H.reached hosts.new ≡ H.reached hosts.old }
@@ -338,7 +338,7 @@ fn give_up<D: Desk, H: Hosts>(
     abort_all(desk, &mut keepers, progress.begun);
     note_failed(desk, keepers);
     stop_all(hosts, &cores.hosts.as_slice()[..progress.started]);
-    end_of(fault, cores)
+    end_of(fault, cores, progress.started)
 }
 
 // Leaves the map as it was before a split that has not begun in any bucket.
@@ -354,15 +354,15 @@ fn fail_unbegun<D: Desk>(desk: &mut D, keepers: D::Keepers)
     note_failed(desk, keepers);
 }
 
-// What a split that is given up for this reason came to.
-fn end_of(fault: Fault, cores: NewCores) -> SplitEnd
-    requires host { (at : ℕ) → fault ≡ faults.Host at → at < length cores.hosts }
-    ensures { IsEndOf cores.hosts fault result }
+// What a split that is given up for this reason came to, once so many of its cores were started.
+fn end_of(fault: Fault, cores: NewCores, started: usize) -> SplitEnd
+    requires host { fault ≡ Fault.Host → started < length cores.hosts }
+    ensures { IsEndOf cores.hosts started fault result }
 {
     match fault {
         Fault::LogFull => SplitEnd::LogFull,
-        Fault::Host { at } => SplitEnd::HostFault {
-            core: cores.hosts.into_vec().swap_remove(at).core,
+        Fault::Host => SplitEnd::HostFault {
+            core: cores.hosts.into_vec().swap_remove(started).core,
         },
         Fault::Stopped => SplitEnd::Stopped,
         Fault::Memory => SplitEnd::Memory,

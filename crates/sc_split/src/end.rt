@@ -49,8 +49,8 @@ pub enum SplitEnd {
 pub(crate) enum Fault {
     /// A bucket's journal has no room for it.
     LogFull,
-    /// Starting the core at this place among those of the split failed.
-    Host { at: usize },
+    /// Starting the next of the split's cores failed.
+    Host,
     /// The pace said stop.
     Stopped,
     /// Memory ran out.

@@ -5,7 +5,7 @@
 //! (`sc_io`), on the events of `sc_handover`, which it does by what a bucket's keeper knows of it (`sc_keeper`'s parts), on `sc_board`, on
 //! the cores of `sc_cores`, on the plans of `sc_cluster`, and on the names and lists of `sc_record`. The layer above uses the clause of
 //! `split` alone (`IsSplit`): what was noted on the board and in each bucket, which stops were kept, what was answered and why, which cores
-//! are started, and that reaching no node failed.
+//! are started, also after a refusal (`LeavesCores`), and that reaching no node failed.
 //!
 //! Proved: each event of one bucket by what its keeper knows of it, and the filling of its cores (`IsFilled`); over all buckets in turn,
 //! that the split begins (`IsAtStage`, `IsUnbegun` where it did not), that its leaders are filled and ready, that its further replicas join
@@ -15,9 +15,8 @@
 //!
 //! Tested alone: nothing here; `sc_examples` splits beside a stop of the pace and a fault of the hosts at each place.
 //!
-//! Neither: speed; that the pace is asked after each piece; which core failed, of those of the subs, where one did; which cores are
-//! started after a refusal if stopping one failed too; and that further replicas are started only once the leaders are made, which holds
-//! by construction.
+//! Neither: speed; that the pace is asked after each piece; and the order of the steps in different buckets and of the starts of cores
+//! beside them, as that further replicas are started only once the leaders are made, which holds by construction.
 #![tactic(auto)]
 
 // What a split comes to.

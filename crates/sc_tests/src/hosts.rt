@@ -1,7 +1,7 @@
-//! `sc_io`: hosts and paces that fail and stop by number, and the folders of the machine's hosts.
+//! `sc_io`: hosts and paces that fail and stop by number, a clock that gives what it was told, and the folders of the machine's hosts.
 
 use crate::support::{assert_same, assert_text};
-use sc_io::{FolderHosts, Hosts, MemHosts, MemPace, NoPace, Pace, SplitStep};
+use sc_io::{Clock, FolderHosts, Hosts, MemClock, MemHosts, MemPace, NoPace, Pace, SplitStep};
 use sc_record::List;
 use std::alloc::{AllocError, Global};
 use std::fs;
@@ -180,4 +180,13 @@ fn a_pace_in_memory_stops_by_number(rt: HostRuntime) {
     assert_same(&rt, answers(&mut pace), [true, true, false, true]);
     assert_same(&rt, pace.stops.count(), 1);
     assert_same(&rt, answers(&mut NoPace), [true; 4]);
+}
+
+#[test]
+fn a_clock_in_memory_gives_its_timestamps_and_then_the_last(rt: HostRuntime) -> Result<(), Fail> {
+    let mut clock = MemClock::new(List::from_vec(Vec::from_array(rt.alloc(), [3, 5])?));
+    assert_same(&rt, clock.now(), 3);
+    assert_same(&rt, clock.now(), 5);
+    assert_same(&rt, clock.now(), 5);
+    Ok(())
 }

@@ -2,7 +2,7 @@
 //! that fail, what a core or a snapshot has that no answer tells, searches that count their steps, and trees so deep that a recursion would
 //! have no stack for them. What lines show, `sc_examples` and `solr_split` answer from their standard input.
 //!
-//! Each module tests one crate by its public functions, but for `collections`, `sharing`, `splits` and `workers`; `support` has what several
+//! Each module tests one crate by its public functions, but for `collections`, `sharing`, `splits`, `tails` and `workers`; `support` has what several
 //! share. A table is a text, which a function with no contract gives, so that the prover does not read it in each step of a test. Nothing
 //! depends on this crate.
 #![tactic(auto)]
@@ -18,11 +18,15 @@ mod collections;
 #[cfg(test)]
 mod demo;
 #[cfg(test)]
+mod hashes;
+#[cfg(test)]
 mod hosts;
 #[cfg(test)]
 mod journals;
 #[cfg(test)]
 mod locks;
+#[cfg(test)]
+mod parts;
 #[cfg(test)]
 mod queries;
 #[cfg(test)]

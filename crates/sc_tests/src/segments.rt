@@ -7,7 +7,7 @@ ghost use Rattle.std.proofs.lemmas.Cmp.{on_total, nat_cmp_total};
 ghost use native.Mathlib.Omega.{arith};
 
 use crate::support::assert_same;
-use sc_keys::{Key, Steps};
+use sc_keys::{Head, Key, Steps};
 use sc_rows::LiveBits;
 use sc_segment::{Builder, Segment};
 use std::alloc::{AllocError, Global};
@@ -38,8 +38,8 @@ impl Key for CountedKey<'_> {
         self.number.cmp(&other.number)
     }
 
-    fn head(&self) -> u64 {
-        0
+    fn head(&self) -> Head {
+        Head::new(0)
     }
 
     fn share(&self) -> Result<Self, AllocError> {

@@ -19,12 +19,14 @@ pub lends_first : {C H P L : Type 0} (before lent after : Front C H P L) (given 
     → lent.crews_back ≡ before.crews_back → SetsReported 0 (Some back) lent.crews_back after.crews_back
     → SetsAt 0 true before.out lent.out → SetsAt 0 false lent.out after.out
     → back.listener ≡ given.listener → lent.open_faults ≡ before.open_faults → after.open_faults ≡ lent.open_faults
+    → lent.opened ≡ before.opened → after.opened ≡ lent.opened
     → LendsFirst before after given back
-lends_first {C} {H} {P} {L} before lent after given back given_is taken crews none_back put gone home listener no_fault open_faults = record {
+lends_first {C} {H} {P} {L} before lent after given back given_is taken crews none_back put gone home listener no_fault open_faults stays opened = record {
   given_is = given_is;
   crews = subst (SetsReported 0 None before.crews) (sym crews) taken;
   crews_back = subst (λ (all : Option (ℕ → Option (Crew C H P L))). SetsReported 0 (Some back) all after.crews_back) none_back put;
   out = set_again 0 false true before.out lent.out after.out gone home;
   listener = listener;
   open_faults = open_faults ∙ no_fault;
+  opened = opened ∙ stays;
 }

@@ -17,6 +17,7 @@ use Rattle.sc_io.specs.declared.hosts.Host.{Host}
 use Rattle.sc_cores.specs.Cores.{Outside, cores_of_slice, cores_of_map, with_cores, without_cores, IsNew, StartsFirst}
 use Rattle.sc_cores.proofs.AmongLemmas.{none_among, joined, from_joined, in_range, range_has, core_of_slice, slice_has_core, same_named, is_new, among_with, before_with, more_with, among_without, stays_without}
 use Rattle.sc_cores.proofs.ChangeLemmas.{cores_dropped, cores_kept}
+use Rattle.sc_split.proofs.StartedLemmas.{leaves-those-before}
 use Rattle.sc_split.specs.Outside.{sub_core_at, further_cores, cores_of, StartsCoresOfPlan, LeavesCores}
 use Rattle.solr_split.specs.Running.{AreStarted}
 
@@ -99,10 +100,14 @@ reported : (started : Option (List Host)) (cores : List Host) (IsSo : List Host 
 reported started cores IsSo is holds = subst (λ (o : Option (List Host)). IfSome o IsSo) is holds
 
 -- a split that was given up leaves the cores of the map
-pub given_up_leaves : (nodes : ℕ) (slices : List Slice) (plan : SplitPlan) (old new : Outside) → IsPlan slices plan.parent plan.subs
-    → LeavesCores nodes plan old new → new.stop_faults ≡ old.stop_faults → AreStarted nodes slices old → AreStarted nodes slices new
-given_up_leaves nodes slices plan old new is_plan leaves steady was =
-    (was.0, reported old.started was.0 (λ cores. All (IsNew cores) (cores_of nodes plan) → new.started ≡ Some cores) was.1 (leaves steady) all_new, was.2)
+pub given_up_leaves : (nodes : ℕ) (slices : List Slice) (plan : SplitPlan) (count : ℕ) (old new : Outside) → IsPlan slices plan.parent plan.subs
+    → LeavesCores nodes plan count old new → new.stop_faults ≡ old.stop_faults → AreStarted nodes slices old → AreStarted nodes slices new
+given_up_leaves nodes slices plan count old new is_plan leaves steady was = (
+  was.0,
+  reported old.started was.0 (λ cores. All (IsNew cores) (cores_of nodes plan) → new.started ≡ Some cores) was.1
+      (leaves-those-before nodes plan count old new leaves steady) all_new,
+  was.2,
+)
   where
     all_new : All (IsNew was.0) (cores_of nodes plan)
     all_new =

@@ -17,7 +17,7 @@ so_of_one P each None = tt
 
 module _ {C H P L : Type 0} where
   none_lent : (front : Front C H P L) → LendsNone front front
-  none_lent front = record { crews = refl; crews_back = refl; out = λ number. refl; open_faults = refl }
+  none_lent front = record { crews = refl; crews_back = refl; out = λ number. refl; open_faults = refl; opened = refl }
 
   none_given : (front : Front C H P L) → AreGivenAndBack front front 0
   none_given front = none_given_and_back front front refl refl (λ number. refl)

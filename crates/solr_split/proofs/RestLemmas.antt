@@ -154,9 +154,9 @@ stopped_by entries front last stops =
 -- after a split none runs
 over_after_split : (entries : List BoardEntry) (course : Course) → running_split entries ≡ None → running_split (entries ++ noted_by course) ≡ None
 over_after_split entries refused none = ap running_split (append-nil entries) ∙ none
-over_after_split entries (given_up plan true) none =
+over_after_split entries (given_up plan true count) none =
     stopped_by entries (board.Begun plan ∷ board.Recovering plan.parent ∷ []) (board.Failed plan.parent) (λ running place. refl)
-over_after_split entries (given_up plan false) none =
+over_after_split entries (given_up plan false count) none =
     stopped_by entries (board.Begun plan ∷ []) (board.Failed plan.parent) (λ running place. refl)
 over_after_split entries (done plan answers) none =
     stopped_by entries (board.Begun plan ∷ board.Recovering plan.parent ∷ []) (board.Done plan.parent) (λ running place. refl)

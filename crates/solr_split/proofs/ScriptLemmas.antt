@@ -1,12 +1,12 @@
 -- A script was run where its first cores were started and its connection was served.
-use Rattle.std.proofs.Common.{◌≡◌, ◌≤◌, ◌∙◌, ℕ, false, List, Option, Some, None, IfSome, Result, Ok, Err, OnOk, refl, sym, subst, arith}
+use Rattle.std.proofs.Common.{◌≡◌, ◌≤◌, ◌<◌, ◌∙◌, ℕ, true, false, List, length, Option, Some, None, IfSome, Result, Ok, Err, OnOk, OnErr, refl, sym, subst, arith}
 use Rattle.std.specs.Result.{is_err}
 use Rattle.sc_io.specs.declared.hosts.Host.{Host}
 use Rattle.sc_io.specs.Hosts.{Reached}
 use Rattle.sc_cluster.specs.declared.slice.Slice.{Slice}
 use Rattle.sc_cluster.specs.Map.{IsMap}
 use Rattle.sc_cluster.proofs.MapLemmas.{first_is_map}
-use Rattle.sc_cores.specs.Cores.{Outside, outside_of, cores_of_map, with_cores, StartsFirst}
+use Rattle.sc_cores.specs.Cores.{Outside, outside_of, cores_of_map, with_cores, HasStarted, StartsFirst, FailsToStartFirst}
 use Rattle.sc_seen.specs.Board.{running_split}
 use Rattle.sc_collection.specs.Kept.{Kept}
 use Rattle.sc_collection.specs.Alone.{AloneState, seen_alone, entries_alone, keeping_alone}
@@ -43,6 +43,31 @@ starts_first result nodes first given cores before now faults faults_now stop_fa
   stops = refl;
   reach = same_reach;
 }
+
+-- what is so where a call failed is so once it is known to be an error
+on_an_error : {A E P : Type 0} (result : Result A E) → is_err result ≡ true → OnErr result P → P
+on_an_error (Ok value) is holds = absurd (cc)
+on_an_error (Err error) is holds = holds
+
+-- the first cores were started up to one of these that failed
+pub fails_to_start_first : {A E : Type 0} (result : Result A E) (nodes : ℕ) (first : List Slice) (given cores : List Host)
+    (before now : Option (List Host)) (faults faults_now stop_faults stop_faults_now stops : ℕ) (reach reach_now : Reached) → is_err result ≡ true
+    → given ≡ cores → cores ≡ cores_of_map nodes first
+    → OnErr result ((count : ℕ) × (count < length given) × HasStarted given count before now) → OnErr result (faults < faults_now)
+    → stop_faults_now ≡ stop_faults → reach_now ≡ reach
+    → FailsToStartFirst nodes first (outside_of before faults stop_faults stops reach) (outside_of now faults_now stop_faults_now stops reach_now)
+fails_to_start_first result nodes first given cores before now faults faults_now stop_faults stop_faults_now stops reach reach_now failed same are rest cause other same_reach =
+    let some = subst (λ (hosts : List Host). (count : ℕ) × (count < length hosts) × HasStarted hosts count before now) (same ∙ are)
+    (on_an_error result failed rest) in
+    record {
+      count = some.0;
+      some = some.1;
+      started = some.2;
+      start_faults = on_an_error result failed cause;
+      stop_faults = other;
+      stops = refl;
+      reach = same_reach;
+    }
 
 -- the first map of a layout of this shape is a map
 first_is_a_map : (shape : Shape) (layout : Layout) → IsShape shape → HasShape shape layout → IsMap layout.first

@@ -122,17 +122,17 @@ after_request layout answered stops no_command old new leaves is is_map legal sa
     stays layout old new (is ∙ append-nil old.seen.board) (ap (λ (o : Outside). o.started) leaves.reach.rest) was
 after_request layout answered stops (split_ended asked first refused end) old new leaves is is_map legal says steady was =
     stays layout old new (is ∙ append-nil old.seen.board) (ap (λ (o : Outside). o.started) leaves.outside) was
-after_request layout answered stops (split_ended asked first (given_up plan true) end) old new leaves is is_map legal says steady was =
+after_request layout answered stops (split_ended asked first (given_up plan true count) end) old new leaves is is_map legal says steady was =
     let slices = board_map layout.first old.seen.board in
     let may : IsPlan slices plan.parent plan.subs =
     legal old.seen.board (board.Begun plan) (board.Recovering plan.parent ∷ board.Failed plan.parent ∷ []) is in
     on_board layout new slices (ap (board_map layout.first) is ∙ (failed_leaves_the_map layout.first old.seen.board plan may).1)
-    (given_up_leaves layout.nodes slices plan old.outside new.outside may leaves.outside steady was)
-after_request layout answered stops (split_ended asked first (given_up plan false) end) old new leaves is is_map legal says steady was =
+    (given_up_leaves layout.nodes slices plan count old.outside new.outside may leaves.outside steady was)
+after_request layout answered stops (split_ended asked first (given_up plan false count) end) old new leaves is is_map legal says steady was =
     let slices = board_map layout.first old.seen.board in
     let may : IsPlan slices plan.parent plan.subs = legal old.seen.board (board.Begun plan) (board.Failed plan.parent ∷ []) is in
     on_board layout new slices (ap (board_map layout.first) is ∙ (failed_leaves_the_map layout.first old.seen.board plan may).0)
-    (given_up_leaves layout.nodes slices plan old.outside new.outside may leaves.outside steady was)
+    (given_up_leaves layout.nodes slices plan count old.outside new.outside may leaves.outside steady was)
 after_request layout answered stops (split_ended asked first (done plan answers) end) old new leaves is is_map legal says steady was =
     let slices = board_map layout.first old.seen.board in
     let later : List Slice =

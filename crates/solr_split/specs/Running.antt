@@ -1,10 +1,10 @@
 -- What a run of the program leaves.
-use Rattle.std.specs.Prelude.{◌≡◌, ◌<◌, ◌⊎◌, ◌↔◌, ℕ, List, [], Option, Some, None, Contains}
+use Rattle.std.specs.Prelude.{◌≡◌, ◌⊎◌, ◌↔◌, ℕ, List, [], Option, Some, None, Contains}
 use Rattle.sc_cluster.specs.declared.slice.Slice.{Slice}
 use Rattle.sc_io.specs.declared.hosts.Host.{Host}
-use Rattle.sc_cores.specs.Cores.{Outside, cores_of_map, StartsFirst}
+use Rattle.sc_cores.specs.Cores.{Outside, cores_of_map, StartsFirst, FailsToStartFirst}
 use Rattle.sc_seen.specs.Board.{board_map}
-use Rattle.sc_seen.specs.Seen.{nothing_opened, Seen}
+use Rattle.sc_seen.specs.Seen.{nothing_opened, Layout, Seen}
 use Rattle.sc_seen.specs.Moments.{moment_of}
 use Rattle.sc_collection.specs.Kept.{Kept}
 use Rattle.sc_collection.specs.Alone.{AloneState, seen_alone, keeping_alone}
@@ -135,13 +135,15 @@ pub record ScriptUntouched : Type 1 where
   pub hosts : Type 0
   pub others : Type 0
 
--- All but the hosts was left as it was, and starting one of the first cores failed.
-pub record ScriptFailsToStart (before after : Outside) (untouched : Type 0) : Type 0 where
+-- Starting one of the cores of the first map failed, those before it were started, and all but the hosts was left as it was.
+pub record ScriptFailsToStart (script : Script) (before after : Outside) (untouched : Type 0) : Type 0 where
   pub untouched_is : untouched
-  pub fault : before.start_faults < after.start_faults
+  pub layout : Layout
+  pub shape : HasShape script.shape layout
+  pub cores : FailsToStartFirst layout.nodes layout.first before after
 
--- a script was run; or memory ran out before it began, and all was left as it was; or a core of the first map was not started
+-- a script was run; or memory ran out before it began, and all was left as it was; or starting a core of the first map failed
 abbrev pub RunsOrFails : {C : Type 0} → Script → (C → ℕ → C → Type 0) → (before after : Machine C) → ScriptUntouched → ℕ → Type 0
 RunsOrFails script gives before after untouched status =
     RunsScript script gives before after status ⊎ ((status ≡ 6) × untouched.others × untouched.hosts)
-    ⊎ ((status ≡ 8) × ScriptFailsToStart before.outside after.outside untouched.others)
+    ⊎ ((status ≡ 8) × ScriptFailsToStart script before.outside after.outside untouched.others)

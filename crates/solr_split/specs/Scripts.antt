@@ -58,6 +58,7 @@ module _ {C H P L : Type 0} where
     pub out : SetsAt 0 false before.out after.out
     pub listener : back.listener ≡ given.listener
     pub open_faults : after.open_faults ≡ before.open_faults
+    pub opened : after.opened ≡ before.opened
 
   -- no crew was given, and all of the station is as it was
   pub record LendsNone (before after : Front C H P L) : Type 0 where
@@ -65,6 +66,7 @@ module _ {C H P L : Type 0} where
     pub crews_back : after.crews_back ≡ before.crews_back
     pub out : AreAsBefore before.out after.out
     pub open_faults : after.open_faults ≡ before.open_faults
+    pub opened : after.opened ≡ before.opened
 
   -- crew 0 of the station ran the script with this status, or failed to
   pub record RunsByFirst (script : Script) (reports : CrewReports C H P) (before after : Beside C H P L) (untouched : Type 0) (status : ℕ) : Type 0 where

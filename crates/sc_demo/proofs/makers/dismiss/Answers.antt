@@ -11,6 +11,7 @@ loop-maker-init g c = record {
       (g.T.Station.out c.args.station.now) c.requires.passes c.requires.none;
   crews = refl;
   faults = refl;
+  opened = refl;
 }
 
 pub join_worked-requires-clause-into : goal.join_worked-requires-clause-into
@@ -60,6 +61,7 @@ loop-maker-preserved g c =
           (subst (λ (n : ℕ). SetsAt n false (g.T.Station.out c.loop-maker.station) (g.T.Station.out c.back.new.self)) number c.back.ensures.out);
       crews = c.back.ensures.crews ∙ c.loop-maker.invariant.crews;
       faults = c.back.ensures.faults ∙ c.loop-maker.invariant.faults;
+      opened = c.back.ensures.opened ∙ c.loop-maker.invariant.opened;
     }
 
 pub returns : goal.returns
@@ -82,5 +84,6 @@ returns g c =
             (g.T.Station.crews_back c.loop-maker.station) (g.T.Station.out c.args.station.now) (g.T.Station.out c.loop-maker.station) is none;
         crews = c.loop-maker.invariant.crews;
         faults = c.loop-maker.invariant.faults;
+        opened = c.loop-maker.invariant.opened;
       };
     }

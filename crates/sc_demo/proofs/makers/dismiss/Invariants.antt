@@ -9,6 +9,7 @@ invariant-loop-maker g l = record {
       (g.T.Station.crews_back l.station) (g.T.Station.out l.fn.station) (g.T.Station.out l.station);
   crews : g.T.Station.crews l.station ≡ g.T.Station.crews l.fn.station;
   faults : g.T.Station.faults l.station ≡ g.T.Station.faults l.fn.station;
+  opened : g.T.Station.opened l.station ≡ g.T.Station.opened l.fn.station;
 }
 
 abbrev pub decreases-loop-maker : goal.decreases-loop-maker

@@ -14,10 +14,11 @@ use Rattle.sc_finding.specs.declared.hits.Looked.{Looked}
 use Rattle.sc_finding.proofs.AscendLemmas.{is-found}
 use Rattle.sc_finding.proofs.CountLemmas.{count-next}
 use Rattle.sc_finding.proofs.LookedLemmas.{IsLookedUp, looked_with, looked-matches, noted, written}
+use Rattle.sc_finding.proofs.StepLemmas.{no-steps, more-steps, first-steps}
 use Rattle.sc_finding.proofs.finding.find_by_joins.Goals as goal
 
 pub loop-searcher-preserved : goal.loop-searcher-preserved
-loop-searcher-preserved c =
+loop-searcher-preserved g c =
     let i = c.loop-searcher.invariant in
     let criterion = criterion_of c.args.query.now in
     let searcher : Searcher = c.searcher-item.result in
@@ -33,10 +34,13 @@ loop-searcher-preserved c =
       are = subst (All (IsLookedUp criterion)) (sym c.in_ok-push.ensures.items)
           (All-push (IsLookedUp criterion) c.loop-searcher.looked.items _ i.are
           (record { will = c.in_ok-unjoined.ensures.found; rows = c.in_ok-unjoined.ensures.rows }));
+      counted = omega (arith, i.counted, c.look_in.ensures.counted);
+      bound = more-steps criterion before (take (c.loop-searcher.searcher-index + 1) c.args.searchers.now) searcher
+          c.args.steps.now c.loop-searcher.steps c.look_in.new.steps next i.counted c.look_in.ensures.counted i.bound c.look_in.ensures.bound;
     }
 
 pub loop-waiting-init : goal.loop-waiting-init
-loop-waiting-init c =
+loop-waiting-init g c =
     let same = c.deref_mut-waiting-items.ensures.value in
     record {
       searchers_are = ap looked_with same ∙ c.loop-searcher.invariant.searchers_are
@@ -45,7 +49,7 @@ loop-waiting-init c =
     }
 
 pub loop-waiting-preserved : goal.loop-waiting-preserved
-loop-waiting-preserved c =
+loop-waiting-preserved g c =
     let i = c.loop-waiting.invariant in
     let criterion = criterion_of c.args.query.now in
     let all = c.loop-waiting.waiting-items in
@@ -59,7 +63,7 @@ loop-waiting-preserved c =
     }
 
 pub overflow_add-count : goal.overflow_add-count
-overflow_add-count c =
+overflow_add-count g c =
     let i = c.loop-one.invariant in
     let criterion = criterion_of c.args.query.now in
     let one : Looked = c.in-Some.one in
@@ -72,7 +76,7 @@ overflow_add-count c =
     omega (arith, i.few, has.count, bound, many, length-append (searchers_of c.loop-one.hits.items) (looked_with c.loop-one.one-iterator.rest.items), c.requires.few)
 
 pub loop-one-preserved : goal.loop-one-preserved
-loop-one-preserved c =
+loop-one-preserved g c =
     let i = c.loop-one.invariant in
     let criterion = criterion_of c.args.query.now in
     let one : Looked = c.in-Some.one in
@@ -100,7 +104,7 @@ loop-one-preserved c =
     }
 
 pub loop-one-init : goal.loop-one-init
-loop-one-init c =
+loop-one-init g c =
     let i = c.loop-waiting.invariant in
     let criterion = criterion_of c.args.query.now in
     let lent = c.deref_mut-waiting-items.ensures in
@@ -118,8 +122,8 @@ loop-one-init c =
       left = subst (All (IsLookedUp criterion)) (sym all) i.are;
     }
 
-pub returns : goal.returns
-returns c =
+pub returns-clause-found : goal.returns-clause-found
+returns-clause-found g c =
     let i = c.loop-one.invariant in
     let rest = c.loop-one.one-iterator.rest.items in
     let none : length rest ≡ 0 = omega (arith, c.loop-one.one-iterator.rest.ok.0, (c.in-None.ensures.steps).0) in
@@ -133,3 +137,48 @@ returns c =
       searchers_are = all;
       kept = i.kept;
     }
+
+pub returns-in_err-looked-clause-bound : goal.returns-in_err-looked-clause-bound
+returns-in_err-looked-clause-bound g c = no-steps (criterion_of c.args.query.now) c.args.searchers.now c.args.steps.now c.args.steps.now refl
+
+pub returns-in_err-unjoined-clause-bound : goal.returns-in_err-unjoined-clause-bound
+returns-in_err-unjoined-clause-bound g c =
+    let i = c.loop-searcher.invariant in
+    let criterion = criterion_of c.args.query.now in
+    let at = c.loop-searcher.searcher-index in
+    let searchers = c.args.searchers.now in
+    let searcher : Searcher = c.searcher-item.result in
+    let next : take (at + 1) searchers ≡ take at searchers ++ searcher ∷ [] =
+    take_more searchers at searcher c.loop-searcher-test.true ∙ ap (λ (s : Searcher). take at searchers ++ s ∷ []) (sym c.searcher-item.is) in
+    first-steps criterion searchers (at + 1) _
+    (more-steps criterion (take at searchers) (take (at + 1) searchers) searcher c.args.steps.now c.loop-searcher.steps c.look_in.new.steps next
+    i.counted c.look_in.ensures.counted i.bound c.look_in.ensures.bound)
+
+pub returns-in_err-push-clause-bound : goal.returns-in_err-push-clause-bound
+returns-in_err-push-clause-bound g c =
+    let i = c.loop-searcher.invariant in
+    let criterion = criterion_of c.args.query.now in
+    let at = c.loop-searcher.searcher-index in
+    let searchers = c.args.searchers.now in
+    let searcher : Searcher = c.searcher-item.result in
+    let next : take (at + 1) searchers ≡ take at searchers ++ searcher ∷ [] =
+    take_more searchers at searcher c.loop-searcher-test.true ∙ ap (λ (s : Searcher). take at searchers ++ s ∷ []) (sym c.searcher-item.is) in
+    first-steps criterion searchers (at + 1) _
+    (more-steps criterion (take at searchers) (take (at + 1) searchers) searcher c.args.steps.now c.loop-searcher.steps c.look_in.new.steps next
+    i.counted c.look_in.ensures.counted i.bound c.look_in.ensures.bound)
+
+pub returns-in_err-hits-clause-bound : goal.returns-in_err-hits-clause-bound
+returns-in_err-hits-clause-bound g c =
+    first-steps (criterion_of c.args.query.now) c.args.searchers.now c.loop-searcher.searcher-index _ c.loop-searcher.invariant.bound
+
+pub returns-in_err-begun-clause-bound : goal.returns-in_err-begun-clause-bound
+returns-in_err-begun-clause-bound g c =
+    first-steps (criterion_of c.args.query.now) c.args.searchers.now c.loop-searcher.searcher-index _ c.loop-searcher.invariant.bound
+
+pub returns-in_err-push-2-clause-bound : goal.returns-in_err-push-2-clause-bound
+returns-in_err-push-2-clause-bound g c =
+    first-steps (criterion_of c.args.query.now) c.args.searchers.now c.loop-searcher.searcher-index _ c.loop-searcher.invariant.bound
+
+pub returns-clause-bound : goal.returns-clause-bound
+returns-clause-bound g c =
+    first-steps (criterion_of c.args.query.now) c.args.searchers.now c.loop-searcher.searcher-index _ c.loop-searcher.invariant.bound

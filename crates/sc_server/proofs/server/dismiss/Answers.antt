@@ -13,6 +13,7 @@ loop-worker-init g c = record {
       (g.T.Station.out c.args.station.now) c.requires.passes;
   crews = refl;
   faults = refl;
+  opened = refl;
 }
 
 pub join_worked-requires-clause-into : goal.join_worked-requires-clause-into
@@ -49,6 +50,7 @@ loop-worker-preserved g c =
           (subst (λ (n : ℕ). SetsAt n false (g.T.Station.out c.loop-worker.station) (g.T.Station.out c.back.new.self)) number c.back.ensures.out);
       crews = c.back.ensures.crews ∙ c.loop-worker.invariant.crews;
       faults = c.back.ensures.faults ∙ c.loop-worker.invariant.faults;
+      opened = c.back.ensures.opened ∙ c.loop-worker.invariant.opened;
     }
 
 pub returns : goal.returns
@@ -66,5 +68,6 @@ returns g c =
             (g.T.Station.crews_back c.loop-worker.station) (g.T.Station.out c.args.station.now) (g.T.Station.out c.loop-worker.station) is none;
         crews = c.loop-worker.invariant.crews;
         faults = c.loop-worker.invariant.faults;
+        opened = c.loop-worker.invariant.opened;
       };
     }

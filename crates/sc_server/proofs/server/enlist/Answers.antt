@@ -20,6 +20,7 @@ loop-kit-init g c = record {
   out = none_out true (g.T.Station.out c.args.station.now) c.args.workers.now.items c.requires.none;
   crews_back = refl;
   faults = refl;
+  opened = refl;
 }
 
 pub loop-kit-preserved : goal.loop-kit-preserved
@@ -59,6 +60,7 @@ loop-kit-preserved g c =
           (subst (λ (n : ℕ). SetsAt n true (g.T.Station.out c.loop-kit.station) (g.T.Station.out c.crew.new.self)) number c.in_ok-clock.ensures.out);
       crews_back = c.crew.ensures.crews_back ∙ i.crews_back;
       faults = c.crew.ensures.faults ∙ i.faults;
+      opened = c.crew.ensures.opened ∙ i.opened;
     }
 
 pub returns-in_err-clock-clause-have : goal.returns-in_err-clock-clause-have
@@ -73,9 +75,10 @@ returns-in_err-clock-clause-have g c =
       };
       crews_back = c.crew.ensures.crews_back ∙ i.crews_back;
       faults = c.crew.ensures.faults ∙ i.faults;
+      opened = c.crew.ensures.opened ∙ i.opened;
     }
 
 pub returns-clause-have : goal.returns-clause-have
 returns-clause-have g c =
     let i = c.loop-kit.invariant in
-    record { enlisted = i.enlisted; crews = i.crews; out = i.out; crews_back = i.crews_back; faults = i.faults }
+    record { enlisted = i.enlisted; crews = i.crews; out = i.out; crews_back = i.crews_back; faults = i.faults; opened = i.opened }

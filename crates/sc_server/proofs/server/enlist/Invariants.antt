@@ -14,4 +14,5 @@ invariant-loop-kit g l = record {
   out : SetsBelow (length l.workers.items) true (g.T.Station.out l.fn.station) (g.T.Station.out l.station);
   crews_back : g.T.Station.crews_back l.station ≡ g.T.Station.crews_back l.fn.station;
   faults : g.T.Station.faults l.station ≡ g.T.Station.faults l.fn.station;
+  opened : g.T.Station.opened l.station ≡ g.T.Station.opened l.fn.station;
 }

@@ -20,6 +20,7 @@ returns-in-Err g c = record {
         crews_back = g.T.Station.crews_back c.args.station.now;
         out = g.T.Station.out c.args.station.now;
         faults = g.T.Station.faults c.args.station.now;
+        opened = g.T.Station.opened c.args.station.now;
       })
       (record { crews = refl; crews_back = refl; out = λ number. refl; faults = refl }) refl refl (λ number. refl) refl
       (record { written = refl; write_faults = refl });
@@ -29,6 +30,7 @@ pub returns-then-is_err : goal.returns-then-is_err
 returns-then-is_err g c = record {
   ends = not_opened _ c.args.server.now _ _ c.open.ensures.crews c.open.ensures.crews_back c.open.ensures.out
       (on_err _ c.open.result (sym c.is_err.ensures.value ∙ c.if-is_err.true) c.open.ensures.cause)
+      (on_err _ c.open.result (sym c.is_err.ensures.value ∙ c.if-is_err.true) c.open.ensures.not_opened)
       (record { written = refl; write_faults = refl });
 }
 
@@ -40,6 +42,7 @@ returns-in_default g c = record {
         crews_back = g.T.Station.crews_back c.open.new.self;
         out = g.T.Station.out c.open.new.self;
         faults = g.T.Station.faults c.open.new.self;
+        opened = g.T.Station.opened c.open.new.self;
       })
       (record {
         crews = c.open.ensures.crews;
@@ -113,9 +116,9 @@ dismiss-requires-clause-out g c κs within =
 pub returns : goal.returns
 returns g c =
     let opened = station_of (g.T.Station.crews c.open.new.self) (g.T.Station.crews_back c.open.new.self) (g.T.Station.out c.open.new.self)
-    (g.T.Station.faults c.open.new.self) in
+    (g.T.Station.faults c.open.new.self) (g.T.Station.opened c.open.new.self) in
     let now = station_of (g.T.Station.crews c.enlist.new.station) (g.T.Station.crews_back c.enlist.new.station) (g.T.Station.out c.enlist.new.station)
-    (g.T.Station.faults c.enlist.new.station) in
+    (g.T.Station.faults c.enlist.new.station) (g.T.Station.opened c.enlist.new.station) in
     let most = (numbers c.args.server.now c.requires.server).workers.1 in
     record {
       ends = elim c.match-enlist.branch [
@@ -134,6 +137,7 @@ returns g c =
             (w.as_slice.ensures ∙ c.in-Ok.ensures.cores)
             (w.as_bytes.ensures.value ∙ c.in-Ok.ensures.line) (w.in-Ok-enlist.ensures.all ∙ c.in-Ok.ensures.count)
             (ap length served ∙ w.serve_all-status.ensures.count ∙ ap length w.as_mut_slice.ensures.value) c.dismiss.ensures.story
+            (on_ok _ c.open.result (sym c.is_err.ensures.value ∙ c.if-is_err.false) c.open.ensures.opened)
             (served_as _ w.as_slice.result.now w.as_bytes.result.now w.as_mut_slice.result.now c.enlist.new.workers.items w.serve_all-status.new.workers
             c.match-enlist.workers.items _ _ _ w.serve_all-status.result c.match-enlist.status w.as_mut_slice.ensures.value served
             (ap (λ (sink : g.row.W.Denot). told_of (g.W.Sink.written sink) (g.W.Sink.faults sink)) w.sink-is) w.status-is w.serve_all-status.ensures.ends)

@@ -7,7 +7,16 @@ pub returns-then-is_err-clause-ends : goal.returns-then-is_err-clause-ends
 returns-then-is_err-clause-ends g c =
     serves_host_fails _ c.args.cores.now c.args.line.now c.index-workers-0.result c.args.workers.now c.start_cores.new.hosts c.requires.some
     (record { written = g.W.Sink.written c.args.sink.now; faults = g.W.Sink.faults c.args.sink.now })
-    (on_err _ c.start_cores.result (sym c.is_err.ensures.value ∙ c.if-is_err.true) c.start_cores.ensures.cause)
+    (let rest = on_err _ c.start_cores.result (sym c.is_err.ensures.value ∙ c.if-is_err.true) c.start_cores.ensures.rest in
+    record {
+      count = rest.0;
+      some = rest.1;
+      started = rest.2;
+      start_faults = on_err _ c.start_cores.result (sym c.is_err.ensures.value ∙ c.if-is_err.true) c.start_cores.ensures.cause;
+      stop_faults = c.start_cores.ensures.other_count;
+      stops = refl;
+      reach = c.start_cores.ensures.reached;
+    })
 
 pub returns-then-is_err-clause-ready : goal.returns-then-is_err-clause-ready
 returns-then-is_err-clause-ready g c =

@@ -1,6 +1,5 @@
 -- The connection stays open from request to request, and its end keeps the promise.
-use Rattle.std.proofs.Common.{◌≡◌, [], Some, None, Err, refl, sym, ap, ◌∙◌, subst, arith}
-use Rattle.std.specs.Prelude.{◌≢◌}
+use Rattle.std.proofs.Common.{◌≡◌, [], Some, None, Err, refl, sym, ap, ◌∙◌, subst}
 use Rattle.sc_router.specs.Route.{IsBucketCount}
 use Rattle.sc_http.specs.declared.end.MessageEnd.TheVariants as reads
 use Rattle.sc_seen.specs.Seen.{Layout, AreLegal}

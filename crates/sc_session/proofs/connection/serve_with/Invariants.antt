@@ -1,6 +1,5 @@
 -- The connection is open.
 use Rattle.std.proofs.Common.{◌≡◌, ◌-◌}
-use Rattle.std.specs.Prelude.{None}
 use Rattle.sc_cores.specs.Cores.{outside_of}
 use Rattle.sc_collection.specs.Desks.{nothing_out}
 use Rattle.sc_seen.specs.Seen.{AreLegal}

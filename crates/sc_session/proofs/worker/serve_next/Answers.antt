@@ -1,10 +1,10 @@
 -- A link that came was served and taken back; or none came, and all is as it was.
-use Rattle.std.proofs.Common.{◌≡◌, ◌+◌, ◌<◌, List, [], ◌∷◌, ◌++◌, Option, Some, None, Result, Ok, Err, refl, sym, ap, ◌∙◌, subst, arith}
+use Rattle.std.proofs.Common.{◌≡◌, ◌+◌, List, [], ◌∷◌, Option, Some, None, Result, Ok, refl, sym, ap, ◌∙◌, subst, arith}
 use Rattle.std.specs.Prelude.{IfSome}
 use Rattle.sc_io.specs.declared.fault.Failed.{Failed}
 use Rattle.sc_cores.specs.Cores.{outside_of}
 use Rattle.sc_session.specs.Listening.{GivesFirst, links_given}
-use Rattle.sc_session.specs.Working.{ServedLink, HasWorkEnd}
+use Rattle.sc_session.specs.Working.{ServedLink}
 use Rattle.sc_session.specs.declared.listener.Link.{Link}
 use Rattle.sc_session.specs.declared.listener.Taken.{Taken}
 use Rattle.sc_session.specs.declared.worker.WorkEnd.TheVariants as ends

@@ -1,5 +1,5 @@
 -- Each turn serves one link more, or ends.
-use Rattle.std.proofs.Common.{◌≡◌, ◌+◌, ◌<◌, refl, sym, ap, ◌∙◌, subst, arith}
+use Rattle.std.proofs.Common.{◌≡◌, ◌+◌, refl, ◌∙◌, subst, arith}
 use Rattle.sc_cores.specs.Cores.{outside_of}
 use Rattle.sc_seen.specs.Seen.{Layout}
 use Rattle.sc_session.specs.Working.{IsWorked}

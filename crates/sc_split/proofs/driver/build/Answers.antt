@@ -20,14 +20,14 @@ returns-in_err-lead-clause-built g c entries begun =
 pub returns-in_err-lead-clause-cause : goal.returns-in_err-lead-clause-cause
 returns-in_err-lead-clause-cause g c =
     let p = err_from_is_err_and c.from_residual.result c.from_residual.ensures.1 in
-    rw (p.1, p.2) (fault-led (g.D.Desk.layout c.args.desk.now) (record { plan = c.args.plan.now; base = (known_of (g.D.Desk.seen c.args.desk.now) (g.D.Desk.keeping c.args.desk.now c.args.keepers.now)) }) c.lead.new.progress.begun (known_of (g.D.Desk.seen c.lead.new.desk) (g.D.Desk.keeping c.lead.new.desk c.lead.new.keepers)) c.args.cores.now.hosts
+    rw (p.1, p.2) (fault-led (g.D.Desk.layout c.args.desk.now) (record { plan = c.args.plan.now; base = (known_of (g.D.Desk.seen c.args.desk.now) (g.D.Desk.keeping c.args.desk.now c.args.keepers.now)) }) c.lead.new.progress.begun (known_of (g.D.Desk.seen c.lead.new.desk) (g.D.Desk.keeping c.lead.new.desk c.lead.new.keepers))
     (split_moment (view_of (g.D.Desk.seen c.args.desk.now) [])
     (outside_of (g.H.Hosts.started c.args.hosts.now) (g.H.Hosts.start_faults c.args.hosts.now) (g.H.Hosts.stop_faults c.args.hosts.now) (g.P.Pace.stops c.args.pace.now) (g.H.Hosts.reached c.args.hosts.now)))
     (split_moment (view_of (g.D.Desk.seen c.lead.new.desk) [])
     (outside_of (g.H.Hosts.started c.lead.new.hosts) (g.H.Hosts.start_faults c.lead.new.hosts) (g.H.Hosts.stop_faults c.lead.new.hosts) (g.P.Pace.stops c.lead.new.pace) (g.H.Hosts.reached c.lead.new.hosts)))
     c.in_err-lead.field-0.0 refl refl c.lead.ensures.unbegun
     (λ is. c.lead.ensures.full (c.in_err-lead.was ∙ ap Err is))
-    (λ at is. c.lead.ensures.failed at (c.in_err-lead.was ∙ ap Err is))
+    (λ is. (c.lead.ensures.failed (c.in_err-lead.was ∙ ap Err is)).1)
     (λ is. c.lead.ensures.stopped (c.in_err-lead.was ∙ ap Err is)))
 
 pub note_recovering-requires-clause-owns : goal.note_recovering-requires-clause-owns

@@ -1,5 +1,5 @@
 -- The cores were made and the split finished, or it was given up.
-use Rattle.std.proofs.Common.{◌<◌, ◌∙◌, List, length, All, inl, inr, refl, sym, subst}
+use Rattle.std.proofs.Common.{◌<◌, ◌∙◌, List, length, inl, inr, refl, sym, subst}
 use Rattle.sc_cluster.specs.declared.plan.SplitPlan.{SplitPlan}
 use Rattle.sc_io.specs.declared.hosts.Host.{Host}
 use Rattle.sc_seen.specs.Seen.{Layout}
@@ -8,10 +8,9 @@ use Rattle.sc_seen.specs.declared.board.BoardEntry.{BoardEntry}
 use Rattle.sc_collection.specs.Known.{Known, known_of}
 use Rattle.sc_cores.specs.Cores.{Outside, outside_of}
 use Rattle.sc_split.specs.Stages.{OpenSplit}
-use Rattle.sc_split.specs.Splits.{IsCoreOfSub}
 use Rattle.sc_split.specs.Driving.{IsHalted, IsWholeSplit}
-use Rattle.sc_split.proofs.StartedLemmas.{started-none, starts-by, leaves-by, counts-by, few-cores, cores-of-subs}
-use Rattle.sc_split.proofs.DriveLemmas.{few-subs, done-by, given-up-by, cause-by}
+use Rattle.sc_split.proofs.StartedLemmas.{started-none, cores-on, starts-by, leaves-by, counts-by, few-cores}
+use Rattle.sc_split.proofs.DriveLemmas.{few-subs, done-by, given-up-by, given-up-at-once, cause-by}
 use Rattle.sc_split.proofs.driver.run.Goals as goal
 
 pub build-requires-clause-few : goal.build-requires-clause-few
@@ -20,6 +19,13 @@ build-requires-clause-few g c =
     (few-cores c.nodes.result c.args.plan.now c.in-Ok.ensures.few
     (few-subs (g.D.Desk.layout c.args.desk.now) c.args.plan.now c.requires.begun.0
     (known_of (g.D.Desk.seen c.args.desk.now) (g.D.Desk.keeping c.args.desk.now c.args.keepers)) c.requires.rests.rest.legal c.requires.begun.1))
+
+pub returns-in-Err-clause-went : goal.returns-in-Err-clause-went
+returns-in-Err-clause-went g c =
+    inr (given-up-at-once (g.D.Desk.layout c.args.desk.now) c.args.plan.now (g.D.Desk.seen c.args.desk.now) (g.D.Desk.seen c.fail_unbegun.new.desk)
+    c.args.trail.now.stops
+    (outside_of (g.H.Hosts.started c.args.hosts.now) (g.H.Hosts.start_faults c.args.hosts.now) (g.H.Hosts.stop_faults c.args.hosts.now) (g.P.Pace.stops c.args.pace.now) (g.H.Hosts.reached c.args.hosts.now))
+    (c.fail_unbegun.ensures.given_up c.args.plan.now c.requires.begun.0 c.requires.begun.1))
 
 pub returns-in-Ok-build-clause-went : goal.returns-in-Ok-build-clause-went
 returns-in-Ok-build-clause-went g c =
@@ -58,12 +64,14 @@ returns-in-Err-build-clause-went g c =
     (g.D.Desk.seen c.give_up.new.desk) c.give_up.result before later c.build.ensures.leaves.layout built
     (c.give_up.ensures.given_up split entries built.recovered
     (subst (λ (l : Layout). IsHalted l split entries built.recovered c.build.new.progress.begun between) (sym c.build.ensures.leaves.layout) built.halted))
-    (λ extends. cause-by layout plan cores (g.D.Desk.seen c.args.desk.now) (g.D.Desk.seen c.build.new.desk) (g.D.Desk.seen c.give_up.new.desk)
+    c.build.new.progress.started
+    (λ extends. cause-by layout plan cores c.build.new.progress.started (g.D.Desk.seen c.args.desk.now) (g.D.Desk.seen c.build.new.desk) (g.D.Desk.seen c.give_up.new.desk)
     c.args.trail.now.stops c.args.trail.now.stops before halted later c.in-Err-build.fault c.give_up.result
-    (subst (All (λ (host : Host). IsCoreOfSub plan host.core)) (sym c.in-Ok.ensures.hosts) (cores-of-subs c.nodes.result plan))
+    (cores-on layout.nodes c.nodes.result plan cores c.in-Ok.ensures.hosts c.nodes.ensures.count)
     extends c.give_up.ensures.other_count refl c.in-Err-build.ensures.cause c.give_up.ensures.end)
-    (leaves-by layout.nodes c.nodes.result plan cores c.build.new.progress.started before halted later c.in-Ok.ensures.hosts c.nodes.ensures.count
-    (c.build.ensures.started before.started (started-none cores before.started)) c.build.ensures.beside.stop_faults c.give_up.ensures.stopped)
+    (leaves-by layout.nodes c.nodes.result plan cores c.build.new.progress.started before halted later c.give_up.ensures.stopped.0
+    c.in-Ok.ensures.hosts c.nodes.ensures.count c.build.ensures.some
+    (c.build.ensures.started before.started (started-none cores before.started)) c.build.ensures.beside.stop_faults c.give_up.ensures.stopped.1)
     (counts-by before halted later c.build.ensures.beside.start_faults c.build.ensures.beside.stop_faults c.build.ensures.beside.stops
     c.give_up.ensures.other_count c.give_up.ensures.no_fall refl (c.give_up.ensures.reached ∙ c.build.ensures.beside.reached))
     (c.give_up.ensures.reached ∙ c.build.ensures.beside.reached))

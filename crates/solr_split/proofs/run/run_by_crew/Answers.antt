@@ -16,6 +16,7 @@ returns-clause-script g c =
       crews_back = g.T.Station.crews_back c.crew.new.self;
       out = g.T.Station.out c.crew.new.self;
       open_faults = g.T.Station.faults c.crew.new.self;
+      opened = g.T.Station.opened c.crew.new.self;
       written = g.W.Sink.written c.args.sink.now;
       write_faults = g.W.Sink.faults c.args.sink.now;
     } in
@@ -23,7 +24,7 @@ returns-clause-script g c =
       given = given;
       back = back;
       lends = lends_first _ lent _ given back c.in-Ok.ensures.given c.in-Ok.ensures.crews c.back.ensures.crews c.in-Ok.ensures.crews_back
-          c.back.ensures.crews_back c.in-Ok.ensures.out c.back.ensures.out refl c.in-Ok.ensures.faults c.back.ensures.faults;
+          c.back.ensures.crews_back c.in-Ok.ensures.out c.back.ensures.out refl c.in-Ok.ensures.faults c.back.ensures.faults c.in-Ok.ensures.opened c.back.ensures.opened;
       runs = ran.ensures.script;
       host_fault = ran.ensures.host_fault;
     })

@@ -1,8 +1,5 @@
--- So far the first rows have their shares.
-use Rattle.std.proofs.Common.{◌≡◌, map, filter, take}
-use Rattle.std.specs.Arc.{arc_value}
-use Rattle.sc_snapshot.specs.Rows.{is_within}
+-- The count is a blank one.
 use Rattle.sc_bucket.proofs.feed.Feed.new.Given as goal
 
-abbrev pub invariant-loop-at : goal.invariant-loop-at
-invariant-loop-at l = map arc_value l.shares.items ≡ filter (is_within l.range) (take l.at (arc_value l.snapshot).rows)
+abbrev pub ghosts-shares_of : goal.ghosts-shares_of
+ghosts-shares_of a = record { name = a.blank.name; parts = a.blank.parts }

@@ -33,7 +33,7 @@ invariant_of-result g c =
     ∙ keys_of-entries 0 c.index.inside.keys.items c.index.inside.ends.items c.index.inside.rows.items c.index.invariant.0
     ∙ sym c.shrink_to_fit.ensures.items) in (
       as_long-alike g.K.Key.order (c.old.inside.keys.stored ++ c.added.inside.keys.stored) c.index.inside.keys.items c.shrink_to_fit.new.self.items c.index.inside.ends.items c.shrink_to_fit-2.new.self.items
-          c.in_ok-keys.keys.keys c.index.invariant.0 c.shrink_to_fit.ensures.items c.shrink_to_fit-2.ensures.items are c.in_ok-keys.ensures,
+          c.in_ok-keys.keys.keys c.index.invariant.0 c.shrink_to_fit.ensures.items c.shrink_to_fit-2.ensures.items are c.in_ok-keys.ensures.alike,
       subst (λ (es : List ℕ). AreEnds 0 es (length c.shrink_to_fit-3.new.self.items)) (sym c.shrink_to_fit-2.ensures.items)
           (subst (λ (rs : List ℕ). AreEnds 0 c.index.inside.ends.items (length rs)) (sym c.shrink_to_fit-3.ensures.items) c.index.invariant.1),
     )
@@ -49,4 +49,4 @@ returns g c =
     rw (stored_both c.old.inside.keys.stored c.added.inside.keys.stored c.args.old.now.stored c.args.added.now.stored (ap (λ (s : KeptState _). s.stored) c.old.view_is) (ap (λ (s : KeptState _). s.stored) c.added.view_is))
     (entries_of_places-alike g.K.Key.order (c.old.inside.keys.stored ++ c.added.inside.keys.stored) c.index.inside.keys.items c.shrink_to_fit.new.self.items c.index.inside.ends.items c.shrink_to_fit-2.new.self.items
     c.index.inside.rows.items c.shrink_to_fit-3.new.self.items c.args.index.entries c.in_ok-keys.keys.keys (ap (λ (s : FlatState ℕ). s.entries) c.index.view_is)
-    c.shrink_to_fit.ensures.items c.shrink_to_fit-2.ensures.items c.shrink_to_fit-3.ensures.items are c.in_ok-keys.ensures)
+    c.shrink_to_fit.ensures.items c.shrink_to_fit-2.ensures.items c.shrink_to_fit-3.ensures.items are c.in_ok-keys.ensures.alike)

@@ -1,0 +1,27 @@
+-- What is found in the rows of a snapshot is found in those of its searcher, and in as many steps.
+use Rattle.std.proofs.Common.{◌≡◌, ◌-◌, List, ap, subst, rules}
+use Rattle.std.proofs.lemmas.Result.{IfOk-weaker}
+use Rattle.sc_record.specs.declared.write.Write.{Write}
+use Rattle.sc_snapshot.specs.Rows.{SnapshotState}
+use Rattle.sc_eval.specs.Criteria.{criterion_of}
+use Rattle.sc_eval.specs.Numbers.{AreStepsOfSearch}
+use Rattle.sc_replicas.specs.Searchers.{searcher_rows}
+use Rattle.sc_finding.proofs.HitLemmas.{has-matches}
+use Rattle.sc_finding.proofs.StepLemmas.{none-taken}
+use Rattle.sc_finding.proofs.finding.find_in.Goals as goal
+
+pub returns-then-rows-eq0-clause-bound : goal.returns-then-rows-eq0-clause-bound
+returns-then-rows-eq0-clause-bound g c =
+    none-taken (criterion_of c.args.query.now) c.args.searcher.now c.args.steps.now _ (search rules)
+
+pub returns-clause-found : goal.returns-clause-found
+returns-clause-found g c =
+    let same : c.deref-2.result.now.rows ≡ searcher_rows c.args.searcher.now = ap (λ (s : SnapshotState). s.rows) c.deref-2.ensures in
+    IfOk-weaker c.find.result _ _
+    (λ found are. has-matches (criterion_of c.args.query.now) c.args.most c.args.searcher.now c.deref-2.result.now.rows found same are)
+    c.find.ensures.found
+
+pub returns-clause-bound : goal.returns-clause-bound
+returns-clause-bound g c =
+    let same : c.deref-2.result.now.rows ≡ searcher_rows c.args.searcher.now = ap (λ (s : SnapshotState). s.rows) c.deref-2.ensures in
+    subst (λ (rows : List Write). AreStepsOfSearch (criterion_of c.args.query.now) rows (c.find.new.steps - c.args.steps.now)) same c.find.ensures.bound

@@ -5,6 +5,7 @@ pub mod Down
 pub mod Seats
 pub mod Splits
 pub mod Legal
+pub mod Computed
 pub mod Outcomes
 pub mod Committed
 pub mod Laws

@@ -24,7 +24,8 @@ first_named : (fs : List Field) → AllByRecursion IsField fs → IsBelowFirst [
 first_named [] each = tt
 first_named (f ∷ fs) each = named f.name f.values each.0
 
-document_takes : (bytes : List ℕ) (x : List Field × List ℕ) → IsBytes bytes → document_at bytes ≡ Some x → HasSpelling x.0 × (bytes ≡ spelling x.0 ++ x.1)
+-- a document that is read is spelled in front
+pub document_takes : (bytes : List ℕ) (x : List Field × List ℕ) → IsBytes bytes → document_at bytes ≡ Some x → HasSpelling x.0 × (bytes ≡ spelling x.0 ++ x.1)
 unfolding document_at
 document_takes bytes x fits e =
     let a = bind_some (number_at w32 bytes) (λ count. fields_at [] count.0 count.1) x e in
@@ -38,7 +39,8 @@ document_takes bytes x fits e =
       both.parts ∙ ap (λ (k : ℕ). (to_le_bytes w32 k ++ flat_map spelling_of_field x.0) ++ x.1) (sym fs.many),
     )
 
-document_again : (fs : List Field) (more : List ℕ) → HasSpelling fs → document_at (spelling fs ++ more) ≡ Some (fs, more)
+-- a document that is spelled in front is read
+pub document_again : (fs : List Field) (more : List ℕ) → HasSpelling fs → document_at (spelling fs ++ more) ≡ Some (fs, more)
 unfolding document_at
 document_again fs more h =
     ap document_at (append_assoc (to_le_bytes w32 (length fs)) (flat_map spelling_of_field fs) more)

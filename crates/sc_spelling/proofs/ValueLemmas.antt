@@ -21,11 +21,11 @@ pub record IsValueRead (kind : Kind) (bytes : List ℕ) (v : Value) (rest : List
   pub kind_fits : fits_kind kind v ≡ true
   pub fits : FitsValue v
 
-unsigned32 : (n : ℤ) → FitsSigned w32 n → cast_unsigned w32 n < 2 ^ 32
+pub unsigned32 : (n : ℤ) → FitsSigned w32 n → cast_unsigned w32 n < 2 ^ 32
 unsigned32 (pos n) f = omega arith
 unsigned32 (negsuc n) f = omega arith
 
-unsigned64 : (n : ℤ) → FitsSigned w64 n → cast_unsigned w64 n < 2 ^ 64
+pub unsigned64 : (n : ℤ) → FitsSigned w64 n → cast_unsigned w64 n < 2 ^ 64
 unsigned64 (pos n) f = omega arith
 unsigned64 (negsuc n) f = omega arith
 

@@ -3,6 +3,7 @@
 //!
 //! The layers above put the bytes of a list of fields at the end of a vector by `push_fields`, whose number is `fields_len`,
 //! look at bytes by `Fields::read`, which lends each field's name and values, and copy a document out of them by `read_fields`.
+//! A number or a text alone, as what stands around a document is made of, is pushed and read by the same functions.
 //!
 //! Proved: what is pushed is the spelling in `specs/` of fields that fit it; what is read is spelled so, each byte of it, and is
 //! a document; bytes are refused only where they begin with the spelling of no document; no spelling begins another, so that
@@ -33,6 +34,7 @@ mod laws;
 pub use field::{FieldRef, Fields};
 pub use laws::one_reading;
 pub use length::fields_len;
-pub use push::push_fields;
+pub use number::{name_at, text_at, u32_at, u64_at};
+pub use push::{push_fields, push_name, push_text};
 pub use read::{FieldsFault, read_fields};
 pub use value::{ValueRef, Values};

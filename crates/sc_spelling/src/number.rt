@@ -16,8 +16,8 @@ pub(crate) fn u16_at(bytes: &[u8]) -> Option<(u16, &[u8])>
     Some((number, rest))
 }
 
-// The number that the first four bytes spell, and the bytes after them.
-pub(crate) fn u32_at(bytes: &[u8]) -> Option<(u32, &[u8])>
+/// The number that the first four bytes spell, and the bytes after them. `None` where there are fewer.
+pub fn u32_at(bytes: &[u8]) -> Option<(u32, &[u8])>
     ensures { Gives (λ x. (x.0, x.1.now)) result (number_at w32 bytes.now) }
 {
     if bytes.len() < 4 {
@@ -28,8 +28,8 @@ pub(crate) fn u32_at(bytes: &[u8]) -> Option<(u32, &[u8])>
     Some((number, rest))
 }
 
-// The number that the first eight bytes spell, and the bytes after them.
-pub(crate) fn u64_at(bytes: &[u8]) -> Option<(u64, &[u8])>
+/// The number that the first eight bytes spell, and the bytes after them. `None` where there are fewer.
+pub fn u64_at(bytes: &[u8]) -> Option<(u64, &[u8])>
     ensures { Gives (λ x. (x.0, x.1.now)) result (number_at w64 bytes.now) }
 {
     if bytes.len() < 8 {
@@ -42,18 +42,18 @@ pub(crate) fn u64_at(bytes: &[u8]) -> Option<(u64, &[u8])>
     Some((number, rest))
 }
 
-// The text of a length that two bytes before it spell.
+/// The text of a length that two bytes before it spell, and the bytes after it. `None` where they are fewer or no UTF-8.
 #[tactic(auto, unfolding(crate::specs::Reading::text_at))]
-pub(crate) fn name_at(bytes: &[u8]) -> Option<(&str, &[u8])>
+pub fn name_at(bytes: &[u8]) -> Option<(&str, &[u8])>
     ensures { Gives (λ x. (x.0.now, x.1.now)) result (text_at w16 bytes.now) }
 {
     let (length, rest) = u16_at(bytes)?;
     cut_text(length as usize, rest)
 }
 
-// The text of a length that four bytes before it spell.
+/// The text of a length that four bytes before it spell, and the bytes after it. `None` where they are fewer or no UTF-8.
 #[tactic(auto, unfolding(crate::specs::Reading::text_at))]
-pub(crate) fn text_at(bytes: &[u8]) -> Option<(&str, &[u8])>
+pub fn text_at(bytes: &[u8]) -> Option<(&str, &[u8])>
     ensures { Gives (λ x. (x.0.now, x.1.now)) result (text_at w32 bytes.now) }
 {
     let (length, rest) = u32_at(bytes)?;

@@ -44,8 +44,9 @@ fn push_field(out: &mut Vec<u8>, field: &Field) -> Result<(), AllocError>
     push_values(out, field.values.as_slice())
 }
 
-// Puts the name's length and the name at the end.
-fn push_name(out: &mut Vec<u8>, name: &str) -> Result<(), AllocError>
+/// Puts the name's length, in two bytes, and the name at the end. A name of 2^16 bytes or more counts as want of memory. After an
+/// error some of the bytes may stand at the end.
+pub fn push_name(out: &mut Vec<u8>, name: &str) -> Result<(), AllocError>
     ensures fits { OnOk result (length name.now < 2 ^ 16) }
     ensures text { OnOk result (IsTrue (is_utf8 name.now)) }
     ensures bytes { OnOk result (out.new.items ≡ out.old.items ++ (to_le_bytes w16 (length name.now) ++ name.now)) }
@@ -87,8 +88,9 @@ fn push_value(out: &mut Vec<u8>, value: &Value) -> Result<(), AllocError>
     }
 }
 
-// Puts the text's length and the text at the end.
-fn push_text(out: &mut Vec<u8>, text: &str) -> Result<(), AllocError>
+/// Puts the text's length, in four bytes, and the text at the end. A text of 2^32 bytes or more counts as want of memory. After an
+/// error some of the bytes may stand at the end.
+pub fn push_text(out: &mut Vec<u8>, text: &str) -> Result<(), AllocError>
     ensures fits { OnOk result (length text.now < 2 ^ 32) }
     ensures text { OnOk result (IsTrue (is_utf8 text.now)) }
     ensures bytes { OnOk result (out.new.items ≡ out.old.items ++ (to_le_bytes w32 (length text.now) ++ text.now)) }

@@ -18,13 +18,19 @@ mod collections;
 #[cfg(test)]
 mod demo;
 #[cfg(test)]
+mod frames;
+#[cfg(test)]
 mod hashes;
 #[cfg(test)]
 mod hosts;
 #[cfg(test)]
 mod journals;
 #[cfg(test)]
+mod legal;
+#[cfg(test)]
 mod locks;
+#[cfg(test)]
+mod opening;
 #[cfg(test)]
 mod parts;
 #[cfg(test)]
@@ -47,6 +53,8 @@ mod splits;
 mod streams;
 #[cfg(test)]
 mod support;
+#[cfg(test)]
+mod tails;
 #[cfg(test)]
 mod workers;
 #[cfg(test)]

@@ -14,8 +14,7 @@ use Rattle.std.proofs.lemmas.Cmp.{nat_list_cmp_total}
 use Rattle.std.proofs.lemmas.List.{append-nil}
 use Rattle.std.proofs.lemmas.Option.{slice_get-map}
 use Rattle.std.proofs.lemmas.List.Kept.{IsStrictlySortedBy-dedup}
-use Rattle.sc_record.specs.declared.write.Write.{Write}
-use Rattle.sc_record.specs.Writes.{is_of, write_of, AscendById}
+use Rattle.sc_record.specs.Writes.{Write, is_of, write_of, AscendById}
 use Rattle.sc_replica.proofs.CellLemmas.{ids}
 use Rattle.sc_replica.proofs.PlaceLemmas.{write_of-below}
 use Rattle.sc_journal.specs.Journal.{last_of}
@@ -56,10 +55,10 @@ last_of_runs write [] = write ∷ []
 last_of_runs write (next ∷ rest) = cond (is_of write.id next) (last_of_runs next rest) (write ∷ last_of_runs next rest)
 
 -- two writes are not of one id, as their ids tell
-pub differs : (one other : Write) (is : Bool) (latest next : Write) → one ≡ next → other ≡ latest → is ≡ not (bytes_eq one.id other.id)
+pub differs : (one other : List ℕ) (is : Bool) (latest next : Write) → one ≡ next.id → other ≡ latest.id → is ≡ not (bytes_eq one other)
     → is ≡ not (is_of latest.id next)
 differs one other is latest next one_is other_is tells =
-    tells ∙ ap (λ (w : Write). not (bytes_eq w.id other.id)) one_is ∙ ap (λ (w : Write). not (bytes_eq next.id w.id)) other_is
+    tells ∙ ap (λ id. not (bytes_eq id other)) one_is ∙ ap (λ id. not (bytes_eq next.id id)) other_is
 
 -- where the next write is not of the id, the run ends
 pub runs-apart : (write next : Write) (rest : List Write) → not (is_of write.id next) ≡ true

@@ -7,8 +7,7 @@ use Rattle.std.proofs.lemmas.Option.{none-some}
 use Rattle.std.proofs.lemmas.List.Elements.{All-contains, All-contains_itself, All-weaker, Contains-append_left, Contains-append_right, Contains-append_cases, Contains-push, Contains-push_cases}
 use Rattle.sc_hash.specs.Range.{IsWithin}
 use Rattle.sc_router.specs.Route.{route_hash}
-use Rattle.sc_record.specs.Writes.{is_of, write_of}
-use Rattle.sc_record.specs.declared.write.Write.{Write}
+use Rattle.sc_record.specs.Writes.{is_of, write_of, Write}
 use Rattle.sc_record.specs.declared.entry.Entry.{Entry}
 use Rattle.sc_cluster.specs.declared.slice.Slice.{Slice}
 use Rattle.sc_cluster.proofs.ListLemmas.{Contains-map, Contains-filter}

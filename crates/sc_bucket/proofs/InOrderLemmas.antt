@@ -3,8 +3,7 @@ use Rattle.std.proofs.Common.{◌≡◌, ◌<ℤ◌, ◌≤ℤ◌, pos, List, []
 use Rattle.std.specs.List.Sorted.{IsStrictlySortedBy}
 use Rattle.std.proofs.lemmas.Int.{ints}
 use Rattle.std.proofs.lemmas.List.Elements.{All-nil}
-use Rattle.sc_record.specs.Writes.{AscendById}
-use Rattle.sc_record.specs.declared.write.Write.{Write}
+use Rattle.sc_record.specs.Writes.{AscendById, Write}
 use Rattle.sc_ulog.specs.declared.mode.Mode.TheVariants.{Active, Buffering, Replaying}
 use Rattle.sc_ulog.specs.LogState.{IsEmptyWhereActive}
 use Rattle.sc_replica.specs.Core.{Core, IsCore, led, fed, received, received_in, fed_all, replay_limit, replayed, mode_left}

@@ -8,8 +8,7 @@ use Rattle.std.proofs.lemmas.Option.{same_Some}
 use Rattle.sc_hash.specs.Bounds.{contains}
 use Rattle.sc_hash.specs.Range.{IsWithin}
 use Rattle.sc_hash.proofs.BoundsLemmas.{contains-Decides}
-use Rattle.sc_record.specs.Writes.{is_of, write_of}
-use Rattle.sc_record.specs.declared.write.Write.{Write}
+use Rattle.sc_record.specs.Writes.{is_of, write_of, Write}
 use Rattle.sc_record.specs.declared.slice.SliceId.{SliceId}
 use Rattle.sc_record.specs.declared.slice.CoreId.{CoreId}
 use Rattle.sc_record.specs.declared.entry.Entry.{Entry}

@@ -9,9 +9,8 @@ use Rattle.std.proofs.lemmas.Option.{none-some}
 use Rattle.sc_hash.specs.Range.{IsWithin}
 use Rattle.sc_hash.proofs.BoundsLemmas.{contains-Decides}
 use Rattle.sc_router.specs.Route.{route_hash}
-use Rattle.sc_record.specs.declared.write.Write.{Write}
+use Rattle.sc_record.specs.Writes.{Write, is_of, write_of, AscendById}
 use Rattle.sc_record.specs.declared.entry.Entry.{Entry}
-use Rattle.sc_record.specs.Writes.{is_of, write_of, AscendById}
 use Rattle.sc_hash.specs.Bounds.{bounds, contains}
 use Rattle.sc_snapshot.specs.Rows.{SnapshotState, AreRows, AreChanged, is_within}
 use Rattle.sc_cluster.specs.declared.slice.State.TheVariants as states

@@ -8,19 +8,16 @@ use Rattle.std.proofs.Math.Path.{fun_ext}
 use Rattle.std.proofs.lemmas.Simd.{map-map}
 use Rattle.sc_record.specs.Versions.{found_version, version_after, shown_version, meets}
 use Rattle.sc_record.specs.declared.slice.CoreId.{CoreId}
-use Rattle.sc_record.specs.declared.write.Write.{Write}
+use Rattle.sc_record.specs.Writes.{Write}
 use Rattle.sc_record.specs.declared.order.Order.{Order}
 use Rattle.sc_record.specs.declared.entry.Entry.{Entry}
 use Rattle.sc_record.specs.declared.entry.Entry.TheVariants as entry
 use Rattle.sc_cluster.specs.declared.slice.Slice.{Slice}
 use Rattle.sc_cluster.proofs.ListLemmas.{filter-map}
 use Rattle.sc_replica.specs.Core.{Core, led}
-use Rattle.sc_partial.specs.Resolved.{IsRefusalOf}
-use Rattle.sc_partial.specs.declared.fault.PartialFault.{PartialFault}
-use Rattle.sc_partial.specs.declared.fault.PartialFault.TheVariants as partial
 use Rattle.sc_journal.specs.Journal.{write_at, is_settled, last_write, found}
 use Rattle.sc_journal.specs.Splits.{Basis}
-use Rattle.sc_journal.specs.Outcomes.{accepted, refused, IsMet, IsFitting, IsWriteOf, IsOutcome}
+use Rattle.sc_journal.specs.Outcomes.{accepted, IsMet, IsFitting, IsWriteOf, IsOutcome}
 use Rattle.sc_journal.proofs.JournalLemmas.{write_at-push_end}
 use Rattle.sc_journal.proofs.SettledLemmas.{is_settled-push_other}
 use Rattle.sc_journal.proofs.LegalLemmas.{end_is_open}
@@ -28,7 +25,7 @@ use Rattle.sc_bucket.specs.declared.bucket.Bucket.{Bucket}
 use Rattle.sc_bucket.specs.declared.accept.AcceptFault.{AcceptFault}
 use Rattle.sc_bucket.specs.declared.accept.AcceptFault.TheVariants as faults
 use Rattle.sc_bucket.specs.Kept.{Sent}
-use Rattle.sc_bucket.specs.Accepting.{accept_fault, IsPut}
+use Rattle.sc_bucket.specs.Accepting.{IsNewWrite, IsPut}
 use Rattle.sc_replicas.specs.Cores.{follows, followers, IsLeaderAt, without_room}
 use Rattle.sc_bucket.specs.Flight.{sent_to}
 use Rattle.sc_bucket.specs.Events.{AreSameCores, IsSameButRoom, Accepts, outcome_of}
@@ -48,14 +45,15 @@ condition_tested journal order last condition version met last_is condition_is v
     let found_is : version ≡ found journal order.id = version_is ∙ ap found_version last_is in
     ap (λ c. meets c (found journal order.id)) (sym condition_is) ∙ ap (meets condition) (sym found_is) ∙ sym tested
 
--- an order whose change makes no document is refused by the name of the field, or since memory ran out
-pub partial_outcome : (basis : Basis) (before after : List Entry) (order : Order) (now : ℕ) (last : Option Write)
-    (refusal : PartialFault) (fault : AcceptFault) → last ≡ last_write before order.id → IsMet before order
-    → IsRefusalOf (refused last order.change) refusal → fault ≡ accept_fault refusal
-    → IsOutcome basis before order now (outcome_of (Err fault)) after
-partial_outcome basis before after order now last (partial.Field name) fault last_is met refusal is =
-    rw is (met, ap (λ (w : Option Write). refused w order.change) (sym last_is) ∙ refusal)
-partial_outcome basis before after order now last partial.Memory fault last_is met refusal is = rw is met
+-- a new write is one of this id, also by another name of its hash and its version
+pub same_names : (id : List ℕ) (hash same_hash version same_version : ℤ) (write : Write) → hash ≡ same_hash → version ≡ same_version
+    → IsNewWrite id hash version write → IsNewWrite id same_hash same_version write
+same_names id hash same_hash version same_version write hashes versions made = record {
+  id_is = made.id_is;
+  hash_is = made.hash_is ∙ hashes;
+  version_is = made.version_is ∙ versions;
+  terms_are = made.terms_are;
+}
 
 -- memory may run out where the condition is met
 pub memory_outcome : (basis : Basis) (before after : List Entry) (order : Order) (now : ℕ) (fault : AcceptFault)

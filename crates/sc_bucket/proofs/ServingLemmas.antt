@@ -16,8 +16,7 @@ use Rattle.sc_hash.proofs.BoundsLemmas.{contains-Decides}
 use Rattle.sc_router.specs.Route.{route_hash}
 use Rattle.sc_router.proofs.ShareLemmas.{route_bits-lt}
 use Rattle.sc_record.specs.Names.{is_key}
-use Rattle.sc_record.specs.Writes.{is_of, write_of, AscendById}
-use Rattle.sc_record.specs.declared.write.Write.{Write}
+use Rattle.sc_record.specs.Writes.{is_of, write_of, AscendById, Write}
 use Rattle.sc_cluster.specs.declared.slice.State.TheVariants as states
 use Rattle.sc_cluster.specs.declared.slice.Slice.{Slice}
 use Rattle.sc_cluster.specs.Map.{least_hash, greatest_hash}

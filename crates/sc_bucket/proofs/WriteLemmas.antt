@@ -4,8 +4,7 @@ use Rattle.std.proofs.lemmas.Int.{ints}
 use Rattle.std.proofs.lemmas.List.Elements.{All-contains}
 use Rattle.std.proofs.lemmas.Option.{none-some}
 use Rattle.sc_record.specs.Versions.{version_after, last_timed_version}
-use Rattle.sc_record.specs.Writes.{is_of, write_of}
-use Rattle.sc_record.specs.declared.write.Write.{Write}
+use Rattle.sc_record.specs.Writes.{is_of, write_of, Write}
 use Rattle.sc_record.proofs.VersionLemmas.{version_after-above_clock}
 use Rattle.sc_record.specs.declared.entry.Entry.{Entry}
 use Rattle.sc_router.specs.Route.{route_hash}

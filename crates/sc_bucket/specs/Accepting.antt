@@ -1,13 +1,14 @@
 -- What the parts of `Bucket::accept` do.
-use Rattle.std.specs.Prelude.{◌≡◌, ◌<◌, ◌≤◌, ℕ, ◌+◌, List, [], ◌∷◌, ◌++◌, length, slice_get, slice_set, Some, true, All}
+use Rattle.std.specs.Prelude.{◌≡◌, ◌<◌, ◌≤◌, ℕ, ℤ, ◌+◌, List, [], ◌∷◌, ◌++◌, length, slice_get, slice_set, Some, true, All}
 use Rattle.std.specs.declared.sync.Arc.{Arc}
 use Rattle.std.specs.declared.alloc.Global.{Global}
 use Rattle.sc_record.specs.declared.slice.CoreId.{CoreId}
-use Rattle.sc_record.specs.declared.write.Write.{Write}
+use Rattle.sc_record.specs.Writes.{Write}
 use Rattle.sc_record.specs.declared.entry.Entry.TheVariants as entry
 use Rattle.sc_replica.specs.Core.{Core, led}
 use Rattle.sc_partial.specs.declared.fault.PartialFault.{PartialFault}
 use Rattle.sc_partial.specs.declared.fault.PartialFault.TheVariants as partial
+use Rattle.sc_journal.specs.Legal.{HasTerms}
 use Rattle.sc_bucket.specs.declared.bucket.Bucket.{Bucket}
 use Rattle.sc_bucket.specs.declared.accept.AcceptFault.{AcceptFault}
 use Rattle.sc_bucket.specs.declared.accept.AcceptFault.TheVariants as faults
@@ -22,6 +23,13 @@ use Rattle.sc_bucket.specs.Events.{HasSameFixedParts, HasSameSplit}
 abbrev pub accept_fault : PartialFault → AcceptFault
 accept_fault (partial.Field name) = faults.Partial name
 accept_fault partial.Memory = faults.Memory
+
+-- the write is one of this id, hash and version, and its terms are those of its document
+pub record IsNewWrite (id : List ℕ) (hash version : ℤ) (write : Write) : Type 0 where
+  pub id_is : write.id ≡ id
+  pub hash_is : write.hash ≡ hash
+  pub version_is : write.version ≡ version
+  pub terms_are : HasTerms id write.doc write.terms
 
 -- the core is the same, and has no less room
 pub record IsRoomier (old new : Core) : Type 0 where

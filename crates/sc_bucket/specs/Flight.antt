@@ -2,7 +2,7 @@
 use Rattle.std.specs.Prelude.{◌≡◌, ◌≢◌, ℕ, Bool, nat_eq, ◌&&◌, if◌then◌else◌, All, List, [], ◌∷◌, map, filter, take, slice_get, Some}
 use Rattle.std.specs.Arc.{arc_value}
 use Rattle.sc_record.specs.declared.slice.CoreId.{CoreId}
-use Rattle.sc_record.specs.declared.write.Write.{Write}
+use Rattle.sc_record.specs.Writes.{Write}
 use Rattle.sc_replica.specs.Core.{Core, received}
 use Rattle.sc_replica.specs.Deliveries.{received_all}
 use Rattle.sc_bucket.specs.declared.message.Message.{Message}

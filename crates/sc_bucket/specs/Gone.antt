@@ -1,6 +1,6 @@
 -- Which writes of a journal were let go: those that are committed, and, where a log file is asked, that the file has.
 use Rattle.std.specs.Prelude.{ℕ, ◌-◌, List, length, take, drop, Option, Some, None, min}
-use Rattle.sc_record.specs.declared.write.Write.{Write}
+use Rattle.sc_record.specs.Writes.{Write}
 use Rattle.sc_record.specs.declared.entry.Entry.{Entry}
 use Rattle.sc_journal.specs.Journal.{writes}
 use Rattle.sc_journal.specs.Committed.{last_commit}

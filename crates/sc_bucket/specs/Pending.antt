@@ -3,7 +3,7 @@ use Rattle.std.specs.Prelude.{Bool, List, ◌++◌, filter, drop}
 use Rattle.std.specs.List.{flat_map}
 use Rattle.sc_hash.specs.declared.range.Range.{Range}
 use Rattle.sc_record.specs.declared.slice.CoreId.{CoreId}
-use Rattle.sc_record.specs.declared.write.Write.{Write}
+use Rattle.sc_record.specs.Writes.{Write}
 use Rattle.sc_snapshot.specs.Rows.{SnapshotState, is_within}
 use Rattle.sc_replica.specs.Core.{Core}
 use Rattle.sc_bucket.specs.Kept.{Sent, FeedState}

@@ -3,9 +3,8 @@ use Rattle.std.specs.Prelude.{◌≡◌, ◌≤◌, ℕ, ◌+◌, nat_eq, not, L
 use Rattle.std.specs.Arc.{arc_value}
 use Rattle.sc_hash.specs.Range.{IsWithin}
 use Rattle.sc_router.specs.Route.{route_hash}
-use Rattle.sc_record.specs.Writes.{write_of}
+use Rattle.sc_record.specs.Writes.{write_of, Write}
 use Rattle.sc_record.specs.declared.slice.SliceId.{SliceId}
-use Rattle.sc_record.specs.declared.write.Write.{Write}
 use Rattle.sc_record.specs.declared.entry.Entry.{Entry}
 use Rattle.sc_cluster.specs.declared.slice.State.TheVariants as states
 use Rattle.sc_cluster.specs.declared.slice.Slice.{Slice}

@@ -2,10 +2,9 @@
 use Rattle.std.specs.Prelude.{◌≡◌, ◌≤◌, ◌⊎◌, ℕ, ◌+◌, Some, None, Bool, ◌&&◌, ◌||◌, nat_eq, List, [], ◌++◌, length, map, filter, not, true, false, IsTrue, All, Contains}
 use Rattle.std.specs.List.{IsDistinct}
 use Rattle.std.specs.Arc.{arc_value}
-use Rattle.sc_record.specs.Writes.{write_of}
+use Rattle.sc_record.specs.Writes.{write_of, Write}
 use Rattle.sc_record.specs.declared.slice.SliceId.{SliceId}
 use Rattle.sc_record.specs.declared.slice.CoreId.{CoreId}
-use Rattle.sc_record.specs.declared.write.Write.{Write}
 use Rattle.sc_record.specs.declared.entry.Entry.{Entry}
 use Rattle.sc_hash.specs.Range.{IsWithin}
 use Rattle.sc_router.specs.Route.{route_hash}

@@ -1,16 +1,16 @@
-ghost use Rattle.std.specs.Prelude.{◌≡◌, ℕ, ◌<◌, ◌≤◌, ◌+◌, ◌<ℤ◌, Ok, Err, IfOk, IfErr, OnOk, OnErr, ◌++◌, ◌&&◌, not, length, map, filter, slice_get, Some, None, option_copied, false, All, Contains};
+ghost use Rattle.std.specs.Prelude.{◌≡◌, ℕ, ◌<◌, ◌≤◌, ◌+◌, ◌<ℤ◌, pos, Ok, Err, IfOk, IfErr, IfSome, OnOk, OnErr, ◌++◌, ◌&&◌, not, length, map, filter, slice_get, Some, None, option_copied, false, All, Contains};
 ghost use Rattle.std.specs.List.{AllZip, IsDistinct};
 ghost use Rattle.std.specs.Option.{option_map};
 ghost use Rattle.std.specs.Arc.{arc_value};
-ghost use Rattle.sc_record.specs.Orders.{IsChangeOfOrder};
+ghost use Rattle.sc_values.specs.Fields.{IsDocument};
 ghost use Rattle.sc_record.specs.Versions.{version_after};
 ghost use Rattle.sc_cluster.specs.Slices.{is_inactive};
 ghost use Rattle.sc_router.specs.Route.{route_hash};
 ghost use Rattle.sc_replica.specs.Core.{Core};
-ghost use Rattle.sc_partial.specs.Resolved.{IsRefusalOf, fields_of};
+ghost use Rattle.sc_partial.specs.Resolved.{fields_of};
 ghost use Rattle.sc_journal.specs.Journal.{last_write};
-ghost use Rattle.sc_journal.specs.Legal.{HasTerms, MayWrite};
-ghost use Rattle.sc_journal.specs.Outcomes.{Makes, refused, IsWriteOf, IsFitting, IsOutcome, live_fields};
+ghost use Rattle.sc_journal.specs.Legal.{MayWrite};
+ghost use Rattle.sc_journal.specs.Outcomes.{Makes, IsWriteOf, IsFitting, IsOutcome, live_fields};
 ghost use Rattle.sc_record.specs.Names.{is_core};
 ghost use Rattle.sc_replicas.specs.Cores.{has_hash, CoresAscend, follows, followers, IsLeaderAt};
 ghost use Rattle.sc_bucket.specs.Kept.{FeedState};
@@ -18,18 +18,17 @@ ghost use Rattle.sc_bucket.specs.Flight.{sent_of, sent_to};
 ghost use Rattle.sc_bucket.specs.Room.{basis, BucketHasRoom};
 ghost use Rattle.sc_bucket.specs.Sound.{IsSound};
 ghost use Rattle.sc_bucket.specs.Events.{Accepts, IsSameButRoom, outcome_of};
-ghost use Rattle.sc_bucket.specs.Accepting.{IsRoomier, HasMore, HasMoreAt, HasMemory, IsPut};
+ghost use Rattle.sc_bucket.specs.Accepting.{IsRoomier, HasMore, HasMoreAt, HasMemory, IsNewWrite, IsPut};
 
 use crate::bucket::Bucket;
 use crate::message::Message;
 use sc_cluster::{Slice, State};
-use sc_partial::{PartialFault, resolve};
-use sc_record::{
-    Cell, Change, CloneIn, CoreId, Doc, Entry, Id, List, Order, Term, Text, Write, found, meets,
-};
+use sc_partial::{PartialFault, resolve_fields};
+use sc_record::{Cell, Change, CloneIn, CoreId, Doc, Entry, Id, Order, Text, Write, found, meets};
 use sc_replica::Replica;
 use sc_router::route_hash;
 use sc_schema::terms_of;
+use sc_spelling::Fields;
 use std::alloc::{AllocError, Global};
 use std::sync::Arc;
 use thiserror::Error;
@@ -136,57 +135,62 @@ impl Bucket {
         ensures refused { IfErr result (λ fault. IsOutcome (basis self.now) self.now.journal.entries order.now now (outcome_of (Err fault)) self.now.journal.entries) }
     {
         let (last, version) = self.replicas.next_of(leader, &order.id, now);
-        let doc = self.document_for(alloc, order, last)?;
-        let (id, terms) = self.parts_for(alloc, order, &doc)?;
-        Ok(Write {
-            id,
-            hash,
-            version,
-            terms,
-            doc,
-        })
+        self.made_for(alloc, order, last, hash, version)
     }
 
-    // The document that the order makes of its id, whose last write this is, or why the order is refused, but for room.
-    fn document_for(
+    // The write of this hash and version that the order makes of its id, whose last write this is.
+    fn made_for(
         &self,
         alloc: Global,
         order: &Order,
         last: Option<&Cell>,
-    ) -> Result<Option<Doc>, AcceptFault>
-        requires { option_map arc_value (option_copied last) ≡ last_write self.now.journal.entries order.now.id }
+        hash: i32,
+        version: i64,
+    ) -> Result<Write, AcceptFault>
+        requires sound { IsSound self.now }
+        requires last { option_map arc_value (option_copied last) ≡ last_write self.now.journal.entries order.now.id }
+        requires positive { pos 0 <ℤ version }
         ensures fitting { OnOk result (IsFitting self.now.journal.entries order.now) }
-        ensures made { IfOk result (Makes (last_write self.now.journal.entries order.now.id) order.now.change) }
+        ensures room { OnOk result (BucketHasRoom 2 self.now) }
+        ensures made { IfOk result (λ write. Makes (last_write self.now.journal.entries order.now.id) order.now.change write.doc
+            × IsNewWrite order.now.id hash version write) }
         ensures refused { IfErr result (λ fault. (now : ℕ) → IsOutcome (basis self.now) self.now.journal.entries order.now now (outcome_of (Err fault)) self.now.journal.entries) }
     {
         let found = found(last);
         if !meets(order.condition, found) {
             return Err(AcceptFault::Conflict { found });
         }
-        let doc = document_after(alloc, last, &order.change)?;
-        Ok(doc)
+        match &order.change {
+            Change::Whole(doc) => self.write_of(alloc, order, hash, version, Some(doc)),
+            Change::Parts(parts) => {
+                let doc = resolve_fields(alloc, live(last), parts.as_slice())?;
+                self.write_of(alloc, order, hash, version, Some(&doc))
+            }
+            Change::Delete => self.write_of(alloc, order, hash, version, None),
+        }
     }
 
-    // The id of the write that the order makes with this document, and what a search finds it by; the order fits.
-    fn parts_for(
+    // The write of this hash and version that leaves this document of the order's id; the order fits.
+    fn write_of(
         &self,
         alloc: Global,
         order: &Order,
-        doc: &Option<Doc>,
-    ) -> Result<(Id, List<Term>), AcceptFault>
+        hash: i32,
+        version: i64,
+        doc: Option<&Doc>,
+    ) -> Result<Write, AcceptFault>
         requires sound { IsSound self.now }
         requires fitting { IsFitting self.now.journal.entries order.now }
+        requires positive { pos 0 <ℤ version }
         ensures room { OnOk result (BucketHasRoom 2 self.now) }
-        ensures id { IfOk result (λ parts. parts.0 ≡ order.now.id) }
-        ensures terms { IfOk result (λ parts. HasTerms order.now.id doc.now parts.1) }
+        ensures made { IfOk result (λ write. (write.doc ≡ option_copied doc.entry) × IsNewWrite order.now.id hash version write) }
         ensures refused { IfErr result (λ fault. (now : ℕ) → IsOutcome (basis self.now) self.now.journal.entries order.now now (outcome_of (Err fault)) self.now.journal.entries) }
     {
         if self.limit < self.entries() + self.owed + 2 {
             return Err(AcceptFault::LogFull);
         }
         let id = order.id.clone_in(alloc)?;
-        let terms = terms_for(alloc, &order.id, doc)?;
-        Ok((id, terms))
+        Ok(new_write(alloc, id, hash, version, doc)?)
     }
 
     // The messages that send a write, which the core at this place leads, to each other core that takes it.
@@ -205,7 +209,7 @@ impl Bucket {
         let mut messages = Vec::new(alloc);
         for at in 0..self.map.len() {
             let slice = self.map.get(at).unwrap();
-            if takes(slice, write.hash) {
+            if takes(slice, write.hash()) {
                 self.push_messages(&mut messages, leader, slice, write)?;
             }
         }
@@ -347,44 +351,31 @@ fn shares(alloc: Global, write: Write) -> Result<(Cell, Cell), AllocError>
     Ok((cell, share))
 }
 
-// What a change makes of the document whose last write this is: none by a deletion.
-fn document_after(
+// A write of this document, or a deletion where there is none.
+fn new_write(
     alloc: Global,
-    last: Option<&Cell>,
-    change: &Change,
-) -> Result<Option<Doc>, PartialFault>
-    requires { IsChangeOfOrder change.now }
-    ensures made { IfOk result (Makes (option_map arc_value (option_copied last.entry)) change.now) }
-    ensures taken { OnOk result (refused (option_map arc_value (option_copied last.entry)) change.now ≡ None) }
-    ensures refused { IfErr result (IsRefusalOf (refused (option_map arc_value (option_copied last.entry)) change.now)) }
+    id: Id,
+    hash: i32,
+    version: i64,
+    doc: Option<&Doc>,
+) -> Result<Write, AllocError>
+    requires { pos 0 <ℤ version }
+    ensures { IfOk result (λ write. (write.doc ≡ option_copied doc.entry) × IsNewWrite id hash version write) }
 {
-    match change {
-        Change::Whole(doc) => Ok(Some(doc.clone_in(alloc)?)),
-        Change::Parts(parts) => Ok(Some(resolve(alloc, live(last), parts)?)),
-        Change::Delete => Ok(None),
-    }
+    let Some(doc) = doc else {
+        return Ok(Write::deletion(alloc, id, hash, version));
+    };
+    let terms = terms_of(alloc, &id, doc)?;
+    Write::new(alloc, id, hash, version, doc, &terms)
 }
 
-// The document of an id whose last write this is, where it is live.
-fn live(last: Option<&Cell>) -> Option<&Doc>
-    ensures { live_fields (option_map arc_value (option_copied last.entry)) ≡ fields_of (option_copied result) }
+// The fields of the document of an id whose last write this is, where it is live.
+fn live(last: Option<&Cell>) -> Option<Fields<'_>>
+    ensures fields { live_fields (option_map arc_value (option_copied last.entry)) ≡ fields_of result }
+    ensures document { IfSome result IsDocument }
 {
     match last {
-        Some(write) => write.doc.as_ref(),
+        Some(write) => write.doc(),
         None => None,
-    }
-}
-
-// What a search finds the document by; nothing where there is none.
-fn terms_for(alloc: Global, id: &Id, doc: &Option<Doc>) -> Result<List<Term>, AllocError>
-    ensures { IfOk result (HasTerms id.now doc.now) }
-{
-    match doc {
-        Some(doc) => {
-            let mut terms = terms_of(alloc, id, doc)?.into_vec();
-            terms.shrink_to_fit();
-            Ok(List::from_vec(terms))
-        }
-        None => Ok(List::new(alloc)),
     }
 }

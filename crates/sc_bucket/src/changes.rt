@@ -44,7 +44,7 @@ fn in_order<'a>(mut cells: Vec<&'a Cell>) -> Result<Vec<&'a Cell>, AllocError>
     ensures sorted { IfOk result (λ sorted. IsSortedById (map lent sorted.items)) }
     ensures stable { IfOk result (λ sorted. (id : List ℕ) → filter (is_of id) (map lent sorted.items) ≡ filter (is_of id) (map lent cells.entry.items)) }
 {
-    cells.sort_by(|left, right| left.id.cmp(&right.id))?;
+    cells.sort_by(|left, right| left.id().cmp(right.id()))?;
     Ok(cells)
 }
 
@@ -60,7 +60,7 @@ fn last_of_each<'a>(alloc: Global, cells: &[&'a Cell]) -> Result<Vec<&'a Cell>, 
     };
     let mut latest = *first;
     for cell in rest {
-        if cell.id != latest.id {
+        if cell.id() != latest.id() {
             changes.push(latest)?;
         }
         latest = *cell;

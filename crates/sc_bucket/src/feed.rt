@@ -1,7 +1,7 @@
 ghost use Rattle.std.specs.Prelude.{◌≡◌, ◌<◌, ◌≤◌, ◌+◌, ◌-◌, ◌++◌, ◌∷◌, [], map, filter, length, slice_get, Some, None, IfOk, OnOk, if◌then◌else◌};
 ghost use Rattle.std.specs.Option.{option_map};
 ghost use Rattle.std.specs.Arc.{arc_value};
-ghost use Rattle.sc_record.specs.declared.write.Write.{Write};
+ghost use Rattle.sc_record.specs.Writes.{Write};
 ghost use Rattle.sc_keys.specs.Fresh.{IsFresh};
 ghost use Rattle.sc_snapshot.specs.Rows.{AreRows, is_within};
 ghost use Rattle.sc_bucket.specs.Pending.{left_of, new_feed};
@@ -116,7 +116,7 @@ impl Feed {
 pub(crate) fn is_within(range: &Range, row: &Cell) -> bool
     ensures { result ≡ is_within range.now (arc_value row.now) }
 {
-    range.contains(row.hash)
+    range.contains(row.hash())
 }
 
 // Shares of the rows whose hashes are in the range, in order. Each row is read, by a count of steps of its own, which is for proofs alone.

@@ -1,7 +1,7 @@
 -- A bucket may be given back after each event that its keeper may do.
 use Rattle.std.proofs.Common.{◌≡◌, inl, inr, true, List, [], ◌∷◌, ◌++◌, refl, sym, ap, ◌∙◌, subst}
 use Rattle.std.specs.List.{AllByRecursion}
-use Rattle.sc_record.specs.declared.write.Write.{Write}
+use Rattle.sc_record.specs.Writes.{Write}
 use Rattle.sc_record.specs.declared.entry.Entry.{Entry}
 use Rattle.sc_record.specs.declared.entry.Entry.TheVariants as entry
 use Rattle.sc_router.specs.Route.{bucket_of}

@@ -4,7 +4,7 @@ use Rattle.std.specs.List.{AllByRecursion, range_with_len}
 use mathlib.Core.List.{IsPrefix}
 use Rattle.sc_hash.specs.declared.range.Range.{Range}
 use Rattle.sc_router.specs.Route.{bucket_of}
-use Rattle.sc_record.specs.declared.write.Write.{Write}
+use Rattle.sc_record.specs.Writes.{Write}
 use Rattle.sc_record.specs.declared.entry.Entry.{Entry}
 use Rattle.sc_cluster.specs.Map.{IsMap}
 use Rattle.sc_journal.specs.Journal.{writes}

@@ -5,7 +5,7 @@ use Rattle.std.specs.List.{AllByRecursion, cons_option, range_with_len, flat_map
 use Rattle.std.proofs.lemmas.Bool.{cases_eq, cases_lt}
 use Rattle.std.proofs.lemmas.Bool.Decides.{nat_tests}
 use Rattle.std.proofs.lemmas.List.{append-nil}
-use Rattle.sc_record.specs.declared.write.Write.{Write}
+use Rattle.sc_record.specs.Writes.{Write}
 use Rattle.sc_record.specs.declared.ack.Ack.{Ack}
 use Rattle.sc_journal.specs.Journal.{write_at}
 use Rattle.sc_seen.specs.Seen.{Layout, Seen, ComeInOrder, place_after, stops_at, made_at}

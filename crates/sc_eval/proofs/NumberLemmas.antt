@@ -7,7 +7,7 @@ use Rattle.std.proofs.lemmas.List.Kept.{IsStrictlyIncreasing-filter}
 use Rattle.std.proofs.lemmas.Option.{slice_get_within, get_or_from_slice_get}
 use Rattle.sc_hash.specs.Bounds.{bounds, contains}
 use Rattle.sc_hash.specs.declared.range.Range.{Range}
-use Rattle.sc_record.specs.declared.write.Write.{Write}
+use Rattle.sc_record.specs.Writes.{Write}
 use Rattle.sc_rows.specs.Joining.{has_row}
 use Rattle.sc_rows.proofs.JoinLemmas.{AscendFrom, ascend_weaker, increasing_from_ascend, none_below}
 use Rattle.sc_rows.proofs.SameRowsLemmas.{same_rows}

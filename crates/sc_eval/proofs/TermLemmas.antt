@@ -3,7 +3,7 @@ use Rattle.std.proofs.Common.{◌≡◌, ℕ, suc, ◌↔◌, Bool, true, false,
 use Rattle.std.specs.List.{Contains, list_any}
 use Rattle.std.specs.Prelude.{not, ◌||◌}
 use Rattle.std.proofs.lemmas.Map.Views.{list_any-from_Contains}
-use Rattle.sc_record.specs.declared.document.Field.{Field}
+use Rattle.sc_values.specs.declared.field.Field.{Field}
 use Rattle.sc_record.specs.declared.term.Term.{Term}
 use Rattle.sc_record.proofs.TermLemmas.{same_term-equal, same_term-equivalence}
 use Rattle.sc_schema.specs.Terms.{found_by}

@@ -1,8 +1,8 @@
 -- The criterion that a query is once its leaves are bound to fields, or the place of its first fault.
 use Rattle.std.specs.Prelude.{ℕ, Bool, List, codes, Option, Some, None, option_map, ok_or, Result, Ok, Err, if◌then◌else◌}
 use Rattle.std.specs.Str.{bytes_eq}
-use Rattle.sc_record.specs.Fields.{kind_of}
-use Rattle.sc_record.specs.declared.value.Kind.{Kind}
+use Rattle.sc_values.specs.Fields.{kind_of}
+use Rattle.sc_values.specs.declared.value.Kind.{Kind}
 use Rattle.sc_record.specs.declared.term.Term.{Term}
 use Rattle.sc_query.specs.Tree.{Tree}
 use Rattle.sc_schema.specs.Terms.{key_of, term}

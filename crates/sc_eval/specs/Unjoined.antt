@@ -1,7 +1,7 @@
 -- Lists of numbers that are not joined yet.
 use Rattle.std.specs.Prelude.{◌≡◌, ℕ, Bool, List, Option, IfSome, ⊤}
 use Rattle.std.specs.List.Sorted.{IsStrictlyIncreasing}
-use Rattle.sc_record.specs.declared.write.Write.{Write}
+use Rattle.sc_record.specs.Writes.{Write}
 use Rattle.sc_rows.specs.Joining.{BothEndBefore, IsJoin}
 use Rattle.sc_eval.specs.Numbers.{numbers_of, AreNumbersOf}
 use Rattle.sc_eval.specs.declared.unjoined.Unjoined.{Unjoined}

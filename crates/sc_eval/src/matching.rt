@@ -1,7 +1,7 @@
 //! Which rows match a query, whatever their hashes, by joining the posting lists of its terms.
 
 ghost use Rattle.std.specs.Prelude.{ℕ, ◌-◌, ◌≤◌, List, All, IfOk, IsTrue};
-ghost use Rattle.sc_record.specs.declared.write.Write.{Write};
+ghost use Rattle.sc_record.specs.Writes.{Write};
 ghost use Rattle.sc_journal.specs.Legal.{HasTerms};
 ghost use Rattle.std.specs.List.Sorted.{IsStrictlyIncreasing};
 ghost use Rattle.sc_rows.specs.Joining.{IsJoin};

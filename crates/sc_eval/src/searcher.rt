@@ -3,7 +3,7 @@ ghost use Rattle.std.specs.Bool.{OnTrue};
 ghost use Rattle.std.specs.Arc.{arc_value};
 ghost use Rattle.std.specs.List.{flat_map};
 ghost use Rattle.sc_hash.specs.Bounds.{bounds, contains};
-ghost use Rattle.sc_record.specs.declared.write.Write.{Write};
+ghost use Rattle.sc_record.specs.Writes.{Write};
 ghost use Rattle.sc_journal.specs.Legal.{HasTerms};
 ghost use Rattle.sc_eval.specs.Criteria.{criterion_of};
 ghost use Rattle.sc_eval.specs.Matching.{finds};
@@ -160,5 +160,5 @@ fn row_in<'a, L: Ledger>(
 fn is_in(range: &Range, row: &Cell) -> bool
     ensures { result ≡ contains (arc_value row.now).hash (bounds range.now) }
 {
-    range.contains(row.hash)
+    range.contains(row.hash())
 }

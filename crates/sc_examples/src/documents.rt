@@ -10,8 +10,9 @@ use crate::terms;
 use crate::words::word_and;
 use sc_json::{print, raw_doc, read};
 use sc_partial::resolve;
-use sc_record::{Change, Doc, List, Order, Value as FieldValue};
+use sc_record::{Change, Doc, Order};
 use sc_schema::{RawDoc, RawField, check_doc};
+use sc_spelling::Values;
 use serde_json::Value;
 use std::alloc::{AllocError, Global};
 
@@ -113,9 +114,9 @@ fn field(alloc: Global, text: &str) -> Result<String, AllocError> {
     }
 }
 
-fn values_line(alloc: Global, values: &List<FieldValue>) -> Result<String, AllocError> {
+fn values_line(alloc: Global, values: Values<'_>) -> Result<String, AllocError> {
     let mut line = Line::new(alloc);
-    put_values(&mut line, "", values);
+    put_values(&mut line, values);
     line.end()
 }
 

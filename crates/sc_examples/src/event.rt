@@ -80,7 +80,7 @@ fn order_of(alloc: Global, words: &[&str]) -> Result<Order, AllocError> {
         return Err(AllocError);
     };
     let change = if word(words, 0) == "add" {
-        Change::Whole(Doc::new(List::new(alloc)))
+        Change::Whole(Doc::new(alloc, &[])?)
     } else {
         Change::Delete
     };

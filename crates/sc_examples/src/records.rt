@@ -1,11 +1,11 @@
 //! `sc_record`: `record.kind NAME`, `record.id TEXT`, `record.version MOMENT CLOCK`, `record.shown VERSION`,
 //! `record.text TEXT`, `record.size`, `record.least TEXT TEXT` and `record.least-id TEXT TEXT`.
 
-ghost use Rattle.std.specs.Prelude.{pos, ◌<ℤ◌};
+ghost use Rattle.std.specs.Prelude.{pos, ◌<ℤ◌, IfOk, IsSome};
 
 use crate::line::joined;
 use crate::words::word_and;
-use sc_record::{Cell, CloneIn, Doc, Id, List, Text, Write, found, kind_of, next_version};
+use sc_record::{CloneIn, Doc, Id, TermsBuilder, Text, Write, found, kind_of, next_version};
 use std::alloc::{AllocError, Global};
 use std::sync::Arc;
 
@@ -57,17 +57,14 @@ fn version(alloc: Global, moment: &str, clock: &str) -> Result<String, AllocErro
     next_version(moment, clock).to_string(alloc)
 }
 
-fn write_of(alloc: Global, version: i64, doc: Option<Doc>) -> Result<Cell, AllocError>
+/// A write of a document that no search finds.
+pub fn live_write(alloc: Global, id: &str, version: i64, doc: &Doc) -> Result<Write, AllocError>
     requires { pos 0 <ℤ version }
+    ensures { IfOk result (λ write. IsSome write.doc) }
 {
-    let write = Write {
-        id: id_of(alloc, "a")?,
-        hash: 0,
-        version,
-        doc,
-        terms: List::new(alloc),
-    };
-    Ok(Arc::new(alloc, write)?)
+    let id = id_of(alloc, id)?;
+    let terms = TermsBuilder::new(alloc, &id, doc).finish();
+    Write::new(alloc, id, 0, version, doc, &terms)
 }
 
 /// The versions that a client is shown of a document, of a deletion and of an id without either.
@@ -76,17 +73,19 @@ fn shown(alloc: Global, text: &str) -> Result<String, AllocError> {
     if version <= 0 {
         return Err(AllocError);
     }
-    let live = shown_of(alloc, version, Some(Doc::new(List::new(alloc))))?;
-    let gone = shown_of(alloc, version, None)?;
+    let live = live_write(alloc, "a", version, &Doc::new(alloc, &[])?)?;
+    let live = shown_of(alloc, live)?;
+    let gone = shown_of(
+        alloc,
+        Write::deletion(alloc, id_of(alloc, "a")?, 0, version),
+    )?;
     format!(in alloc; "{live} {gone} {}", found(None))
 }
 
 /// The version that a client is shown of a write.
-fn shown_of(alloc: Global, version: i64, doc: Option<Doc>) -> Result<i64, AllocError>
-    requires { pos 0 <ℤ version }
-{
-    let write = write_of(alloc, version, doc)?;
-    Ok(found(Some(&write)))
+fn shown_of(alloc: Global, write: Write) -> Result<i64, AllocError> {
+    let cell = Arc::new(alloc, write)?;
+    Ok(found(Some(&cell)))
 }
 
 /// A copy of the kept text, which itself is gone.

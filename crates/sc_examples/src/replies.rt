@@ -8,9 +8,9 @@ ghost use Rattle.std.specs.Arc.{arc_value};
 
 use crate::causes::cause_line;
 use crate::documents::document_of;
-use crate::records::id_of;
+use crate::records::{id_of, live_write};
 use crate::words::word_and;
-use sc_record::{Ack, Cell, List, Text, Write};
+use sc_record::{Ack, Cell, List, Text};
 use sc_reply::{error_body, get_body, ids_body, memory_body, ok_body, select_body, update_body};
 use std::alloc::{AllocError, Global};
 use std::sync::Arc;
@@ -48,13 +48,8 @@ fn get(alloc: Global, body: &str) -> Result<Text, AllocError> {
 fn cell(alloc: Global, body: &str) -> Result<Cell, AllocError>
     ensures { IfOk result (λ cell. IsSome (arc_value cell).doc) }
 {
-    let write = Write {
-        id: id_of(alloc, "abc")?,
-        hash: 0,
-        version: VERSION,
-        doc: Some(document_of(alloc, body)?),
-        terms: List::new(alloc),
-    };
+    let doc = document_of(alloc, body)?;
+    let write = live_write(alloc, "abc", VERSION, &doc)?;
     Ok(Arc::new(alloc, write)?)
 }
 

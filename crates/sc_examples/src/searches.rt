@@ -2,7 +2,7 @@
 
 ghost use Rattle.std.specs.Prelude.{◌≡◌, ◌-◌, ◌≤◌, length, map, filter, All, IfOk, codes};
 ghost use Rattle.std.specs.Arc.{arc_value};
-ghost use Rattle.sc_record.specs.declared.write.Write.{Write};
+ghost use Rattle.sc_record.specs.Writes.{Write};
 ghost use Rattle.sc_keys.specs.Fresh.{IsFresh};
 ghost use Rattle.sc_snapshot.specs.Rows.{AreRows};
 ghost use Rattle.sc_snapshot.specs.Postings.{term_count};
@@ -53,16 +53,12 @@ fn write(alloc: Global, id: &str, hash: i32, doc: Option<Doc>) -> Result<Cell, A
     let Ok(id) = Id::new(alloc, id) else {
         return Err(AllocError);
     };
-    let terms = match &doc {
-        Some(doc) => terms_of(alloc, &id, doc)?,
-        None => List::new(alloc),
-    };
-    let write = Write {
-        id,
-        hash,
-        version: 1,
-        doc,
-        terms,
+    let write = match doc {
+        Some(doc) => {
+            let terms = terms_of(alloc, &id, &doc)?;
+            Write::new(alloc, id, hash, 1, &doc, &terms)?
+        }
+        None => Write::deletion(alloc, id, hash, 1),
     };
     Ok(Arc::new(alloc, write)?)
 }
@@ -135,7 +131,7 @@ fn ids_found(
     let cells = cells_found(alloc, query, snapshot, range)?;
     let mut ids = Line::new(alloc);
     for cell in cells.as_slice() {
-        ids.push(cell.id.as_str());
+        ids.push(cell.id().as_str());
     }
     ids.end()
 }

@@ -39,7 +39,7 @@ pub fn state_of(alloc: Global, bucket: &Bucket) -> Result<String, AllocError>
 /// A write: its id, and its version as it is shown.
 fn put_cell(line: &mut Line, cell: &Cell) {
     line.push(" ");
-    line.push(cell.id.as_str());
+    line.push(cell.id().as_str());
     line.put("=", &cell.shown());
 }
 
@@ -65,9 +65,9 @@ fn put_write(line: &mut Line, bucket: &Bucket, cell: &Cell)
     requires { IsSound bucket.now }
 {
     put_cell(line, cell);
-    line.put(":", &cell.hash);
-    line.put(":", &cell.terms.is_empty());
-    line.put(":", &last_shown(bucket, &cell.id));
+    line.put(":", &cell.hash());
+    line.put(":", &cell.terms().next().is_none());
+    line.put(":", &last_shown(bucket, cell.id()));
 }
 
 /// The version of the last write of an id, as it is shown; 0 where there is none.

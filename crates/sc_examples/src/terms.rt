@@ -6,7 +6,7 @@ use crate::documents::order_of;
 use crate::line::{Line, joined};
 use crate::words::word_and;
 use sc_json::print;
-use sc_record::{Change, Kind, List, Order, Term, Text};
+use sc_record::{Change, CloneIn, Kind, Order, Terms, Text, Write};
 use sc_schema::{fold_word, key_of, terms_of};
 use serde_json::Value;
 use std::alloc::{AllocError, Global};
@@ -25,23 +25,26 @@ fn terms(alloc: Global, body: &str) -> Result<String, AllocError> {
 }
 
 fn terms_line(alloc: Global, order: &Order) -> Result<String, AllocError> {
-    let terms = terms_of_order(alloc, order)?;
-    term_line(alloc, &terms)
+    let write = write_of_order(alloc, order)?;
+    term_line(alloc, write.terms())
 }
 
-fn terms_of_order(alloc: Global, order: &Order) -> Result<List<Term>, AllocError> {
-    match &order.change {
-        Change::Whole(doc) => terms_of(alloc, &order.id, doc),
-        _ => Err(AllocError),
-    }
+/// The write of the document that the order adds.
+fn write_of_order(alloc: Global, order: &Order) -> Result<Write, AllocError> {
+    let Change::Whole(doc) = &order.change else {
+        return Err(AllocError);
+    };
+    let id = order.id.clone_in(alloc)?;
+    let terms = terms_of(alloc, &id, doc)?;
+    Write::new(alloc, id, 0, 1, doc, &terms)
 }
 
-fn term_line(alloc: Global, terms: &List<Term>) -> Result<String, AllocError> {
+fn term_line(alloc: Global, terms: Terms<'_>) -> Result<String, AllocError> {
     let mut line = Line::new(alloc);
-    for term in terms.as_slice() {
-        line.push(term.field.as_str());
+    for term in terms {
+        line.push(term.field);
         line.push(":");
-        line.push(term.key.as_str());
+        line.push(term.key);
         line.push("|");
     }
     line.end()
@@ -73,15 +76,15 @@ fn words_found(alloc: Global, text: &str) -> Result<String, AllocError> {
 }
 
 fn words_line(alloc: Global, order: &Order) -> Result<String, AllocError> {
-    let terms = terms_of_order(alloc, order)?;
-    word_line(alloc, &terms)
+    let write = write_of_order(alloc, order)?;
+    word_line(alloc, write.terms())
 }
 
-fn word_line(alloc: Global, terms: &List<Term>) -> Result<String, AllocError> {
+fn word_line(alloc: Global, terms: Terms<'_>) -> Result<String, AllocError> {
     let mut line = Line::new(alloc);
-    for term in terms.as_slice() {
-        if term.field.as_str() == "t_t" {
-            line.push(term.key.as_str());
+    for term in terms {
+        if term.field == "t_t" {
+            line.push(term.key);
             line.push("|");
         }
     }

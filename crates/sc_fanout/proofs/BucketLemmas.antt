@@ -13,9 +13,8 @@ use Rattle.sc_hash.specs.declared.range.Range.{Range}
 use Rattle.sc_hash.proofs.BoundsLemmas.{contains-Decides}
 use Rattle.sc_router.specs.Route.{route_hash, bucket_of}
 use Rattle.sc_router.proofs.ShareLemmas.{route_bits-lt}
-use Rattle.sc_record.specs.declared.write.Write.{Write}
+use Rattle.sc_record.specs.Writes.{Write, is_of, write_of}
 use Rattle.sc_record.specs.declared.entry.Entry.{Entry}
-use Rattle.sc_record.specs.Writes.{is_of, write_of}
 use Rattle.sc_snapshot.specs.Rows.{AreRows}
 use Rattle.sc_cluster.specs.declared.slice.Slice.{Slice}
 use Rattle.sc_cluster.specs.Slices.{is_active, is_active_state, slice_bounds}

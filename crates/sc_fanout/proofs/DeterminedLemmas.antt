@@ -5,9 +5,8 @@ use Rattle.std.specs.List.{AllByRecursion}
 use Rattle.std.specs.Ordering.{ordering_reverse}
 use Rattle.std.proofs.lemmas.Cmp.{nat_list_cmp_total, tied_itself}
 use Rattle.std.proofs.lemmas.Map.Keys.{sorted_head, sorted_tail}
-use Rattle.sc_record.specs.declared.write.Write.{Write}
+use Rattle.sc_record.specs.Writes.{Write, AscendById}
 use Rattle.sc_record.specs.declared.entry.Entry.{Entry}
-use Rattle.sc_record.specs.Writes.{AscendById}
 use Rattle.sc_seen.specs.Seen.{Layout, Seen, journal_at}
 use Rattle.sc_seen.specs.declared.stop.Stop.{Stop}
 use Rattle.sc_fanout.specs.Searches.{IsFoundIn, IsFoundAtOne, Search}

@@ -11,8 +11,7 @@ use Rattle.std.proofs.lemmas.List.Sorted.{All-permutation, sum_by-IsPermutation,
 use Rattle.std.proofs.lemmas.List.Sums.{sum_by-cons, sum_by-append}
 use Rattle.std.proofs.lemmas.Map.Keys.{sorted_head, sorted_tail}
 use Rattle.std.proofs.lemmas.Slice.Eq.{bytes_eq-Decides}
-use Rattle.sc_record.specs.declared.write.Write.{Write}
-use Rattle.sc_record.specs.Writes.{is_of, AscendById}
+use Rattle.sc_record.specs.Writes.{Write, is_of, AscendById}
 use Rattle.sc_cluster.proofs.ItemLemmas.{find_from_count}
 use Rattle.sc_journal.proofs.JournalLemmas.{is_of_own, id_from_is_of}
 use Rattle.sc_finding.specs.Lists.{SortsById}

@@ -1,7 +1,7 @@
 -- Pages of the documents that the buckets find.
 use Rattle.std.specs.Prelude.{◌≡◌, ℕ, List, length, map, take, drop}
 use Rattle.std.specs.Arc.{arc_value}
-use Rattle.sc_record.specs.declared.write.Write.{Write}
+use Rattle.sc_record.specs.Writes.{Write}
 use Rattle.sc_finding.specs.Lists.{SortsById}
 use Rattle.sc_fanout.specs.declared.shown.Page.{Page}
 

@@ -1,6 +1,6 @@
 ghost use Rattle.std.specs.Prelude.{◌≡◌, ◌+◌, ◌≤◌, List, length, map, take, drop, All, IfOk};
 ghost use Rattle.std.specs.Arc.{arc_value};
-ghost use Rattle.sc_record.specs.declared.write.Write.{Write};
+ghost use Rattle.sc_record.specs.Writes.{Write};
 ghost use Rattle.sc_eval.specs.Criteria.{criterion_of};
 ghost use Rattle.sc_finding.specs.Lists.{AreFound, all_of};
 ghost use Rattle.sc_fanout.specs.Pages.{IsPageOf};

@@ -6,8 +6,7 @@ use Rattle.std.specs.Ordering.{ordering_reverse}
 use Rattle.std.proofs.lemmas.Cmp.{nat_list_cmp_total, upto}
 use Rattle.std.proofs.lemmas.List.Sorted.{ranks_by, sorted_far}
 use Rattle.std.proofs.lemmas.Map.Keys.{sorted_head, sorted_tail}
-use Rattle.sc_record.specs.declared.write.Write.{Write}
-use Rattle.sc_record.specs.Writes.{AscendById}
+use Rattle.sc_record.specs.Writes.{Write, AscendById}
 use Rattle.sc_finding.specs.Lists.{SortsById}
 use Rattle.sc_finding.specs.Merging.{AscendsBy, goes_before}
 use Rattle.sc_finding.proofs.MergeLemmas.{IsOrder, sorted-from_ascends, ascends-from_far}

@@ -4,7 +4,7 @@ use Rattle.std.specs.List.{flat_map}
 use Rattle.std.proofs.Common.{Bor}
 use Rattle.std.specs.declared.alloc.Global.{Global}
 use Rattle.std.specs.declared.sync.Arc.{Arc}
-use Rattle.sc_record.specs.declared.write.Write.{Write}
+use Rattle.sc_record.specs.Writes.{Write}
 use Rattle.sc_replicas.specs.declared.standing.Searcher.{Searcher}
 use Rattle.sc_snapshot.specs.Rows.{lent}
 use Rattle.sc_eval.specs.Criteria.{Criterion}

@@ -4,8 +4,7 @@ use Rattle.std.specs.Cmp.Lexicographic.{slice_cmp}
 use Rattle.std.specs.List.{flat_map}
 use Rattle.std.specs.List.Sorted.{IsPermutation, IsSortedByKey}
 use Rattle.std.specs.Ordering.{nat_cmp}
-use Rattle.sc_record.specs.declared.write.Write.{Write}
-use Rattle.sc_record.specs.Writes.{AscendById}
+use Rattle.sc_record.specs.Writes.{Write, AscendById}
 
 -- the writes may be what one bucket finds: their ids ascend, and there are at most 2^24
 pub record AreFound (writes : List Write) : Type 0 where

@@ -1,6 +1,6 @@
 -- The rows of a searcher, and what a criterion finds among them.
 use Rattle.std.specs.Prelude.{List, filter, All}
-use Rattle.sc_record.specs.declared.write.Write.{Write}
+use Rattle.sc_record.specs.Writes.{Write}
 use Rattle.sc_eval.specs.Criteria.{Criterion}
 use Rattle.sc_eval.specs.Matching.{finds}
 use Rattle.sc_journal.specs.Legal.{HasTerms}

@@ -1,5 +1,5 @@
 ghost use Rattle.std.specs.Prelude.{◌≤◌, ◌-◌, length, All, IfOk};
-ghost use Rattle.sc_record.specs.declared.write.Write.{Write};
+ghost use Rattle.sc_record.specs.Writes.{Write};
 ghost use Rattle.sc_eval.specs.Criteria.{criterion_of};
 ghost use Rattle.sc_eval.specs.Matching.{finds};
 ghost use Rattle.sc_eval.specs.Numbers.{AreStepsOfSearch};

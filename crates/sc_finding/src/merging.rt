@@ -1,5 +1,5 @@
 ghost use Rattle.std.specs.Prelude.{◌≡◌, ◌<◌, ◌∷◌, List, length, map, not, All, IfOk, vec_len};
-ghost use Rattle.sc_record.specs.declared.write.Write.{Write};
+ghost use Rattle.sc_record.specs.Writes.{Write};
 ghost use Rattle.sc_keys.specs.Fresh.{IsFresh};
 ghost use Rattle.sc_finding.specs.Lists.{AreFound, IsStartOf, all_of};
 ghost use Rattle.sc_finding.specs.Merging.{gathered, goes_before};
@@ -122,7 +122,7 @@ fn front_of<'a, 'b>(lead: Lead<'a, 'b>) -> Front<'a, 'b>
     Front {
         searcher: lead.searcher,
         lead: lead.row,
-        head: front_number(lead.write.id.as_str().as_bytes()),
+        head: front_number(lead.write.id().as_str().as_bytes()),
         rest: lead.rest,
     }
 }
@@ -181,7 +181,7 @@ fn is_before(one: &Front<'_, '_>, other: &Front<'_, '_>) -> bool
     ensures { result ≡ not (goes_before (lent other.now.lead) (lent one.now.lead)) }
 {
     if one.head == other.head {
-        one.lead.id < other.lead.id
+        one.lead.id() < other.lead.id()
     } else {
         one.head < other.head
     }

@@ -6,7 +6,7 @@ use Rattle.std.proofs.lemmas.Bool.{ltb-true, leb-true, lt-ltb, le-leb}
 use Rattle.std.proofs.lemmas.List.{drop_at}
 use Rattle.std.proofs.lemmas.Int.{to_z-of_z, of_z-to_z}
 use borrow.Author.Gap.{read_sfits}
-use Rattle.sc_record.specs.declared.document.Field.{Field}
+use Rattle.sc_values.specs.declared.field.Field.{Field}
 use Rattle.sc_record.specs.Ids.{id_limit}
 use Rattle.sc_spelling.specs.Spellings.{spelling}
 use Rattle.sc_spelling.specs.Reading.{number_at, text_at, document_at}

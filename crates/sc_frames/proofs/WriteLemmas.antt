@@ -4,7 +4,7 @@ use Rattle.std.specs.Prelude.{is_some}
 use Rattle.std.specs.Int.{w16, w64, to_le_bytes, cast_signed, cast_unsigned}
 use Rattle.std.proofs.lemmas.Int.{to_z-of_z}
 use Rattle.std.proofs.lemmas.List.{append-nil}
-use Rattle.sc_record.specs.declared.document.Field.{Field}
+use Rattle.sc_values.specs.declared.field.Field.{Field}
 use Rattle.sc_spelling.specs.Spellings.{spelling}
 use Rattle.sc_spelling.specs.Reading.{◌>>=◌}
 use Rattle.sc_spelling.proofs.NumberLemmas.{IsBytes, bind_some, some_is, Takes, Takes-then}

@@ -2,7 +2,7 @@
 use Rattle.std.specs.Prelude.{◌≡◌, ◌≢◌, ℕ, ℤ, List, [], ◌∷◌, ◌++◌, length, Option, Some, None}
 use Rattle.std.specs.Int.{w16, w32, w64, to_le_bytes, cast_unsigned}
 use Rattle.std.specs.List.{flat_map, AllByRecursion}
-use Rattle.sc_record.specs.declared.document.Field.{Field}
+use Rattle.sc_values.specs.declared.field.Field.{Field}
 use Rattle.sc_spelling.specs.Spellings.{spelling}
 use Rattle.sc_frames.specs.Stored.{Stored, StoredSub, FitsEntry, write, settled, committed, begun, switched, failed, dropped, down, up, led}
 

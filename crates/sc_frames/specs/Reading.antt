@@ -1,7 +1,7 @@
 -- Reading from the front of bytes: the entry that is spelled there and the bytes after it, or nothing where none is.
 use Rattle.std.specs.Prelude.{◌≡◌, ℕ, zero, suc, Bool, true, false, ◌&&◌, pos, List, [], ◌∷◌, length, Option, Some, None, nat_lt, nat_le, nat_eq, int_lt, int_le, if◌then◌else◌, Result, Ok, Err}
 use Rattle.std.specs.Int.{w16, w32, w64, cast_signed}
-use Rattle.sc_record.specs.declared.document.Field.{Field}
+use Rattle.sc_values.specs.declared.field.Field.{Field}
 use Rattle.sc_record.specs.Ids.{id_limit}
 use Rattle.sc_spelling.specs.Reading.{◌>>=◌, number_at, text_at, document_at}
 use Rattle.sc_frames.specs.Stored.{Stored, StoredSub, write, settled, committed, begun, switched, failed, dropped, down, up, led}

@@ -4,13 +4,13 @@ use Rattle.std.specs.Arc.{arc_value}
 use Rattle.std.specs.Int.{w32, w64}
 use Rattle.std.specs.List.{AllByRecursion}
 use Rattle.std.specs.Str.{is_utf8}
-use Rattle.sc_record.specs.declared.document.Field.{Field}
+use Rattle.sc_values.specs.declared.field.Field.{Field}
 use Rattle.sc_record.specs.declared.slice.SubSlice.{SubSlice}
-use Rattle.sc_record.specs.declared.write.Write.{Write}
+use Rattle.sc_record.specs.Writes.{Write}
 use Rattle.sc_record.specs.declared.entry.Entry.{Entry}
 use Rattle.sc_record.specs.declared.entry.Entry.TheVariants as entry
 use Rattle.sc_record.specs.Ids.{id_limit}
-use Rattle.sc_spelling.specs.Spellings.{HasSpelling}
+use Rattle.sc_values.specs.Fields.{IsDocument}
 
 -- a slice that a split makes, by its numbers and its name
 pub record StoredSub : Type 0 where
@@ -69,7 +69,7 @@ pub record IsVersion (version : ℤ) : Type 0 where
 -- the fields of a write are those of a document that fits, where it has one
 abbrev pub FitsDoc : Option (List Field) → Type 0
 FitsDoc None = ⊤
-FitsDoc (Some fields) = HasSpelling fields
+FitsDoc (Some fields) = IsDocument fields
 
 -- a slice that a split makes: it has a range, a replica and a node, and its numbers fit
 pub record FitsSub (sub : StoredSub) : Type 0 where

@@ -1,5 +1,5 @@
 ghost use Rattle.std.specs.Prelude.{◌≡◌, List, ℕ};
-ghost use Rattle.sc_record.specs.declared.document.Field.{Field};
+ghost use Rattle.sc_values.specs.declared.field.Field.{Field};
 ghost use Rattle.sc_record.specs.declared.term.Term.{Term};
 ghost use Rattle.sc_schema.specs.Terms.{AreTerms};
 ghost use Rattle.sc_frames.specs.Stored.{Stored};

@@ -4,7 +4,6 @@ ghost use Rattle.sc_frames.specs.Stored.{stored, stored_sub};
 ghost use Rattle.sc_frames.specs.Entries.{spelling_of_entry, spelling_of_sub, spelling_of_write};
 
 use sc_record::{Entry, SubSlice, Write};
-use sc_spelling::fields_len;
 
 /// How many bytes the spelling of the entry has. `None` where that is 2^64 or more.
 pub fn entry_len(entry: &Entry) -> Option<u64>
@@ -25,9 +24,9 @@ fn write_len(write: &Write) -> Option<u64>
     ensures { MatchOption result (2 ^ 64 ≤ length (spelling_of_write write.now.id write.now.version write.now.doc))
         (λ n. n ≡ length (spelling_of_write write.now.id write.now.version write.now.doc)) }
 {
-    let head = write.id.as_str().len() as u64 + 11;
-    match &write.doc {
-        Some(doc) => fields_len(doc.fields())?.checked_add(head),
+    let head = write.id().as_str().len() as u64 + 11;
+    match write.doc_bytes() {
+        Some(bytes) => (bytes.len() as u64).checked_add(head),
         None => Some(head),
     }
 }

@@ -6,7 +6,7 @@ ghost use Rattle.sc_frames.specs.Entries.{after_name, spelling_of_core, spelling
 ghost use Rattle.sc_spelling.specs.Spellings.{Extends};
 
 use sc_record::{CoreId, Entry, SliceId, SubSlice, Write};
-use sc_spelling::{push_fields, push_name, push_text};
+use sc_spelling::{push_name, push_text};
 use std::alloc::AllocError;
 
 /// Puts the spelling of the entry at the end. Where a length or a number in it does not fit its bytes, that counts as want of
@@ -50,10 +50,10 @@ fn push_write(out: &mut Vec<u8>, write: &Write) -> Result<(), AllocError>
     ensures bytes { OnOk result (out.new.items ≡ out.old.items ++ spelling_of_write write.now.id write.now.version write.now.doc) }
     ensures err { OnErr result (Extends out.old.items out.new.items) }
 {
-    match &write.doc {
-        Some(doc) => {
+    match write.doc_bytes() {
+        Some(bytes) => {
             push_write_head(out, 1, write)?;
-            push_fields(out, doc.fields())
+            out.extend_from_slice(bytes)
         }
         None => push_write_head(out, 2, write),
     }
@@ -67,8 +67,8 @@ fn push_write_head(out: &mut Vec<u8>, kind: u8, write: &Write) -> Result<(), All
     ensures err { OnErr result (Extends out.old.items out.new.items) }
 {
     out.extend_from_slice(&[kind])?;
-    push_name(out, write.id.as_str())?;
-    out.extend_from_slice(&write.version.to_le_bytes())
+    push_name(out, write.id().as_str())?;
+    out.extend_from_slice(&write.version().to_le_bytes())
 }
 
 // Puts the bytes of an entry that settles a write at the end.

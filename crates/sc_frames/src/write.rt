@@ -1,15 +1,14 @@
-ghost use Rattle.std.specs.Prelude.{◌≡◌, IfOk, true, false};
-ghost use Rattle.sc_frames.specs.Stored.{stored_write};
+ghost use Rattle.std.specs.Prelude.{◌≡◌, ◌<ℤ◌, pos, IfOk, true, false};
+ghost use Rattle.sc_frames.specs.Stored.{stored_write, write};
 ghost use Rattle.sc_journal.specs.Computed.{IsComputed};
-ghost use Rattle.sc_journal.specs.Legal.{HasTerms};
 ghost use Rattle.sc_frames.specs.Reading.{Gives, doc_at, id_at, write_at};
 
 use crate::fault::BodyFault;
 use crate::number::{name_of, u64_of};
-use sc_record::{Doc, Id, IdFault, List, Term, Write};
+use sc_record::{Doc, Id, IdFault, Write};
 use sc_router::route_hash;
 use sc_schema::terms_of;
-use sc_spelling::{FieldsFault, read_fields};
+use sc_spelling::FieldsFault;
 use std::alloc::{AllocError, Global};
 
 // The write that the bytes begin with, and the bytes after it. Its hash and its terms are computed.
@@ -29,26 +28,22 @@ pub(crate) fn write_of(
         return Err(BodyFault::NotEntries);
     }
     let (doc, rest) = doc_of(alloc, has_doc, rest)?;
-    let terms = terms_for(alloc, &id, &doc)?;
-    let hash = route_hash(id.as_str());
-    let write = Write {
-        id,
-        hash,
-        version,
-        doc,
-        terms,
-    };
+    let write = computed(alloc, id, version, doc)?;
     Ok((write, rest))
 }
 
-// The terms of a write of the id: those of its document, where it has one.
-fn terms_for(alloc: Global, id: &Id, doc: &Option<Doc>) -> Result<List<Term>, AllocError>
-    ensures { IfOk result (HasTerms id.now doc.now) }
+// A write of the id: of the document, with its terms, or a deletion.
+fn computed(alloc: Global, id: Id, version: i64, doc: Option<Doc>) -> Result<Write, AllocError>
+    requires { pos 0 <ℤ version }
+    ensures stored { IfOk result (λ made. stored_write made ≡ write id version doc) }
+    ensures computed { IfOk result IsComputed }
 {
-    match doc {
-        Some(doc) => terms_of(alloc, id, doc),
-        None => Ok(List::new(alloc)),
-    }
+    let hash = route_hash(id.as_str());
+    let Some(doc) = doc else {
+        return Ok(Write::deletion(alloc, id, hash, version));
+    };
+    let terms = terms_of(alloc, &id, &doc)?;
+    Write::new(alloc, id, hash, version, &doc, &terms)
 }
 
 // The id that the bytes begin with, and the bytes after it.
@@ -72,8 +67,8 @@ fn doc_of(alloc: Global, has_doc: bool, bytes: &[u8]) -> Result<(Option<Doc>, &[
     if !has_doc {
         return Ok((None, bytes));
     }
-    match read_fields(alloc, bytes) {
-        Ok((fields, rest)) => Ok((Some(Doc::new(fields)), rest)),
+    match Doc::read(alloc, bytes) {
+        Ok((doc, rest)) => Ok((Some(doc), rest)),
         Err(FieldsFault::NotFields) => Err(BodyFault::NotEntries),
         Err(FieldsFault::Memory) => Err(BodyFault::Memory),
     }

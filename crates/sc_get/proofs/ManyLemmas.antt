@@ -7,7 +7,7 @@ use Rattle.std.specs.declared.alloc.AllocError.{AllocError}
 use Rattle.std.specs.declared.alloc.Global.{Global}
 use Rattle.std.specs.declared.sync.Arc.{Arc}
 use Rattle.std.proofs.lemmas.List.{append-nil, map-append}
-use Rattle.sc_record.specs.declared.write.Write.{Write}
+use Rattle.sc_record.specs.Writes.{Write}
 use Rattle.sc_seen.specs.Seen.{Layout, Seen, FromNowOn}
 use Rattle.sc_seen.specs.Moments.{View, Keeps}
 use Rattle.sc_seen.specs.declared.stop.Stop.{Stop}

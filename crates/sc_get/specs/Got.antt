@@ -5,8 +5,8 @@ use Rattle.std.specs.Option.{option_map}
 use Rattle.std.specs.declared.alloc.AllocError.{AllocError}
 use Rattle.std.specs.declared.alloc.Global.{Global}
 use Rattle.std.specs.declared.sync.Arc.{Arc}
-use Rattle.sc_record.specs.declared.write.Write.{Write}
-use Rattle.sc_record.specs.declared.document.Field.{Field}
+use Rattle.sc_record.specs.Writes.{Write}
+use Rattle.sc_values.specs.declared.field.Field.{Field}
 use Rattle.sc_router.specs.Route.{bucket_of}
 use Rattle.sc_journal.specs.Journal.{last_write}
 use Rattle.sc_seen.specs.Seen.{Layout, Seen, FromNowOn, journal_at}

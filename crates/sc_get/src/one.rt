@@ -41,7 +41,7 @@ fn share_live(write: Option<&Cell>) -> Result<Option<Cell>, AllocError>
     ensures { IfOk result (λ found. option_map arc_value found ≡ live (option_map arc_value (option_copied write.entry))) }
 {
     match write {
-        Some(cell) if cell.doc.is_some() => Ok(Some(cell.clone()?)),
+        Some(cell) if cell.is_live() => Ok(Some(cell.clone()?)),
         _ => Ok(None),
     }
 }

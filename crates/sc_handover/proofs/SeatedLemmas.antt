@@ -9,7 +9,7 @@ use Rattle.sc_router.specs.Route.{route_hash}
 use Rattle.sc_record.specs.Names.{key_of_core, is_core}
 use Rattle.sc_record.specs.declared.slice.SliceId.{SliceId}
 use Rattle.sc_record.specs.declared.slice.CoreId.{CoreId}
-use Rattle.sc_record.specs.declared.write.Write.{Write}
+use Rattle.sc_record.specs.Writes.{Write}
 use Rattle.sc_record.specs.declared.entry.Entry.{Entry}
 use Rattle.sc_record.specs.declared.entry.Entry.TheVariants as entry
 use Rattle.sc_cluster.specs.declared.slice.State.TheVariants as states

@@ -9,7 +9,7 @@ use Rattle.sc_record.specs.Names.{key_of_core}
 use Rattle.sc_record.specs.Versions.{version_after}
 use Rattle.sc_record.specs.declared.slice.SliceId.{SliceId}
 use Rattle.sc_record.specs.declared.slice.CoreId.{CoreId}
-use Rattle.sc_record.specs.declared.write.Write.{Write}
+use Rattle.sc_record.specs.Writes.{Write}
 use Rattle.sc_record.specs.declared.entry.Entry.{Entry}
 use Rattle.sc_record.specs.declared.entry.Entry.TheVariants as entry
 use Rattle.sc_record.proofs.VersionLemmas.{version_after-above_clock}

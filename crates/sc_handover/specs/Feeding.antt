@@ -1,6 +1,6 @@
 -- What the parts of a piece of a feed do.
 use Rattle.std.specs.Prelude.{◌≡◌, ℕ, ◌+◌, List, filter, take, drop, slice_get, slice_set, Some}
-use Rattle.sc_record.specs.declared.write.Write.{Write}
+use Rattle.sc_record.specs.Writes.{Write}
 use Rattle.sc_replica.specs.Core.{Core, fed_all}
 use Rattle.sc_bucket.specs.Kept.{FeedState}
 use Rattle.sc_snapshot.specs.Rows.{is_within}

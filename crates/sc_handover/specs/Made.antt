@@ -5,7 +5,7 @@ use Rattle.sc_hash.specs.declared.range.Range.{Range}
 use Rattle.sc_record.specs.declared.slice.SliceId.{SliceId}
 use Rattle.sc_record.specs.declared.slice.SubSlice.{SubSlice}
 use Rattle.sc_record.specs.declared.slice.CoreId.{CoreId}
-use Rattle.sc_record.specs.declared.write.Write.{Write}
+use Rattle.sc_record.specs.Writes.{Write}
 use Rattle.sc_cluster.specs.declared.slice.Slice.{Slice}
 use Rattle.sc_cluster.specs.Slices.{forming}
 use Rattle.sc_snapshot.specs.Rows.{SnapshotState, is_within}

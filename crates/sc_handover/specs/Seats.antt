@@ -5,7 +5,7 @@ use Rattle.sc_hash.specs.Range.{IsWithin}
 use Rattle.sc_router.specs.Route.{route_hash}
 use Rattle.sc_record.specs.declared.slice.SliceId.{SliceId}
 use Rattle.sc_record.specs.declared.slice.CoreId.{CoreId}
-use Rattle.sc_record.specs.declared.write.Write.{Write}
+use Rattle.sc_record.specs.Writes.{Write}
 use Rattle.sc_record.specs.declared.entry.Entry.TheVariants as entry
 use Rattle.sc_record.specs.Versions.{version_after}
 use Rattle.sc_cluster.specs.declared.slice.Slice.{Slice}

@@ -1,7 +1,7 @@
 -- What of a journal a search can find.
 use Rattle.std.specs.Prelude.{◌≡◌, ℕ, Bool, true, false, List, fold, take, if◌then◌else◌, Some, IsSome}
 use Rattle.std.specs.List.{enumerate_from}
-use Rattle.sc_record.specs.declared.write.Write.{Write}
+use Rattle.sc_record.specs.Writes.{Write}
 use Rattle.sc_record.specs.declared.entry.Entry.{Entry}
 use Rattle.sc_record.specs.declared.entry.Entry.TheVariants as entry
 use Rattle.sc_cluster.specs.declared.slice.Slice.{Slice}

@@ -2,8 +2,8 @@
 use Rattle.std.specs.Prelude.{◌≡◌, ◌⊎◌, ℕ, ℤ, pos, true, false, List, length, Option, Some, None, Contains, map}
 use Rattle.std.specs.Option.{option_and_then}
 use Rattle.sc_record.specs.Versions.{version_after, shown_version, meets}
-use Rattle.sc_record.specs.declared.write.Write.{Write}
-use Rattle.sc_record.specs.declared.document.Field.{Field}
+use Rattle.sc_record.specs.Writes.{Write}
+use Rattle.sc_values.specs.declared.field.Field.{Field}
 use Rattle.sc_record.specs.declared.order.Order.{Order}
 use Rattle.sc_record.specs.declared.order.Change.{Change}
 use Rattle.sc_record.specs.declared.order.Change.TheVariants as changes

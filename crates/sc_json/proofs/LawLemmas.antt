@@ -1,6 +1,8 @@
 -- What is shown of a document is read as that document.
 use Rattle.std.proofs.Common.{◌≡◌, ℕ, ◌<◌, ◌≤◌, ℤ, pos, negsuc, Bool, true, false, ◌||◌, cond, List, [], ◌∷◌, length, map, codes, Option, Some, None, Ok, Ordering, Less, Equal, Greater, nat_cmp, refl, sym, ap, subst, ◌∙◌, ◌^◌, arith}
 use Rattle.std.proofs.Math.Path.{ap₂}
+use Rattle.std.specs.Prelude.{FitsSigned, IsTrue, ⊤}
+use Rattle.std.specs.Int.{w32, w64}
 use Rattle.std.specs.Bool.{nat_lt}
 use Rattle.std.specs.Str.{bytes_eq}
 use Rattle.std.specs.List.{list_any, list_all, filter_map, cons_option, AllByRecursion}
@@ -14,24 +16,58 @@ use Rattle.std.proofs.lemmas.Slice.Eq.{bytes_eq-Decides}
 use Rattle.serde_json.specs.Data.{Data, string, Members, no_members, member, put}
 use Rattle.serde_json.specs.Find.{of_integer}
 use Rattle.serde_json.specs.View.{items_of}
-use Rattle.sc_record.specs.Fields.{kind_of, fits_kind, fits_count, fits_name, IsField, Ascends}
+use Rattle.sc_values.specs.Fields.{kind_of, fits_kind, fits_count, fits_name, FitsValue, FitsField, IsField, Ascends}
 use Rattle.sc_record.specs.Orders.{is_int, is_long}
-use Rattle.sc_record.specs.declared.document.Field.{Field}
+use Rattle.sc_values.specs.declared.field.Field.{Field}
 use Rattle.sc_record.specs.declared.order.Change.{Change}
 use Rattle.sc_record.specs.declared.order.Change.TheVariants.{Whole}
 use Rattle.sc_record.specs.declared.order.FieldChange.{FieldChange}
 use Rattle.sc_record.specs.declared.order.How.TheVariants.{Set}
-use Rattle.sc_record.specs.declared.value.Kind.{Kind}
-use Rattle.sc_record.specs.declared.value.Kind.TheVariants as kinds
-use Rattle.sc_record.specs.declared.value.Value.{Value}
-use Rattle.sc_record.specs.declared.value.Value.TheVariants as values
+use Rattle.sc_values.specs.declared.value.Kind.{Kind}
+use Rattle.sc_values.specs.declared.value.Kind.TheVariants as kinds
+use Rattle.sc_values.specs.declared.value.Value.{Value}
+use Rattle.sc_values.specs.declared.value.Value.TheVariants as values
 use Rattle.sc_schema.specs.Documents.{member as found, id_of, id_text, version_condition, is_field_name, is_object, member_changes, member_change, and_then, found_map, change_of_members, set_field, field_of, document_order}
 use Rattle.sc_schema.specs.Values.{value_of, values_in, how_of_value}
 use Rattle.sc_schema.specs.declared.raw.RawField.{RawField}
 use Rattle.sc_schema.specs.declared.raw.RawOne.TheVariants as ones
 use Rattle.sc_json.specs.Documents.{members_of, whole_number, value_data, field_data, field_member}
 use Rattle.sc_json.specs.RawDocs.{raw_number, raw_one, raw_items, raw_value, raw_fields}
-use Rattle.sc_json.specs.Laws.{HasItsBits, IsFieldInRange, ReadsBack}
+use Rattle.sc_json.specs.Laws.{ReadsBack}
+
+-- a number has as many bits as its kind has
+abbrev pub HasItsBits : Value → Type 0
+HasItsBits (values.Text text) = ⊤
+HasItsBits (values.Int n) = IsTrue (is_int n)
+HasItsBits (values.Long n) = IsTrue (is_long n)
+HasItsBits (values.Flag b) = ⊤
+
+-- so has each number of a field
+abbrev pub IsFieldInRange : Field → Type 0
+IsFieldInRange field = AllByRecursion HasItsBits field.values
+
+is_int-fits : (n : ℤ) → FitsSigned w32 n → is_int n ≡ true
+is_int-fits (pos n) fits = grind (arith, ints, nat_tests)
+is_int-fits (negsuc n) fits = grind (arith, ints, nat_tests)
+
+is_long-fits : (n : ℤ) → FitsSigned w64 n → is_long n ≡ true
+is_long-fits (pos n) fits = grind (arith, ints, nat_tests)
+is_long-fits (negsuc n) fits = grind (arith, ints, nat_tests)
+
+-- the numbers of a document have
+value_bits : (v : Value) → FitsValue v → HasItsBits v
+value_bits (values.Text text) fits = tt
+value_bits (values.Int n) fits = is_int-fits n fits
+value_bits (values.Long n) fits = is_long-fits n fits
+value_bits (values.Flag b) fits = tt
+
+values_bits : (vs : List Value) → AllByRecursion FitsValue vs → AllByRecursion HasItsBits vs
+values_bits [] each = tt
+values_bits (v ∷ vs) each = (value_bits v each.0, values_bits vs each.1)
+
+fields_bits : (fields : List Field) → AllByRecursion FitsField fields → AllByRecursion IsFieldInRange fields
+fields_bits [] each = tt
+fields_bits (f ∷ fields) each = (values_bits f.values each.0.each, fields_bits fields each.1)
 
 -- names are one just where they compare equal
 pub name_from : (k l : List ℕ) (o : Ordering) → slice_cmp nat_cmp k l ≡ o → bytes_eq l k ≡ is_eq o
@@ -292,7 +328,7 @@ reads_back id version fields kept =
     ap version_condition (found-put (codes "_version_") (whole_number version) with_id) ∙ rw (as_long version kept.long) refl in
     let read : member_changes raws ≡ Ok (map set_to fields) =
     parts-put (codes "_version_") (whole_number version) with_id refl ∙ parts-put (codes "id") (string id) shown refl
-    ∙ parts_back fields kept.document.ascends kept.document.each kept.numbers in
+    ∙ parts_back fields kept.document.ascends kept.document.each (fields_bits fields kept.document.fits.each) in
     let plain = plain-put (codes "_version_") (whole_number version) with_id refl (plain-put (codes "id") (string id) shown refl (plain_fields fields)) in
     ap Some (ordered raws id version (map set_to fields) (Whole fields) named asked read
     (whole_change raws (map set_to fields) fields plain (fields_back fields kept.document.each)))

@@ -1,20 +1,24 @@
 -- Members that are sent one after another are an object, and those of a document come in this order.
-use Rattle.std.proofs.Common.{◌≡◌, ℕ, suc, ◌+◌, ℤ, List, [], ◌∷◌, ◌++◌, length, map, take, drop, codes, true, None, Some, Ordering, Less, Equal, Greater, nat_cmp, refl, sym, ap, subst, ◌∙◌, arith, append_assoc, append-nil}
-use Rattle.std.proofs.lemmas.List.{map-append, take-append-drop, length-map}
+use Rattle.std.proofs.Common.{◌≡◌, ℕ, suc, ◌+◌, ℤ, Option, List, [], ◌∷◌, ◌++◌, length, map, codes, true, None, Some, Ordering, Less, Equal, Greater, nat_cmp, refl, sym, ap, subst, ◌∙◌, arith, append_assoc, append-nil}
+use Rattle.std.proofs.lemmas.List.{map-append, length-map}
 use Rattle.std.specs.Bool.{⊤}
+use Rattle.std.specs.Prelude.{MatchOption}
 use Rattle.std.specs.List.{AllByRecursion}
 use Rattle.std.specs.Ordering.{match_ordering}
-use Rattle.std.specs.Cmp.Lexicographic.{slice_cmp}
+use Rattle.std.specs.Cmp.Lexicographic.{slice_cmp, nat_list_cmp_total}
 use Rattle.serde.specs.Event.{Log, Logs, WritesEach, WritesSeq, seq_begins, seq_ends, map_begins, map_ends, field_key, text}
 use Rattle.serde.specs.declared.name.Case.TheVariants.{AsIs}
 use Rattle.serde_json.specs.Data.{Data, string, object, Members, no_members, member, put}
 use Rattle.serde_json.specs.Events.{SendsValue, SendsItems, SendsMembers, items_len, members_len, number_event}
 use Rattle.serde_json.specs.Find.{of_integer}
 use Rattle.serde_json.specs.View.{items_of}
-use Rattle.sc_record.specs.Fields.{kind_of, IsField, Ascends, IsDocument}
-use Rattle.sc_record.specs.declared.document.Field.{Field}
-use Rattle.sc_json.specs.Documents.{members_of, whole_number, field_data, field_member, document_data, array_of}
-use Rattle.sc_json.specs.Sent.{SendsMember, SendsEach, ComesBefore, StartsAfter}
+use Rattle.sc_values.specs.Fields.{kind_of, IsField, Ascends, IsDocument}
+use Rattle.sc_values.specs.declared.field.Field.{Field}
+use Rattle.sc_values.specs.declared.value.Value.{Value}
+use Rattle.sc_spelling.specs.Lent.{field_of}
+use Rattle.sc_spelling.specs.declared.field.FieldRef.{FieldRef}
+use Rattle.sc_json.specs.Documents.{members_of, whole_number, value_data, field_data, field_member, document_data, array_of}
+use Rattle.sc_json.specs.Sent.{SendsMember, SendsEach, SendsBefore, ComesBefore, StartsAfter, with_next}
 use Rattle.sc_json.proofs.LawLemmas.{name_from, other_name, id-no_kind, version-no_kind, shown_first}
 use Rattle.sc_json.proofs.PlaceLemmas.{after, flipped}
 
@@ -62,6 +66,60 @@ both_sent (x ∷ xs) ys old mid new first later = (first.0, first.1, both_sent x
 pub fields_sent : (fields : List Field) (old new : Log) → WritesEach (λ (field : Field). SendsMember (field_member field)) fields old new → SendsEach (map field_member fields) old new
 fields_sent [] old new each = each
 fields_sent (field ∷ fields) old new each = (each.0, each.1, fields_sent fields each.0 new each.2)
+
+-- ---- what is left to be sent
+
+-- what is sent for the values that are left ends what is sent for all
+abbrev pub EndsValues : List Value → List Value → Log → Log → Type 0
+EndsValues all left old new =
+    (last : Log) → WritesEach (λ (value : Value). SendsValue (value_data value)) left new last → WritesEach (λ (value : Value). SendsValue (value_data value)) all old last
+
+-- what is sent for the fields that are left ends what is sent for all
+abbrev pub EndsFields : List Field → List Field → Log → Log → Type 0
+EndsFields all left old new = (last : Log) → SendsEach (map field_member left) new last → SendsEach (map field_member all) old last
+
+-- so it is as far as their names come before this one
+abbrev pub EndsBefore : List ℕ → List Field → List Field → Log → Log → Type 0
+EndsBefore name all left old new = (rest : List Field) (last : Log) → SendsBefore name left rest new last → SendsBefore name all rest old last
+
+-- one more field was sent
+pub before_more : (name : List ℕ) (field : Field) (fields rest : List Field) (old mid new : Log) → ComesBefore name field → SendsMember (field_member field) old mid
+    → SendsBefore name fields rest mid new → SendsBefore name (field ∷ fields) rest old new
+before_more name field fields rest old mid new comes sends before =
+    record {
+      sent = field ∷ before.sent;
+      whole = ap (λ xs. field ∷ xs) before.whole;
+      before = (comes, before.before);
+      after = before.after;
+      each = (mid, sends, before.each);
+    }
+
+-- none was
+pub before_none : (name : List ℕ) (fields : List Field) (at : Log) → StartsAfter name fields → SendsBefore name fields fields at at
+before_none name fields at starts = record { sent = []; whole = refl; before = tt; after = starts; each = refl }
+
+-- one more value was sent
+pub values_more : (all left more : List Value) (value : Value) (old mid new : Log) → left ≡ value ∷ more → EndsValues all left old mid → SendsValue (value_data value) mid new
+    → EndsValues all more old new
+values_more all left more value old mid new is ends sends last each =
+    ends last (subst (λ vs. WritesEach (λ (v : Value). SendsValue (value_data v)) vs mid last) (sym is) (new, sends, each))
+
+-- and all, where none is left
+pub values_ended : (all left : List Value) (old new : Log) → left ≡ [] → EndsValues all left old new → WritesEach (λ (value : Value). SendsValue (value_data value)) all old new
+values_ended all left old new is ends =
+    ends new (subst (λ vs. WritesEach (λ (v : Value). SendsValue (value_data v)) vs new new) (sym is) refl)
+
+-- what is lent next, and what is left after it, is what was left
+pub next_left : (found : Option FieldRef) (old new : List Field) → MatchOption found ((old ≡ []) × (new ≡ [])) (λ field. old ≡ field_of field ∷ new) → old ≡ with_next found new
+next_left None old new steps = steps.0
+next_left (Some field) old new steps = steps
+
+-- a field whose name comes before this one was sent
+pub before_step : (name : List ℕ) (all left fields next : List Field) (field : Field) (old mid new : Log) → left ≡ field ∷ fields → fields ≡ next → ComesBefore name field
+    → EndsBefore name all left old mid → SendsMember (field_member field) mid new → EndsBefore name all next old new
+before_step name all left fields next field old mid new is same comes ends sends rest last before =
+    ends rest last (subst (λ fs. SendsBefore name fs rest mid last) (sym is)
+    (before_more name field fields rest mid new last comes sends (subst (λ fs. SendsBefore name fs rest new last) (sym same) before)))
 
 -- ---- the order of a document's members
 
@@ -131,18 +189,30 @@ pub record ArePlaced (fields before between later : List Field) : Type 0 where
   pub id_after : AllByRecursion (ComesBefore (codes "id")) (before ++ between)
   pub id_first : StartsAfter (codes "id") later
 
--- they are placed by two numbers
-pub placed_by : (fields first before between later : List Field) (i j : ℕ) → first ≡ take i fields → later ≡ drop i fields → before ≡ take j first → between ≡ drop j first
-    → AllByRecursion (ComesBefore (codes "id")) (take i fields) → StartsAfter (codes "id") (drop i fields)
-    → AllByRecursion (ComesBefore (codes "_version_")) (take j first) → StartsAfter (codes "_version_") (drop j first) → ArePlaced fields before between later
-placed_by fields first before between later i j is_first is_later is_before is_between id_after id_first version_after version_first =
-    let parts : before ++ between ≡ first = ap (λ xs. xs ++ between) is_before ∙ ap (λ xs. take j first ++ xs) is_between ∙ take-append-drop j first in
+-- names before that of the version come before that of the id
+all_before_id : (fields : List Field) → AllByRecursion (ComesBefore (codes "_version_")) fields → AllByRecursion (ComesBefore (codes "id")) fields
+all_before_id [] each = tt
+all_before_id (f ∷ fields) each = (nat_list_cmp_total.trans f.name (codes "_version_") (codes "id") each.0 refl, all_before_id fields each.1)
+
+all_joined : {A : Type 0} (P : A → Type 0) (xs ys : List A) → AllByRecursion P xs → AllByRecursion P ys → AllByRecursion P (xs ++ ys)
+all_joined P [] ys first later = later
+all_joined P (x ∷ xs) ys first later = (first.0, all_joined P xs ys first.1 later)
+
+starts_first : (name : List ℕ) (xs ys : List Field) → StartsAfter name (xs ++ ys) → StartsAfter name xs
+starts_first name [] ys starts = tt
+starts_first name (x ∷ xs) ys starts = starts
+
+-- they are placed where they were sent in two parts
+pub placed_by : (fields middle later : List Field) (old first second new : Log)
+    → (one : SendsBefore (codes "_version_") fields middle old first) → (two : SendsBefore (codes "id") middle later second new)
+    → ArePlaced fields one.sent two.sent later
+placed_by fields middle later old first second new one two =
     record {
-      whole = sym (ap (λ xs. xs ++ later) (parts ∙ is_first) ∙ ap (λ xs. take i fields ++ xs) is_later ∙ take-append-drop i fields);
-      version_after = subst (AllByRecursion (ComesBefore (codes "_version_"))) (sym is_before) version_after;
-      version_first = subst (StartsAfter (codes "_version_")) (sym is_between) version_first;
-      id_after = subst (AllByRecursion (ComesBefore (codes "id"))) (sym (parts ∙ is_first)) id_after;
-      id_first = subst (StartsAfter (codes "id")) (sym is_later) id_first;
+      whole = one.whole ∙ ap (λ xs. one.sent ++ xs) two.whole ∙ sym (append_assoc one.sent two.sent later);
+      version_after = one.before;
+      version_first = starts_first (codes "_version_") two.sent later (subst (StartsAfter (codes "_version_")) two.whole one.after);
+      id_after = all_joined (ComesBefore (codes "id")) one.sent two.sent (all_before_id one.sent one.before) two.before;
+      id_first = two.after;
     }
 
 -- a document's members, where the fields are placed so

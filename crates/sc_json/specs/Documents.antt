@@ -3,12 +3,12 @@ use Rattle.std.specs.Prelude.{ℕ, ℤ, Bool, false, List, [], ◌∷◌, map, c
 use Rattle.serde_json.specs.Data.{Data, null, boolean, number, string, array, object, Members, no_members, put}
 use Rattle.serde_json.specs.Find.{of_integer}
 use Rattle.serde_json.specs.View.{items_of}
-use Rattle.sc_record.specs.Fields.{kind_of}
-use Rattle.sc_record.specs.declared.document.Field.{Field}
-use Rattle.sc_record.specs.declared.value.Kind.{Kind}
-use Rattle.sc_record.specs.declared.value.Value.{Value}
-use Rattle.sc_record.specs.declared.value.Value.TheVariants as values
-use Rattle.sc_record.specs.declared.write.Write.{Write}
+use Rattle.sc_values.specs.Fields.{kind_of}
+use Rattle.sc_values.specs.declared.field.Field.{Field}
+use Rattle.sc_values.specs.declared.value.Kind.{Kind}
+use Rattle.sc_values.specs.declared.value.Value.{Value}
+use Rattle.sc_values.specs.declared.value.Value.TheVariants as values
+use Rattle.sc_record.specs.Writes.{Write}
 
 -- the members with these put among them, in the order of their keys' bytes
 abbrev pub put_all : List (List ℕ × Data) → Members → Members

@@ -1,27 +1,13 @@
 -- The law that a document which is shown and sent back stays the same (Solr Reference Guide, "Optimistic Concurrency").
-use Rattle.std.specs.Prelude.{◌≡◌, ℕ, ◌<◌, ◌≤◌, ℤ, List, length, Some, option_map, Ok, IsTrue, ⊤}
-use Rattle.std.specs.List.{AllByRecursion}
-use Rattle.sc_record.specs.Fields.{IsDocument}
+use Rattle.std.specs.Prelude.{◌≡◌, ℕ, ◌<◌, ◌≤◌, ℤ, List, length, Some, option_map, Ok, IsTrue}
+use Rattle.sc_values.specs.Fields.{IsDocument}
 use Rattle.sc_record.specs.Ids.{id_limit}
-use Rattle.sc_record.specs.Orders.{is_int, is_long}
-use Rattle.sc_record.specs.declared.document.Field.{Field}
+use Rattle.sc_record.specs.Orders.{is_long}
+use Rattle.sc_values.specs.declared.field.Field.{Field}
 use Rattle.sc_record.specs.declared.order.Change.TheVariants.{Whole}
-use Rattle.sc_record.specs.declared.value.Value.{Value}
-use Rattle.sc_record.specs.declared.value.Value.TheVariants as values
 use Rattle.sc_schema.specs.Documents.{document_order}
 use Rattle.sc_json.specs.Documents.{document_data}
 use Rattle.sc_json.specs.RawDocs.{raw_fields_of}
-
--- a number has as many bits as its kind has
-abbrev pub HasItsBits : Value → Type 0
-HasItsBits (values.Text text) = ⊤
-HasItsBits (values.Int n) = IsTrue (is_int n)
-HasItsBits (values.Long n) = IsTrue (is_long n)
-HasItsBits (values.Flag b) = ⊤
-
--- so has each number of a field
-abbrev pub IsFieldInRange : Field → Type 0
-IsFieldInRange field = AllByRecursion HasItsBits field.values
 
 -- a document as it is kept, with its id, which may be so long, and its version of 64 bits
 pub record IsStoredDocument (id : List ℕ) (version : ℤ) (fields : List Field) : Type 0 where
@@ -29,7 +15,6 @@ pub record IsStoredDocument (id : List ℕ) (version : ℤ) (fields : List Field
   pub short : length id ≤ id_limit
   pub long : IsTrue (is_long version)
   pub document : IsDocument fields
-  pub numbers : AllByRecursion IsFieldInRange fields
 
 -- what is shown of the document, sent as one to add, asks for the same document of the same id, where its version is still that
 abbrev pub AsksForItself : List ℕ → ℤ → List Field → Type 0

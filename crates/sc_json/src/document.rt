@@ -1,17 +1,18 @@
 //! A document as it is shown.
 
-ghost use Rattle.std.specs.Prelude.{◌≤◌, length, take, drop, OnOk, Some, map};
-ghost use Rattle.std.specs.List.{AllByRecursion};
+ghost use Rattle.std.specs.Prelude.{◌≡◌, ◌∷◌, [], length, OnOk, IfOk, Some, map};
 ghost use Rattle.serde.specs.Event.{Logs};
 ghost use Rattle.serde_json.specs.Events.{SendsValue, number_event};
 ghost use Rattle.serde_json.specs.Find.{of_integer};
-ghost use Rattle.sc_record.specs.Fields.{IsDocument};
+ghost use Rattle.sc_values.specs.Fields.{IsDocument};
+ghost use Rattle.sc_values.specs.declared.value.Value.{Value};
+ghost use Rattle.sc_spelling.specs.Lent.{field_of, value_of};
 ghost use Rattle.sc_json.specs.Documents as documents;
-ghost use Rattle.sc_json.specs.Sent.{SendsMember, SendsEach, ComesBefore, StartsAfter};
+ghost use Rattle.sc_json.specs.Sent.{SendsMember, SendsEach, SendsBefore, with_next};
 
-use sc_record::{Field, Id, Value, Write, kind_of};
+use sc_record::{Id, Write, kind_of};
+use sc_spelling::{FieldRef, Fields, ValueRef, Values};
 use serde::{Described, Serialize, Serializer};
-use std::cmp::Ordering;
 
 /// The document of a write, with its id and its version, as it is written into an answer (Solr Reference Guide, "Response
 /// Writers"): a field that may have one value is that value, any other the list of its values. A deletion is null.
@@ -25,8 +26,8 @@ impl Described for ShownDocument<'_> {
 impl Serialize for ShownDocument<'_> {
     fn serialize<S: Serializer>(&self, out: &mut S) -> Result<(), S::Error> {
         let write = self.0;
-        match &write.doc {
-            Some(document) => send_document(out, &write.id, write.version, document.fields()),
+        match write.doc() {
+            Some(fields) => send_document(out, write.id(), write.version(), fields),
             None => out.unit(),
         }
     }
@@ -37,46 +38,60 @@ fn send_document<S: Serializer>(
     out: &mut S,
     id: &Id,
     version: i64,
-    fields: &[Field],
+    fields: Fields<'_>,
 ) -> Result<(), S::Error>
-    requires { IsDocument fields.now }
-    ensures { OnOk result (SendsValue (documents.document_data id.now version (Some fields.now))
+    requires { IsDocument fields }
+    ensures { OnOk result (SendsValue (documents.document_data id.now version (Some fields.entry))
         (S.written out.old) (S.written out.new)) }
 {
-    let (before_id, after_id) = fields.split_at(place_of(fields, "id"));
-    let (before_version, between) = before_id.split_at(place_of(before_id, "_version_"));
-    out.begin_map(Some(fields.len() + 2))?;
-    send_fields(out, before_version)?;
+    let mut rest = fields;
+    out.begin_map(Some(rest.len() + 2))?;
+    let first = rest.next();
+    let between = send_before(out, &mut rest, first, "_version_")?;
     out.key("_version_")?;
     send_whole(out, version)?;
-    send_fields(out, between)?;
+    let later = send_before(out, &mut rest, between, "id")?;
     out.key("id")?;
     out.str(id.as_str())?;
-    send_fields(out, after_id)?;
+    send_fields(out, rest, later)?;
     out.end_map()
 }
 
-/// How many of the fields come before this name.
-fn place_of(fields: &[Field], name: &str) -> usize
-    ensures within { result ≤ length fields.now }
-    ensures before { AllByRecursion (ComesBefore name.now) (take result fields.now) }
-    ensures after { StartsAfter name.now (drop result fields.now) }
-{
-    let mut at = 0;
-    while at < fields.len() {
-        match fields[at].name.as_str().cmp(name) {
-            Ordering::Less => at += 1,
-            _ => break,
-        }
-    }
-    at
-}
-
-/// Sends the members that fields are.
-fn send_fields<S: Serializer>(out: &mut S, fields: &[Field]) -> Result<(), S::Error>
-    ensures { OnOk result (SendsEach (map documents.field_member fields.now)
+/// Sends the members that the next field and those after it are, as far as their names come before this one. It gives the first
+/// field whose name does not.
+fn send_before<'a, S: Serializer>(
+    out: &mut S,
+    fields: &mut Fields<'a>,
+    next: Option<FieldRef<'a>>,
+    name: &str,
+) -> Result<Option<FieldRef<'a>>, S::Error>
+    ensures { IfOk result (λ first. SendsBefore name.now (with_next next.entry fields.old) (with_next first fields.new)
         (S.written out.old) (S.written out.new)) }
 {
+    let mut next = next;
+    while let Some(field) = next {
+        if !field.name.cmp(name).is_lt() {
+            return Ok(Some(field));
+        }
+        send_field(out, field)?;
+        next = fields.next();
+    }
+    Ok(None)
+}
+
+/// Sends the members that the next field and those after it are.
+fn send_fields<S: Serializer>(
+    out: &mut S,
+    fields: Fields<'_>,
+    next: Option<FieldRef<'_>>,
+) -> Result<(), S::Error>
+    ensures { OnOk result (SendsEach (map documents.field_member (with_next next.entry fields.entry))
+        (S.written out.old) (S.written out.new)) }
+{
+    let Some(field) = next else {
+        return Ok(());
+    };
+    send_field(out, field)?;
     for field in fields {
         send_field(out, field)?;
     }
@@ -84,40 +99,53 @@ fn send_fields<S: Serializer>(out: &mut S, fields: &[Field]) -> Result<(), S::Er
 }
 
 /// Sends the member that a field is: a field that may have one value is that value, any other the list of its values.
-fn send_field<S: Serializer>(out: &mut S, field: &Field) -> Result<(), S::Error>
-    ensures { OnOk result (SendsMember (documents.field_member field.now)
+fn send_field<S: Serializer>(out: &mut S, field: FieldRef<'_>) -> Result<(), S::Error>
+    ensures { OnOk result (SendsMember (documents.field_member (field_of field.entry))
         (S.written out.old) (S.written out.new)) }
 {
-    let name = field.name.as_str();
+    let FieldRef { name, values } = field;
     out.key(name)?;
-    match (kind_of(name), field.values.as_slice()) {
-        (Some((_, false)), [value]) => send_value(out, value),
-        (_, values) => send_list(out, values),
+    match kind_of(name) {
+        Some((_, false)) if values.len() == 1 => send_only(out, values),
+        _ => send_list(out, values),
+    }
+}
+
+/// Sends the only value.
+fn send_only<S: Serializer>(out: &mut S, values: Values<'_>) -> Result<(), S::Error>
+    requires { length values ≡ 1 }
+    ensures { OnOk result ((value : Value) → values.entry ≡ value ∷ [] → SendsValue (documents.value_data value)
+        (S.written out.old) (S.written out.new)) }
+{
+    let mut values = values;
+    match values.next() {
+        Some(value) => send_value(out, &value),
+        None => Ok(()),
     }
 }
 
 /// Sends the list of values.
-fn send_list<S: Serializer>(out: &mut S, values: &[Value]) -> Result<(), S::Error>
-    ensures { OnOk result (SendsValue (documents.array_of (map documents.value_data values.now))
+fn send_list<S: Serializer>(out: &mut S, values: Values<'_>) -> Result<(), S::Error>
+    ensures { OnOk result (SendsValue (documents.array_of (map documents.value_data values.entry))
         (S.written out.old) (S.written out.new)) }
 {
     out.begin_seq(Some(values.len()))?;
     for value in values {
-        send_value(out, value)?;
+        send_value(out, &value)?;
     }
     out.end_seq()
 }
 
 /// Sends one value of a field.
-fn send_value<S: Serializer>(out: &mut S, value: &Value) -> Result<(), S::Error>
-    ensures { OnOk result (SendsValue (documents.value_data value.now)
+fn send_value<S: Serializer>(out: &mut S, value: &ValueRef<'_>) -> Result<(), S::Error>
+    ensures { OnOk result (SendsValue (documents.value_data (value_of value.now))
         (S.written out.old) (S.written out.new)) }
 {
     match value {
-        Value::Text(text) => out.str(text.as_str()),
-        Value::Int(n) => send_whole(out, i64::from(*n)),
-        Value::Long(n) => send_whole(out, *n),
-        Value::Flag(b) => out.bool(*b),
+        ValueRef::Text(text) => out.str(text),
+        ValueRef::Int(n) => send_whole(out, i64::from(*n)),
+        ValueRef::Long(n) => send_whole(out, *n),
+        ValueRef::Flag(b) => out.bool(*b),
     }
 }
 

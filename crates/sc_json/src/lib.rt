@@ -1,10 +1,11 @@
 //! JSON (RFC 8259): the value that a body is, a document as a request gives it, and a document as it is shown.
 //!
-//! It may depend on the documents of `sc_record` and `sc_schema`, on the parser and printer of `serde_json`, on `serde`, by
-//! which a document is sent to that printer, and on the reader of `json` below it, which do all reading, printing and escaping.
-//! The layers above use the clauses of `read` and `raw_doc`, which say which value a body has and what its members are, those of
-//! `flat_docs` and `count_docs`, which read the common body and count its documents with no tree of its value, that of
-//! `ShownDocument`, which says what a document sends, and those of `print`, which say which text a value has.
+//! It may depend on the documents of `sc_record` and `sc_schema`, on what `sc_spelling` lends of a document's bytes, on the
+//! parser and printer of `serde_json`, on `serde`, by which a document is sent to that printer, and on the reader of `json`
+//! below it, which do all reading, printing and escaping. The layers above use the clauses of `read` and `raw_doc`, which say
+//! which value a body has and what its members are, those of `flat_docs` and `count_docs`, which read the common body and count
+//! its documents with no tree of its value, that of `ShownDocument`, which says what a document sends, and those of `print`,
+//! which say which text a value has.
 //!
 //! Proved: `read`, `raw_doc` and `print` are the definitions in `specs/` over the JSON values of `serde_json`, and a
 //! `ShownDocument` sends what the value of its document would. The documents that `flat_docs` gives are those of the body's
@@ -15,7 +16,7 @@
 //! Tested alone: the worked documents.
 //!
 //! Neither: that `flat_docs` gives the documents of each body that is an array of flat objects, and that `count_docs` counts
-//! them.
+//! them; that a document is shown from its bytes without taking memory holds by construction (no allocator is passed).
 #![tactic(auto)]
 
 // A body's value, and the members of an object.

@@ -12,7 +12,7 @@ use Rattle.std.proofs.lemmas.List.Elements.{All-contains, All-from_recursion}
 use Rattle.sc_record.specs.declared.slice.SliceId.{SliceId}
 use Rattle.sc_record.specs.declared.slice.SubSlice.{SubSlice}
 use Rattle.sc_record.specs.declared.slice.CoreId.{CoreId}
-use Rattle.sc_record.specs.declared.write.Write.{Write}
+use Rattle.sc_record.specs.Writes.{Write}
 use Rattle.sc_record.specs.declared.entry.Entry.{Entry}
 use Rattle.sc_record.specs.Names.{key_of_core}
 use Rattle.sc_record.specs.Versions.{last_timed_version}
@@ -71,8 +71,8 @@ IsTimely kept write =
 
 -- a write may come
 pub may_write : (first : List Slice) (journal : List Entry) (kept : Kept) (write : Write) → IsChecked first journal kept
-    → IsComputed write → IsTimely kept write ↔ MayWrite journal write
-may_write first journal kept write checked computed = (forth, back) where
+    → IsComputed write → pos 0 <ℤ write.version → IsTimely kept write ↔ MayWrite journal write
+may_write first journal kept write checked computed positive = (forth, back) where
   is : IsKept first journal kept
   is = checked.kept_is
 
@@ -80,7 +80,7 @@ may_write first journal kept write checked computed = (forth, back) where
   forth (newer, bounded) = record {
     hash = computed.hash;
     terms = computed.terms;
-    positive = write.positive;
+    positive = positive;
     newest = newest_from_last first journal write.id write.version checked.legal (λ last found.
         subst (λ (v : Option ℤ). IfSome v (λ last. last <ℤ write.version))
         (is.newest_is write.id ∙ ap (option_map (λ (w : Write). w.version)) found) newer);

@@ -26,11 +26,13 @@ impl Kept {
     /// this, allow.
     pub(crate) fn may_write(&self, write: &Write) -> bool
         requires { self.now.writes + 1 < 2 ^ 64 }
-        ensures { IsTrue result
+        ensures exactly { IsTrue result
             ↔ (IfSome (get (slice_cmp nat_cmp) self.now.newest write.now.id) (λ last. last <ℤ write.now.version)
             × (write.now.version ≤ℤ pos (last_timed_version + (self.now.writes + 1)))) }
+        ensures positive { pos 0 <ℤ write.now.version }
     {
-        self.is_newer(write) && self.is_bounded(write.version)
+        let version = write.version();
+        self.is_newer(write) && self.is_bounded(version)
     }
 
     // The write's version is above that of the last write of its id.
@@ -38,8 +40,8 @@ impl Kept {
         ensures { IsTrue result
             ↔ IfSome (get (slice_cmp nat_cmp) self.now.newest write.now.id) (λ last. last <ℤ write.now.version) }
     {
-        match self.newest.get(&write.id) {
-            Some(last) => *last < write.version,
+        match self.newest.get(write.id()) {
+            Some(last) => *last < write.version(),
             None => true,
         }
     }

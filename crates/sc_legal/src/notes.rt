@@ -59,9 +59,9 @@ impl Kept {
         ensures ok { OnOk result (Notes (entry.Write cell.now) self.old self.new) }
         ensures err { OnErr result (Stays self.old self.new) }
     {
-        let id = cell.id.clone_in(alloc)?;
+        let id = cell.id().clone_in(alloc)?;
         self.unsettled.insert(self.entries)?;
-        if self.newest.insert(id, cell.version).is_err() {
+        if self.newest.insert(id, cell.version()).is_err() {
             self.unsettled.remove(&self.entries);
             return Err(AllocError);
         }

@@ -8,8 +8,8 @@ use Rattle.std.proofs.lemmas.Bool.Decides.{Decides-int_eq}
 use Rattle.std.proofs.lemmas.Cmp.{int_eq_equiv}
 use Rattle.std.proofs.lemmas.List.Elements.{filter-append}
 use Rattle.std.proofs.lemmas.List.Folds.{list_any-append}
-use Rattle.sc_record.specs.declared.value.Value.{Value}
-use Rattle.sc_record.specs.declared.value.Value.TheVariants as values
+use Rattle.sc_values.specs.declared.value.Value.{Value}
+use Rattle.sc_values.specs.declared.value.Value.TheVariants as values
 use Rattle.sc_partial.specs.Changed.{same_value, is_among, with_distinct, without}
 use Rattle.sc_partial.specs.Laws.{AddsWhatIsMissing, AddsNoneTwice, RemovesAll}
 use Rattle.sc_partial.proofs.NameLemmas.{same_itself, one_name}

@@ -8,9 +8,9 @@ use Rattle.std.specs.declared.cmp.Ordering.{Ordering}
 use Rattle.std.specs.declared.cmp.Ordering.TheVariants.{Less, Equal, Greater}
 use Rattle.std.proofs.lemmas.Bool.{cases_Bool}
 use Rattle.std.proofs.lemmas.Cmp.{nat_list_cmp_total}
-use Rattle.sc_record.specs.Fields.{Ascends, IsDocument, values_of}
+use Rattle.sc_values.specs.Fields.{Ascends, AreFields, values_of}
 use Rattle.sc_record.specs.Orders.{AreFieldChanges}
-use Rattle.sc_record.specs.declared.document.Field.{Field}
+use Rattle.sc_values.specs.declared.field.Field.{Field}
 use Rattle.sc_record.specs.declared.order.FieldChange.{FieldChange}
 use Rattle.sc_partial.specs.Changed.{can_change}
 use Rattle.sc_partial.specs.Resolved.{IsChanged, first_refused}
@@ -103,6 +103,6 @@ all_make : (old : List Field) (all changes : List FieldChange) → first_refused
 all_make old all [] none fields new so_far = (new ++ fields, (done old all fields new so_far).1)
 all_make old all (change ∷ changes) none fields new so_far = one_more old all change changes none (all_make old all changes none) fields new so_far
 
-pub makes_one : (old : List Field) (changes : List FieldChange) → IsDocument old → AreFieldChanges changes → first_refused old changes ≡ None
+pub makes_one : (old : List Field) (changes : List FieldChange) → AreFields old → AreFieldChanges changes → first_refused old changes ≡ None
     → (new : List Field) × IsChanged old changes new
 makes_one old changes document lawful none = all_make old changes changes none old [] (begun old changes document lawful)

@@ -4,11 +4,11 @@ use Rattle.std.specs.Bool.{IsTrue}
 use Rattle.std.specs.List.{AllByRecursion}
 use Rattle.std.specs.Str.{bytes_eq}
 use Rattle.std.proofs.lemmas.Bool.{cases_Bool}
-use Rattle.sc_record.specs.Fields.{kind_of, fits_name, IsField, IsBelowFirst, IsDocument, values_of}
+use Rattle.sc_values.specs.Fields.{kind_of, fits_name, IsField, IsBelowFirst, AreFields, values_of}
 use Rattle.sc_record.specs.Orders.{AreFieldChanges}
-use Rattle.sc_record.specs.declared.value.Kind.{Kind}
-use Rattle.sc_record.specs.declared.value.Value.{Value}
-use Rattle.sc_record.specs.declared.document.Field.{Field}
+use Rattle.sc_values.specs.declared.value.Kind.{Kind}
+use Rattle.sc_values.specs.declared.value.Value.{Value}
+use Rattle.sc_values.specs.declared.field.Field.{Field}
 use Rattle.sc_record.specs.declared.order.FieldChange.{FieldChange}
 use Rattle.sc_partial.specs.Changed.{can_change, changed}
 use Rattle.sc_partial.specs.Resolved.{standing, resolved, some_values, some_field, IsChanged}
@@ -51,7 +51,7 @@ put name (value ∷ list) fields more_fields changes more_changes new f c may he
 }
 
 -- a field that no change names stays
-pub keep : (field : Field) (fields : List Field) (changes : List FieldChange) (new : List Field) → IsDocument (field ∷ fields) → IsBelowChanges field.name changes
+pub keep : (field : Field) (fields : List Field) (changes : List FieldChange) (new : List Field) → AreFields (field ∷ fields) → IsBelowChanges field.name changes
     → IsChanged fields changes new → IsChanged (field ∷ fields) changes (field ∷ new)
 keep field fields changes new document c made =
     subst (λ (one : List Field). IsChanged (field ∷ fields) changes (one ++ new)) (some_field-is field.name field.values document.each.0)
@@ -61,7 +61,7 @@ keep field fields changes new document c made =
     (λ other differs. rw differs refl) made)
 
 -- a field that the first change names has the values that the change gives
-pub change_first : (field : Field) (fields : List Field) (change : FieldChange) (changes : List FieldChange) (new : List Field) → IsDocument (field ∷ fields)
+pub change_first : (field : Field) (fields : List Field) (change : FieldChange) (changes : List FieldChange) (new : List Field) → AreFields (field ∷ fields)
     → AreFieldChanges (change ∷ changes) → field.name ≡ change.name → IsTrue (can_change change.name field.values change.how)
     → IsChanged fields changes new → IsChanged (field ∷ fields) (change ∷ changes) (some_field change.name (changed change.name field.values change.how) ++ new)
 change_first field fields change changes new document lawful same can made =
@@ -73,7 +73,7 @@ change_first field fields change changes new document lawful same can made =
     (λ other differs. rw (same, differs) refl) made
 
 -- and so has a field that was missing
-pub insert : (fields : List Field) (change : FieldChange) (changes : List FieldChange) (new : List Field) → IsDocument fields
+pub insert : (fields : List Field) (change : FieldChange) (changes : List FieldChange) (new : List Field) → AreFields fields
     → AreFieldChanges (change ∷ changes) → IsBelowFirst change.name fields → IsTrue (can_change change.name [] change.how)
     → IsChanged fields changes new → IsChanged fields (change ∷ changes) (some_field change.name (changed change.name [] change.how) ++ new)
 insert fields change changes new document lawful below can made =
@@ -89,7 +89,7 @@ pub some_values-is : (kind : Option (Kind × Bool)) (list : List Value) → IsTr
 some_values-is kind [] fits = absurd (no_values kind fits)
 some_values-is kind (value ∷ list) fits = refl
 
-pub unchanged : (fields : List Field) → IsDocument fields → IsChanged fields [] fields
+pub unchanged : (fields : List Field) → AreFields fields → IsChanged fields [] fields
 unchanged fields document = record { document = document; values = stands fields document.each } where
   stands : (fields : List Field) → AllByRecursion IsField fields → (name : List ℕ) → values_of fields name ≡ some_values (standing fields name)
   stands [] each name = refl

@@ -9,11 +9,11 @@ use Rattle.std.proofs.lemmas.Bool.{cases_Bool}
 use Rattle.std.proofs.lemmas.Cmp.{nat_list_cmp_total, nat_list_eq_equiv}
 use Rattle.std.proofs.lemmas.Map.Keys.{sorted_head, sorted_tail}
 use Rattle.std.proofs.lemmas.Slice.Eq.{bytes_eq-Decides}
-use Rattle.sc_record.specs.Fields.{IsBelowFirst, Ascends, values_of}
+use Rattle.sc_values.specs.Fields.{IsBelowFirst, Ascends, values_of}
 use Rattle.sc_record.specs.Orders.{AreFieldChanges}
-use Rattle.sc_record.specs.declared.document.Field.{Field}
+use Rattle.sc_values.specs.declared.field.Field.{Field}
 use Rattle.sc_record.specs.declared.order.FieldChange.{FieldChange}
-use Rattle.sc_record.proofs.FieldLemmas.{below_next}
+use Rattle.sc_values.proofs.FieldLemmas.{below_next}
 use Rattle.sc_partial.specs.Resolved.{how_of, resolved}
 
 -- the name comes before the other one

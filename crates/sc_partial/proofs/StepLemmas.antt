@@ -5,9 +5,9 @@ use Rattle.std.specs.Ordering.{nat_cmp, ordering_reverse}
 use Rattle.std.specs.Cmp.Lexicographic.{slice_cmp}
 use Rattle.std.specs.declared.cmp.Ordering.TheVariants.{Equal, Greater}
 use Rattle.std.proofs.lemmas.Cmp.{nat_list_cmp_total}
-use Rattle.sc_record.specs.Fields.{IsBelowFirst, IsDocument}
+use Rattle.sc_values.specs.Fields.{IsBelowFirst, AreFields}
 use Rattle.sc_record.specs.Orders.{AreFieldChanges}
-use Rattle.sc_record.specs.declared.document.Field.{Field}
+use Rattle.sc_values.specs.declared.field.Field.{Field}
 use Rattle.sc_record.specs.declared.order.FieldChange.{FieldChange}
 use Rattle.sc_partial.specs.Changed.{can_change, changed}
 use Rattle.sc_partial.specs.Resolved.{some_field, IsChanged, first_refused, IsRefusalOf}
@@ -18,7 +18,7 @@ use Rattle.sc_partial.proofs.MergeLemmas.{keep, change_first, insert, unchanged}
 
 -- the fields and changes that are left, put after the new fields, make the document that all make, and have its first refusal
 pub record IsMergedSoFar (old : List Field) (all : List FieldChange) (fields : List Field) (changes : List FieldChange) (new : List Field) : Type 0 where
-  pub document : IsDocument fields
+  pub document : AreFields fields
   pub lawful : AreFieldChanges changes
   pub refused : first_refused old all ≡ first_refused fields changes
   pub makes : (rest : List Field) → IsChanged fields changes rest → IsChanged old all (new ++ rest)
@@ -31,7 +31,7 @@ same_so_far {old = old} {all = all} {fields = fields} {fields' = fields'} {chang
     (subst (λ (x : List FieldChange). IsMergedSoFar old all fields x new') c
     (subst (λ (x : List Field). IsMergedSoFar old all fields changes x) n so_far))
 
-pub begun : (old : List Field) (all : List FieldChange) → IsDocument old → AreFieldChanges all → IsMergedSoFar old all old all []
+pub begun : (old : List Field) (all : List FieldChange) → AreFields old → AreFieldChanges all → IsMergedSoFar old all old all []
 begun old all document lawful = record { document = document; lawful = lawful; refused = refl; makes = λ rest made. made }
 
 -- no change is left: the fields that are left stay
@@ -40,7 +40,7 @@ pub done : (old : List Field) (all : List FieldChange) (fields new : List Field)
 done old all fields new so_far = (so_far.refused, so_far.makes fields (unchanged fields so_far.document))
 
 -- the fields after the first one
-rest_document : (field : Field) (fields : List Field) → IsDocument (field ∷ fields) → IsDocument fields
+rest_document : (field : Field) (fields : List Field) → AreFields (field ∷ fields) → AreFields fields
 rest_document field fields document = record { each = document.each.1; ascends = document.ascends.1 }
 
 -- a field that no change names has no part in their refusals
@@ -102,7 +102,7 @@ changed_same old all field fields one changes new so_far equal can =
     }
 
 -- the first change names no field
-pub first_refused-missing : (fields : List Field) (change : FieldChange) (changes : List FieldChange) → IsDocument fields → IsBelowFirst change.name fields
+pub first_refused-missing : (fields : List Field) (change : FieldChange) (changes : List FieldChange) → AreFields fields → IsBelowFirst change.name fields
     → first_refused fields (change ∷ changes) ≡ (if can_change change.name [] change.how then first_refused fields changes else Some change.name)
 first_refused-missing fields change changes document below =
     rw (values_of-none change.name fields (below_fields change.name fields below document.ascends)) refl

@@ -5,11 +5,11 @@ use Rattle.std.specs.Option.{unwrap_or}
 use Rattle.std.specs.Str.{bytes_eq}
 use Rattle.std.proofs.lemmas.Bool.{cases_Bool}
 use Rattle.std.proofs.lemmas.Int.{ints}
-use Rattle.sc_record.specs.Fields.{kind_of, values_of}
-use Rattle.sc_record.specs.declared.value.Kind.{Kind}
-use Rattle.sc_record.specs.declared.value.Kind.TheVariants as kinds
-use Rattle.sc_record.specs.declared.value.Value.{Value}
-use Rattle.sc_record.specs.declared.document.Field.{Field}
+use Rattle.sc_values.specs.Fields.{kind_of, values_of}
+use Rattle.sc_values.specs.declared.value.Kind.{Kind}
+use Rattle.sc_values.specs.declared.value.Kind.TheVariants as kinds
+use Rattle.sc_values.specs.declared.value.Value.{Value}
+use Rattle.sc_values.specs.declared.field.Field.{Field}
 use Rattle.sc_record.specs.declared.order.How.{How}
 use Rattle.sc_record.specs.declared.order.How.TheVariants as hows
 use Rattle.sc_partial.specs.Changed.{with_distinct, number_in, number_value, changed, is_in_kind_range}

@@ -8,14 +8,14 @@ use Rattle.std.specs.Ordering.{nat_cmp}
 use Rattle.std.specs.Cmp.Lexicographic.{slice_cmp}
 use Rattle.std.proofs.lemmas.Bool.{cases_Bool, and_parts}
 use Rattle.std.proofs.lemmas.Bool.Decides.{nat_tests}
-use Rattle.sc_record.specs.Fields.{kind_of, fits_kind, fits_count, fits_name, IsField, values_of}
+use Rattle.sc_values.specs.Fields.{kind_of, fits_kind, fits_count, fits_name, IsField, values_of}
 use Rattle.sc_record.specs.Orders.{fits_change, IsFieldChange}
-use Rattle.sc_record.specs.declared.value.Kind.{Kind}
-use Rattle.sc_record.specs.declared.value.Value.{Value}
-use Rattle.sc_record.specs.declared.document.Field.{Field}
+use Rattle.sc_values.specs.declared.value.Kind.{Kind}
+use Rattle.sc_values.specs.declared.value.Value.{Value}
+use Rattle.sc_values.specs.declared.field.Field.{Field}
 use Rattle.sc_record.specs.declared.order.How.TheVariants as hows
-use Rattle.sc_record.proofs.FieldLemmas.{names-sorted}
-use Rattle.sc_record.proofs.FieldLemmas as fields_of_documents
+use Rattle.sc_values.proofs.FieldLemmas.{names-sorted}
+use Rattle.sc_values.proofs.FieldLemmas as fields_of_documents
 use Rattle.sc_partial.specs.Changed.{has_room}
 use Rattle.sc_partial.specs.Resolved.{resolved, some_values, first_refused}
 use Rattle.sc_partial.specs.Laws.{set_all, SetsAWhole}

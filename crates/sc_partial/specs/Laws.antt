@@ -1,10 +1,10 @@
 -- Laws of atomic updates: what one change after another makes, that changes make one document, and what is in a list then.
 use Rattle.std.specs.Prelude.{◌≡◌, ◌↔◌, ◌+ℤ◌, ℕ, not, ◌&&◌, ◌||◌, ℤ, List, [], ◌∷◌, map, None, IsTrue}
 use Rattle.std.specs.List.{IsDistinct}
-use Rattle.sc_record.specs.Fields.{IsDocument}
+use Rattle.sc_values.specs.Fields.{AreFields}
 use Rattle.sc_record.specs.Orders.{AreFieldChanges}
-use Rattle.sc_record.specs.declared.value.Value.{Value}
-use Rattle.sc_record.specs.declared.document.Field.{Field}
+use Rattle.sc_values.specs.declared.value.Value.{Value}
+use Rattle.sc_values.specs.declared.field.Field.{Field}
 use Rattle.sc_record.specs.declared.order.How.{How}
 use Rattle.sc_record.specs.declared.order.How.TheVariants as hows
 use Rattle.sc_record.specs.declared.order.FieldChange.{FieldChange}
@@ -51,7 +51,7 @@ set_all fields = map (λ (field : Field). record { name = field.name; how = hows
 
 -- a document as a whole is what the changes that set all its fields make of an empty one, which refuses none of them
 abbrev pub SetsAWhole : Type 0
-SetsAWhole = (fields : List Field) → IsDocument fields
+SetsAWhole = (fields : List Field) → AreFields fields
     → AreFieldChanges (set_all fields) × (first_refused [] (set_all fields) ≡ None) × IsChanged [] (set_all fields) fields
 
 -- changes make at most one document of an old one
@@ -61,7 +61,7 @@ MakesOneDocument = (old : List Field) (changes : List FieldChange) (new other : 
 
 -- and they make one where no field refuses its change
 abbrev pub MakesADocument : Type 0
-MakesADocument = (old : List Field) (changes : List FieldChange) → IsDocument old → AreFieldChanges changes
+MakesADocument = (old : List Field) (changes : List FieldChange) → AreFields old → AreFieldChanges changes
     → first_refused old changes ≡ None → (new : List Field) × IsChanged old changes new
 
 -- values are the same exactly where they are equal

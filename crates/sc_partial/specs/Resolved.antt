@@ -1,8 +1,8 @@
 -- What changes make of a document, or the first field that can't take its change (Solr Reference Guide, "Atomic Updates").
 use Rattle.std.specs.Prelude.{◌≡◌, ℕ, if◌then◌else◌, List, [], ◌∷◌, bytes_eq, Option, Some, None, unwrap_or, ⊤}
-use Rattle.sc_record.specs.Fields.{IsDocument, values_of}
-use Rattle.sc_record.specs.declared.value.Value.{Value}
-use Rattle.sc_record.specs.declared.document.Field.{Field}
+use Rattle.sc_values.specs.Fields.{AreFields, values_of}
+use Rattle.sc_values.specs.declared.value.Value.{Value}
+use Rattle.sc_values.specs.declared.field.Field.{Field}
 use Rattle.sc_record.specs.declared.order.How.{How}
 use Rattle.sc_record.specs.declared.order.FieldChange.{FieldChange}
 use Rattle.sc_partial.specs.Changed.{changed, can_change}
@@ -39,7 +39,7 @@ some_field name (value ∷ others) = record { name = name; values = value ∷ ot
 
 -- the document that the changes make of the old one: by it each name has the values that are resolved, or no field
 pub record IsChanged (old : List Field) (changes : List FieldChange) (new : List Field) : Type 0 where
-  pub document : IsDocument new
+  pub document : AreFields new
   pub values : (name : List ℕ) → values_of new name ≡ some_values (resolved old changes name)
 
 -- the name of the first change that its field can't take; of names that ascend it is the least

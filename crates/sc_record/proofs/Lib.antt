@@ -1,6 +1,8 @@
 -- The lemmas of this crate, lowest first.
-pub mod FieldLemmas
-pub mod FieldSearchLemmas
-pub mod ShortLemmas
+pub mod DocumentLemmas
 pub mod TermLemmas
+pub mod TermReadLemmas
+pub mod TermPushLemmas
+pub mod TermRunLemmas
 pub mod VersionLemmas
+pub mod WriteLemmas

@@ -1,10 +1,11 @@
--- Texts, the lengths of ids, the names of cores, the names and kinds of fields, orders and the changes that they ask for, short texts, terms, versions, and writes by their ids.
-pub mod Fields
+-- How a document and a write are kept, the lengths of ids, the names of cores, orders and the changes that they ask for, terms, versions, and writes by their ids.
+pub mod Documents
 pub mod Ids
 pub mod Names
 pub mod Orders
-pub mod Shorts
+pub mod TermRuns
+pub mod TermsStates
 pub mod Terms
-pub mod Texts
 pub mod Versions
+pub mod WriteRuns
 pub mod Writes

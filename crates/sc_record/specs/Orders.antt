@@ -6,9 +6,9 @@ use Rattle.std.specs.List.{list_all, AllByRecursion, AllByRecursion-prop}
 use Rattle.std.specs.List.Sorted.{IsStrictlySortedBy, IsStrictlySortedBy-prop}
 use Rattle.std.specs.Ordering.{nat_cmp}
 use Rattle.std.specs.Cmp.Lexicographic.{slice_cmp}
-use Rattle.sc_record.specs.Fields.{fits_kind, kind_of}
-use Rattle.sc_record.specs.declared.value.Kind.{Kind}
-use Rattle.sc_record.specs.declared.value.Kind.TheVariants as kinds
+use Rattle.sc_values.specs.Fields.{fits_kind, kind_of}
+use Rattle.sc_values.specs.declared.value.Kind.{Kind}
+use Rattle.sc_values.specs.declared.value.Kind.TheVariants as kinds
 use Rattle.sc_record.specs.declared.order.How.{How}
 use Rattle.sc_record.specs.declared.order.How.TheVariants as hows
 use Rattle.sc_record.specs.declared.order.FieldChange.{FieldChange}

@@ -1,6 +1,6 @@
-use crate::list::List;
 use crate::slice::{CoreId, SliceId, SubSlice};
 use crate::write::Cell;
+use sc_values::List;
 
 /// One entry of a bucket's journal. The entries of a split change the bucket's map of slices; those of a core say which cores are
 /// down, and which lead.

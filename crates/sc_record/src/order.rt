@@ -2,9 +2,7 @@ ghost use Rattle.sc_record.specs.Orders.{IsChangeOfOrder, IsChange-prop};
 
 use crate::document::Doc;
 use crate::id::Id;
-use crate::list::List;
-use crate::text::Text;
-use crate::value::Value;
+use sc_values::{List, Text, Value};
 
 /// The most orders of an update.
 pub const MAX_ORDERS: usize = 4_096;

@@ -1,7 +1,6 @@
 ghost use Rattle.std.specs.Prelude.{◌≡◌, ◌<◌, ◌≤ℤ◌};
 
-use crate::copy::CloneIn;
-use crate::text::Text;
+use sc_values::{CloneIn, Text};
 use std::alloc::{AllocError, Global};
 
 /// Names a slice of the collection. Ids are counted up, and that of a slice that was ever active is given to no other.

@@ -7,8 +7,7 @@ use Rattle.std.specs.Str.{bytes_eq}
 use Rattle.std.specs.declared.cmp.Ordering.{Ordering}
 use Rattle.std.specs.declared.cmp.Ordering.TheVariants.{Less, Equal, Greater}
 use Rattle.std.proofs.lemmas.Cmp.{nat_list_cmp_total}
-use Rattle.sc_record.specs.declared.write.Write.{Write}
-use Rattle.sc_record.specs.Writes.{is_of, write_of, AscendById}
+use Rattle.sc_record.specs.Writes.{Write, is_of, write_of, AscendById}
 use Rattle.sc_replica.specs.Cells.{put}
 use Rattle.sc_replica.proofs.IdLemmas.{order, order-back, same-id, order-itself, one-id}
 

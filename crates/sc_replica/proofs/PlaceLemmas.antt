@@ -12,8 +12,7 @@ use Rattle.std.proofs.Math.ListN as lists
 use Rattle.std.specs.Prelude.{int_lt}
 use Rattle.std.proofs.lemmas.List.Sorted.{searchable_from_sorted}
 use Rattle.std.proofs.lemmas.Map.Keys.{Less-from_sorted}
-use Rattle.sc_record.specs.declared.write.Write.{Write}
-use Rattle.sc_record.specs.Writes.{is_of, write_of, AscendById}
+use Rattle.sc_record.specs.Writes.{Write, is_of, write_of, AscendById}
 use Rattle.sc_replica.specs.Cells.{CellsState, put, applied, spare_after}
 use Rattle.sc_replica.specs.Places.{compared, IsSearchedPlace}
 use Rattle.sc_replica.proofs.IdLemmas.{order, order-back, same-id, id-itself, lower-id, higher-id}

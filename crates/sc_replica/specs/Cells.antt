@@ -2,8 +2,7 @@
 use Rattle.std.specs.Prelude.{◌-◌, ℕ, Bool, true, if◌then◌else◌, int_lt, is_some, List, [], ◌∷◌, Option, Some, None}
 use Rattle.std.specs.Cmp.Lexicographic.{slice_cmp}
 use Rattle.std.specs.Ordering.{nat_cmp, match_ordering}
-use Rattle.sc_record.specs.declared.write.Write.{Write}
-use Rattle.sc_record.specs.Writes.{write_of}
+use Rattle.sc_record.specs.Writes.{Write, write_of}
 
 -- cells as contracts see them: the writes, and how many more ids they have room for
 pub record CellsState : Type 0 where

@@ -2,8 +2,7 @@
 use Rattle.std.specs.Prelude.{◌<◌, ◌≤ℤ◌, ◌-◌, ◌^◌, ℕ, ℤ, pos, Bool, All, List, [], ◌∷◌, ◌++◌, take, drop}
 use Rattle.std.specs.Int.{int_max}
 use Rattle.sc_record.specs.declared.slice.CoreId.{CoreId}
-use Rattle.sc_record.specs.declared.write.Write.{Write}
-use Rattle.sc_record.specs.Writes.{AscendById}
+use Rattle.sc_record.specs.Writes.{Write, AscendById}
 use Rattle.sc_ulog.specs.declared.mode.Mode.{Mode}
 use Rattle.sc_ulog.specs.declared.mode.Mode.TheVariants.{Active, Buffering, Replaying}
 use Rattle.sc_ulog.specs.LogState.{IsEmptyWhereActive}

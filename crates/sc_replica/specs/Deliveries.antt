@@ -1,6 +1,6 @@
 -- What becomes of a core by one delivery after another, and which write of an id is the greatest.
 use Rattle.std.specs.Prelude.{◌≡◌, ◌≤ℤ◌, zero, suc, ℕ, All, Contains, List, [], ◌∷◌, MatchOption, Option}
-use Rattle.sc_record.specs.declared.write.Write.{Write}
+use Rattle.sc_record.specs.Writes.{Write}
 use Rattle.sc_ulog.specs.declared.mode.Mode.TheVariants.{Replaying}
 use Rattle.sc_replica.specs.Core.{Core, fed, received, replayed}
 

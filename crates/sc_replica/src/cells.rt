@@ -125,7 +125,7 @@ impl Cells {
           spare = spare_after self.old.writes self.old.spare (arc_value write);
         } }
     {
-        match place(&self.cells, &write.id) {
+        match place(&self.cells, write.id()) {
             Ok(place) => self.cells[place] = write,
             Err(place) => insert_reserved(&mut self.cells, &mut self.spare, place, write),
         }
@@ -140,7 +140,7 @@ impl Cells {
           spare = spare_after self.old.writes self.old.spare (arc_value write);
         } }
     {
-        match place(&self.cells, &write.id) {
+        match place(&self.cells, write.id()) {
             Ok(place) => {
                 if is_above(&self.cells[place], &write) {
                     self.cells[place] = write;
@@ -169,7 +169,7 @@ fn is_above_all(cells: &VecDeque<Cell>, id: &Id) -> bool
     ensures { IsTrue result → AllWithin (λ write. compared id.now write ≡ Less) (map arc_value cells.now.items) 0 (length cells.now.items) }
 {
     match cells.back() {
-        Some(last) => last.id.as_str().cmp(id.as_str()).is_lt(),
+        Some(last) => last.id().as_str().cmp(id.as_str()).is_lt(),
         None => true,
     }
 }
@@ -180,7 +180,7 @@ fn search(cells: &VecDeque<Cell>, id: &Id) -> Result<usize, usize>
     ensures { IsSearchedPlace (map arc_value cells.now.items) id.now result }
 {
     let id = id.as_str();
-    cells.binary_search_by(|cell| cell.id.as_str().cmp(id))
+    cells.binary_search_by(|cell| cell.id().as_str().cmp(id))
 }
 
 // Puts the write in before the cell at this place, in the room that there is, and takes one place of it. The shorter side
@@ -202,5 +202,5 @@ fn insert_reserved(cells: &mut VecDeque<Cell>, spare: &mut usize, place: usize, 
 fn is_above(cell: &Cell, write: &Cell) -> bool
     ensures { result ≡ int_lt (arc_value cell.now).version (arc_value write.now).version }
 {
-    cell.version < write.version
+    cell.version() < write.version()
 }

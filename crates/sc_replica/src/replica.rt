@@ -268,7 +268,7 @@ fn put(cells: &mut Cells, clock: &mut i64, write: Cell)
     } }
     ensures clock { clock.new ≡ (arc_value write).version }
 {
-    *clock = write.version;
+    *clock = write.version();
     cells.put(write);
 }
 
@@ -281,6 +281,6 @@ fn apply(cells: &mut Cells, clock: &mut i64, write: Cell)
     } }
     ensures clock { clock.new ≡ int_max clock.old (arc_value write).version }
 {
-    *clock = (*clock).max(write.version);
+    *clock = (*clock).max(write.version());
     cells.apply(write);
 }

@@ -4,7 +4,7 @@ use Rattle.std.specs.Arc.{arc_value}
 use Rattle.sc_hash.specs.Range.{IsWithin}
 use Rattle.sc_hash.specs.declared.range.Range.{Range}
 use Rattle.sc_record.specs.declared.slice.SliceId.{SliceId}
-use Rattle.sc_record.specs.declared.write.Write.{Write}
+use Rattle.sc_record.specs.Writes.{Write}
 use Rattle.sc_snapshot.specs.Rows.{AreRows, SnapshotState}
 use Rattle.sc_replicas.specs.declared.standing.Standing.{Standing}
 use Rattle.sc_replicas.specs.declared.standing.Searcher.{Searcher}

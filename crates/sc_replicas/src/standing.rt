@@ -1,6 +1,6 @@
 ghost use Rattle.std.specs.Prelude.{◌≡◌, Contains, map, All, IsTrue, IsFalse};
 ghost use Rattle.sc_hash.specs.Range.{IsWithin};
-ghost use Rattle.sc_record.specs.declared.write.Write.{Write};
+ghost use Rattle.sc_record.specs.Writes.{Write};
 ghost use Rattle.sc_replicas.specs.Searchers.{AreMoved, HasOwnRows};
 
 use sc_hash::Range;

@@ -5,7 +5,7 @@ use Rattle.serde_json.specs.Data.{Data, boolean, string, no_members}
 use Rattle.serde_json.specs.View.{items_of}
 use Rattle.serde_json.specs.Written.{has_float, items_have_float}
 use Rattle.sc_record.specs.declared.ack.Ack.{Ack}
-use Rattle.sc_record.specs.declared.write.Write.{Write}
+use Rattle.sc_record.specs.Writes.{Write}
 use Rattle.sc_json.specs.Documents.{object_of, array_of, whole_number, write_data}
 use Rattle.sc_json.proofs.FloatLemmas.{no_float-put_all, no_float-number, no_float-list, no_float-document}
 use Rattle.sc_reply.specs.Bodies.{acks_data, acks_member, acks_members, header_member, error_member, update_data, error_data, get_data, response_member, ids_data, select_data}

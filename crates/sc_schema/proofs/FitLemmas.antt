@@ -6,12 +6,12 @@ use Rattle.std.specs.List.{list_all}
 use Rattle.std.specs.Str.{bytes_eq}
 use Rattle.std.proofs.lemmas.Bool.Decides.{nat_tests}
 use Rattle.std.proofs.lemmas.Option.{option_and_then_some, cond_some}
-use Rattle.sc_record.specs.Fields.{kind_of, fits_kind, fits_count, IsField}
+use Rattle.sc_values.specs.Fields.{kind_of, fits_kind, fits_count, IsField}
 use Rattle.sc_record.specs.Orders.{is_int, fits_amount, fits_change}
-use Rattle.sc_record.specs.declared.value.Kind.{Kind}
-use Rattle.sc_record.specs.declared.value.Kind.TheVariants as kinds
-use Rattle.sc_record.specs.declared.value.Value.{Value}
-use Rattle.sc_record.specs.declared.value.Value.TheVariants as values
+use Rattle.sc_values.specs.declared.value.Kind.{Kind}
+use Rattle.sc_values.specs.declared.value.Kind.TheVariants as kinds
+use Rattle.sc_values.specs.declared.value.Value.{Value}
+use Rattle.sc_values.specs.declared.value.Value.TheVariants as values
 use Rattle.sc_record.specs.declared.order.How.{How}
 use Rattle.sc_record.specs.declared.order.How.TheVariants as hows
 use Rattle.sc_schema.specs.Values.{text_value, number_of, flag_of, int_value, value_of, values_in, given, within_count, values_for, not_empty, some_values_for, fitting_amount, amount_for, how_of_value}

@@ -1,4 +1,5 @@
 -- Facts on values and on changes of fields.
+pub mod BuildLemmas
 pub mod FitLemmas
 pub mod FoldLemmas
 pub mod KeyLemmas

@@ -8,10 +8,10 @@ use Rattle.std.specs.Cmp.Lexicographic.{slice_cmp}
 use Rattle.std.specs.declared.cmp.Ordering.TheVariants.{Less}
 use Rattle.std.proofs.lemmas.List.Kept.{IsStrictlySortedBy-filter}
 use Rattle.std.proofs.lemmas.Map.Keys.{sorted_head, sorted_tail}
-use Rattle.sc_record.specs.Fields.{kind_of, IsField, IsBelowFirst, Ascends, IsDocument}
+use Rattle.sc_values.specs.Fields.{kind_of, IsField, IsBelowFirst, Ascends, AreFields}
 use Rattle.sc_record.specs.Orders.{fits_change, IsFieldChange, AreFieldChanges}
-use Rattle.sc_record.specs.declared.value.Kind.{Kind}
-use Rattle.sc_record.specs.declared.document.Field.{Field}
+use Rattle.sc_values.specs.declared.value.Kind.{Kind}
+use Rattle.sc_values.specs.declared.field.Field.{Field}
 use Rattle.sc_record.specs.declared.order.How.{How}
 use Rattle.sc_record.specs.declared.order.How.TheVariants as hows
 use Rattle.sc_record.specs.declared.order.FieldChange.{FieldChange}
@@ -178,10 +178,10 @@ unfolding Fits
 each_field [] all = tt
 each_field (part ∷ parts) all = each_made (field_of part) (filter_map field_of parts) all.0.1 (each_field parts all.1)
 
--- the fields that the changes make are those of a document
-pub made-document : (fields : List RawField) (parts : List FieldChange) → AscendByName fields
-    → member_changes fields ≡ Ok parts → IsDocument (filter_map field_of parts)
-made-document fields parts ascend h =
+-- the fields that the changes make fit their names, which ascend
+pub made-fields : (fields : List RawField) (parts : List FieldChange) → AscendByName fields
+    → member_changes fields ≡ Ok parts → AreFields (filter_map field_of parts)
+made-fields fields parts ascend h =
     record {
       each = each_field parts (each_part Fits part-fits fields parts h);
       ascends = made_ascend parts (parts-lawful fields parts ascend h).1;

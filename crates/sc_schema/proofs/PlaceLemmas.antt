@@ -15,16 +15,12 @@ use Rattle.std.proofs.lemmas.List.Concat.{flat_map-append}
 use Rattle.std.proofs.lemmas.List.Elements.{Contains-append_left, Contains-append_right, Contains-append_cases}
 use Rattle.std.proofs.lemmas.List.Folds.{flat_map-map}
 use Rattle.std.proofs.lemmas.Slice.Eq.{bytes_eq-Decides}
-use Rattle.sc_record.specs.Fields.{IsDocument, IsField, Ascends, IsBelowFirst, kind_of, fits_name}
-use Rattle.sc_record.specs.declared.document.Field.{Field}
+use Rattle.sc_values.specs.Fields.{IsDocument, IsField, Ascends, IsBelowFirst, kind_of, fits_name}
+use Rattle.sc_values.specs.declared.field.Field.{Field}
 use Rattle.sc_record.specs.declared.term.Term.{Term}
 use Rattle.sc_schema.specs.Terms.{term, field_terms, AreTerms}
-use Rattle.sc_schema.specs.Keys.{Found, found_in_field, AreTermsInOrder}
+use Rattle.sc_schema.specs.Keys.{Found, found_in_field, AreTermsInOrder, IsBelowId}
 use Rattle.sc_schema.proofs.KeyLemmas.{terms_in, IsBelow, AscendByField, all_ascend, all_same}
-
--- the name comes before that of the id
-abbrev pub IsBelowId : Field → Type 0
-IsBelowId field = slice_cmp nat_cmp field.name (codes "id") ≡ Less
 
 below_first : (name other : List ℕ) (fields : List Field) → slice_cmp nat_cmp name other ≡ Less → IsBelowFirst other fields → IsBelowFirst name fields
 below_first name other [] h below = tt

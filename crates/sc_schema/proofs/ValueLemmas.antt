@@ -8,8 +8,8 @@ use Rattle.std.specs.Int.RustNames.{FitsSigned}
 use Rattle.std.proofs.lemmas.Bool.Decides.{nat_tests}
 use Rattle.std.proofs.lemmas.Int.{ints}
 use Rattle.std.proofs.lemmas.Str.Parse.{IsNumeralModel, numerals_by_value, tells_all_ascii_digits, without_leading_plus_none}
-use Rattle.sc_record.specs.declared.value.Kind.{Kind}
-use Rattle.sc_record.specs.declared.value.Value.{Value}
+use Rattle.sc_values.specs.declared.value.Kind.{Kind}
+use Rattle.sc_values.specs.declared.value.Value.{Value}
 use Rattle.sc_record.specs.Orders.{is_long}
 use Rattle.sc_schema.specs.Values.{number_text, without_minus, value_of, values_in}
 use Rattle.sc_schema.specs.declared.raw.RawOne.{RawOne}

@@ -2,10 +2,10 @@
 use Rattle.std.specs.Prelude.{◌≡◌, ◌⊎◌, ℕ, Bool, true, false, not, ◌||◌, if◌then◌else◌, ℤ, pos, List, [], ◌∷◌, length, map, filter, filter_map, codes, bytes_eq, nat_eq, nat_lt, Option, Some, None, ok_or, Result, Ok, Err, ⊤}
 use Rattle.std.specs.List.{list_any}
 use Rattle.std.specs.Fmt.{signed_decimal}
-use Rattle.sc_record.specs.Fields.{kind_of}
+use Rattle.sc_values.specs.Fields.{kind_of}
 use Rattle.sc_record.specs.Ids.{id_limit}
-use Rattle.sc_record.specs.declared.value.Kind.{Kind}
-use Rattle.sc_record.specs.declared.document.Field.{Field}
+use Rattle.sc_values.specs.declared.value.Kind.{Kind}
+use Rattle.sc_values.specs.declared.field.Field.{Field}
 use Rattle.sc_record.specs.declared.order.How.{How}
 use Rattle.sc_record.specs.declared.order.How.TheVariants as hows
 use Rattle.sc_record.specs.declared.order.FieldChange.{FieldChange}

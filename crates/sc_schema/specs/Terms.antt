@@ -4,14 +4,14 @@ use Rattle.std.specs.Fmt.{signed_decimal}
 use Rattle.std.specs.List.Sorted.{IsStrictlySortedBy}
 use Rattle.unicode_segmentation.specs.Word.{words}
 use Rattle.caseless.specs.Caseless.{default_case_fold}
-use Rattle.sc_record.specs.Fields.{kind_of}
+use Rattle.sc_values.specs.Fields.{kind_of}
 use Rattle.sc_record.specs.Orders.{is_int}
 use Rattle.sc_record.specs.Terms.{term_cmp}
-use Rattle.sc_record.specs.declared.value.Kind.{Kind}
-use Rattle.sc_record.specs.declared.value.Kind.TheVariants as kinds
-use Rattle.sc_record.specs.declared.value.Value.{Value}
-use Rattle.sc_record.specs.declared.value.Value.TheVariants as values
-use Rattle.sc_record.specs.declared.document.Field.{Field}
+use Rattle.sc_values.specs.declared.value.Kind.{Kind}
+use Rattle.sc_values.specs.declared.value.Kind.TheVariants as kinds
+use Rattle.sc_values.specs.declared.value.Value.{Value}
+use Rattle.sc_values.specs.declared.value.Value.TheVariants as values
+use Rattle.sc_values.specs.declared.field.Field.{Field}
 use Rattle.sc_record.specs.declared.term.Term.{Term}
 use Rattle.sc_schema.specs.Values.{flag_text, flag_named, number_text}
 

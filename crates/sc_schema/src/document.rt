@@ -146,7 +146,8 @@ fn change_of(alloc: Global, raw: &RawDoc, parts: List<FieldChange>) -> Result<Ch
     if is_update(raw.fields.as_slice()) {
         return Ok(Change::Parts(parts));
     }
-    Ok(Change::Whole(Doc::new(set_fields(alloc, parts)?)))
+    let fields = set_fields(alloc, parts)?;
+    Ok(Change::Whole(Doc::new(alloc, fields.as_slice())?))
 }
 
 /// Whether the value of a member is an object.

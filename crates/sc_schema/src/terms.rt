@@ -1,95 +1,84 @@
-ghost use Rattle.std.specs.Prelude.{◌≡◌, ◌≤◌, ◌∷◌, [], ◌++◌, codes, flat_map, length, map, take, IfOk, IfSome, OnOk, slice_get, false};
+ghost use Rattle.std.specs.Prelude.{◌≡◌, ◌∷◌, [], ◌++◌, List, flat_map, length, IfOk, OnOk, IsSome, false};
 ghost use Rattle.std.specs.Cmp.Lexicographic.{slice_cmp};
-ghost use Rattle.std.specs.List.{AllByRecursion};
 ghost use Rattle.std.specs.Ordering.{nat_cmp};
-ghost use Rattle.std.specs.declared.cmp.Ordering.TheVariants.{Less};
-ghost use Rattle.sc_record.specs.Fields.{kind_of};
-ghost use Rattle.sc_record.specs.declared.document.Field.{Field};
-ghost use Rattle.sc_schema.specs.Terms.{by_words, keys_of, term, AreTerms};
-ghost use Rattle.sc_schema.specs.Keys.{found_in_field, AddsTerms, AreKeys};
+ghost use Rattle.sc_values.specs.Fields.{kind_of};
+ghost use Rattle.sc_values.specs.declared.field.Field.{Field};
+ghost use Rattle.sc_spelling.specs.Lent.{field_of, value_of};
+ghost use Rattle.sc_record.specs.TermRuns.{run_at, terms_of_run};
+ghost use Rattle.sc_schema.specs.Terms.{by_words, keys_of, AreTerms};
+ghost use Rattle.sc_record.specs.TermsStates.{TermsState};
+ghost use Rattle.sc_schema.specs.Keys.{found_in_field, with_keys, AreKeys, Builds, BuildsSoFar};
 
 use crate::value::decimal;
 use crate::word::push_words;
-use sc_record::{Doc, Field, Id, Kind, List, Term, Text, Value, kind_of};
+use sc_record::{Doc, Id, Kind, TermRun, TermsBuilder, Text, kind_of};
+use sc_spelling::{FieldRef, ValueRef, Values};
 use std::alloc::{AllocError, Global};
 use std::cmp::Ordering;
 
-/// The terms by which a document of this id is found. A field of words is found by each of its words, whatever their case,
-/// and any other one by its whole values.
-pub fn terms_of(alloc: Global, id: &Id, doc: &Doc) -> Result<List<Term>, AllocError>
-    ensures { IfOk result (AreTerms id.now doc.now) }
+/// How many bytes are left where a key stands that is no value of the document: more than there are.
+const NOWHERE: usize = usize::MAX;
+
+/// For so many keys of a field there is room at once.
+const LIKELY_KEYS: usize = 16;
+
+/// The terms by which a document of this id is found, as a run that is read beside both. A field of words is found by each of its
+/// words, whatever their case, and any other one by its whole values.
+pub fn terms_of(alloc: Global, id: &Id, doc: &Doc) -> Result<TermRun, AllocError>
+    ensures terms { IfOk result (λ run. AreTerms id.now doc.now (terms_of_run id.now doc.now run)) }
+    ensures run { IfOk result (λ run. IsSome (run_at id.now doc.now run)) }
 {
-    let fields = doc.fields();
-    let at = before_id(fields);
-    let mut terms = Vec::with_capacity(alloc, room_for(fields))?;
-    push_fields(alloc, &mut terms, &fields[..at])?;
-    push_id(alloc, &mut terms, id)?;
-    push_fields(alloc, &mut terms, &fields[at..])?;
-    terms.shrink_to_fit();
-    Ok(List::from_vec(terms))
+    let mut terms = TermsBuilder::new(alloc, id, doc);
+    terms.reserve(doc.bytes().len())?;
+    let mut has_id = false;
+    for field in doc.fields() {
+        has_id = push_next(alloc, &mut terms, has_id, field)?;
+    }
+    if !has_id {
+        terms.push_id()?;
+    }
+    Ok(terms.finish())
 }
 
-/// How many fields have a name that comes before that of the id.
-fn before_id(fields: &[Field]) -> usize
-    ensures within { result ≤ length fields.now }
-    ensures below { AllByRecursion (λ (field : Field). slice_cmp nat_cmp field.name (codes "id") ≡ Less) (take result fields.now) }
-    ensures next { IfSome (slice_get fields.now result) (λ field. slice_cmp nat_cmp field.name (codes "id") ≡ Less → ⊥) }
+/// Puts the terms of the next field at the end, and before them that of the id, where its place is there. It tells whether that has come.
+fn push_next<'a>(
+    alloc: Global,
+    terms: &mut TermsBuilder<'a>,
+    has_id: bool,
+    field: FieldRef<'a>,
+) -> Result<bool, AllocError>
+    ensures { IfOk result (λ has. (all left : List Field) (start : TermsState) → BuildsSoFar all (field_of field.entry ∷ left) has_id start terms.old
+        → BuildsSoFar all left has start terms.new) }
 {
-    let mut at = 0;
-    while at < fields.len() {
-        if fields[at].name.as_str().cmp("id") != Ordering::Less {
-            return at;
-        }
-        at += 1;
-    }
-    at
-}
-
-/// For how many terms room is made at once: one for the id and for each value, and one for each six bytes of words.
-fn room_for(fields: &[Field]) -> usize {
-    let mut room: usize = 1;
-    for field in fields {
-        room = room.saturating_add(field.values.len());
-        if is_found_by_words(field.name.as_str()) {
-            room = room.saturating_add(bytes_of(field.values.as_slice()) / 6);
-        }
-    }
-    room
-}
-
-/// How many bytes the texts among the values have together.
-fn bytes_of(values: &[Value]) -> usize {
-    let mut bytes: usize = 0;
-    for value in values {
-        if let Value::Text(text) = value {
-            bytes = bytes.saturating_add(text.as_str().len());
-        }
-    }
-    bytes
-}
-
-/// Puts the terms of fields at the end.
-fn push_fields(alloc: Global, terms: &mut Vec<Term>, fields: &[Field]) -> Result<(), AllocError>
-    ensures { OnOk result (AddsTerms (map found_in_field fields.now) terms.old.items terms.new.items) }
-{
-    for field in fields {
+    if has_id {
         push_field(alloc, terms, field)?;
+        return Ok(true);
     }
-    Ok(())
+    if field.name.cmp("id").is_lt() {
+        push_field(alloc, terms, field)?;
+        return Ok(false);
+    }
+    terms.push_id()?;
+    push_field(alloc, terms, field)?;
+    Ok(true)
 }
 
 /// Puts the terms of a field at the end.
-fn push_field(alloc: Global, terms: &mut Vec<Term>, field: &Field) -> Result<(), AllocError>
-    ensures { OnOk result (AddsTerms (found_in_field field.now ∷ []) terms.old.items terms.new.items) }
+fn push_field<'a>(
+    alloc: Global,
+    terms: &mut TermsBuilder<'a>,
+    field: FieldRef<'a>,
+) -> Result<(), AllocError>
+    ensures { OnOk result (Builds (found_in_field (field_of field.entry) ∷ []) terms.old terms.new) }
 {
-    let split = is_found_by_words(field.name.as_str());
-    match field.values.as_slice() {
-        [value] if !split => push_term(terms, &field.name, whole_key(alloc, value)?),
-        values => {
-            let keys = keys_of(alloc, split, values)?;
-            push_keys(terms, &field.name, keys)
-        }
+    terms.begin(&field);
+    let FieldRef { name, values } = field;
+    let split = is_found_by_words(name);
+    if !split && values.len() == 1 {
+        return push_only(alloc, terms, values);
     }
+    let keys = keys_of(alloc, split, values)?;
+    push_keys(terms, keys.as_slice())
 }
 
 /// Whether the field of this name is found word by word.
@@ -99,9 +88,30 @@ fn is_found_by_words(name: &str) -> bool
     matches!(kind_of(name), Some((Kind::Words, _)))
 }
 
+/// Puts the key of the only value, which is found whole, at the end.
+fn push_only(
+    alloc: Global,
+    terms: &mut TermsBuilder<'_>,
+    values: Values<'_>,
+) -> Result<(), AllocError>
+    requires { length values ≡ 1 }
+    ensures { OnOk result (terms.new ≡ with_keys (flat_map (keys_of false) values.entry) terms.old) }
+{
+    let mut values = values;
+    let left = values.bytes_left();
+    match values.next() {
+        Some(ValueRef::Text(text)) => terms.push(text, left),
+        Some(value) => {
+            let key = whole_key(alloc, &value)?;
+            terms.push(key.as_str(), NOWHERE)
+        }
+        None => Ok(()),
+    }
+}
+
 /// The keys of values of one field, which ascend, each once.
-fn keys_of(alloc: Global, split: bool, values: &[Value]) -> Result<Vec<Text>, AllocError>
-    ensures { IfOk result (λ keys. AreKeys (flat_map (keys_of split) values.now) keys.items) }
+fn keys_of(alloc: Global, split: bool, values: Values<'_>) -> Result<Vec<Text>, AllocError>
+    ensures { IfOk result (λ keys. AreKeys (flat_map (keys_of split) values.entry) keys.items) }
 {
     let mut keys = found_keys(alloc, split, values)?;
     keys.sort_unstable_by(|left, right| key_cmp(left.as_str(), right.as_str()));
@@ -110,13 +120,12 @@ fn keys_of(alloc: Global, split: bool, values: &[Value]) -> Result<Vec<Text>, Al
 }
 
 /// The same as they are found.
-fn found_keys(alloc: Global, split: bool, values: &[Value]) -> Result<Vec<Text>, AllocError>
-    ensures { IfOk result (λ keys. keys.items ≡ flat_map (keys_of split) values.now) }
+fn found_keys(alloc: Global, split: bool, values: Values<'_>) -> Result<Vec<Text>, AllocError>
+    ensures { IfOk result (λ keys. keys.items ≡ flat_map (keys_of split) values.entry) }
 {
-    let room = bytes_of(values) / 5 + values.len();
-    let mut keys = Vec::with_capacity(alloc, room)?;
+    let mut keys = Vec::with_capacity(alloc, values.len().max(LIKELY_KEYS))?;
     for value in values {
-        push_value(alloc, &mut keys, split, value)?;
+        push_value(alloc, &mut keys, split, &value)?;
     }
     Ok(keys)
 }
@@ -136,54 +145,37 @@ fn push_value(
     alloc: Global,
     keys: &mut Vec<Text>,
     split: bool,
-    value: &Value,
+    value: &ValueRef<'_>,
 ) -> Result<(), AllocError>
-    ensures { OnOk result (keys.new.items ≡ keys.old.items ++ keys_of split value.now) }
+    ensures { OnOk result (keys.new.items ≡ keys.old.items ++ keys_of split (value_of value.now)) }
 {
     match value {
-        Value::Text(text) if split => push_words(alloc, keys, text.as_str()),
+        ValueRef::Text(text) if split => push_words(alloc, keys, text),
         _ => Ok(keys.push(whole_key(alloc, value)?)?),
     }
 }
 
 /// The key of a value that is found whole.
-fn whole_key(alloc: Global, value: &Value) -> Result<Text, AllocError>
-    ensures { IfOk result (λ key. keys_of false value.now ≡ key ∷ []) }
+fn whole_key(alloc: Global, value: &ValueRef<'_>) -> Result<Text, AllocError>
+    ensures { IfOk result (λ key. keys_of false (value_of value.now) ≡ key ∷ []) }
 {
     match value {
-        Value::Text(text) => text.clone(),
-        Value::Int(number) => decimal(alloc, i64::from(*number)),
-        Value::Long(number) => decimal(alloc, *number),
-        Value::Flag(flag) => {
+        ValueRef::Text(text) => Text::new(alloc, text),
+        ValueRef::Int(number) => decimal(alloc, i64::from(*number)),
+        ValueRef::Long(number) => decimal(alloc, *number),
+        ValueRef::Flag(flag) => {
             let name = if *flag { "true" } else { "false" };
             Text::new(alloc, name)
         }
     }
 }
 
-/// Puts the term of the id at the end.
-fn push_id(alloc: Global, terms: &mut Vec<Term>, id: &Id) -> Result<(), AllocError>
-    ensures { OnOk result (terms.new.items ≡ terms.old.items ++ term (codes "id") id.now ∷ []) }
-{
-    push_term(terms, &Text::new(alloc, "id")?, id.as_text().clone()?)
-}
-
-/// Puts a term of the field for each key at the end.
-fn push_keys(terms: &mut Vec<Term>, field: &Text, keys: Vec<Text>) -> Result<(), AllocError>
-    ensures { OnOk result (terms.new.items ≡ terms.old.items ++ map (term field.now) keys.items) }
+/// Puts these keys of the builder's field at the end.
+fn push_keys(terms: &mut TermsBuilder<'_>, keys: &[Text]) -> Result<(), AllocError>
+    ensures { OnOk result (terms.new ≡ with_keys keys.now terms.old) }
 {
     for key in keys {
-        push_term(terms, field, key)?;
+        terms.push(key.as_str(), NOWHERE)?;
     }
     Ok(())
-}
-
-/// Puts a term at the end.
-fn push_term(terms: &mut Vec<Term>, field: &Text, key: Text) -> Result<(), AllocError>
-    ensures { OnOk result (terms.new.items ≡ terms.old.items ++ term field.now key ∷ []) }
-{
-    Ok(terms.push(Term {
-        field: field.clone()?,
-        key,
-    })?)
 }

@@ -18,7 +18,7 @@ use Rattle.sc_replicas.specs.contracts.replicas.Replicas as Replicas
 use Rattle.sc_replicas.specs.contracts.standing.Standing as Standing
 use Rattle.sc_cluster.specs.contracts.map.ClusterMap as ClusterMap
 use Rattle.sc_collection.specs.contracts.opened.OpenedWith as OpenedWith
-use Rattle.sc_record.specs.contracts.text.Text as Text
+use Rattle.sc_values.specs.contracts.text.Text as Text
 use Rattle.sc_record.specs.contracts.write.Write as Write
 use Rattle.sc_shared.specs.contracts.board.KeptBoard as KeptBoard
 use Rattle.sc_shared.specs.contracts.collection.Collection as Collection

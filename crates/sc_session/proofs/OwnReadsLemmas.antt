@@ -1,7 +1,7 @@
 -- A get of one or of several ids after an accepted order of the same connection shows the order's version of the id or a later one.
 use Rattle.std.proofs.Common.{◌≡◌, ℕ, suc, ◌<◌, ◌≤◌, List, [], ◌∷◌, ◌++◌, length, Option, refl, sym, ap, ◌∙◌, subst, arith, append_assoc}
 use Rattle.std.specs.Prelude.{ℤ, option_to_list}
-use Rattle.sc_record.specs.declared.write.Write.{Write}
+use Rattle.sc_record.specs.Writes.{Write}
 use Rattle.sc_router.specs.Route.{bucket_of}
 use Rattle.sc_model.specs.Replies.{Reply}
 use Rattle.sc_seen.specs.Seen.{Layout, Seen, ComeInOrder, AreLegal, journal_at, stops_at, entries_at}

@@ -9,9 +9,8 @@ use Rattle.std.proofs.lemmas.List.Elements.{All-contains, All-from_recursion, Co
 use Rattle.std.proofs.lemmas.Nat.{and_le_r}
 use Rattle.sc_hash.specs.Hash.{murmur3}
 use Rattle.sc_record.specs.Versions.{shown_version}
-use Rattle.sc_record.specs.Writes.{is_of}
+use Rattle.sc_record.specs.Writes.{is_of, Write}
 use Rattle.sc_record.specs.declared.entry.Entry.{Entry}
-use Rattle.sc_record.specs.declared.write.Write.{Write}
 use Rattle.sc_router.specs.Route.{bucket_of}
 use Rattle.sc_commands.specs.declared.batch.Batch.{Batch}
 use Rattle.sc_update.specs.Updated.{UpdateEnd}

@@ -8,8 +8,8 @@ use Rattle.std.specs.declared.alloc.AllocError.{AllocError}
 use Rattle.std.specs.declared.alloc.Global.{Global}
 use Rattle.std.specs.declared.sync.Arc.{Arc}
 use Rattle.std.proofs.lemmas.List.Elements.{All-take, All-drop, All-contains_itself, All-from_recursion, recursion_from_All}
-use Rattle.sc_record.specs.declared.write.Write.{Write}
-use Rattle.sc_record.specs.declared.document.Field.{Field}
+use Rattle.sc_record.specs.Writes.{Write}
+use Rattle.sc_values.specs.declared.field.Field.{Field}
 use Rattle.sc_record.specs.declared.ack.Ack.{Ack}
 use Rattle.sc_reply.specs.Bodies.{IsLiveOrNone, AreLive, get_text, ids_text, select_text}
 use Rattle.sc_eval.specs.Criteria.{criterion_of}

@@ -4,8 +4,7 @@ use Rattle.std.specs.List.{filter}
 use Rattle.std.specs.Option.{option_and_then}
 use Rattle.std.proofs.lemmas.List.{append-nil}
 use Rattle.sc_record.specs.Versions.{meets, found_version}
-use Rattle.sc_record.specs.Writes.{is_of}
-use Rattle.sc_record.specs.declared.write.Write.{Write}
+use Rattle.sc_record.specs.Writes.{is_of, Write}
 use Rattle.sc_record.specs.declared.order.Order.{Order}
 use Rattle.sc_record.specs.declared.entry.Entry.{Entry}
 use Rattle.sc_journal.specs.Journal.{as_write, write_at, writes, last_of, last_write, found}

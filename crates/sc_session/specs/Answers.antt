@@ -1,6 +1,6 @@
 -- What a request is answered, by the journals that were seen.
 use Rattle.std.specs.Prelude.{◌≡◌, ◌≤◌, ◌⊎◌, ℕ, Bool, false, List, [], ◌∷◌, ◌++◌, length, take, Option, Some, None}
-use Rattle.sc_record.specs.declared.write.Write.{Write}
+use Rattle.sc_record.specs.Writes.{Write}
 use Rattle.sc_record.specs.declared.order.Order.{Order}
 use Rattle.sc_commands.specs.declared.batch.Batch.{Batch}
 use Rattle.sc_commands.specs.Updates.{update_of}

@@ -1,7 +1,7 @@
 -- Laws of a connection's exchanges, above their definitions.
 use Rattle.std.specs.Prelude.{◌≡◌, ◌<◌, ◌≤ℤ◌, ℕ, ℤ, List, [], ◌∷◌, ◌++◌, length, Some, option_to_list, Contains}
 use Rattle.sc_record.specs.Versions.{shown_version}
-use Rattle.sc_record.specs.declared.write.Write.{Write}
+use Rattle.sc_record.specs.Writes.{Write}
 use Rattle.sc_record.specs.declared.entry.Entry.{Entry}
 use Rattle.sc_router.specs.Route.{bucket_of}
 use Rattle.sc_model.specs.Replies.{Reply}

@@ -6,7 +6,7 @@ use mathlib.Core.List.{IsPrefix}
 use Rattle.sc_hash.specs.Range.{Meets}
 use Rattle.sc_hash.specs.declared.range.Range.{Range}
 use Rattle.sc_record.specs.declared.slice.SubSlice.{SubSlice}
-use Rattle.sc_record.specs.declared.write.Write.{Write}
+use Rattle.sc_record.specs.Writes.{Write}
 use Rattle.sc_record.specs.declared.entry.Entry.{Entry}
 use Rattle.sc_record.specs.declared.entry.Entry.TheVariants as entry
 use Rattle.sc_cluster.specs.declared.plan.SplitPlan.{SplitPlan}

@@ -6,7 +6,7 @@ use Rattle.std.proofs.lemmas.List.Folds.{list_any-append}
 use Rattle.std.proofs.lemmas.Option.{slice_get_within, get_or_from_slice_get}
 use Rattle.std.specs.List.{range_with_len}
 use Rattle.std.specs.Option.{IfSome}
-use Rattle.sc_record.specs.declared.write.Write.{Write}
+use Rattle.sc_record.specs.Writes.{Write}
 use Rattle.sc_segment.specs.Index.{IsIndexOf}
 use Rattle.sc_snapshot.specs.Change.{moves_to, is_kept, keyed_new, IsChange, LosesInPlace}
 use Rattle.sc_snapshot.specs.Postings.{key_order, keyed, live_terms, without_ids}

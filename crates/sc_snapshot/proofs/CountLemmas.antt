@@ -2,8 +2,7 @@
 use Rattle.std.proofs.Common.{◌≡◌, ℕ, ◌+◌, ◌<◌, ◌≤◌, List, [], ◌∷◌, Bool, true, false, cond, not, is_some, filter, length, Option, Some, None, refl, sym, ap, ◌∙◌, arith}
 use Rattle.std.proofs.lemmas.Slice.Eq.{bytes_eq-Decides}
 use Rattle.std.specs.Str.{bytes_eq}
-use Rattle.sc_record.specs.declared.write.Write.{Write}
-use Rattle.sc_record.specs.Writes.{is_of, write_of, AscendById}
+use Rattle.sc_record.specs.Writes.{Write, is_of, write_of, AscendById}
 use Rattle.sc_snapshot.specs.Rows.{AreChanged}
 use Rattle.sc_snapshot.proofs.PlaceLemmas.{Ascend, ascend-from, none_above}
 

@@ -11,8 +11,7 @@ use Rattle.std.specs.List.{list_all, list_any, AllByRecursion}
 use Rattle.std.specs.Ordering.{is_eq}
 use Rattle.std.specs.Str.{bytes_eq}
 use Rattle.sc_record.specs.declared.term.Term.{Term}
-use Rattle.sc_record.specs.declared.write.Write.{Write}
-use Rattle.sc_record.specs.Writes.{AscendById}
+use Rattle.sc_record.specs.Writes.{Write, AscendById}
 use Rattle.sc_record.proofs.TermLemmas.{same_term, same_term-equal}
 use Rattle.sc_rows.proofs.JoinLemmas.{AscendFrom, ascend_from_increasing}
 use Rattle.sc_rows.specs.Joining.{has_row}

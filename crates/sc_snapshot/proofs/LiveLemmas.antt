@@ -7,7 +7,7 @@ use Rattle.std.proofs.lemmas.List.FromFn.{filter_of_map_range_with_len_more}
 use Rattle.std.proofs.lemmas.List.Kept.{IsStrictlyIncreasing-filter}
 use Rattle.std.proofs.lemmas.Option.{slice_get_past}
 use Rattle.std.specs.List.{range_with_len}
-use Rattle.sc_record.specs.declared.write.Write.{Write}
+use Rattle.sc_record.specs.Writes.{Write}
 use Rattle.sc_rows.proofs.JoinLemmas.{AscendFrom, increasing_from_ascend}
 use Rattle.sc_rows.specs.Joining.{has_row}
 use Rattle.sc_snapshot.specs.Postings.{is_live_at, AreLiveRows}

@@ -1,9 +1,14 @@
 -- What a loop over cells has of one cell more.
-use Rattle.std.proofs.Common.{◌≡◌, ℕ, ◌+◌, ◌<◌, List, [], ◌∷◌, ◌++◌, map, take, length, get_or, not, All, refl, sym, ap, subst, ◌∙◌, arith, append_assoc}
+use Rattle.std.proofs.Common.{◌≡◌, ℕ, ◌+◌, ◌<◌, List, [], ◌∷◌, ◌++◌, map, take, length, get_or, Bool, not, ◌||◌, ◌&&◌, All, refl, sym, ap, subst, ◌∙◌, arith, append-nil, append_assoc}
 use Rattle.std.proofs.lemmas.List.{take_more, map-append, length-map, length-take-le}
+use Rattle.std.proofs.Math.Bool.{and-true, or-false}
 use Rattle.std.proofs.lemmas.List.Elements.{All-push, filter-append}
+use Rattle.std.proofs.lemmas.List.Folds.{list_any-append, list_all-append}
+use Rattle.std.specs.List.{list_all, list_any}
+use Rattle.sc_record.specs.TermRuns.{term_of}
 use Rattle.sc_record.specs.declared.term.Term.{Term}
-use Rattle.sc_record.specs.declared.write.Write.{Write}
+use Rattle.sc_record.specs.declared.term_run.TermRef.{TermRef}
+use Rattle.sc_record.specs.Writes.{Write}
 use Rattle.sc_segment.specs.Index.{IsIndexOf}
 use Rattle.sc_snapshot.proofs.PostingLemmas.{keyed_rows-push}
 use Rattle.sc_snapshot.specs.Postings.{key_order, keyed, keyed_rows, live_terms, is_id_term, other_terms}
@@ -38,39 +43,64 @@ module _ {C : Type 0} (value : C → Write) (cells : List C) (i : ℕ) (cell : C
   all-next P Q weaker all here =
       subst (All Q) (sym one-more) (All-push Q (map value (take i cells)) (value cell) (λ k d lt. weaker _ (all k d lt)) here)
 
--- a row's keys of the first terms, and that of the next
-keyed-term : (number i : ℕ) (terms : List Term) (term : Term) (key : TermKey) → i < length terms → term ≡ get_or terms i term → key.term ≡ term
-    → keyed number (take (i + 1) terms) ≡ keyed number (take i terms) ++ (number, key) ∷ []
-keyed-term number i terms term key within at is =
-    ap (keyed number) (take_more terms i term within ∙ ap (λ (t : Term). take i terms ++ t ∷ []) (sym at))
-    ∙ map-append (λ (t : Term). (number, record { term = t })) (take i terms) (term ∷ [])
-    ∙ ap (λ (t : Term). keyed number (take i terms) ++ (number, record { term = t }) ∷ []) (sym is)
+-- a row's keys of the terms so far, and of the next
+module _ (number : ℕ) (before : List TermRef) (term : TermRef) where
+  pub terms-more : map term_of (before ++ term ∷ []) ≡ map term_of before ++ term_of term ∷ []
+  terms-more = map-append term_of before (term ∷ [])
 
-pub terms-next : (added : List (ℕ × TermKey)) (number i : ℕ) (terms : List Term) (term : Term) (key : TermKey) (index : List (TermKey × List ℕ))
-    → i < length terms → term ≡ get_or terms i term → key.term ≡ term
-    → IsIndexOf key_order ((added ++ keyed number (take i terms)) ++ (number, key) ∷ []) index
-    → IsIndexOf key_order (added ++ keyed number (take (i + 1) terms)) index
-terms-next added number i terms term key index within at is filed =
-    subst (λ (ps : List (ℕ × TermKey)). IsIndexOf key_order ps index)
-    (append_assoc added (keyed number (take i terms)) ((number, key) ∷ [])
-    ∙ ap (λ (ps : List (ℕ × TermKey)). added ++ ps) (sym (keyed-term number i terms term key within at is))) filed
+  keyed-more : (key : TermKey) → key.term ≡ term_of term
+      → keyed number (map term_of (before ++ term ∷ [])) ≡ keyed number (map term_of before) ++ (number, key) ∷ []
+  keyed-more key is =
+      ap (keyed number) terms-more ∙ map-append (λ (t : Term). (number, record { term = t })) (map term_of before) (term_of term ∷ [])
+      ∙ ap (λ (t : Term). keyed number (map term_of before) ++ (number, record { term = t }) ∷ []) (sym is)
 
--- the other ones of the first terms, and the next where it is one
-other-terms : (number i : ℕ) (terms : List Term) (term : Term) → i < length terms → term ≡ get_or terms i term
-    → keyed number (other_terms (take (i + 1) terms)) ≡ keyed number (other_terms (take i terms)) ++ keyed number (other_terms (term ∷ []))
-other-terms number i terms term within at =
-    ap (λ (ts : List Term). keyed number (other_terms ts)) (take_more terms i term within ∙ ap (λ (t : Term). take i terms ++ t ∷ []) (sym at))
-    ∙ ap (keyed number) (filter-append (λ (t : Term). not (is_id_term t)) (take i terms) (term ∷ []))
-    ∙ map-append (λ (t : Term). (number, record { term = t })) (other_terms (take i terms)) (other_terms (term ∷ []))
+  pub terms-next : (added : List (ℕ × TermKey)) (key : TermKey) (index : List (TermKey × List ℕ)) → key.term ≡ term_of term
+      → IsIndexOf key_order ((added ++ keyed number (map term_of before)) ++ (number, key) ∷ []) index
+      → IsIndexOf key_order (added ++ keyed number (map term_of (before ++ term ∷ []))) index
+  terms-next added key index is filed =
+      subst (λ (ps : List (ℕ × TermKey)). IsIndexOf key_order ps index)
+      (append_assoc added (keyed number (map term_of before)) ((number, key) ∷ [])
+      ∙ ap (λ (ps : List (ℕ × TermKey)). added ++ ps) (sym (keyed-more key is))) filed
 
-pub others-next : (added : List (ℕ × TermKey)) (number i : ℕ) (terms : List Term) (term : Term) (index : List (TermKey × List ℕ))
-    → i < length terms → term ≡ get_or terms i term
-    → IsIndexOf key_order ((added ++ keyed number (other_terms (take i terms))) ++ keyed number (other_terms (term ∷ []))) index
-    → IsIndexOf key_order (added ++ keyed number (other_terms (take (i + 1) terms))) index
-others-next added number i terms term index within at filed =
-    subst (λ (ps : List (ℕ × TermKey)). IsIndexOf key_order ps index)
-    (append_assoc added (keyed number (other_terms (take i terms))) (keyed number (other_terms (term ∷ [])))
-    ∙ ap (λ (ps : List (ℕ × TermKey)). added ++ ps) (sym (other-terms number i terms term within at))) filed
+  -- the same of those that are not of the field of ids
+  others-more : keyed number (other_terms (map term_of (before ++ term ∷ [])))
+      ≡ keyed number (other_terms (map term_of before)) ++ keyed number (other_terms (term_of term ∷ []))
+  others-more =
+      ap (λ (ts : List Term). keyed number (other_terms ts)) terms-more
+      ∙ ap (keyed number) (filter-append (λ (t : Term). not (is_id_term t)) (map term_of before) (term_of term ∷ []))
+      ∙ map-append (λ (t : Term). (number, record { term = t })) (other_terms (map term_of before)) (other_terms (term_of term ∷ []))
+
+  pub others-next : (added : List (ℕ × TermKey)) (index : List (TermKey × List ℕ))
+      → IsIndexOf key_order ((added ++ keyed number (other_terms (map term_of before))) ++ keyed number (other_terms (term_of term ∷ []))) index
+      → IsIndexOf key_order (added ++ keyed number (other_terms (map term_of (before ++ term ∷ [])))) index
+  others-next added index filed =
+      subst (λ (ps : List (ℕ × TermKey)). IsIndexOf key_order ps index)
+      (append_assoc added (keyed number (other_terms (map term_of before))) (keyed number (other_terms (term_of term ∷ [])))
+      ∙ ap (λ (ps : List (ℕ × TermKey)). added ++ ps) (sym others-more)) filed
+
+-- what a test says of the terms so far and of the next
+module _ (test : Term → Bool) (before : List TermRef) (term : TermRef) where
+  pub any-more : list_any test (map term_of (before ++ term ∷ [])) ≡ (list_any test (map term_of before) || test (term_of term))
+  any-more =
+      ap (list_any test) (map-append term_of before (term ∷ [])) ∙ list_any-append test (map term_of before) (term_of term ∷ [])
+      ∙ ap (λ b. list_any test (map term_of before) || b) (or-false (test (term_of term)))
+
+  pub all-more : list_all test (map term_of (before ++ term ∷ [])) ≡ (list_all test (map term_of before) && test (term_of term))
+  all-more =
+      ap (list_all test) (map-append term_of before (term ∷ [])) ∙ list_all-append test (map term_of before) (term_of term ∷ [])
+      ∙ ap (λ b. list_all test (map term_of before) && b) (and-true (test (term_of term)))
+
+-- of the terms that are lent, those so far, the next and those after it
+pub lent-more : (before : List TermRef) (term : TermRef) (left rest terms : List Term) → map term_of before ++ left ≡ terms → left ≡ term_of term ∷ rest
+    → map term_of (before ++ term ∷ []) ++ rest ≡ terms
+lent-more before term left rest terms whole next =
+    ap (λ (ts : List Term). ts ++ rest) (map-append term_of before (term ∷ [])) ∙ append_assoc (map term_of before) (term_of term ∷ []) rest
+    ∙ ap (λ (ts : List Term). map term_of before ++ ts) (sym next) ∙ whole
+
+-- where none is left, those so far are all
+pub lent-all : (before : List TermRef) (left terms : List Term) → map term_of before ++ left ≡ terms → left ≡ [] → map term_of before ≡ terms
+lent-all before left terms whole none =
+    sym (append-nil (map term_of before)) ∙ ap (λ (ts : List Term). map term_of before ++ ts) (sym none) ∙ whole
 
 -- two maps, one after the other, are one
 pub map-twice : {X Y Z : Type 0} (f : Y → Z) (g : X → Y) (xs : List X) → map f (map g xs) ≡ map (λ x. f (g x)) xs

@@ -9,7 +9,7 @@ use Rattle.std.proofs.lemmas.Option.{slice_get-get_or, slice_get-map, get_or_fro
 use Rattle.std.specs.Cmp.{both_ways, IsTotalOrder}
 use Rattle.std.specs.List.{filter_map, cons_option}
 use Rattle.std.specs.Option.{option_map}
-use Rattle.sc_record.specs.declared.write.Write.{Write}
+use Rattle.sc_record.specs.Writes.{Write}
 use Rattle.std.proofs.lemmas.Cmp.{on_total}
 use Rattle.sc_rows.proofs.JoinLemmas.{AscendFrom, increasing_from_ascend}
 use Rattle.sc_rows.specs.Moving.{new_number, new_numbers, KeepsOrder}

@@ -4,7 +4,7 @@ use Rattle.std.proofs.Math.Seq.{take-add, take-append_seam, drop-append_seam}
 use Rattle.std.proofs.lemmas.List.{take_all, take_more, take-take, drop_more, drop-drop, drop-take, take-append-drop, take-append-le, get_or-drop, get_or-take}
 use Rattle.std.proofs.lemmas.List.Concat.{flat_map-append}
 use Rattle.std.proofs.lemmas.Option.{slice_get_within, slice_get_read, get_or_from_slice_get}
-use Rattle.sc_record.specs.declared.write.Write.{Write}
+use Rattle.sc_record.specs.Writes.{Write}
 use Rattle.sc_snapshot.specs.declared.pieces.Piece.{Piece}
 use Rattle.sc_snapshot.specs.Pieces.{rows_in, rows_of, start_of, HaveEnds, HasRow}
 use Rattle.sc_snapshot.proofs.ChangeLemmas.{at-push}

@@ -11,8 +11,7 @@ use Rattle.std.specs.Ordering.{nat_cmp, is_eq, ordering_reverse}
 use Rattle.std.specs.Str.{bytes_eq}
 use Rattle.std.specs.declared.cmp.Ordering.{Ordering}
 use Rattle.std.specs.declared.cmp.Ordering.TheVariants.{Less, Equal, Greater}
-use Rattle.sc_record.specs.declared.write.Write.{Write}
-use Rattle.sc_record.specs.Writes.{write_of, AscendById}
+use Rattle.sc_record.specs.Writes.{Write, write_of, AscendById}
 use Rattle.sc_snapshot.specs.Edits.{AreBelow, AreAbove, IsPlace}
 use Rattle.sc_snapshot.proofs.ChangeLemmas.{take-next}
 

@@ -7,7 +7,7 @@ use Rattle.std.specs.List.{list_any}
 use Rattle.std.specs.List.Sorted.{IsNonDecreasingBy}
 use Rattle.std.specs.Ordering.{is_eq}
 use Rattle.sc_record.specs.declared.term.Term.{Term}
-use Rattle.sc_record.specs.declared.write.Write.{Write}
+use Rattle.sc_record.specs.Writes.{Write}
 use Rattle.sc_record.proofs.TermLemmas.{same_term}
 use Rattle.sc_rows.specs.Joining.{has_row}
 use Rattle.sc_segment.proofs.HasRowLemmas.{has_row-rows_with}

@@ -7,7 +7,7 @@ use Rattle.std.proofs.lemmas.List.{map-append, length-map, length-take-le}
 use Rattle.std.proofs.lemmas.Option.{slice_get-map}
 use Rattle.std.specs.List.{AllByRecursion, range_with_len}
 use Rattle.std.specs.Option.{option_map}
-use Rattle.sc_record.specs.declared.write.Write.{Write}
+use Rattle.sc_record.specs.Writes.{Write}
 use Rattle.sc_rows.proofs.MovedLemmas.{run-put}
 use Rattle.sc_snapshot.proofs.ChangeLemmas.{some_at, take-next}
 use Rattle.sc_snapshot.proofs.LiveLemmas.{passing-next, passing-live}

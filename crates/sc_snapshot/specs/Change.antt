@@ -1,7 +1,7 @@
 -- What becomes of the rows of a snapshot in the next one.
 use Rattle.std.specs.Prelude.{◌≡◌, ℕ, ◌+◌, ◌<◌, ◌≤◌, ◌==◌, Bool, false, if◌then◌else◌, List, [], ◌∷◌, ◌++◌, length, map, take, slice_get, IfSome, Option, None, Some}
 use Rattle.std.specs.List.{list_any}
-use Rattle.sc_record.specs.declared.write.Write.{Write}
+use Rattle.sc_record.specs.Writes.{Write}
 use Rattle.sc_segment.specs.Filing.{BuilderState}
 use Rattle.sc_segment.specs.Index.{IsIndexOf}
 use Rattle.sc_snapshot.specs.declared.change.Change.{Change}

@@ -1,6 +1,6 @@
 -- Where the row of an id stands among the live rows.
 use Rattle.std.specs.Prelude.{◌≡◌, ℕ, true, false, slice_get, List, Option, None, Some}
-use Rattle.sc_record.specs.declared.write.Write.{Write}
+use Rattle.sc_record.specs.Writes.{Write}
 use Rattle.sc_snapshot.specs.Postings.{is_live_of}
 
 -- the live row of the id has the number at this place; there is none, where there is no place

@@ -1,7 +1,6 @@
 -- What the rows of every snapshot are.
 use Rattle.std.specs.Prelude.{◌≡◌, List, Contains, Some}
-use Rattle.sc_record.specs.declared.write.Write.{Write}
-use Rattle.sc_record.specs.Writes.{write_of}
+use Rattle.sc_record.specs.Writes.{Write, write_of}
 use Rattle.sc_snapshot.specs.Rows.{AreRows}
 
 -- a row is the write of its id, and no other row has that id

@@ -1,7 +1,7 @@
 -- What is told of rows while edits are put in.
 use Rattle.std.specs.Prelude.{◌≡◌, true, List, length}
 use Rattle.std.specs.List.{list_all}
-use Rattle.sc_record.specs.declared.write.Write.{Write}
+use Rattle.sc_record.specs.Writes.{Write}
 use Rattle.sc_snapshot.specs.Change.{IsChange}
 use Rattle.sc_snapshot.specs.Edits.{edited, put_in}
 use Rattle.sc_snapshot.specs.Postings.{has_id_alone, IsSurvey}

@@ -5,7 +5,7 @@ use Rattle.std.specs.List.Sorted.{IsStrictlyIncreasing}
 use Rattle.std.specs.Str.{bytes_eq}
 use Rattle.std.specs.declared.cmp.Ordering.{Ordering}
 use Rattle.sc_record.specs.declared.term.Term.{Term}
-use Rattle.sc_record.specs.declared.write.Write.{Write}
+use Rattle.sc_record.specs.Writes.{Write}
 use Rattle.sc_record.proofs.TermLemmas.{same_term}
 use Rattle.sc_rows.specs.Joining.{has_row}
 use Rattle.sc_segment.specs.Index.{IsIndexOf, distinct_keys}

@@ -6,8 +6,7 @@ use Rattle.std.specs.declared.alloc.Global.{Global}
 use Rattle.std.specs.declared.sync.Arc.{Arc}
 use Rattle.sc_hash.specs.Bounds.{bounds, contains}
 use Rattle.sc_hash.specs.declared.range.Range.{Range}
-use Rattle.sc_record.specs.declared.write.Write.{Write}
-use Rattle.sc_record.specs.Writes.{write_of, AscendById}
+use Rattle.sc_record.specs.Writes.{Write, write_of, AscendById}
 
 -- a snapshot as contracts see it: how many entries the journal had, and the committed write of each id
 pub record SnapshotState : Type 0 where

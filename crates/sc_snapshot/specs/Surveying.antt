@@ -1,7 +1,7 @@
 -- What a survey of the first rows has.
 use Rattle.std.specs.Prelude.{◌≡◌, ◌≤ℤ◌, ℕ, ◌-◌, List, ◌++◌, map, filter, length, take, replicate, slice_get, is_some, true}
 use Rattle.std.specs.List.{range_with_len}
-use Rattle.sc_record.specs.declared.write.Write.{Write}
+use Rattle.sc_record.specs.Writes.{Write}
 use Rattle.sc_snapshot.specs.Postings.{is_live_at}
 use Rattle.sc_snapshot.specs.declared.survey.Survey.{Survey}
 

@@ -1,5 +1,5 @@
 ghost use Rattle.std.specs.Prelude.{◌≡◌, ℕ, ◌+◌, ◌-◌, ◌^◌, ◌≤◌, ◌<◌, [], ◌∷◌, ◌++◌, true, ◌&&◌, length, slice_get, IfOk, IfSome, OnOk, None, Some, List, Option};
-ghost use Rattle.sc_record.specs.declared.write.Write.{Write};
+ghost use Rattle.sc_record.specs.Writes.{Write};
 ghost use Rattle.sc_snapshot.specs.Change.{IsChange, LosesInPlace};
 ghost use Rattle.sc_snapshot.specs.Edits.{put_in, next_of, IsRest};
 ghost use Rattle.sc_snapshot.specs.Postings.{has_id_alone};
@@ -51,6 +51,7 @@ impl Change {
     /// refused.
     pub(crate) fn put(
         &mut self,
+        alloc: Global,
         rows: &Pieces,
         from: usize,
         number: usize,
@@ -70,8 +71,8 @@ impl Change {
     {
         let place = number + (edit.at - from);
         self.keep_all(from, edit.at, number)?;
-        self.replace(rows, edit)?;
-        self.file(edit.cell, place as u32)?;
+        self.replace(alloc, rows, edit)?;
+        self.file(alloc, edit.cell, place as u32)?;
         Ok(())
     }
 
@@ -124,7 +125,7 @@ impl Change {
     }
 
     // The old row at the edit's place is not kept where the edit replaces it.
-    fn replace(&mut self, rows: &Pieces, edit: &Edit) -> Result<(), AllocError>
+    fn replace(&mut self, alloc: Global, rows: &Pieces, edit: &Edit) -> Result<(), AllocError>
         requires next { next_of edit.now ≤ length rows.now }
         requires rows { length rows.now ≤ 2 ^ 24 }
         requires last_lost { IfSome self.old.lost (λ lost. lost.last_row ≤ edit.now.at) }
@@ -134,28 +135,33 @@ impl Change {
         ensures alone { OnOk result (self.new.alone ≡ self.old.alone) }
     {
         if edit.replaces {
-            lose(&mut self.lost, rows, edit.at)?;
+            lose(alloc, &mut self.lost, rows, edit.at)?;
             self.moved.push(None)?;
         }
         Ok(())
     }
 
     // The next new row is none of the old ones.
-    fn file(&mut self, row: &Write, number: u32) -> Result<(), AllocError>
+    fn file(&mut self, alloc: Global, row: &Write, number: u32) -> Result<(), AllocError>
         requires { self.old.added.last_row ≤ number }
         ensures change { OnOk result ((old new : List Write) (low : ℕ) → IsChange old new low number self.old
             → slice_get new number ≡ Some row.now → IsChange old new low (number + 1) self.new) }
         ensures last_row { OnOk result (self.new.added.last_row ≤ number) }
         ensures alone { OnOk result (self.new.alone ≡ (self.old.alone && has_id_alone row.now)) }
     {
-        let is_alone = file_row(&mut self.added, number, row)?;
+        let is_alone = file_row(alloc, &mut self.added, number, row)?;
         self.alone &= is_alone;
         Ok(())
     }
 }
 
 // Files the old row with this number among the lost, under its own number, where what is lost is told. Else it is not looked at.
-fn lose(lost: &mut Option<Builder<TermKey>>, rows: &Pieces, at: usize) -> Result<(), AllocError>
+fn lose(
+    alloc: Global,
+    lost: &mut Option<Builder<TermKey>>,
+    rows: &Pieces,
+    at: usize,
+) -> Result<(), AllocError>
     requires at { at < length rows.now }
     requires rows { length rows.now ≤ 2 ^ 24 }
     requires last_row { IfSome lost.old (λ lost. lost.last_row ≤ at) }
@@ -163,7 +169,7 @@ fn lose(lost: &mut Option<Builder<TermKey>>, rows: &Pieces, at: usize) -> Result
         → IfSome lost.new (LosesInPlace rows.now (at + 1) (moved ++ None ∷ []))) }
 {
     if let Some(lost) = lost {
-        file_row(lost, at as u32, rows.cell(at))?;
+        file_row(alloc, lost, at as u32, rows.cell(at))?;
     }
     Ok(())
 }

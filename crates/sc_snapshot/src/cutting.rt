@@ -26,7 +26,7 @@ pub(crate) struct Cutting {
 impl Model for Cutting {
     ghost use Rattle.std.specs.Prelude.{◌++◌, List, map};
     ghost use Rattle.std.specs.Arc.{arc_value};
-    ghost use Rattle.sc_record.specs.declared.write.Write.{Write};
+    ghost use Rattle.sc_record.specs.Writes.{Write};
 
     ghost Value = { List Write };
 

@@ -29,7 +29,7 @@ impl<'a> Edit<'a> {
         ensures bounded { next_of result ≤ length rows.now }
         ensures place { IsPlace rows.now result.at (next_of result) (put_in result).id }
     {
-        match search(rows, from, &change.id) {
+        match search(rows, from, change.id()) {
             Ok(at) => Edit {
                 at,
                 replaces: true,
@@ -86,7 +86,7 @@ fn search(rows: &Pieces, from: usize, id: &Id) -> Result<usize, usize>
     let mut high = rows.len();
     'halving: while low < high {
         let middle = low + (high - low) / 2;
-        match rows.cell(middle).id.cmp(id) {
+        match rows.cell(middle).id().cmp(id) {
             Ordering::Less => low = middle + 1,
             Ordering::Equal => return Ok(middle),
             Ordering::Greater => high = middle,

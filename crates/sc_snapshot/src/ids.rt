@@ -1,23 +1,24 @@
-ghost use Rattle.std.specs.Prelude.{◌≡◌, ℕ, ◌+◌, ◌-◌, ◌*◌, ◌^◌, ◌≤◌, length, slice_get};
+ghost use Rattle.std.specs.Prelude.{◌≡◌, ℕ, ◌+◌, ◌-◌, ◌*◌, ◌^◌, ◌≤◌, codes, length, slice_get};
 ghost use Rattle.std.specs.Arc.{arc_value};
 ghost use Rattle.std.specs.List.{list_all, list_any};
 ghost use Rattle.std.specs.List.Sorted.{IsStrictlyIncreasing};
+ghost use Rattle.std.specs.Str.{bytes_eq};
 ghost use Rattle.sc_record.specs.Writes.{AscendById};
 ghost use Rattle.sc_rows.specs.Joining.{has_row};
 ghost use Rattle.sc_snapshot.specs.Ids.{IsPlaceOfId};
-ghost use Rattle.sc_snapshot.specs.Postings.{has_id_alone, is_id_alone, is_id_term, is_live_of, is_no_other_id, AreLiveRows};
+ghost use Rattle.sc_snapshot.specs.Postings.{has_id_alone, is_id_term, is_live_of, is_no_other_id, AreLiveRows};
 
 use crate::pieces::Pieces;
 use sc_keys::Steps;
-use sc_record::{Cell, Term, Text, Write};
+use sc_record::{Cell, Terms, Text, Write};
 use std::cmp::Ordering;
 use std::sync::ledger::Ledger;
 
-/// Whether the term is of the field of ids.
-pub(crate) fn is_id_term(term: &Term) -> bool
-    ensures { result ≡ is_id_term term.now }
+/// Whether a field is that of ids.
+pub(crate) fn is_id_field(field: &str) -> bool
+    ensures { result ≡ bytes_eq field.now (codes "id") }
 {
-    term.field.as_str() == "id"
+    field == "id"
 }
 
 /// Whether each of these rows has of the terms of the field of ids that of its own id alone, where it is live.
@@ -31,38 +32,34 @@ pub(crate) fn have_ids_alone(rows: &[Cell]) -> bool
 fn has_id_alone(row: &Write) -> bool
     ensures { result ≡ has_id_alone row.now }
 {
-    match &row.doc {
-        Some(_) => is_id_alone(row.id.as_str(), row.terms.as_slice()),
-        None => true,
+    if !row.is_live() {
+        return true;
     }
-}
-
-// Whether of the terms of the field of ids there is that of the id, and no other.
-fn is_id_alone(id: &str, terms: &[Term]) -> bool
-    ensures { result ≡ is_id_alone id.now terms.now }
-{
-    has_id_term(terms) && has_no_other_id(id, terms)
+    has_id_term(row.terms()) && has_no_other_id(row.id().as_str(), row.terms())
 }
 
 // Whether some of the terms are of the field of ids.
-fn has_id_term(terms: &[Term]) -> bool
-    ensures { result ≡ list_any is_id_term terms.now }
+fn has_id_term(terms: Terms<'_>) -> bool
+    ensures { result ≡ list_any is_id_term terms.entry }
 {
-    terms.iter().any(|term| is_id_term(term))
+    for term in terms {
+        if is_id_field(term.field) {
+            return true;
+        }
+    }
+    false
 }
 
 // Whether each term of the field of ids is that of the id.
-fn has_no_other_id(id: &str, terms: &[Term]) -> bool
-    ensures { result ≡ list_all (is_no_other_id id.now) terms.now }
+fn has_no_other_id(id: &str, terms: Terms<'_>) -> bool
+    ensures { result ≡ list_all (is_no_other_id id.now) terms.entry }
 {
-    terms.iter().all(|term| is_no_other_id(id, term))
-}
-
-// Whether the term is that of the id, where it is of the field of ids.
-fn is_no_other_id(id: &str, term: &Term) -> bool
-    ensures { result ≡ is_no_other_id id.now term.now }
-{
-    !is_id_term(term) || term.key.as_str() == id
+    for term in terms {
+        if is_id_field(term.field) && term.key != id {
+            return false;
+        }
+    }
+    true
 }
 
 /// The number of the live row of the id, alone; no number where there is no such row. A step is one comparison of ids.
@@ -104,7 +101,7 @@ fn place_of_id<L: Ledger>(
         let middle = low + (high - low) / 2;
         steps.tick();
         let row = rows.cell(live[middle] as usize);
-        match row.id.as_str().cmp(id.as_str()) {
+        match row.id().as_str().cmp(id.as_str()) {
             Ordering::Less => low = middle + 1,
             Ordering::Equal => return Some(middle),
             Ordering::Greater => high = middle,

@@ -2,7 +2,7 @@ ghost use Rattle.std.specs.Prelude.{◌≡◌, ℕ, ◌+◌, ◌-◌, ◌*◌, �
 ghost use Rattle.std.specs.Arc.{arc_value};
 ghost use Rattle.std.specs.List.{list_all};
 ghost use Rattle.std.specs.List.Sorted.{IsStrictlyIncreasing};
-ghost use Rattle.sc_record.specs.declared.write.Write.{Write};
+ghost use Rattle.sc_record.specs.Writes.{Write};
 ghost use Rattle.sc_rows.specs.Moving.{KeepsOrder};
 ghost use Rattle.sc_rows.specs.Joining.{has_row};
 ghost use Rattle.sc_segment.specs.Carrying.{IsCarried, OthersStay};
@@ -13,7 +13,7 @@ ghost use Rattle.sc_snapshot.specs.Postings.{has_id_alone, has_term, key_order, 
 
 use crate::change::Change;
 use crate::filing::file_row;
-use crate::ids::{is_id_term, row_of_id};
+use crate::ids::{is_id_field, row_of_id};
 use crate::pieces::Pieces;
 use crate::survey::Survey;
 use crate::term_key::TermKey;
@@ -131,7 +131,7 @@ impl Index {
     {
         match &self.whole {
             Some(whole) => whole.postings(key, steps),
-            None if is_id_term(&key.term) => row_of_id(
+            None if is_id_field(key.term.field.as_str()) => row_of_id(
                 rows,
                 self.survey.live_rows.as_slice(),
                 &key.term.key,
@@ -158,7 +158,7 @@ fn segment_of(alloc: Global, rows: &[Cell]) -> Result<Segment<TermKey>, AllocErr
     let mut builder = Builder::new(alloc);
     let mut number: u32 = 0;
     for row in rows {
-        file_row(&mut builder, number, row)?;
+        file_row(alloc, &mut builder, number, row)?;
         number += 1;
     }
     builder.finish()

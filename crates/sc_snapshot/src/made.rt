@@ -100,13 +100,14 @@ impl Told {
         ensures told { OnOk result (IsTold old.now edits.now self.new) }
     {
         let mut cutting = Cutting::new(alloc);
-        self.put_all(&mut cutting, old, last, edits)?;
+        self.put_all(alloc, &mut cutting, old, last, edits)?;
         cutting.finish()
     }
 
     // Tells all edits, and puts the new rows at the end of none.
     fn put_all(
         &mut self,
+        alloc: Global,
         cutting: &mut Cutting,
         old: &Pieces,
         last: &Survey,
@@ -125,7 +126,7 @@ impl Told {
         let mut number = 0;
         for edit in edits {
             cutting.put(old, from, edit)?;
-            self.change.put(old, from, number, edit)?;
+            self.change.put(alloc, old, from, number, edit)?;
             self.survey.put(last, from, number, edit)?;
             number = number + (edit.at - from) + 1;
             from = edit.next();

@@ -1,6 +1,6 @@
 ghost use Rattle.std.specs.Prelude.{◌≡◌, ℕ, ◌+◌, ◌<◌, ◌≤◌, ◌^◌, [], ◌∷◌, ◌++◌, filter, length, map, slice_get, true, IfOk, OnOk, Some, List};
 ghost use Rattle.std.specs.Arc.{arc_value};
-ghost use Rattle.sc_record.specs.declared.write.Write.{Write};
+ghost use Rattle.sc_record.specs.Writes.{Write};
 ghost use Rattle.sc_snapshot.specs.Change.{IsChange};
 ghost use Rattle.sc_snapshot.specs.Rows.{is_within};
 
@@ -75,5 +75,5 @@ impl Part {
 fn is_within(range: &Range, row: &Cell) -> bool
     ensures { result ≡ is_within range.now (arc_value row.now) }
 {
-    range.contains(row.hash)
+    range.contains(row.hash())
 }

@@ -53,7 +53,7 @@ pub(crate) struct Pieces {
 
 impl Model for Pieces {
     ghost use Rattle.std.specs.Prelude.{List};
-    ghost use Rattle.sc_record.specs.declared.write.Write.{Write};
+    ghost use Rattle.sc_record.specs.Writes.{Write};
     ghost use Rattle.sc_snapshot.specs.Pieces.{rows_of, HaveEnds};
 
     ghost Value = { List Write };

@@ -1,8 +1,7 @@
 ghost use Rattle.std.specs.Prelude.{◌≡◌, ℕ, ◌+◌, ◌-◌, ◌*◌, ◌^◌, ◌<◌, ◌≤◌, ◌≤ℤ◌, All, filter, length, map, is_some, slice_get, IfOk, Some, List, option_copied, option_map};
 ghost use Rattle.std.specs.Arc.{arc_value};
 ghost use Rattle.std.specs.List.Sorted.{IsStrictlyIncreasing};
-ghost use Rattle.sc_record.specs.declared.write.Write.{Write};
-ghost use Rattle.sc_record.specs.Writes.{AscendById};
+ghost use Rattle.sc_record.specs.Writes.{Write, AscendById};
 ghost use Rattle.sc_rows.specs.Joining.{has_row};
 ghost use Rattle.sc_snapshot.specs.Rows.{AreRows, AreChanged, is_within, lent};
 ghost use Rattle.sc_snapshot.specs.Postings.{has_term, term_count, is_live_at};

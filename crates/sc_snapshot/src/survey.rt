@@ -1,6 +1,6 @@
 ghost use Rattle.std.specs.Prelude.{◌≡◌, ℕ, ◌+◌, ◌-◌, ◌<◌, ◌≤◌, ◌^◌, ◌≤ℤ◌, [], ◌∷◌, ◌++◌, map, length, is_some, slice_get, slice_set, replicate, if◌then◌else◌, true, false, IfOk, OnOk, List};
 ghost use Rattle.std.specs.Arc.{arc_value};
-ghost use Rattle.sc_record.specs.declared.write.Write.{Write};
+ghost use Rattle.sc_record.specs.Writes.{Write};
 ghost use Rattle.sc_snapshot.specs.Rows.{AreRows};
 ghost use Rattle.sc_snapshot.specs.Edits.{put_in, IsRest};
 ghost use Rattle.sc_snapshot.specs.Postings.{is_live_at, IsSurvey};
@@ -30,7 +30,7 @@ impl Survey {
         let mut survey = Survey::begin(alloc, rows.len(), i32::MAX, i32::MIN)?;
         let mut number: u32 = 0;
         for row in rows {
-            survey.mark(number, row.doc.is_some())?;
+            survey.mark(number, row.is_live())?;
             survey.bound(row);
             number += 1;
         }
@@ -71,7 +71,7 @@ impl Survey {
     {
         let place = number + (edit.at - from);
         self.keep_all(&last.live_bits, from, edit.at, number)?;
-        self.mark(place as u32, edit.cell.doc.is_some())?;
+        self.mark(place as u32, edit.cell.is_live())?;
         self.bound(edit.cell);
         Ok(())
     }
@@ -169,7 +169,7 @@ impl Survey {
         ensures live_rows { self.new.live_rows ≡ self.old.live_rows }
         ensures live_bits { self.new.live_bits ≡ self.old.live_bits }
     {
-        self.least_hash = self.least_hash.min(row.hash);
-        self.greatest_hash = self.greatest_hash.max(row.hash);
+        self.least_hash = self.least_hash.min(row.hash());
+        self.greatest_hash = self.greatest_hash.max(row.hash());
     }
 }

@@ -8,11 +8,12 @@ ghost use Rattle.std.specs.Str.{bytes_eq};
 ghost use Rattle.std.proofs.lemmas.Cmp.{nat_list_cmp_total, and_equiv, on_equiv, on_total, then_total};
 ghost use Rattle.sc_keys.proofs.FrontLemmas.{front_number-first};
 ghost use Rattle.sc_keys.specs.Heads.{front_number};
+ghost use Rattle.sc_record.specs.TermRuns.{term_of};
 ghost use Rattle.sc_snapshot.specs.Keys.{key_cmp};
 
 use sc_keys::{Head, Key, Steps, front_number};
-use sc_record::Term;
-use std::alloc::AllocError;
+use sc_record::{Term, TermRef};
+use std::alloc::{AllocError, Global};
 use std::cmp::Ordering;
 use std::hash::{Hash, Hasher};
 use std::sync::ledger::Ledger;
@@ -39,6 +40,16 @@ impl TermKey {
                 field: term.field.clone()?,
                 key: term.key.clone()?,
             },
+        })
+    }
+
+    /// The key of a term that is lent, which has texts of its own. The only error is that memory was refused.
+    #[inline(always)]
+    pub(crate) fn of_lent(alloc: Global, term: &TermRef<'_>) -> Result<TermKey, AllocError>
+        ensures { IfOk result (λ key. key.term ≡ term_of term.now) }
+    {
+        Ok(TermKey {
+            term: term.to_term(alloc)?,
         })
     }
 }

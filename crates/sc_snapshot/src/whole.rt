@@ -1,7 +1,7 @@
 ghost use Rattle.std.specs.Prelude.{◌≡◌, List, map, true, IfOk};
 ghost use Rattle.std.specs.Arc.{arc_value};
 ghost use Rattle.std.specs.List.{list_all};
-ghost use Rattle.sc_record.specs.declared.write.Write.{Write};
+ghost use Rattle.sc_record.specs.Writes.{Write};
 ghost use Rattle.sc_segment.specs.Index.{IsIndexOf};
 ghost use Rattle.sc_snapshot.specs.Rows.{AreRows};
 ghost use Rattle.sc_snapshot.specs.Postings.{has_id_alone, key_order, keyed_rows, AreIdsFound};
@@ -71,7 +71,7 @@ fn segment_of(alloc: Global, rows: &[Cell]) -> Result<Segment<TermKey>, AllocErr
     let mut builder = Builder::new(alloc);
     let mut number: u32 = 0;
     for row in rows {
-        file_terms(&mut builder, number, live_terms(row))?;
+        file_terms(alloc, &mut builder, number, live_terms(row))?;
         number += 1;
     }
     builder.finish()

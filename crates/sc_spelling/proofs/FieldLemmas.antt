@@ -7,11 +7,11 @@ use Rattle.std.specs.declared.cmp.Ordering.{Ordering}
 use Rattle.std.specs.declared.cmp.Ordering.TheVariants.{Less, Equal, Greater}
 use Rattle.std.specs.Cmp.Lexicographic.{slice_cmp}
 use Rattle.std.proofs.lemmas.List.Concat.{flat_map-cons}
-use Rattle.sc_record.specs.declared.value.Kind.{Kind}
-use Rattle.sc_record.specs.declared.value.Value.{Value}
-use Rattle.sc_record.specs.declared.document.Field.{Field}
-use Rattle.sc_record.specs.Fields.{kind_of, fits_kind, fits_count, fits_name, IsField, IsBelowFirst, Ascends}
-use Rattle.sc_spelling.specs.Spellings.{spelling_of_value, spelling_of_field, FitsField}
+use Rattle.sc_values.specs.declared.value.Kind.{Kind}
+use Rattle.sc_values.specs.declared.value.Value.{Value}
+use Rattle.sc_values.specs.declared.field.Field.{Field}
+use Rattle.sc_values.specs.Fields.{kind_of, fits_kind, fits_count, fits_name, IsField, IsBelowFirst, Ascends, FitsField}
+use Rattle.sc_spelling.specs.Spellings.{spelling_of_value, spelling_of_field}
 use Rattle.sc_spelling.specs.Reading.{◌>>=◌, number_at, text_at, values_at, field_at, field_after, fields_at}
 use Rattle.sc_spelling.proofs.NumberLemmas.{IsBytes, bind_some, kept_some, some_is, Takes, Takes-then, wide16, wide32, number_takes, number_again, text_takes, text_again}
 use Rattle.sc_spelling.proofs.ValueLemmas.{both_of, of_both, values_take, values_again}

@@ -4,4 +4,5 @@ pub mod ValueLemmas
 pub mod FieldLemmas
 pub mod DocumentLemmas
 pub mod LoopLemmas
+pub mod KnownLemmas
 pub mod LengthLemmas

@@ -1,20 +1,21 @@
 -- Values and fields one after another, as an iterator lends them and as a loop goes over them.
-use Rattle.std.proofs.Common.{◌≡◌, ℕ, zero, suc, ◌+◌, ◌-◌, ◌<◌, ◌≤◌, true, List, [], ◌∷◌, Option, Some, None, refl, sym, ap, subst, ◌∙◌, arith}
+use Rattle.std.proofs.Common.{◌≡◌, ℕ, zero, suc, ◌+◌, ◌-◌, ◌<◌, ◌≤◌, true, List, [], ◌∷◌, length, Option, Some, None, refl, sym, ap, subst, ◌∙◌, arith}
 use Rattle.std.specs.Prelude.{is_some}
-use Rattle.sc_record.specs.declared.value.Kind.{Kind}
-use Rattle.sc_record.specs.declared.value.Value.{Value}
-use Rattle.sc_record.specs.declared.document.Field.{Field}
+use Rattle.sc_values.specs.declared.value.Kind.{Kind}
+use Rattle.sc_values.specs.declared.value.Value.{Value}
+use Rattle.sc_values.specs.declared.field.Field.{Field}
 use Rattle.sc_spelling.specs.Reading.{◌>>=◌, value_at, values_at, field_after, fields_at, read_of, rest_of}
+use Rattle.sc_spelling.proofs.NumberLemmas.{bind_some}
 
 -- what was read with one before it
-abbrev one_more : {A : Type 0} → A → Option (List A × List ℕ) → Option (List A × List ℕ)
+abbrev pub one_more : {A : Type 0} → A → Option (List A × List ℕ) → Option (List A × List ℕ)
 one_more first others = others >>= λ others. Some (first ∷ others.0, others.1)
 
 rest_of-more : {A : Type 0} (first : A) (others : Option (List A × List ℕ)) → rest_of (one_more first others) ≡ rest_of others
 rest_of-more first None = refl
 rest_of-more first (Some x) = refl
 
-read_of-more : {A : Type 0} (first : A) (others : Option (List A × List ℕ)) → is_some (one_more first others) ≡ true → (read_of (one_more first others) ≡ first ∷ read_of others) × (is_some others ≡ true)
+pub read_of-more : {A : Type 0} (first : A) (others : Option (List A × List ℕ)) → is_some (one_more first others) ≡ true → (read_of (one_more first others) ≡ first ∷ read_of others) × (is_some others ≡ true)
 read_of-more first None h = absurd cc
 read_of-more first (Some x) h = (refl, refl)
 
@@ -111,3 +112,31 @@ unfolding fields_at
 fields_done before count i bytes total le so_far =
     let k : count - i ≡ 0 = omega arith in
     sym so_far ∙ ap (λ (n : ℕ). rest_of (fields_at before n bytes)) k
+
+-- ---- how many
+
+pub some_from : {A : Type 0} (o : Option A) → is_some o ≡ true → (x : A) × (o ≡ Some x)
+some_from None is = absurd cc
+some_from (Some x) is = (x, refl)
+
+-- as many values are lent as were to be read
+pub values_count : (kind : Kind) (n : ℕ) (bytes : List ℕ) → is_some (values_at kind n bytes) ≡ true → length (read_of (values_at kind n bytes)) ≡ n
+unfolding values_at
+values_count kind zero bytes is = refl
+values_count kind (suc n) bytes is =
+    let y = some_from (values_at kind (suc n) bytes) is in
+    let a = bind_some (value_at kind bytes) (λ first. values_at kind n first.1 >>= λ others. Some (first.0 ∷ others.0, others.1)) y.0 y.1 in
+    let opened = values_open kind n bytes a.0 a.1 in
+    let both = read_of-more a.0.0 (values_at kind n a.0.1) (subst (λ (o : Option (List Value × List ℕ)). is_some o ≡ true) opened is) in
+    ap (λ (o : Option (List Value × List ℕ)). length (read_of o)) opened ∙ ap length both.0 ∙ ap suc (values_count kind n a.0.1 both.1)
+
+-- as many fields are lent as were to be read
+pub fields_count : (before : List ℕ) (n : ℕ) (bytes : List ℕ) → is_some (fields_at before n bytes) ≡ true → length (read_of (fields_at before n bytes)) ≡ n
+unfolding fields_at
+fields_count before zero bytes is = refl
+fields_count before (suc n) bytes is =
+    let y = some_from (fields_at before (suc n) bytes) is in
+    let a = bind_some (field_after before bytes) (λ first. fields_at first.0.name n first.1 >>= λ others. Some (first.0 ∷ others.0, others.1)) y.0 y.1 in
+    let opened = fields_open before n bytes a.0 a.1 in
+    let both = read_of-more a.0.0 (fields_at a.0.0.name n a.0.1) (subst (λ (o : Option (List Field × List ℕ)). is_some o ≡ true) opened is) in
+    ap (λ (o : Option (List Field × List ℕ)). length (read_of o)) opened ∙ ap length both.0 ∙ ap suc (fields_count a.0.0.name n a.0.1 both.1)

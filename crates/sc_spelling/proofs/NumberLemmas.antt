@@ -16,7 +16,7 @@ IsBytes bytes = (i : ℕ) → get_or bytes i 0 < 256
 pub IsBytes-drop : (n : ℕ) (bytes : List ℕ) → IsBytes bytes → IsBytes (drop n bytes)
 IsBytes-drop n bytes h i = rw get_or-drop (h (n + i))
 
-IsBytes-take : (n : ℕ) (bytes : List ℕ) → IsBytes bytes → IsBytes (take n bytes)
+pub IsBytes-take : (n : ℕ) (bytes : List ℕ) → IsBytes bytes → IsBytes (take n bytes)
 IsBytes-take n bytes h i =
     elim (cases_lt i n) [
       | inl lt ↦ rw (get_or-take n bytes i 0 lt) (h i)
@@ -110,7 +110,7 @@ pub record IsCut (n : ℕ) (bytes text rest : List ℕ) : Type 0 where
   pub long : length text ≡ n
   pub utf8 : is_utf8 text ≡ true
 
-cut_takes : (n : ℕ) (bytes : List ℕ) (x : List ℕ × List ℕ) → IsBytes bytes → cut_text n bytes ≡ Some x → IsCut n bytes x.0 x.1
+pub cut_takes : (n : ℕ) (bytes : List ℕ) (x : List ℕ × List ℕ) → IsBytes bytes → cut_text n bytes ≡ Some x → IsCut n bytes x.0 x.1
 cut_takes n bytes x fits e =
     let a = passed_some (ltb (length bytes) n) (cond (is_utf8 (take n bytes)) (Some (take n bytes, drop n bytes)) None) x e in
     let b = kept_some (is_utf8 (take n bytes)) (Some (take n bytes, drop n bytes)) x a.1 in
@@ -141,7 +141,7 @@ text_takes w limit wide bytes x fits e =
       utf8 = c.utf8;
     }
 
-cut_again : (text rest : List ℕ) → is_utf8 text ≡ true → cut_text (length text) (text ++ rest) ≡ Some (text, rest)
+pub cut_again : (text rest : List ℕ) → is_utf8 text ≡ true → cut_text (length text) (text ++ rest) ≡ Some (text, rest)
 cut_again text rest utf8 =
     let long : ltb (length (text ++ rest)) (length text) ≡ false = le-ltb _ _ (omega (arith, length-append text rest)) in
     rw (long, take_at text rest (length text) refl, drop_at text rest (length text) refl, utf8) refl

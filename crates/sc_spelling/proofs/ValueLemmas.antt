@@ -6,12 +6,12 @@ use Rattle.std.specs.List.{flat_map, list_all, AllByRecursion}
 use Rattle.std.proofs.lemmas.Int.{to_z-of_z, of_z-to_z}
 use Rattle.std.proofs.lemmas.List.Concat.{flat_map-cons}
 use borrow.Author.Gap.{read_sfits}
-use Rattle.sc_record.specs.declared.value.Kind.{Kind}
-use Rattle.sc_record.specs.declared.value.Kind.TheVariants as kinds
-use Rattle.sc_record.specs.declared.value.Value.{Value}
-use Rattle.sc_record.specs.declared.value.Value.TheVariants as values
-use Rattle.sc_record.specs.Fields.{fits_kind}
-use Rattle.sc_spelling.specs.Spellings.{spelling_of_value, FitsValue}
+use Rattle.sc_values.specs.declared.value.Kind.{Kind}
+use Rattle.sc_values.specs.declared.value.Kind.TheVariants as kinds
+use Rattle.sc_values.specs.declared.value.Value.{Value}
+use Rattle.sc_values.specs.declared.value.Value.TheVariants as values
+use Rattle.sc_values.specs.Fields.{fits_kind, FitsValue}
+use Rattle.sc_spelling.specs.Spellings.{spelling_of_value}
 use Rattle.sc_spelling.specs.Reading.{◌>>=◌, number_at, text_at, flag_at, text_value_at, value_at, values_at}
 use Rattle.sc_spelling.proofs.NumberLemmas.{IsBytes, bind_some, some_is, Takes, Takes-then, wide32, wide64, number_takes, number_again, text_takes, text_again, flag_takes, flag_again}
 

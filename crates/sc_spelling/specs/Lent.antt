@@ -1,7 +1,7 @@
 -- What is lent of the bytes of a document.
-use Rattle.sc_record.specs.declared.value.Value.{Value}
-use Rattle.sc_record.specs.declared.value.Value.TheVariants as values
-use Rattle.sc_record.specs.declared.document.Field.{Field}
+use Rattle.sc_values.specs.declared.value.Value.{Value}
+use Rattle.sc_values.specs.declared.value.Value.TheVariants as values
+use Rattle.sc_values.specs.declared.field.Field.{Field}
 use Rattle.sc_spelling.specs.declared.value.ValueRef.{ValueRef}
 use Rattle.sc_spelling.specs.declared.value.ValueRef.TheVariants as lent
 use Rattle.sc_spelling.specs.declared.field.FieldRef.{FieldRef}

@@ -4,12 +4,12 @@ use Rattle.std.specs.Int.{Width, w16, w32, w64, byte_len, from_le_bytes, cast_si
 use Rattle.std.specs.Str.{is_utf8}
 use Rattle.std.specs.Ordering.{nat_cmp, is_lt}
 use Rattle.std.specs.Cmp.Lexicographic.{slice_cmp}
-use Rattle.sc_record.specs.declared.value.Kind.{Kind}
-use Rattle.sc_record.specs.declared.value.Kind.TheVariants as kinds
-use Rattle.sc_record.specs.declared.value.Value.{Value}
-use Rattle.sc_record.specs.declared.value.Value.TheVariants as values
-use Rattle.sc_record.specs.declared.document.Field.{Field}
-use Rattle.sc_record.specs.Fields.{kind_of, fits_count}
+use Rattle.sc_values.specs.declared.value.Kind.{Kind}
+use Rattle.sc_values.specs.declared.value.Kind.TheVariants as kinds
+use Rattle.sc_values.specs.declared.value.Value.{Value}
+use Rattle.sc_values.specs.declared.value.Value.TheVariants as values
+use Rattle.sc_values.specs.declared.field.Field.{Field}
+use Rattle.sc_values.specs.Fields.{kind_of, fits_count}
 
 -- goes on with what was read, where something was
 infixl 10 ◌>>=◌

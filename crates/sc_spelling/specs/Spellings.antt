@@ -1,12 +1,10 @@
--- The bytes of a document's fields, and which fields have such bytes. Numbers are little-endian.
-use Rattle.std.specs.Prelude.{◌≡◌, ℕ, ◌^◌, ◌<◌, Bool, true, false, List, [], ◌∷◌, ◌++◌, length, IsTrue, FitsSigned, ⊤}
+-- The bytes of a document's fields. Numbers are little-endian.
+use Rattle.std.specs.Prelude.{◌≡◌, ℕ, Bool, true, false, List, [], ◌∷◌, ◌++◌, length}
 use Rattle.std.specs.Int.{w16, w32, w64, to_le_bytes, cast_unsigned}
-use Rattle.std.specs.List.{flat_map, AllByRecursion}
-use Rattle.std.specs.Str.{is_utf8}
-use Rattle.sc_record.specs.declared.value.Value.{Value}
-use Rattle.sc_record.specs.declared.value.Value.TheVariants as values
-use Rattle.sc_record.specs.declared.document.Field.{Field}
-use Rattle.sc_record.specs.Fields.{IsDocument}
+use Rattle.std.specs.List.{flat_map}
+use Rattle.sc_values.specs.declared.value.Value.{Value}
+use Rattle.sc_values.specs.declared.value.Value.TheVariants as values
+use Rattle.sc_values.specs.declared.field.Field.{Field}
 
 -- the byte of a truth
 abbrev pub flag_byte : Bool → ℕ
@@ -28,30 +26,6 @@ spelling_of_field f =
 -- the bytes of a document's fields: their number in four bytes, and the fields
 abbrev pub spelling : List Field → List ℕ
 spelling fields = to_le_bytes w32 (length fields) ++ flat_map spelling_of_field fields
-
--- the value has bytes that tell it: a number fits its width, and so does the length of a text, which is UTF-8
-abbrev pub FitsValue : Value → Type 0
-FitsValue (values.Text text) = (length text < 2 ^ 32) × IsTrue (is_utf8 text)
-FitsValue (values.Int n) = FitsSigned w32 n
-FitsValue (values.Long n) = FitsSigned w64 n
-FitsValue (values.Flag b) = ⊤
-
--- the field has bytes that tell it: its name is a text of less than 2^16 bytes, and it has less than 2^32 values, which fit
-pub record FitsField (f : Field) : Type 0 where
-  pub name : length f.name < 2 ^ 16
-  pub text : IsTrue (is_utf8 f.name)
-  pub count : length f.values < 2 ^ 32
-  pub each : AllByRecursion FitsValue f.values
-
--- there are less than 2^32 fields, and each fits
-pub record Fits (fields : List Field) : Type 0 where
-  pub count : length fields < 2 ^ 32
-  pub each : AllByRecursion FitsField fields
-
--- the fields are those of a document, and all of them fit
-pub record HasSpelling (fields : List Field) : Type 0 where
-  pub document : IsDocument fields
-  pub fits : Fits fields
 
 -- new is old with some bytes more at its end
 pub record Extends (old new : List ℕ) : Type 0 where

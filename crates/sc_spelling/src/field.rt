@@ -1,14 +1,15 @@
-ghost use Rattle.std.specs.Prelude.{◌≡◌, List, ℕ, ◌++◌, [], IfOk, IfSome, None};
+ghost use Rattle.std.specs.Prelude.{◌≡◌, List, ℕ, ◌++◌, [], length, IfOk, IfSome, IsSome, None};
 ghost use Rattle.std.specs.Iterator.{YieldsFirstBy, item_count};
-ghost use Rattle.sc_record.specs.declared.document.Field.{Field};
-ghost use Rattle.sc_record.specs.Fields.{fits_count};
+ghost use Rattle.sc_values.specs.declared.field.Field.{Field};
+ghost use Rattle.sc_values.specs.Fields.{fits_count, IsDocument};
 ghost use Rattle.sc_spelling.specs.Lent.{field_of};
-ghost use Rattle.sc_spelling.specs.Reading.{Gives, field_at, field_after, fields_at, document_at, rest_of};
-ghost use Rattle.sc_spelling.specs.Spellings.{HasSpelling, spelling};
+ghost use Rattle.sc_spelling.specs.Reading.{Gives, field_at, field_after, fields_at, document_at, read_of, rest_of};
+ghost use Rattle.sc_spelling.specs.Spellings.{spelling};
 
+use crate::known::known_field_after;
 use crate::number::{name_at, u32_at};
 use crate::value::{Values, skip_values};
-use sc_record::{Field, List, Text, kind_of};
+use sc_values::{Field, List, Text, kind_of};
 use std::alloc::{AllocError, Global};
 use std::marker::Model;
 
@@ -40,7 +41,7 @@ pub struct Fields<'a> {
 
 impl<'a> Model for Fields<'a> {
     ghost use Rattle.std.specs.Prelude.{List, IsSome};
-    ghost use Rattle.sc_record.specs.declared.document.Field.{Field};
+    ghost use Rattle.sc_values.specs.declared.field.Field.{Field};
 
     ghost Value = { List Field };
 
@@ -55,11 +56,31 @@ impl<'a> Fields<'a> {
     /// The fields of the document whose spelling the bytes begin with, and the bytes after it. `None` where they begin with that
     /// of no document.
     pub fn read(bytes: &'a [u8]) -> Option<(Fields<'a>, &'a [u8])>
-        ensures found { IfSome result (λ read. HasSpelling read.0 × (bytes.entry.now ≡ spelling read.0 ++ read.1.now)) }
-        ensures none { result ≡ None → (fields : List Field) (more : List ℕ) → HasSpelling fields
+        ensures found { IfSome result (λ read. IsDocument read.0 × (bytes.entry.now ≡ spelling read.0 ++ read.1.now)) }
+        ensures none { result ≡ None → (fields : List Field) (more : List ℕ) → IsDocument fields
             → bytes.entry.now ≡ spelling fields ++ more → ⊥ }
     {
         Fields::at(bytes)
+    }
+
+    /// The fields of the document whose spelling the bytes begin with, which is known of them.
+    #[tactic(auto, unfolding(crate::specs::Reading::document_at))]
+    pub fn of(bytes: &'a [u8]) -> Fields<'a>
+        requires { IsSome (document_at bytes.now) }
+        ensures { result ≡ read_of (document_at bytes.entry.now) }
+    {
+        match u32_at(bytes) {
+            Some((left, rest)) => Fields {
+                before: "",
+                left,
+                rest,
+            },
+            None => Fields {
+                before: "",
+                left: 0,
+                rest: bytes,
+            },
+        }
     }
 
     #[tactic(auto, unfolding(crate::specs::Reading::document_at))]
@@ -74,6 +95,13 @@ impl<'a> Fields<'a> {
             rest,
         };
         Some((fields, after))
+    }
+
+    /// How many fields are left.
+    pub fn len(&self) -> usize
+        ensures { result ≡ length self.now }
+    {
+        self.left as usize
     }
 
     /// Copies of the fields.
@@ -99,7 +127,7 @@ impl<'a> Iterator for Fields<'a> {
         if self.left == 0 {
             return None;
         }
-        let (field, rest) = field_after(self.before, self.rest)?;
+        let (field, rest) = known_field_after(self.before, self.rest)?;
         self.before = field.name;
         self.left -= 1;
         self.rest = rest;

@@ -2,7 +2,7 @@ ghost use Rattle.std.specs.Prelude.{◌≡◌, ◌≤◌, ◌^◌, length, Match
 ghost use Rattle.std.specs.List.{flat_map};
 ghost use Rattle.sc_spelling.specs.Spellings.{spelling_of_value, spelling_of_field, spelling};
 
-use sc_record::{Field, Value};
+use sc_values::{Field, Value};
 
 /// How many bytes the spelling of the fields has. `None` where that is 2^64 or more, which texts that are shared may add up to.
 pub fn fields_len(fields: &[Field]) -> Option<u64>

@@ -1,5 +1,5 @@
 //! A document's fields as one run of bytes, and back: what a log keeps of a document, and what may be read of it one field
-//! after another without taking memory. It depends on `sc_record` alone, and does no input and no output.
+//! after another without taking memory. It depends on `sc_values` alone, and does no input and no output.
 //!
 //! The layers above put the bytes of a list of fields at the end of a vector by `push_fields`, whose number is `fields_len`,
 //! look at bytes by `Fields::read`, which lends each field's name and values, and copy a document out of them by `read_fields`.
@@ -19,6 +19,7 @@ mod number;
 
 // What is lent: values, and fields with their values.
 mod field;
+mod known;
 mod value;
 
 // A copy of what is lent.
@@ -32,9 +33,10 @@ mod push;
 mod laws;
 
 pub use field::{FieldRef, Fields};
+pub use known::{known_cut, known_name_at, known_text_at};
 pub use laws::one_reading;
 pub use length::fields_len;
-pub use number::{name_at, text_at, u32_at, u64_at};
+pub use number::{cut_text, name_at, text_at, u16_at, u32_at, u64_at};
 pub use push::{push_fields, push_name, push_text};
 pub use read::{FieldsFault, read_fields};
 pub use value::{ValueRef, Values};

@@ -4,8 +4,9 @@ ghost use Rattle.sc_spelling.specs.Reading.{Gives, number_at, cut_text, text_at,
 
 use std::str;
 
-// The number that the first two bytes spell, and the bytes after them.
-pub(crate) fn u16_at(bytes: &[u8]) -> Option<(u16, &[u8])>
+/// The number that the first two bytes spell, and the bytes after them.
+#[inline(always)]
+pub fn u16_at(bytes: &[u8]) -> Option<(u16, &[u8])>
     ensures { Gives (λ x. (x.0, x.1.now)) result (number_at w16 bytes.now) }
 {
     if bytes.len() < 2 {
@@ -17,6 +18,7 @@ pub(crate) fn u16_at(bytes: &[u8]) -> Option<(u16, &[u8])>
 }
 
 /// The number that the first four bytes spell, and the bytes after them. `None` where there are fewer.
+#[inline(always)]
 pub fn u32_at(bytes: &[u8]) -> Option<(u32, &[u8])>
     ensures { Gives (λ x. (x.0, x.1.now)) result (number_at w32 bytes.now) }
 {
@@ -29,6 +31,7 @@ pub fn u32_at(bytes: &[u8]) -> Option<(u32, &[u8])>
 }
 
 /// The number that the first eight bytes spell, and the bytes after them. `None` where there are fewer.
+#[inline(always)]
 pub fn u64_at(bytes: &[u8]) -> Option<(u64, &[u8])>
     ensures { Gives (λ x. (x.0, x.1.now)) result (number_at w64 bytes.now) }
 {
@@ -60,8 +63,8 @@ pub fn text_at(bytes: &[u8]) -> Option<(&str, &[u8])>
     cut_text(length as usize, rest)
 }
 
-// The first so many bytes as a text, and those after them.
-fn cut_text(length: usize, bytes: &[u8]) -> Option<(&str, &[u8])>
+/// The first so many bytes as a text, and those after them. `None` where there are fewer, or they are no UTF-8.
+pub fn cut_text(length: usize, bytes: &[u8]) -> Option<(&str, &[u8])>
     ensures { Gives (λ x. (x.0.now, x.1.now)) result (cut_text length bytes.now) }
 {
     if bytes.len() < length {
@@ -76,6 +79,7 @@ fn cut_text(length: usize, bytes: &[u8]) -> Option<(&str, &[u8])>
 
 // The truth that the first byte spells.
 #[tactic(auto, unfolding(crate::specs::Reading::flag_at))]
+#[inline(always)]
 pub(crate) fn flag_at(bytes: &[u8]) -> Option<(bool, &[u8])>
     ensures { Gives (λ x. (x.0, x.1.now)) result (flag_at bytes.now) }
 {

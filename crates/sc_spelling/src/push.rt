@@ -2,9 +2,10 @@ ghost use Rattle.std.specs.Prelude.{◌≡◌, ◌++◌, ◌<◌, ◌^◌, lengt
 ghost use Rattle.std.specs.Int.{w16, w32, to_le_bytes};
 ghost use Rattle.std.specs.List.{flat_map, AllByRecursion};
 ghost use Rattle.std.specs.Str.{is_utf8};
-ghost use Rattle.sc_spelling.specs.Spellings.{spelling_of_value, spelling_of_field, spelling, FitsValue, FitsField, FitsValue, FitsField, Fits, Extends};
+ghost use Rattle.sc_values.specs.Fields.{FitsValue, FitsField, Fits};
+ghost use Rattle.sc_spelling.specs.Spellings.{spelling_of_value, spelling_of_field, spelling, Extends};
 
-use sc_record::{Field, Value};
+use sc_values::{Field, Value};
 use std::alloc::AllocError;
 
 /// Puts the spelling of the fields at the end. Where a length or a number of them does not fit its bytes, that counts as want of

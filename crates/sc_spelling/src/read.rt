@@ -1,9 +1,10 @@
 ghost use Rattle.std.specs.Prelude.{◌≡◌, List, ℕ, ◌++◌, IfOk};
-ghost use Rattle.sc_record.specs.declared.document.Field.{Field};
-ghost use Rattle.sc_spelling.specs.Spellings.{HasSpelling, spelling};
+ghost use Rattle.sc_values.specs.declared.field.Field.{Field};
+ghost use Rattle.sc_values.specs.Fields.{IsDocument};
+ghost use Rattle.sc_spelling.specs.Spellings.{spelling};
 
 use crate::field::Fields;
-use sc_record::{Field, List};
+use sc_values::{Field, List};
 use std::alloc::{AllocError, Global};
 use thiserror::Error;
 
@@ -19,8 +20,8 @@ pub enum FieldsFault {
 
 /// A copy of the document whose spelling the bytes begin with, and the bytes after it.
 pub fn read_fields(alloc: Global, bytes: &[u8]) -> Result<(List<Field>, &[u8]), FieldsFault>
-    ensures found { IfOk result (λ read. HasSpelling read.0 × (bytes.now ≡ spelling read.0 ++ read.1.now)) }
-    ensures refused { result ≡ Err FieldsFault.NotFields → (fields : List Field) (more : List ℕ) → HasSpelling fields
+    ensures found { IfOk result (λ read. IsDocument read.0 × (bytes.now ≡ spelling read.0 ++ read.1.now)) }
+    ensures refused { result ≡ Err FieldsFault.NotFields → (fields : List Field) (more : List ℕ) → IsDocument fields
         → bytes.now ≡ spelling fields ++ more → ⊥ }
 {
     let Some((fields, rest)) = Fields::read(bytes) else {

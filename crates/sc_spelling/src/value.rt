@@ -1,10 +1,11 @@
-ghost use Rattle.std.specs.Prelude.{◌≡◌, IfOk, IsSome};
+ghost use Rattle.std.specs.Prelude.{◌≡◌, length, IfOk, IsSome};
 ghost use Rattle.std.specs.Iterator.{YieldsFirstBy, item_count};
 ghost use Rattle.sc_spelling.specs.Lent.{value_of};
 ghost use Rattle.sc_spelling.specs.Reading.{Gives, value_at, values_at, read_of, rest_of};
 
+use crate::known::known_value_at;
 use crate::number::{flag_at, text_at, u32_at, u64_at};
-use sc_record::{Kind, List, Text, Value};
+use sc_values::{Kind, List, Text, Value};
 use std::alloc::{AllocError, Global};
 use std::marker::Model;
 
@@ -41,7 +42,7 @@ pub struct Values<'a> {
 
 impl<'a> Model for Values<'a> {
     ghost use Rattle.std.specs.Prelude.{List, IsSome};
-    ghost use Rattle.sc_record.specs.declared.value.Value.{Value as FieldValue};
+    ghost use Rattle.sc_values.specs.declared.value.Value.{Value as FieldValue};
 
     ghost Value = { List FieldValue };
 
@@ -63,6 +64,18 @@ impl<'a> Values<'a> {
             left: count,
             rest: bytes,
         }
+    }
+
+    /// How many values are left.
+    pub fn len(&self) -> usize
+        ensures { result ≡ length self.now }
+    {
+        self.left as usize
+    }
+
+    /// How many bytes are left of those that the document was read from, from where the next value is spelled.
+    pub fn bytes_left(&self) -> usize {
+        self.rest.len()
     }
 
     /// Copies of the values.
@@ -88,7 +101,7 @@ impl<'a> Iterator for Values<'a> {
         if self.left == 0 {
             return None;
         }
-        let (value, rest) = value_at(self.kind, self.rest)?;
+        let (value, rest) = known_value_at(self.kind, self.rest)?;
         self.left -= 1;
         self.rest = rest;
         Some(value)

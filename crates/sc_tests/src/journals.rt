@@ -4,7 +4,7 @@ ghost use Rattle.std.specs.Prelude.{◌≡◌, []};
 
 use crate::support::assert_text;
 use sc_bucket::Journal;
-use sc_record::{Entry, Id, List, Write};
+use sc_record::{Entry, Id, Write};
 use std::alloc::{AllocError, Global};
 use std::process::Abort;
 use std::sync::Arc;
@@ -12,13 +12,7 @@ use std::test::Fail;
 
 /// A deletion of one id.
 fn write(alloc: Global) -> Result<Entry, Fail> {
-    let write = Write {
-        id: Id::new(alloc, "abc")?,
-        hash: 0,
-        version: 1_048_576_000,
-        doc: None,
-        terms: List::new(alloc),
-    };
+    let write = Write::deletion(alloc, Id::new(alloc, "abc")?, 0, 1_048_576_000);
     Ok(Entry::Write(Arc::new(alloc, write)?))
 }
 

@@ -80,14 +80,7 @@ fn write_of(alloc: Global, text: &str) -> Result<Entry, Fail>
     }
     let id = Id::new(alloc, id)?;
     let hash = route_hash(id.as_str());
-    let terms = List::new(alloc);
-    let write = Write {
-        id,
-        hash,
-        version,
-        doc: None,
-        terms,
-    };
+    let write = Write::deletion(alloc, id, hash, version);
     Ok(Entry::Write(Arc::new(alloc, write)?))
 }
 

@@ -18,9 +18,13 @@ mod collections;
 #[cfg(test)]
 mod demo;
 #[cfg(test)]
+mod documents;
+#[cfg(test)]
 mod frames;
 #[cfg(test)]
 mod hashes;
+#[cfg(test)]
+mod heads;
 #[cfg(test)]
 mod hosts;
 #[cfg(test)]

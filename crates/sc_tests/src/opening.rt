@@ -11,13 +11,7 @@ use std::test::Fail;
 
 /// A deletion of one id.
 fn write(alloc: Global) -> Result<Entry, Fail> {
-    let write = Write {
-        id: Id::new(alloc, "abc")?,
-        hash: 0,
-        version: 1_048_576_000,
-        doc: None,
-        terms: List::new(alloc),
-    };
+    let write = Write::deletion(alloc, Id::new(alloc, "abc")?, 0, 1_048_576_000);
     Ok(Entry::Write(Arc::new(alloc, write)?))
 }
 

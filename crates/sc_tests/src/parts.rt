@@ -9,7 +9,7 @@ use crate::support::assert_same;
 use sc_eval::Bound;
 use sc_finding::{Found, find_in_parts};
 use sc_hash::Range;
-use sc_record::{Cell, Doc, Id, List, Write};
+use sc_record::{Cell, Doc, Id, List, Term, Write};
 use sc_replicas::Searcher;
 use sc_schema::terms_of;
 use sc_snapshot::{Snapshot, TermKey};
@@ -26,15 +26,9 @@ fn document(alloc: Global, id: &str) -> Result<Cell, AllocError>
     let Ok(id) = Id::new(alloc, id) else {
         return Err(AllocError);
     };
-    let doc = Doc::new(List::new(alloc));
+    let doc = Doc::new(alloc, &[])?;
     let terms = terms_of(alloc, &id, &doc)?;
-    let write = Write {
-        id,
-        hash: 0,
-        version: 1,
-        doc: Some(doc),
-        terms,
-    };
+    let write = Write::new(alloc, id, 0, 1, &doc, &terms)?;
     Ok(Arc::new(alloc, write)?)
 }
 
@@ -75,13 +69,19 @@ fn searchers(alloc: Global) -> Result<Vec<Searcher>, AllocError>
     Ok(searchers)
 }
 
+// The first term that the write is found by.
+fn first_term(alloc: Global, write: &Write) -> Result<Term, AllocError> {
+    match write.terms().next() {
+        Some(term) => term.to_term(alloc),
+        None => Err(AllocError),
+    }
+}
+
 // Each document but `b`.
 fn all_but_b(alloc: Global) -> Result<Bound, AllocError> {
     let b = document(alloc, "b")?;
-    let key = match b.terms.as_slice() {
-        [term, ..] => TermKey::of(term)?,
-        [] => return Err(AllocError),
-    };
+    let term = first_term(alloc, &b)?;
+    let key = TermKey::of(&term)?;
     Ok(Bound::Not(Box::new(alloc, Bound::Leaf(key))?))
 }
 

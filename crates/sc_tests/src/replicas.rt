@@ -4,7 +4,7 @@ ghost use Rattle.std.specs.Prelude.{◌≡◌, pos, ◌<ℤ◌, IfOk};
 ghost use Rattle.std.specs.Arc.{arc_value};
 
 use crate::support::{assert_same, assert_text};
-use sc_record::{Cell, CoreId, Id, List, SliceId, Write};
+use sc_record::{Cell, CoreId, Id, SliceId, Write};
 use sc_replica::Replica;
 use sc_ulog::Mode;
 use std::alloc::{AllocError, Global};
@@ -29,13 +29,7 @@ fn deletion(alloc: Global, id: &str, version: i64) -> Result<Cell, Fail>
     requires { pos 0 <ℤ version }
     ensures { IfOk result (λ cell. (arc_value cell).version ≡ version) }
 {
-    let write = Write {
-        id: Id::new(alloc, id)?,
-        hash: 0,
-        version,
-        doc: None,
-        terms: List::new(alloc),
-    };
+    let write = Write::deletion(alloc, Id::new(alloc, id)?, 0, version);
     Ok(Arc::new(alloc, write)?)
 }
 
@@ -43,7 +37,7 @@ fn deletion(alloc: Global, id: &str, version: i64) -> Result<Cell, Fail>
 fn version_of(alloc: Global, core: &Replica, id: &str) -> Result<Option<i64>, Fail> {
     let id = Id::new(alloc, id)?;
     match core.cell(&id) {
-        Some(cell) => Ok(Some(cell.version)),
+        Some(cell) => Ok(Some(cell.version())),
         None => Ok(None),
     }
 }
@@ -118,7 +112,7 @@ fn feed_each(alloc: Global, core: &mut Replica, ids: &str) -> Result<(), Fail> {
 fn ids_of(alloc: Global, core: &Replica) -> Result<String, AllocError> {
     let mut ids = String::new(alloc);
     for cell in core.cells().share(alloc)?.as_slice() {
-        ids.push_str(cell.id.as_str())?;
+        ids.push_str(cell.id().as_str())?;
         ids.push_str(" ")?;
     }
     Ok(ids)

@@ -2,7 +2,7 @@
 
 use crate::support::assert_same;
 use sc_hash::Range;
-use sc_record::{Cell, CoreId, Doc, Id, List, SliceId, Write};
+use sc_record::{Cell, CoreId, Doc, Id, SliceId, TermsBuilder, Write};
 use sc_replica::Replica;
 use sc_snapshot::Snapshot;
 use sc_ulog::Mode;
@@ -11,21 +11,16 @@ use std::process::Abort;
 use std::sync::Arc;
 use std::test::Fail;
 
-/// A write of the id: a document without fields, or a deletion.
+/// A write of the id: a document without fields and terms, or a deletion.
 fn write(alloc: Global, id: &str, hash: i32, live: bool) -> Result<Cell, Fail> {
     let id = Id::new(alloc, id)?;
-    let doc = if live {
-        Some(Doc::new(List::new(alloc)))
-    } else {
-        None
-    };
-    let write = Write {
-        id,
-        hash,
-        version: 1,
-        doc,
-        terms: List::new(alloc),
-    };
+    if !live {
+        let gone = Write::deletion(alloc, id, hash, 1);
+        return Ok(Arc::new(alloc, gone)?);
+    }
+    let doc = Doc::new(alloc, &[])?;
+    let terms = TermsBuilder::new(alloc, &id, &doc).finish();
+    let write = Write::new(alloc, id, hash, 1, &doc, &terms)?;
     Ok(Arc::new(alloc, write)?)
 }
 

@@ -2,8 +2,8 @@
 use Rattle.std.specs.Prelude.{ℕ, ◌+◌, ◌*◌, ◌/◌, ◌%◌, Bool, nat_eq, pos, List, [], ◌∷◌, ◌++◌, map, filter, codes, if◌then◌else◌}
 use Rattle.std.specs.List.{range_with_len}
 use Rattle.std.specs.Fmt.{decimal}
-use Rattle.sc_record.specs.declared.document.Field.{Field}
-use Rattle.sc_record.specs.declared.value.Value.TheVariants.{Text, Int}
+use Rattle.sc_values.specs.declared.field.Field.{Field}
+use Rattle.sc_values.specs.declared.value.Value.TheVariants.{Text, Int}
 use Rattle.sc_record.specs.declared.order.Change.{Change}
 use Rattle.sc_record.specs.declared.order.Change.TheVariants.{Whole, Delete}
 use Rattle.sc_schema.specs.Documents.{OrderContent}

@@ -39,7 +39,8 @@ fn change_at(alloc: Global, place: u32) -> Result<Change, AllocError>
     if place % 5 == 4 {
         return Ok(Change::Delete);
     }
-    Ok(Change::Whole(Doc::new(fields_at(alloc, place)?)))
+    let fields = fields_at(alloc, place)?;
+    Ok(Change::Whole(Doc::new(alloc, fields.as_slice())?))
 }
 
 /// The fields of the document that the order at this place adds.

@@ -1,6 +1,6 @@
 -- Each event that comes is one of those that come to any bucket.
 use Rattle.std.proofs.Common.{◌≡◌, inl, inr, List, map, ap}
-use Rattle.sc_record.specs.declared.write.Write.{Write}
+use Rattle.sc_record.specs.Writes.{Write}
 use Rattle.sc_replicas.specs.Cores.{without_room}
 use Rattle.sc_bucket.specs.Events.{IsSameButRoom, IsStep}
 use Rattle.sc_bucket.specs.declared.bucket.Bucket.{Bucket}

@@ -3,9 +3,8 @@ use Rattle.std.proofs.Common.{ℕ, ◌≡◌, inl, inr, ◌∙◌, false, List, 
 use Rattle.std.proofs.lemmas.Bool.{false≢true}
 use Rattle.std.proofs.lemmas.List.Elements.{All-head, All-tail, All-contains, filter-append}
 use Rattle.std.proofs.lemmas.Option.{none-some}
-use Rattle.sc_record.specs.Writes.{is_of}
+use Rattle.sc_record.specs.Writes.{is_of, Write}
 use Rattle.sc_record.specs.declared.slice.SliceId.{SliceId}
-use Rattle.sc_record.specs.declared.write.Write.{Write}
 use Rattle.sc_cluster.specs.Changes.{Change, after}
 use Rattle.sc_cluster.specs.declared.slice.State.TheVariants as states
 use Rattle.sc_cluster.specs.declared.slice.Slice.{Slice}

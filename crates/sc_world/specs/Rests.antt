@@ -1,6 +1,6 @@
 -- How a bucket comes to rest.
 use Rattle.std.specs.Prelude.{◌≡◌, ◌≤◌, Bool, true, false, List, length, All}
-use Rattle.sc_record.specs.declared.write.Write.{Write}
+use Rattle.sc_record.specs.Writes.{Write}
 use Rattle.sc_journal.specs.Splits.{owed}
 use Rattle.sc_journal.specs.Laws.{IsJournalAtRest}
 use Rattle.sc_bucket.specs.Sound.{IsSound}

@@ -1,5 +1,5 @@
 ghost use Rattle.std.specs.Prelude.{◌≡◌, ◌++◌, List, OnOk, OnErr};
-ghost use Rattle.sc_record.specs.declared.write.Write.{Write};
+ghost use Rattle.sc_record.specs.Writes.{Write};
 ghost use Rattle.sc_journal.specs.Journal.{writes};
 ghost use Rattle.sc_bucket.specs.Sound.{IsSound};
 ghost use Rattle.sc_world.specs.Runs.{Runs, EventsRunOut};

@@ -3,8 +3,7 @@ use Rattle.std.proofs.Common.{◌≡◌, ◌∙◌, ◌+◌, ◌≤◌, List, []
 use Rattle.std.specs.declared.alloc.Global.{Global}
 use Rattle.std.specs.declared.sync.Arc.{Arc}
 use Rattle.std.proofs.lemmas.List.{at_drop_all, drop_more, map-append}
-use Rattle.sc_record.specs.declared.write.Write.{Write}
-use Rattle.sc_record.specs.Writes.{is_of, AscendById}
+use Rattle.sc_record.specs.Writes.{Write, is_of, AscendById}
 use Rattle.sc_snapshot.specs.Rows.{lent}
 use Rattle.sc_bucket.proofs.ChangesLemmas.{last_of_runs, runs-apart, runs-same, differs, ascend-none, ascend-from_runs, last-from_runs}
 use Rattle.sc_bucket.proofs.changes.last_of_each.Goals as goal
@@ -29,7 +28,9 @@ loop-cell-preserved c =
     let here : map lent (drop at all) ≡ next ∷ left =
     ap (map lent) (drop_more all at c.cell-item.result c.loop-cell-test.true)
     ∙ ap (λ (one : Bor (Arc Write Global)). lent one ∷ left) (sym c.cell-item.is) in
-    let test : c.ne.result ≡ not (is_of latest.id next) = differs _ _ _ latest next c.deref.ensures c.deref-in-loop-cell.ensures c.ne.ensures in
+    let test : c.ne.result ≡ not (is_of latest.id next) = differs _ _ _ latest next
+    (c.id.ensures ∙ ap (λ (write : Write). write.id) c.deref.ensures)
+    (c.id-in-loop-cell.ensures ∙ ap (λ (write : Write). write.id) c.deref-in-loop-cell.ensures) c.ne.ensures in
     elim c.if-ne.branch [
       | then-ne+in_ok-push w ↦
           ap (λ (v : Vec (Bor (Arc Write Global)) Global). map lent v.items ++ last_of_runs next left) w.changes-is

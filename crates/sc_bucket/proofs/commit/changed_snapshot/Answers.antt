@@ -2,8 +2,7 @@
 use Rattle.std.proofs.Common.{◌∙◌, List, length, map, filter, sym, ap, subst}
 use Rattle.std.specs.Arc.{arc_value}
 use Rattle.std.proofs.lemmas.Bool.{eqb-true}
-use Rattle.sc_record.specs.declared.write.Write.{Write}
-use Rattle.sc_record.specs.Writes.{AscendById}
+use Rattle.sc_record.specs.Writes.{Write, AscendById}
 use Rattle.sc_bucket.specs.Entries.{uncommitted}
 use Rattle.sc_snapshot.specs.Rows.{is_within, lent}
 use Rattle.sc_bucket.specs.Taking.{AreLastOf}

@@ -1,7 +1,7 @@
 -- What was committed is the leader's cells after the changes.
 use Rattle.std.proofs.Common.{List, length, map, sym, subst}
 use Rattle.std.proofs.lemmas.Bool.{eqb-true}
-use Rattle.sc_record.specs.declared.write.Write.{Write}
+use Rattle.sc_record.specs.Writes.{Write}
 use Rattle.sc_snapshot.specs.Rows.{lent}
 use Rattle.sc_bucket.specs.Taking.{AreChangesOf}
 use Rattle.sc_bucket.proofs.NextLemmas.{no_cells, IsOfLeader-next, bounded-changed}

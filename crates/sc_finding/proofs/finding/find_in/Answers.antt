@@ -1,7 +1,7 @@
 -- What is found in the rows of a snapshot is found in those of its searcher, and in as many steps.
 use Rattle.std.proofs.Common.{◌≡◌, ◌-◌, List, ap, subst, rules}
 use Rattle.std.proofs.lemmas.Result.{IfOk-weaker}
-use Rattle.sc_record.specs.declared.write.Write.{Write}
+use Rattle.sc_record.specs.Writes.{Write}
 use Rattle.sc_snapshot.specs.Rows.{SnapshotState}
 use Rattle.sc_eval.specs.Criteria.{criterion_of}
 use Rattle.sc_eval.specs.Numbers.{AreStepsOfSearch}

@@ -1,7 +1,7 @@
 -- In no rows nothing is found. What was looked up in the rows of a snapshot was looked up in those of its searcher, and in as many steps.
 use Rattle.std.proofs.Common.{◌≡◌, ◌-◌, List, ap, subst, rules}
 use Rattle.std.proofs.lemmas.Result.{IfOk-weaker}
-use Rattle.sc_record.specs.declared.write.Write.{Write}
+use Rattle.sc_record.specs.Writes.{Write}
 use Rattle.sc_snapshot.specs.Rows.{SnapshotState}
 use Rattle.sc_eval.specs.Criteria.{criterion_of}
 use Rattle.sc_eval.specs.Matching.{finds}

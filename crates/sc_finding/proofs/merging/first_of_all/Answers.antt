@@ -2,7 +2,7 @@
 use Rattle.std.proofs.Common.{◌≡◌, List, [], ◌∷◌, ◌++◌, append-nil, append_assoc, map, take, sym, ap, vec_len, ◌∙◌, arith}
 use Rattle.std.proofs.lemmas.Bool.{eqb-true}
 use Rattle.std.proofs.lemmas.List.{length-map, map-append, nil_from_length, take-append-le}
-use Rattle.sc_record.specs.declared.write.Write.{Write}
+use Rattle.sc_record.specs.Writes.{Write}
 use Rattle.sc_snapshot.specs.Rows.{lent}
 use Rattle.sc_finding.specs.Hits.{front_rows, hit_rows, lent_in}
 use Rattle.sc_finding.specs.Merging.{gathered, goes_before}

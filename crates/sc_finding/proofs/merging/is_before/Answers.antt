@@ -4,7 +4,7 @@ use Rattle.std.specs.Cmp.Lexicographic.{slice_cmp}
 use Rattle.std.specs.Ordering.{ordering_reverse, ordering_then}
 use Rattle.std.proofs.lemmas.Bool.{cases_lt, le-ltb, lt-ltb}
 use Rattle.std.proofs.lemmas.Cmp.{nat_list_cmp_total}
-use Rattle.sc_record.specs.declared.write.Write.{Write}
+use Rattle.sc_record.specs.Writes.{Write}
 use Rattle.sc_snapshot.specs.Rows.{lent}
 use Rattle.sc_keys.specs.Heads.{front_number}
 use Rattle.sc_keys.proofs.FrontLemmas.{front_number-first}
@@ -25,7 +25,8 @@ returns-then-one-other c =
     let one = lent c.args.one.now.lead in
     let other = lent c.args.other.now.lead in
     c.lt.ensures
-    ∙ ap₂ (λ (x y : List ℕ). is_lt (slice_cmp nat_cmp x y)) (ap (λ (w : Write). w.id) c.deref.ensures) (ap (λ (w : Write). w.id) c.deref-then-one-other.ensures)
+    ∙ ap₂ (λ (x y : List ℕ). is_lt (slice_cmp nat_cmp x y))
+    (c.id.ensures ∙ ap (λ (w : Write). w.id) c.deref.ensures) (c.id-then-one-other.ensures ∙ ap (λ (w : Write). w.id) c.deref-then-one-other.ensures)
     ∙ lt-not_le (slice_cmp nat_cmp one.id other.id)
     ∙ ap (λ (o : Ordering). not (is_le o)) (sym (nat_list_cmp_total.antisymm other.id one.id))
 

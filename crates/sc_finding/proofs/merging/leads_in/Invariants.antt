@@ -1,6 +1,6 @@
 -- The leads that were put stand for the hits that were passed, whatever lists come after them.
 use Rattle.std.proofs.Common.{◌≡◌, ◌++◌, All, List, map, take}
-use Rattle.sc_record.specs.declared.write.Write.{Write}
+use Rattle.sc_record.specs.Writes.{Write}
 use Rattle.sc_finding.specs.Hits.{LeadAscends, lead_rows, hit_rows}
 use Rattle.sc_finding.specs.Merging.{gathered, goes_before}
 use Rattle.sc_finding.proofs.merging.leads_in.Given as goal

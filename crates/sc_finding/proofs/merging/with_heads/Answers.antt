@@ -2,7 +2,7 @@
 use Rattle.std.proofs.Common.{◌≡◌, ◌++◌, ◌∷◌, [], List, All, get_or, map, take, sym, ap, subst, ◌∙◌, arith}
 use Rattle.std.proofs.lemmas.List.{map-append, map_more, take_all}
 use Rattle.std.proofs.lemmas.List.Elements.{All-push}
-use Rattle.sc_record.specs.declared.write.Write.{Write}
+use Rattle.sc_record.specs.Writes.{Write}
 use Rattle.sc_finding.specs.Hits.{FrontAscends, front_rows, lead_rows}
 use Rattle.sc_finding.specs.Merging.{AscendsBy, goes_before}
 use Rattle.sc_finding.specs.declared.hits.Front.{Front}

@@ -1,11 +1,7 @@
--- The fields before the index were sent.
-use Rattle.std.proofs.Common.{take}
-use Rattle.serde.specs.Event.{WritesEach}
-use Rattle.sc_record.specs.declared.document.Field.{Field}
-use Rattle.sc_json.specs.Documents.{field_member}
-use Rattle.sc_json.specs.Sent.{SendsMember}
+-- What is sent for the fields that are left ends what is sent for all after the first.
+use Rattle.sc_json.proofs.SentLemmas.{EndsFields}
 use Rattle.sc_json.proofs.document.send_fields.Given as goal
 
 abbrev pub invariant-loop-field : goal.invariant-loop-field
 invariant-loop-field g l =
-    WritesEach (λ (field : Field). SendsMember (field_member field)) (take l.field-index l.fields) (g.S.Serializer.written l.initial.out) (g.S.Serializer.written l.out)
+    EndsFields l.fn.fields l.field-iterator (g.S.Serializer.written l.initial.out) (g.S.Serializer.written l.out)

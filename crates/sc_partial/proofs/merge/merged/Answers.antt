@@ -1,13 +1,19 @@
 -- Each step puts the field that comes next after the new fields, or is refused as all changes are.
-use Rattle.std.proofs.Common.{◌≡◌, ◌++◌, ◌∷◌, List, [], length, None, Some, refl, sym, ap, subst, ◌∙◌, arith}
+use Rattle.std.proofs.Common.{◌≡◌, ◌∷◌, List, [], length, None, Some, Option, refl, sym, ap, subst, arith, rules, Less, Equal, Greater}
 use Rattle.std.specs.Bool.{IsTrue, if◌then◌else◌}
+use Rattle.std.specs.List.{AllByRecursion}
+use Rattle.std.specs.Ordering.{nat_cmp}
+use Rattle.std.specs.Cmp.Lexicographic.{slice_cmp}
 use Rattle.std.proofs.lemmas.Result.{err_from_is_err_and}
-use Rattle.sc_record.specs.Fields.{IsBelowFirst}
-use Rattle.sc_record.specs.declared.value.Value.{Value}
-use Rattle.sc_record.specs.declared.document.Field.{Field}
+use Rattle.sc_values.specs.Fields.{FitsField}
+use Rattle.sc_values.specs.declared.value.Value.{Value}
+use Rattle.sc_spelling.specs.Lent.{field_of}
+use Rattle.sc_spelling.specs.declared.field.FieldRef.{FieldRef}
 use Rattle.sc_partial.specs.Changed.{can_change, changed}
-use Rattle.sc_partial.specs.Resolved.{some_field, IsChanged, IsRefusalOf}
-use Rattle.sc_partial.proofs.StepLemmas.{same_so_far, kept, done, changed_same, changed_missing, refused_same, refused_missing, below_first}
+use Rattle.sc_partial.specs.Resolved.{some_field, IsRefusalOf}
+use Rattle.sc_partial.specs.Runs.{Adds, next_fields}
+use Rattle.sc_partial.proofs.StepLemmas.{refused_same, refused_missing, below_first}
+use Rattle.sc_partial.proofs.RunLemmas.{same_left, kept_spelled, same_spelled, missing_spelled, all_spelled, next_all}
 use Rattle.sc_partial.proofs.merge.merged.Goals as goal
 
 -- a list of no length is empty
@@ -18,66 +24,74 @@ empty_list (x ∷ xs) h = absurd (omega arith)
 pub loop-change-preserved-in-Less : goal.loop-change-preserved-in-Less
 loop-change-preserved-in-Less c =
     let first = c.in-Some.ensures.cases.0 in
-    let head = c.in-Some-split_first.ensures.cases.0 in
-    let pushed = c.in_ok-push-in-Less.ensures.ok ∙ ap (λ (f : Field). c.loop-change.new ++ f ∷ []) c.in_ok-clone_in-in-Less.ensures in
-    same_so_far refl (sym first) (sym pushed)
-    (kept _ _ _ _ _ _ _ (same_so_far head first refl c.loop-change.invariant) (sym c.in-Less.ensures))
+    let head = ap (λ (n : Option FieldRef). next_fields n c.loop-change.fields) c.in-Some-next.is in
+    let before : slice_cmp nat_cmp c.in-Some-next.field.name.now c.in-Some.change.now.name ≡ Less = search rules in
+    let so_far = same_left head first c.loop-change.invariant in
+    let left = next_all c.next-next-in-Less.result c.loop-change.fields c.next-next-in-Less.new.self c.next-next-in-Less.ensures.steps in
+    same_left left (sym first) (kept_spelled _ _ _ _ _ _ _ _ so_far before c.in_ok-push-in-Less.ensures)
 
 pub loop-change-preserved-in-Equal : goal.loop-change-preserved-in-Equal
 loop-change-preserved-in-Equal c =
     let first = c.in-Some.ensures.cases.0 in
-    let head = c.in-Some-split_first.ensures.cases.0 in
-    let so_far = same_so_far head first refl c.loop-change.invariant in
-    let values = c.as_slice.ensures in
+    let head = ap (λ (n : Option FieldRef). next_fields n c.loop-change.fields) c.in-Some-next.is in
+    let same : slice_cmp nat_cmp c.in-Some-next.field.name.now c.in-Some.change.now.name ≡ Equal = search rules in
+    let so_far = same_left head first c.loop-change.invariant in
+    let values : c.as_slice.result.now ≡ c.in-Some-next.field.values = search rules in
     let can = subst (λ (v : List Value). IsTrue (can_change c.in-Some.change.now.name v c.in-Some.change.now.how)) values
-    c.in_ok-push_changed-in-Equal.ensures.accepted in
-    let pushed = c.in_ok-push_changed-in-Equal.ensures.field
-    ∙ ap (λ (v : List Value). c.loop-change.new ++ some_field c.in-Some.change.now.name (changed c.in-Some.change.now.name v c.in-Some.change.now.how)) values in
-    same_so_far refl refl (sym pushed) (changed_same _ _ _ _ _ _ _ so_far (sym c.in-Equal.ensures) can)
+    c.in_ok-add_changed-in-Equal.ensures.accepted in
+    let fits = subst (λ (v : List Value). AllByRecursion FitsField (some_field c.in-Some.change.now.name (changed c.in-Some.change.now.name v c.in-Some.change.now.how))) values
+    c.in_ok-add_changed-in-Equal.ensures.fits in
+    let adds = subst (λ (v : List Value). Adds (some_field c.in-Some.change.now.name (changed c.in-Some.change.now.name v c.in-Some.change.now.how)) c.loop-change.run c.add_changed-in-Equal.new.run)
+    values c.in_ok-add_changed-in-Equal.ensures.added in
+    let left = next_all c.next-next-in-Equal.result c.loop-change.fields c.next-next-in-Equal.new.self c.next-next-in-Equal.ensures.steps in
+    same_left left refl (same_spelled _ _ _ _ _ _ _ _ so_far same can fits adds)
 
 pub loop-change-preserved : goal.loop-change-preserved
 loop-change-preserved c =
     let first = c.in-Some.ensures.cases.0 in
-    let head = c.in-Some-split_first.ensures.cases.0 in
-    let so_far = same_so_far refl first refl c.loop-change.invariant in
-    let below = subst (IsBelowFirst c.in-Some.change.now.name) (sym head)
-    (below_first c.in-Some-split_first.field.now c.in-Some-split_first.others.now c.in-Some.change.now (sym c.in-Greater.ensures)) in
-    same_so_far refl refl (sym c.in_ok-push_changed-in-Greater.ensures.field)
-    (changed_missing _ _ _ _ _ _ so_far below c.in_ok-push_changed-in-Greater.ensures.accepted)
+    let head = ap (λ (n : Option FieldRef). next_fields n c.loop-change.fields) c.in-Some-next.is in
+    let after : slice_cmp nat_cmp c.in-Some-next.field.name.now c.in-Some.change.now.name ≡ Greater = search rules in
+    let so_far = same_left head first c.loop-change.invariant in
+    let below = below_first (field_of c.in-Some-next.field) c.loop-change.fields c.in-Some.change.now after in
+    missing_spelled _ _ _ _ _ _ _ so_far below c.in_ok-add_changed-in-Greater.ensures.accepted c.in_ok-add_changed-in-Greater.ensures.fits c.in_ok-add_changed-in-Greater.ensures.added
 
-pub loop-change-preserved-in_default-split_first : goal.loop-change-preserved-in_default-split_first
-loop-change-preserved-in_default-split_first c =
+pub loop-change-preserved-in_default-next : goal.loop-change-preserved-in_default-next
+loop-change-preserved-in_default-next c =
     let first = c.in-Some.ensures.cases.0 in
-    let so_far = same_so_far refl first refl c.loop-change.invariant in
-    let none = empty_list c.loop-change.fields_left.now c.in_default-split_first.ensures.cases in
-    let below = subst (IsBelowFirst c.in-Some.change.now.name) (sym none) tt in
-    same_so_far refl refl (sym c.in_ok-push_changed.ensures.field) (changed_missing _ _ _ _ _ _ so_far below c.in_ok-push_changed.ensures.accepted)
+    let none : next_fields c.loop-change.next c.loop-change.fields ≡ [] = ap (λ (n : Option FieldRef). next_fields n c.loop-change.fields) c.in_default-next.is in
+    let so_far = same_left none first c.loop-change.invariant in
+    missing_spelled _ _ _ _ _ _ _ so_far tt c.in_ok-add_changed.ensures.accepted c.in_ok-add_changed.ensures.fits c.in_ok-add_changed.ensures.added
 
-pub returns-in_err-push_changed-in-Equal-clause-refused : goal.returns-in_err-push_changed-in-Equal-clause-refused
-returns-in_err-push_changed-in-Equal-clause-refused c =
+pub returns-in_err-add_changed-in-Equal-clause-refused : goal.returns-in_err-add_changed-in-Equal-clause-refused
+returns-in_err-add_changed-in-Equal-clause-refused c =
     let first = c.in-Some.ensures.cases.0 in
-    let head = c.in-Some-split_first.ensures.cases.0 in
-    let so_far = same_so_far head first refl c.loop-change.invariant in
+    let head = ap (λ (n : Option FieldRef). next_fields n c.loop-change.fields) c.in-Some-next.is in
+    let same : slice_cmp nat_cmp c.in-Some-next.field.name.now c.in-Some.change.now.name ≡ Equal = search rules in
+    let so_far = same_left head first c.loop-change.invariant in
+    let values : c.as_slice.result.now ≡ c.in-Some-next.field.values = search rules in
     let is = subst (λ (v : List Value). IsRefusalOf (if can_change c.in-Some.change.now.name v c.in-Some.change.now.how then None else Some c.in-Some.change.now.name)
-    c.in_err-push_changed-in-Equal.field-0.0) c.as_slice.ensures c.in_err-push_changed-in-Equal.ensures.refused in
-    let all = refused_same _ _ _ _ _ _ _ _ so_far (sym c.in-Equal.ensures) is in
-    let p = err_from_is_err_and c.from_residual-in_err-push_changed-in-Equal.result c.from_residual-in_err-push_changed-in-Equal.ensures.1 in
+    c.in_err-add_changed-in-Equal.field-0.0) values c.in_err-add_changed-in-Equal.ensures.refused in
+    let all = refused_same _ _ _ _ _ _ _ _ so_far.merged same is in
+    let p = err_from_is_err_and c.from_residual-in_err-add_changed-in-Equal.result c.from_residual-in_err-add_changed-in-Equal.ensures.1 in
     rw (p.1, p.2) all
 
-pub returns-in_err-push_changed-in-Greater-clause-refused : goal.returns-in_err-push_changed-in-Greater-clause-refused
-returns-in_err-push_changed-in-Greater-clause-refused c =
+pub returns-in_err-add_changed-in-Greater-clause-refused : goal.returns-in_err-add_changed-in-Greater-clause-refused
+returns-in_err-add_changed-in-Greater-clause-refused c =
     let first = c.in-Some.ensures.cases.0 in
-    let head = c.in-Some-split_first.ensures.cases.0 in
-    let so_far = same_so_far refl first refl c.loop-change.invariant in
-    let below = subst (IsBelowFirst c.in-Some.change.now.name) (sym head)
-    (below_first c.in-Some-split_first.field.now c.in-Some-split_first.others.now c.in-Some.change.now (sym c.in-Greater.ensures)) in
-    let all = refused_missing _ _ _ _ _ _ _ so_far below c.in_err-push_changed-in-Greater.ensures.refused in
-    let p = err_from_is_err_and c.from_residual-in_err-push_changed-in-Greater.result c.from_residual-in_err-push_changed-in-Greater.ensures.1 in
+    let head = ap (λ (n : Option FieldRef). next_fields n c.loop-change.fields) c.in-Some-next.is in
+    let after : slice_cmp nat_cmp c.in-Some-next.field.name.now c.in-Some.change.now.name ≡ Greater = search rules in
+    let so_far = same_left head first c.loop-change.invariant in
+    let below = below_first (field_of c.in-Some-next.field) c.loop-change.fields c.in-Some.change.now after in
+    let all = refused_missing _ _ _ _ _ _ _ so_far.merged below c.in_err-add_changed-in-Greater.ensures.refused in
+    let p = err_from_is_err_and c.from_residual-in_err-add_changed-in-Greater.result c.from_residual-in_err-add_changed-in-Greater.ensures.1 in
     rw (p.1, p.2) all
+
+pub returns-clause-whole : goal.returns-clause-whole
+returns-clause-whole c =
+    let none = empty_list c.loop-change.changes_left.now c.in_default.ensures.cases in
+    (all_spelled _ _ _ _ _ (same_left refl none c.loop-change.invariant) c.in_ok-push_left.ensures c.count-count.ensures.few).whole
 
 pub returns-clause-document : goal.returns-clause-document
 returns-clause-document c =
     let none = empty_list c.loop-change.changes_left.now c.in_default.ensures.cases in
-    let all = done _ _ _ _ (same_so_far refl none refl c.loop-change.invariant) in
-    let made = sym (c.from_vec.ensures ∙ c.shrink_to_fit.ensures.items ∙ c.into_vec-new.ensures ∙ c.in_ok-push_copies.ensures) in
-    subst (IsChanged c.args.fields.now c.args.changes.now) made all.1
+    (all_spelled _ _ _ _ _ (same_left refl none c.loop-change.invariant) c.in_ok-push_left.ensures c.count-count.ensures.few).document

@@ -6,7 +6,7 @@ use Rattle.std.proofs.lemmas.Simd.{map-map}
 use Rattle.serde.proofs.Events.{WritesEach-more, WritesSeq-ends}
 use Rattle.serde_json.specs.Data.{Data}
 use Rattle.serde_json.specs.Events.{SendsValue}
-use Rattle.sc_record.specs.declared.write.Write.{Write}
+use Rattle.sc_record.specs.Writes.{Write}
 use Rattle.sc_json.specs.Documents.{array_of, write_data}
 use Rattle.sc_json.proofs.SentLemmas.{array_sent}
 use Rattle.sc_reply.proofs.shown.send_docs.Goals as goal

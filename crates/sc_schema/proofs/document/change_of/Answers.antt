@@ -1,7 +1,7 @@
--- The changes of an atomic update are lawful, and what a new document is set to is a document.
-use Rattle.std.proofs.Common.{subst, sym}
-use Rattle.sc_record.specs.Fields.{IsDocument}
-use Rattle.sc_schema.proofs.PartLemmas.{parts-lawful, made-document}
+-- The changes of an atomic update are lawful, and what a new document is set to fits its names.
+use Rattle.std.proofs.Common.{subst, sym, ◌∙◌}
+use Rattle.sc_values.specs.Fields.{AreFields}
+use Rattle.sc_schema.proofs.PartLemmas.{parts-lawful, made-fields}
 use Rattle.sc_schema.proofs.document.change_of.Goals as goal
 
 pub returns-then-is_update-clause-lawful : goal.returns-then-is_update-clause-lawful
@@ -10,5 +10,5 @@ returns-then-is_update-clause-lawful c =
 
 pub new-requires : goal.new-requires
 new-requires c =
-    subst IsDocument (sym c.in_ok-set_fields.ensures)
-    (made-document c.args.raw.now.fields c.args.parts c.args.raw.now.ascend c.requires)
+    subst AreFields (sym (c.as_slice-2.ensures ∙ c.in_ok-fields.ensures))
+    (made-fields c.args.raw.now.fields c.args.parts c.args.raw.now.ascend c.requires)

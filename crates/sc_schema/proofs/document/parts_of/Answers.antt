@@ -1,5 +1,5 @@
 -- What a member adds to the changes that are found.
-use Rattle.std.proofs.Common.{◌≡◌, ◌∙◌, ℕ, ◌+◌, suc, Bool, true, false, cond, List, [], ◌∷◌, ◌++◌, get_or, drop, Result, Ok, Err, refl, sym, ap, append_assoc, add-one, drop-cons, arith}
+use Rattle.std.proofs.Common.{◌≡◌, ◌∙◌, ℕ, ◌+◌, Bool, true, false, cond, List, [], ◌∷◌, ◌++◌, drop, Result, Ok, Err, refl, sym, ap, append_assoc, add-one, drop-cons, arith}
 use Rattle.sc_record.specs.declared.order.FieldChange.{FieldChange}
 use Rattle.sc_schema.specs.Documents.{and_then, found_map, is_field_name, member_change, member_changes}
 use Rattle.sc_schema.specs.declared.raw.RawField.{RawField}

@@ -15,7 +15,7 @@ use Rattle.sc_schema.proofs.terms.keys_of.Goals as goal
 pub returns : goal.returns
 returns c =
     let sorted = c.sort_unstable_by.new.self.items in
-    let found = flat_map (keys_of c.args.split) c.args.values.now in
+    let found = flat_map (keys_of c.args.split) c.args.values in
     let moved = subst (λ (xs : List (List ℕ)). IsPermutation xs sorted) c.in_ok-keys.ensures c.sort_unstable_by.ensures.permutation in
     let up =
     c.sort_unstable_by.ensures.sorted (λ x y. is_lt (slice_cmp nat_cmp x y)) (ranks_by nat_list_cmp_total (λ (x : List ℕ). x))

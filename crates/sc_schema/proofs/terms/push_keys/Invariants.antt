@@ -1,9 +1,7 @@
--- The terms so far, and then those of the keys left.
-use Rattle.std.proofs.Common.{◌≡◌, ◌++◌, map}
-use Rattle.std.specs.Vec.Iter.{into_iter_items}
-use Rattle.sc_schema.specs.Terms.{term}
+-- The terms of the keys so far are at the end.
+use Rattle.std.proofs.Common.{◌≡◌, take}
+use Rattle.sc_schema.specs.Keys.{with_keys}
 use Rattle.sc_schema.proofs.terms.push_keys.Given as goal
 
 abbrev pub invariant-loop-key : goal.invariant-loop-key
-invariant-loop-key l =
-    l.terms.items ++ map (term l.field) (into_iter_items l.key-iterator) ≡ l.initial.terms.items ++ map (term l.field) l.fn.keys.items
+invariant-loop-key l = l.terms ≡ with_keys (take l.key-index l.keys) l.initial.terms

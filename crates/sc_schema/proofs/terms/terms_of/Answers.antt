@@ -1,33 +1,29 @@
--- The terms of the fields before the id, its own and those of the other fields are the terms of the document.
-use Rattle.std.proofs.Common.{◌≡◌, ◌-◌, ◌++◌, arith, length, length-drop, List, [], ◌∷◌, map, take, drop, sym, subst, ap, ◌∙◌}
-use Rattle.std.specs.Prelude.{codes}
-use Rattle.std.proofs.lemmas.List.{take_all}
-use Rattle.sc_record.specs.Fields.{IsDocument}
-use Rattle.sc_record.specs.declared.document.Field.{Field}
-use Rattle.sc_record.specs.declared.term.Term.{Term}
-use Rattle.sc_schema.specs.Terms.{AreTerms}
-use Rattle.sc_schema.specs.Keys.{found_in_field, AddsTerms}
-use Rattle.sc_schema.proofs.KeyLemmas.{Adds-more, Adds-one, AreKeys-one}
-use Rattle.sc_schema.proofs.PlaceLemmas.{terms-with_id}
+-- The term of the id comes last where its place has not come before, and what is built then are the terms of the document.
+use Rattle.std.proofs.Common.{◌≡◌, ◌∙◌, [], Bool, true, false, List, sym, subst}
+use Rattle.sc_values.specs.declared.field.Field.{Field}
+use Rattle.sc_record.specs.TermsStates.{TermsState}
+use Rattle.sc_schema.specs.Keys.{BuildsSoFar}
+use Rattle.sc_schema.proofs.BuildLemmas.{IsBuilt, built_with, built_without, finished}
 use Rattle.sc_schema.proofs.terms.terms_of.Goals as goal
+use Rattle.sc_schema.proofs.terms.terms_of.Goals.{then-not-has_id+in_ok-push_id, else-not-has_id}
 
-pub returns : goal.returns
-returns c =
+pub returns-clause-terms : goal.returns-clause-terms
+returns-clause-terms c =
     let id = c.args.id.now in
-    let fields = c.fields-fields.result.now in
-    let at = c.before_id-at.result in
-    let before = c.in_ok-terms.terms.items in
-    let first = c.push_fields.new.terms.items in
-    let second = c.push_id.new.terms.items in
-    let last = c.push_fields-2.new.terms.items in
-    let one = Adds-one (codes "id", id ∷ []) (id ∷ []) first second (AreKeys-one id) c.in_ok-push_id.ensures in
-    let after = subst (λ (fs : List Field). AddsTerms (map found_in_field fs) second last)
-    (take_all (length fields - at) (drop at fields) (omega (arith, length-drop at fields))) c.in_ok-push_fields-2.ensures in
-    let whole = Adds-more (map found_in_field (take at fields)) ((codes "id", id ∷ []) ∷ map found_in_field (drop at fields)) before first last
-    c.in_ok-push_fields.ensures
-    (Adds-more ((codes "id", id ∷ []) ∷ []) (map found_in_field (drop at fields)) first second last one after) in
-    let document = subst IsDocument (sym c.fields-fields.ensures.value) c.fields-fields.ensures.document in
-    let are = terms-with_id id at fields whole.terms document c.before_id-at.ensures.below c.before_id-at.ensures.next whole.are in
-    let is : c.from_vec.result ≡ whole.terms =
-    c.from_vec.ensures ∙ c.shrink_to_fit.ensures.items ∙ whole.added ∙ ap (λ (ts : List Term). ts ++ whole.terms) c.in_ok-terms.ensures.items in
-    subst (λ (fs : List Field). AreTerms id fs c.from_vec.result) c.fields-fields.ensures.value (subst (AreTerms id fields) (sym is) are)
+    let fields : List Field = c.args.doc.now in
+    let start : TermsState = c.reserve.new.self in
+    let document = c.fields-field-items.ensures.document in
+    let begins = c.in_ok-reserve.ensures ∙ c.new-terms.ensures in
+    let so_far = subst (λ (left : List Field). BuildsSoFar fields left c.loop-field.has_id start c.loop-field.terms) c.in-None.ensures.steps.0 c.loop-field.invariant in
+    let all : IsBuilt id fields c.if-not-has_id.terms =
+    elim c.if-not-has_id.branch [
+      | then-not-has_id+in_ok-push_id w ↦
+          let off : c.loop-field.has_id ≡ false = cc in
+          built_without id fields start c.loop-field.terms c.if-not-has_id.terms document begins
+          (subst (λ (b : Bool). BuildsSoFar fields [] b start c.loop-field.terms) off so_far) (w.terms-is ∙ w.in_ok-push_id.ensures.ok)
+      | else-not-has_id w ↦
+          let on : c.loop-field.has_id ≡ true = cc in
+          subst (IsBuilt id fields) (sym w.terms-is)
+          (built_with id fields start c.loop-field.terms document begins (subst (λ (b : Bool). BuildsSoFar fields [] b start c.loop-field.terms) on so_far))
+    ] in
+    finished id fields c.if-not-has_id.terms c.finish.result all c.finish.ensures.terms

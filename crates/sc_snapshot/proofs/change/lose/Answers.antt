@@ -1,7 +1,7 @@
 -- The terms of one old row more are among the lost.
 use Rattle.std.proofs.Common.{Some, sym, ap, subst, ◌∙◌}
 use Rattle.std.specs.Option.{IfSome}
-use Rattle.sc_record.specs.declared.write.Write.{Write}
+use Rattle.sc_record.specs.Writes.{Write}
 use Rattle.sc_snapshot.specs.Change.{LosesInPlace}
 use Rattle.sc_snapshot.proofs.LostLemmas.{lose-row}
 use Rattle.sc_snapshot.proofs.change.lose.Goals as goal

@@ -1,7 +1,7 @@
 -- There are no more rows than the pieces' and the cells.
 use Rattle.std.proofs.Common.{◌≡◌, ◌+◌, ◌<◌, List, [], ◌∷◌, ◌++◌, map, length, sym, ap, ◌∙◌, arith, append_assoc, length-append}
 use Rattle.std.proofs.lemmas.List.{length-map, map-append}
-use Rattle.sc_record.specs.declared.write.Write.{Write}
+use Rattle.sc_record.specs.Writes.{Write}
 use Rattle.std.specs.Arc.{arc_value}
 use Rattle.sc_snapshot.proofs.cutting.cut_many.Goals as goal
 

@@ -2,7 +2,7 @@
 use Rattle.std.proofs.Common.{◌++◌, ◌∷◌, [], List, map, take, sym, ap, ◌∙◌, arith, append_assoc}
 use Rattle.std.proofs.lemmas.List.{map-append, take_all}
 use Rattle.std.specs.Arc.{arc_value}
-use Rattle.sc_record.specs.declared.write.Write.{Write}
+use Rattle.sc_record.specs.Writes.{Write}
 use Rattle.sc_snapshot.proofs.LoopLemmas.{one-more}
 use Rattle.sc_snapshot.proofs.cutting.push_shares.Goals as goal
 

@@ -1,7 +1,7 @@
 -- So far the first changes have their edits.
 use Rattle.std.proofs.Common.{◌≡◌, ℕ, ◌≤◌, map, take, length, slice_get, Some}
 use Rattle.std.specs.List.{AllByRecursion}
-use Rattle.sc_record.specs.declared.write.Write.{Write}
+use Rattle.sc_record.specs.Writes.{Write}
 use Rattle.sc_snapshot.specs.declared.edits.Edit.{Edit}
 use Rattle.sc_snapshot.specs.Edits.{put_in, next_of, AreInOrder, AreBelow, IsPlace}
 use Rattle.sc_snapshot.specs.Rows.{lent}

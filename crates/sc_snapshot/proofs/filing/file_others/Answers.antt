@@ -1,35 +1,39 @@
--- One term more is looked at.
-use Rattle.std.proofs.Common.{◌++◌, not, ◌&&◌, ◌||◌, take, sym, ap, ap₂, ◌∙◌, arith}
-use Rattle.std.proofs.lemmas.List.{take_all}
-use Rattle.std.proofs.lemmas.List.Folds.{list_any_more, list_all_more}
+-- One term more is looked at, and at last all.
+use Rattle.std.proofs.Common.{List, ◌++◌, map, not, ◌&&◌, ◌||◌, sym, ap, ap₂, subst, ◌∙◌, arith}
 use Rattle.std.specs.Str.{bytes_eq}
-use Rattle.sc_snapshot.specs.Postings.{is_id_alone, is_id_term, is_no_other_id, keyed, other_terms}
-use Rattle.sc_snapshot.proofs.LoopLemmas.{others-next}
+use Rattle.sc_record.specs.TermRuns.{term_of}
+use Rattle.sc_record.specs.declared.term.Term.{Term}
+use Rattle.sc_segment.specs.Index.{IsIndexOf}
+use Rattle.sc_snapshot.specs.Postings.{is_id_alone, is_id_term, is_no_other_id, key_order, keyed, other_terms}
+use Rattle.sc_snapshot.proofs.LoopLemmas.{any-more, all-more, others-next, lent-more, lent-all}
 use Rattle.sc_snapshot.proofs.filing.file_others.Goals as goal
 
 pub loop-term-preserved : goal.loop-term-preserved
 loop-term-preserved c =
     let i = c.loop-term.invariant in
     let id = c.args.id.now in
-    let terms = c.args.terms.now in
-    let at = c.loop-term.term-index in
-    let term = c.term-item.result in
-    let within = c.loop-term-test.true in
+    let before = c.loop-term.yielded in
+    let term = c.in-Some.term in
     let is_id = c.in_ok-is_id.ensures.is_id in
     record {
-      index = λ added before. others-next added c.args.number at terms term
-          c.file_other.new.builder.index within c.term-item.is
-          (c.in_ok-is_id.ensures.index (added ++ keyed c.args.number (other_terms (take at terms))) (i.index added before));
+      whole = lent-more before term c.loop-term.term-iterator c.next.new.self c.args.terms i.whole c.in-Some.ensures.steps;
+      index = λ added filed. others-next c.args.number before term added c.file_other.new.builder.index
+          (c.in_ok-is_id.ensures.index (added ++ keyed c.args.number (other_terms (map term_of before))) (i.index added filed));
       last_row = omega (arith, c.in_ok-is_id.ensures.last_row);
-      has_id = ap₂ (λ b d. b || d) i.has_id (is_id ∙ ap is_id_term c.term-item.is) ∙ sym (list_any_more is_id_term terms at term within);
+      has_id = ap₂ (λ b d. b || d) i.has_id is_id ∙ sym (any-more is_id_term before term);
       has_no_other = ap₂ (λ b d. b && d) i.has_no_other
-          (c.is_no_other-has_no_other.ensures ∙ ap (λ b. not b || bytes_eq term.key id) is_id ∙ ap (is_no_other_id id) c.term-item.is)
-          ∙ sym (list_all_more (is_no_other_id id) terms at term within);
+          (c.is_no_other-has_no_other.ensures ∙ ap (λ b. not b || bytes_eq term.key.now id) is_id)
+          ∙ sym (all-more (is_no_other_id id) before term);
     }
+
+pub returns-clause-index : goal.returns-clause-index
+returns-clause-index c = λ added filed.
+    let i = c.loop-term.invariant in
+    subst (λ (ts : List Term). IsIndexOf key_order (added ++ keyed c.args.number (other_terms ts)) c.loop-term.builder.index)
+    (lent-all c.loop-term.yielded c.loop-term.term-iterator c.args.terms i.whole (c.in-None.ensures.steps).0) (i.index added filed)
 
 pub returns-clause-alone : goal.returns-clause-alone
 returns-clause-alone c =
     let i = c.loop-term.invariant in
-    let terms = c.args.terms.now in
-    let all = take_all c.loop-term.term-index terms c.loop-term-test.false in
+    let all = lent-all c.loop-term.yielded c.loop-term.term-iterator c.args.terms i.whole (c.in-None.ensures.steps).0 in
     ap₂ (λ b d. b && d) i.has_id i.has_no_other ∙ ap (is_id_alone c.args.id.now) all

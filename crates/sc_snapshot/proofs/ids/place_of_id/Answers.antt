@@ -2,7 +2,7 @@
 use Rattle.std.proofs.Common.{◌≡◌, ◌+◌, ◌-◌, ◌^◌, ◌/◌, ◌<◌, Some, length, get_or, slice_get, sym, ap, ◌∙◌, arith}
 use Rattle.std.proofs.lemmas.Option.{slice_get-get_or}
 use Rattle.std.specs.declared.cmp.Ordering.TheVariants.{Less, Equal, Greater}
-use Rattle.sc_record.specs.declared.write.Write.{Write}
+use Rattle.sc_record.specs.Writes.{Write}
 use Rattle.sc_keys.proofs.SearchLemmas.{pow-step, halved_more, bound_more}
 use Rattle.sc_snapshot.proofs.IdSearchLemmas.{live-within, lower-more, higher-more, place-found, place-none}
 use Rattle.sc_snapshot.proofs.PlaceLemmas.{order}
@@ -31,7 +31,7 @@ halving-preserved-in-Less g c =
     let is_live = slice_get-get_or live middle 0 within in
     let is : slice_get rows here ≡ Some row = c.cell-row.ensures ∙ ap (λ (w : Write). Some w) (sym c.deref.ensures) in
     let h : order row.id id ≡ Less =
-    ap (λ x. order x id) (sym c.as_str.ensures.value) ∙ ap (order c.as_str.result.now) (sym c.as_str-in-halving.ensures) ∙ sym c.in-Less.ensures in
+    ap (λ x. order x id) (sym (c.as_str.ensures.value ∙ c.id.ensures)) ∙ ap (order c.as_str.result.now) (sym c.as_str-in-halving.ensures) ∙ sym c.in-Less.ensures in
     let steps = ap (λ n. 2 ^ (n - c.args.steps.now)) c.tick.ensures ∙ pow-step c.args.steps.now c.halving.steps i.counted in
     record {
       in_order = omega (arith, test);
@@ -57,7 +57,7 @@ halving-preserved g c =
     let is_live = slice_get-get_or live middle 0 within in
     let is : slice_get rows here ≡ Some row = c.cell-row.ensures ∙ ap (λ (w : Write). Some w) (sym c.deref.ensures) in
     let h : order row.id id ≡ Greater =
-    ap (λ x. order x id) (sym c.as_str.ensures.value) ∙ ap (order c.as_str.result.now) (sym c.as_str-in-halving.ensures) ∙ sym c.in-Greater.ensures in
+    ap (λ x. order x id) (sym (c.as_str.ensures.value ∙ c.id.ensures)) ∙ ap (order c.as_str.result.now) (sym c.as_str-in-halving.ensures) ∙ sym c.in-Greater.ensures in
     let steps = ap (λ n. 2 ^ (n - c.args.steps.now)) c.tick.ensures ∙ pow-step c.args.steps.now c.halving.steps i.counted in
     record {
       in_order = omega arith;
@@ -83,7 +83,7 @@ returns-in-Equal-clause-place g c =
     let is_live = slice_get-get_or live middle 0 within in
     let is : slice_get rows here ≡ Some row = c.cell-row.ensures ∙ ap (λ (w : Write). Some w) (sym c.deref.ensures) in
     let h : order row.id id ≡ Equal =
-    ap (λ x. order x id) (sym c.as_str.ensures.value) ∙ ap (order c.as_str.result.now) (sym c.as_str-in-halving.ensures) ∙ sym c.in-Equal.ensures in
+    ap (λ x. order x id) (sym (c.as_str.ensures.value ∙ c.id.ensures)) ∙ ap (order c.as_str.result.now) (sym c.as_str-in-halving.ensures) ∙ sym c.in-Equal.ensures in
     place-found rows live c.requires.live c.requires.ascend id middle here row is_live is h
 
 pub returns-in-Equal-clause-bound : goal.returns-in-Equal-clause-bound

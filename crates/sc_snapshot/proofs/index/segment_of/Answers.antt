@@ -2,7 +2,7 @@
 use Rattle.std.proofs.Common.{◌+◌, ◌++◌, List, map, take, sym, subst, arith}
 use Rattle.std.proofs.lemmas.List.{length-map}
 use Rattle.std.specs.Arc.{arc_value}
-use Rattle.sc_record.specs.declared.write.Write.{Write}
+use Rattle.sc_record.specs.Writes.{Write}
 use Rattle.sc_segment.specs.Index.{IsIndexOf}
 use Rattle.sc_snapshot.specs.Postings.{key_order, keyed, keyed_rows, live_terms, without_ids}
 use Rattle.sc_snapshot.proofs.LoopLemmas.{map-twice, rows-next}

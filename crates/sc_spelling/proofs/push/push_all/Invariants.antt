@@ -2,7 +2,8 @@
 use Rattle.std.proofs.Common.{◌≡◌, ◌++◌, length, take}
 use Rattle.std.specs.Int.{w32, to_le_bytes}
 use Rattle.std.specs.List.{flat_map, AllByRecursion}
-use Rattle.sc_spelling.specs.Spellings.{spelling_of_field, FitsField}
+use Rattle.sc_values.specs.Fields.{FitsField}
+use Rattle.sc_spelling.specs.Spellings.{spelling_of_field}
 use Rattle.sc_spelling.proofs.push.push_all.Given as goal
 
 abbrev pub invariant-loop-field : goal.invariant-loop-field

@@ -6,7 +6,7 @@ use Rattle.std.proofs.lemmas.Int.{ints}
 use Rattle.std.proofs.lemmas.List.{take_all}
 use Rattle.std.proofs.lemmas.Option.{same_Some}
 use Rattle.sc_record.specs.declared.slice.CoreId.{CoreId}
-use Rattle.sc_record.specs.declared.write.Write.{Write}
+use Rattle.sc_record.specs.Writes.{Write}
 use Rattle.sc_cluster.specs.declared.slice.Slice.{Slice}
 use Rattle.sc_replica.specs.Core.{Core}
 use Rattle.sc_bucket.specs.declared.message.Message.{Message}
@@ -24,8 +24,8 @@ loop-at-preserved c =
     let slice = c.unwrap-slice.result.now in
     let write = arc_value c.args.write.now in
     let there = sym c.get-in-loop-at.ensures.slice ∙ ap option_copied c.unwrap-slice.ensures in
-    let back : to_z w32 (of_z w32 c.deref.result.now.hash) ≡ c.deref.result.now.hash = omega (arith, ints) in
-    let hash : to_z w32 (of_z w32 c.deref.result.now.hash) ≡ write.hash = back ∙ ap (λ (w : Write). w.hash) c.deref.ensures in
+    let back : to_z w32 (of_z w32 c.hash.result) ≡ c.hash.result = omega (arith, ints) in
+    let hash : to_z w32 (of_z w32 c.hash.result) ≡ write.hash = back ∙ c.hash.ensures ∙ ap (λ (w : Write). w.hash) c.deref.ensures in
     let same_test : takes write.hash slice ≡ c.takes.result = ap (λ (h : ℤ). takes h slice) (sym hash) ∙ sym c.takes.ensures in
     elim c.if-takes.branch [
       | then-takes+in_ok-push_messages w ↦

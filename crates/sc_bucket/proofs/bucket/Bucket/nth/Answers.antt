@@ -1,7 +1,7 @@
 -- The cell is one of the first slice's that has enough left, and past the last slice there is none.
 use Rattle.std.proofs.Common.{◌≡◌, ◌∙◌, ◌-◌, ◌+◌, ◌<◌, ◌≤◌, List, length, slice_get, sym, ap, subst, arith}
 use Rattle.std.specs.Option.{option_copied}
-use Rattle.sc_record.specs.declared.write.Write.{Write}
+use Rattle.sc_record.specs.Writes.{Write}
 use Rattle.sc_bucket.specs.Serving.{cells_of_leader}
 use Rattle.sc_bucket.proofs.ServingLemmas.{IsLeft, are_last_writes, left_after, left_same, left_inside, left_past}
 use Rattle.sc_bucket.proofs.TakenLemmas.{active_from_test, inactive_from_test}

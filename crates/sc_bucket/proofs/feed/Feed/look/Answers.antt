@@ -4,7 +4,7 @@ use Rattle.std.specs.Option.{option_map}
 use Rattle.std.specs.Arc.{arc_value}
 use Rattle.std.proofs.lemmas.Option.{same_Some}
 use Rattle.sc_hash.specs.declared.range.Range.{Range}
-use Rattle.sc_record.specs.declared.write.Write.{Write}
+use Rattle.sc_record.specs.Writes.{Write}
 use Rattle.sc_keys.proofs.StoringLemmas.{found-within}
 use Rattle.sc_snapshot.specs.Rows.{SnapshotState, is_within}
 use Rattle.sc_bucket.specs.Kept.{FeedState}

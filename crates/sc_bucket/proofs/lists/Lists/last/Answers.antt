@@ -5,7 +5,7 @@ use Rattle.std.specs.Slice.Iter.{iter_rest}
 use Rattle.std.specs.declared.sync.Arc.{Arc}
 use Rattle.std.specs.declared.alloc.Global.{Global}
 use Rattle.sc_record.specs.declared.entry.Entry.{Entry}
-use Rattle.sc_record.specs.declared.write.Write.{Write}
+use Rattle.sc_record.specs.Writes.{Write}
 use Rattle.sc_bucket.specs.declared.entries.Mark.{Mark}
 use Rattle.sc_bucket.specs.Entries.{entries_of, is_write, is_settling, is_other, let_go_of, AreParts}
 use Rattle.sc_bucket.specs.Kept.{ListsState}

@@ -1,6 +1,6 @@
 -- Each test tells of the entry whether it may come.
-use Rattle.std.proofs.Common.{◌↔◌, IsTrue, length, ap, subst, arith}
-use Rattle.sc_record.specs.declared.write.Write.{Write}
+use Rattle.std.proofs.Common.{◌↔◌, ◌<ℤ◌, pos, IsTrue, length, ap, subst, arith}
+use Rattle.sc_record.specs.Writes.{Write}
 use Rattle.sc_record.specs.declared.entry.Entry.TheVariants as entry
 use Rattle.sc_legal.specs.Passed.{Passed}
 use Rattle.sc_journal.specs.Computed.{HasComputed}
@@ -25,8 +25,9 @@ returns-in-Write-clause-exactly c =
     seen_as c.self.inside.first (entries_of c.self.inside.passed.items) c.args.self.now (entry.Write c.in-Write.cell) c.args.entry.now c.may_write.result
     c.self.view_is c.in-Write.is
     (told c.may_write.result
-    (subst (λ (w : Write). IsTrue c.may_write.result ↔ IsTimely kept w) c.deref.ensures c.may_write.ensures)
-    (may_write c.self.inside.first (entries_of c.self.inside.passed.items) kept c.in-Write.cell.value c.self.invariant computed))
+    (subst (λ (w : Write). IsTrue c.may_write.result ↔ IsTimely kept w) c.deref.ensures c.may_write.ensures.exactly)
+    (may_write c.self.inside.first (entries_of c.self.inside.passed.items) kept c.in-Write.cell.value c.self.invariant computed
+    (subst (λ (w : Write). pos 0 <ℤ w.version) c.deref.ensures c.may_write.ensures.positive)))
 
 pub returns-in-Begun-clause-exactly : goal.returns-in-Begun-clause-exactly
 returns-in-Begun-clause-exactly c =

@@ -2,7 +2,7 @@
 use Rattle.std.proofs.Common.{◌+◌, ◌-◌, ◌≤◌, Some, sym, ap, subst, ◌∙◌, arith}
 use Rattle.std.proofs.lemmas.Option.{IfSome_then}
 use Rattle.std.specs.Option.{IfSome}
-use Rattle.sc_record.specs.declared.write.Write.{Write}
+use Rattle.sc_record.specs.Writes.{Write}
 use Rattle.sc_snapshot.specs.Edits.{next_of}
 use Rattle.sc_snapshot.proofs.EditLemmas.{edit-bounded, rest-kept, rest-put}
 use Rattle.sc_snapshot.proofs.change.Change.put.Goals as goal

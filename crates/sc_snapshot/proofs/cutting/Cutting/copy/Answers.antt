@@ -1,6 +1,6 @@
 -- Some rows more are copied.
 use Rattle.std.proofs.Common.{◌++◌, ◌-◌, List, take, drop, ap, ◌∙◌, arith, append_assoc}
-use Rattle.sc_record.specs.declared.write.Write.{Write}
+use Rattle.sc_record.specs.Writes.{Write}
 use Rattle.sc_snapshot.proofs.PieceLemmas.{take-on}
 use Rattle.sc_snapshot.proofs.cutting.Cutting.copy.Goals as goal
 

@@ -1,6 +1,6 @@
 -- Some rows of a piece are copied.
 use Rattle.std.proofs.Common.{◌++◌, ◌-◌, List, take, drop, ap, ◌∙◌, arith}
-use Rattle.sc_record.specs.declared.write.Write.{Write}
+use Rattle.sc_record.specs.Writes.{Write}
 use Rattle.sc_snapshot.proofs.PieceLemmas.{part-of}
 use Rattle.sc_snapshot.specs.Pieces.{rows_in}
 use Rattle.sc_snapshot.proofs.cutting.Cutting.copy_some.Goals as goal

@@ -1,6 +1,7 @@
 -- The row of an id is sought among the live rows, and other terms among the keys.
-use Rattle.std.proofs.Common.{◌≡◌, ◌+◌, ◌*◌, ◌≤◌, List, ℕ, true, false, length, map, sym, ap, subst, ◌∙◌, arith}
+use Rattle.std.proofs.Common.{◌≡◌, ◌+◌, ◌*◌, ◌≤◌, List, ℕ, true, false, codes, length, map, sym, ap, subst, ◌∙◌, arith}
 use Rattle.std.specs.List.{list_all}
+use Rattle.std.specs.Str.{bytes_eq}
 use Rattle.sc_rows.specs.Joining.{has_row}
 use Rattle.sc_segment.specs.Index.{IsIndexOf}
 use Rattle.sc_snapshot.specs.Postings.{key_order, keyed_rows, term_count, is_id_term, has_id_alone, without_ids, AreIdsFound}
@@ -21,7 +22,8 @@ returns-in-Some-clause-members g c = λ number.
 pub returns-in-None-clause-members : goal.returns-in-None-clause-members
 returns-in-None-clause-members g c = λ number.
     let rows = c.args.rows.now in
-    let is : is_id_term c.args.key.now.term ≡ true = sym c.is_id_term.ensures ∙ c.if-is_id_term.true in
+    let is : is_id_term c.args.key.now.term ≡ true =
+    sym (c.is_id_field.ensures ∙ ap (λ (field : List ℕ). bytes_eq field (codes "id")) c.as_str.ensures) ∙ c.if-is_id_field.true in
     let alone : list_all has_id_alone rows ≡ true = subst (AreIdsFound rows) c.in-None.is c.requires.indexed.ids in
     c.row_of_id.ensures.members number ∙ sym (alone-at rows alone c.args.key.now.term is number)
 
@@ -36,7 +38,8 @@ returns-in-None-clause-bound g c =
 pub returns-in-None-2-clause-members : goal.returns-in-None-2-clause-members
 returns-in-None-2-clause-members g c = λ number.
     let rows = c.args.rows.now in
-    let other : is_id_term c.args.key.now.term ≡ false = sym c.is_id_term.ensures ∙ c.if-is_id_term.false in
+    let other : is_id_term c.args.key.now.term ≡ false =
+    sym (c.is_id_field.ensures ∙ ap (λ (field : List ℕ). bytes_eq field (codes "id")) c.as_str.ensures) ∙ c.if-is_id_field.false in
     ap (λ (rs : List ℕ). has_row rs number) (c.postings-in-None-2.ensures.rows (keyed_rows 0 (map without_ids rows)) c.requires.indexed.terms)
     ∙ has_row-term (map without_ids rows) c.args.key.now number
     ∙ has_term-others c.args.key.now.term other rows number

@@ -3,7 +3,7 @@ use Rattle.std.proofs.Common.{◌-◌, List, Global, map, take, drop, sym, ap, �
 use Rattle.std.proofs.lemmas.List.{take-map, drop-map}
 use Rattle.std.specs.Arc.{arc_value}
 use Rattle.std.specs.declared.sync.Arc.{Arc}
-use Rattle.sc_record.specs.declared.write.Write.{Write}
+use Rattle.sc_record.specs.Writes.{Write}
 use Rattle.sc_snapshot.proofs.pieces.Piece.part.Goals as goal
 
 pub returns : goal.returns

@@ -5,7 +5,7 @@ use Rattle.std.specs.Arc.{arc_value}
 use Rattle.std.specs.Option.{option_map}
 use Rattle.std.proofs.lemmas.Option.{slice_get_read, slice_get-map}
 use Rattle.std.specs.declared.sync.Arc.{Arc}
-use Rattle.sc_record.specs.declared.write.Write.{Write}
+use Rattle.sc_record.specs.Writes.{Write}
 use Rattle.sc_snapshot.specs.Pieces.{start_of}
 use Rattle.sc_snapshot.proofs.PieceLemmas.{row-in}
 use Rattle.sc_snapshot.proofs.pieces.Pieces.cell.Goals as goal

@@ -1,7 +1,7 @@
 -- The piece that is found has the row.
 use Rattle.std.proofs.Common.{◌+◌, ◌<◌, ◌≤◌, List, take, length, refl, subst}
 use Rattle.std.proofs.lemmas.Option.{slice_get_read}
-use Rattle.sc_record.specs.declared.write.Write.{Write}
+use Rattle.sc_record.specs.Writes.{Write}
 use Rattle.sc_snapshot.specs.declared.pieces.Piece.{Piece}
 use Rattle.sc_snapshot.specs.Pieces.{rows_of, HasRow}
 use Rattle.sc_snapshot.proofs.PieceLemmas.{has_row}

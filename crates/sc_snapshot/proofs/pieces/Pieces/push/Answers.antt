@@ -3,7 +3,7 @@ use Rattle.std.proofs.Common.{◌≡◌, ◌+◌, List, Global, length, sym, ap,
 use Rattle.std.proofs.lemmas.List.{length-map}
 use Rattle.std.specs.Arc.{arc_value}
 use Rattle.std.specs.declared.sync.Arc.{Arc}
-use Rattle.sc_record.specs.declared.write.Write.{Write}
+use Rattle.sc_record.specs.Writes.{Write}
 use Rattle.sc_snapshot.specs.declared.pieces.Piece.{Piece}
 use Rattle.sc_snapshot.specs.Pieces.{rows_of, HaveEnds}
 use Rattle.sc_snapshot.proofs.PieceLemmas.{HaveEnds-push}

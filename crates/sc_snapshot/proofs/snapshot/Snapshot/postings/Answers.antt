@@ -1,6 +1,6 @@
 -- The rows that the index gives are those of the snapshot.
 use Rattle.std.proofs.Common.{◌≡◌, ◌+◌, ◌-◌, ◌*◌, ◌^◌, ◌≤◌, List, ap, subst, ◌∙◌, slice_get}
-use Rattle.sc_record.specs.declared.write.Write.{Write}
+use Rattle.sc_record.specs.Writes.{Write}
 use Rattle.sc_snapshot.specs.Postings.{has_term, term_count}
 use Rattle.sc_snapshot.specs.Rows.{SnapshotState}
 use Rattle.sc_snapshot.proofs.snapshot.Snapshot.postings.Goals as goal

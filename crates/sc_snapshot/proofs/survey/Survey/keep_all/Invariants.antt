@@ -1,6 +1,6 @@
 -- So far the first of these rows are marked.
 use Rattle.std.proofs.Common.{◌≡◌, ℕ, ◌+◌, ◌-◌, ◌<◌, ◌≤◌, List, is_some, map, length, slice_get}
-use Rattle.sc_record.specs.declared.write.Write.{Write}
+use Rattle.sc_record.specs.Writes.{Write}
 use Rattle.sc_snapshot.specs.Surveying.{AreSurveyed}
 use Rattle.sc_snapshot.proofs.survey.Survey.keep_all.Given as goal
 

@@ -4,7 +4,7 @@ use Rattle.std.proofs.Math.Seq.{take-length}
 use Rattle.std.proofs.lemmas.List.{length-map}
 use Rattle.std.specs.Arc.{arc_value}
 use Rattle.std.specs.declared.sync.Arc.{Arc}
-use Rattle.sc_record.specs.declared.write.Write.{Write}
+use Rattle.sc_record.specs.Writes.{Write}
 use Rattle.sc_snapshot.proofs.EditedLemmas.{row_at}
 use Rattle.sc_snapshot.proofs.LoopLemmas.{all-next}
 use Rattle.sc_snapshot.proofs.SurveyLemmas.{surveyed-same, surveyed-all, up_to}
@@ -30,9 +30,9 @@ loop-row-preserved c =
     let old = c.loop-row.survey in
     let now = c.bound.new.self in
     let marked = c.in_ok-mark.ensures in
-    let told : is_live_at (slice_get rows number) ≡ c.is_some.result =
+    let told : is_live_at (slice_get rows number) ≡ c.is_live.result =
     ap (λ n. is_live_at (slice_get rows n)) i.number ∙ ap is_live_at here
-    ∙ sym (c.is_some.ensures ∙ ap (λ (w : Write). is_some w.doc) c.deref.ensures) in
+    ∙ sym (c.is_live.ensures ∙ ap (λ (w : Write). is_some w.doc) c.deref.ensures) in
     let within : number < length rows = omega (arith, size, test, i.number) in
     let surveyed = marked.surveyed rows (subst (λ n. AreSurveyed rows n old) (sym i.number) i.surveyed) within told in
     let least : now.least_hash ≤ℤ old.least_hash = subst (λ (z : ℤ). now.least_hash ≤ℤ z) marked.least_hash c.bound.ensures.least.1 in

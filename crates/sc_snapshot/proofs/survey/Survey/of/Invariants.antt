@@ -2,7 +2,7 @@
 use Rattle.std.proofs.Common.{◌≡◌, All, map, take, length}
 use Rattle.std.specs.Prelude.{◌≤ℤ◌}
 use Rattle.std.specs.Arc.{arc_value}
-use Rattle.sc_record.specs.declared.write.Write.{Write}
+use Rattle.sc_record.specs.Writes.{Write}
 use Rattle.sc_snapshot.specs.Surveying.{AreSurveyed}
 use Rattle.sc_snapshot.proofs.survey.Survey.of.Given as goal
 

@@ -1,6 +1,6 @@
 -- The rows up to one edit more are surveyed.
 use Rattle.std.proofs.Common.{◌≡◌, ◌≤ℤ◌, ◌+◌, ◌-◌, ◌≤◌, Bool, ℤ, List, is_some, length, slice_get, sym, ap, subst, ◌∙◌, arith}
-use Rattle.sc_record.specs.declared.write.Write.{Write}
+use Rattle.sc_record.specs.Writes.{Write}
 use Rattle.sc_snapshot.specs.Postings.{is_live_at}
 use Rattle.sc_snapshot.specs.Surveying.{BoundsHashOf}
 use Rattle.sc_snapshot.proofs.EditLemmas.{rest-kept, rest-put, rest-within}
@@ -16,9 +16,9 @@ returns-clause-surveyed c = λ old new edits bits rest is.
     let within = rest-within old new from number edit edits rest in
     let up_to_edit = c.in_ok-keep_all.ensures.surveyed new old bits is (let few : next ≤ length new = omega (arith, within) in few)
     (rest-kept old new from number edit edits rest) in
-    let told : is_live_at (slice_get new next) ≡ c.is_some.result =
+    let told : is_live_at (slice_get new next) ≡ c.is_live.result =
     ap is_live_at (rest-put old new from number edit edits rest)
-    ∙ sym (c.is_some.ensures ∙ ap (λ (w : Write). is_some w.doc) c.deref.ensures) in
+    ∙ sym (c.is_live.ensures ∙ ap (λ (w : Write). is_some w.doc) c.deref.ensures) in
     let with_edit = c.in_ok-mark.ensures.surveyed new up_to_edit within told in
     surveyed-same new (next + 1) c.mark.new.self c.bound.new.self with_edit c.bound.ensures.live_rows c.bound.ensures.live_bits
 

@@ -3,7 +3,13 @@ use Rattle.std.proofs.Common.{◌≡◌, ℕ, length, sym, ap, ◌∙◌, arith,
 use Rattle.sc_spelling.specs.Lent.{field_of}
 use Rattle.sc_spelling.specs.Reading.{fields_at, read_of}
 use Rattle.sc_spelling.proofs.LoopLemmas.{fields_over, fields_next, fields_end}
+use Rattle.sc_spelling.proofs.KnownLemmas.{field_known}
 use Rattle.sc_spelling.proofs.field.FieldsIterator.next.Goals as goal
+
+pub known_field_after-requires : goal.known_field_after-requires
+known_field_after-requires c =
+    let at = c.self.inside in
+    field_known at.before.now at.left at.rest.now (omega arith) c.self.invariant
 
 pub returns-then-self-eq0-clause-steps : goal.returns-then-self-eq0-clause-steps
 returns-then-self-eq0-clause-steps c =

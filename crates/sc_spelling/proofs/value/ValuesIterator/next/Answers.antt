@@ -3,7 +3,13 @@ use Rattle.std.proofs.Common.{◌≡◌, ℕ, length, sym, ap, ◌∙◌, arith,
 use Rattle.sc_spelling.specs.Lent.{value_of}
 use Rattle.sc_spelling.specs.Reading.{values_at, read_of}
 use Rattle.sc_spelling.proofs.LoopLemmas.{values_over, values_next, values_end}
+use Rattle.sc_spelling.proofs.KnownLemmas.{value_known}
 use Rattle.sc_spelling.proofs.value.ValuesIterator.next.Goals as goal
+
+pub known_value_at-requires : goal.known_value_at-requires
+known_value_at-requires c =
+    let at = c.self.inside in
+    value_known at.kind at.left at.rest.now (omega arith) c.self.invariant
 
 pub returns-then-self-eq0-clause-steps : goal.returns-then-self-eq0-clause-steps
 returns-then-self-eq0-clause-steps c =

@@ -1,0 +1,12 @@
+-- The fields that are left, after those so far, are all that were left.
+use Rattle.std.proofs.Common.{◌≡◌, ◌+◌, ◌++◌, length}
+use Rattle.std.specs.List.{flat_map}
+use Rattle.sc_spelling.specs.Spellings.{spelling_of_field}
+use Rattle.sc_partial.specs.Runs.{next_fields}
+use Rattle.sc_partial.proofs.merge.push_left.Given as goal
+
+abbrev pub invariant-loop-field : goal.invariant-loop-field
+invariant-loop-field l =
+    (l.run.count + length l.field-iterator ≡ l.fn.run.count + length (next_fields l.fn.next l.fn.others))
+    × (l.run.bytes.items ++ flat_map spelling_of_field l.field-iterator
+    ≡ l.fn.run.bytes.items ++ flat_map spelling_of_field (next_fields l.fn.next l.fn.others))

@@ -1,5 +1,5 @@
 #!/bin/sh
-# Runs all benches but search.py and instructions.py against the program, and writes their figures into the pages; ends with status 1 where
+# Runs all benches but search.py, instructions.py, loading.py and planted.py against the program, and writes their figures into the pages; ends with status 1 where
 # one found a problem. On a machine that does nothing else:
 #
 #     PROGRAM=crates/solr_split/out/solr_split bench/figures.sh

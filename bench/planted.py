@@ -22,7 +22,41 @@ import time
 
 ROOT = os.path.dirname(os.path.dirname(os.path.abspath(__file__)))
 HEAD_OF_FUNCTION = re.compile(r'^\s*(?:pub(?:\([a-z ]*\))?\s+)?(?:unsafe\s+)?fn\s+(\w+)', re.M)
+HEAD_OF_IMPL = re.compile(r'^impl\b(?:<[^{]*?>(?=\s))?\s+(?:(?:\w+::)*(?P<trait>\w+)(?:<[^{]*?>)?\s+for\s+)?(?P<type>\w+)', re.M)
+HEAD_OF_TRAIT = re.compile(r'^(?:pub(?:\([a-z ]*\))?\s+)?trait\s+(?P<type>\w+)', re.M)
+HEAD_OF_TYPE = re.compile(r'^(?:pub(?:\([a-z ]*\))?\s+)?(?:struct|enum|trait)\s+(\w+)', re.M)
+STRANGE = re.compile(r'(?:has no function|several functions are named) `(\S+)`')
 VERDICT = re.compile(r'^fn (\S+): (.*)$', re.M)
+
+
+def module_of(file):
+    """The module of a file in src/, with `::` behind it; of the root file nothing."""
+    name = file[len('src/'):-len('.rt')]
+    return '' if name in ('lib', 'main') else name.replace('/', '::') + '::'
+
+
+def module_of_type(crate, name):
+    """The module in which a type or trait of the crate is defined, or None."""
+    for folder, _, files in os.walk(f'{ROOT}/crates/{crate}/src'):
+        for file in files:
+            path = os.path.join(folder, file)
+            with open(path) as source:
+                if any(head[1] == name for head in HEAD_OF_TYPE.finditer(source.read())):
+                    return module_of(os.path.relpath(path, f'{ROOT}/crates/{crate}'))
+    return None
+
+
+def path_of_function(crate, file, text, head):
+    """The name by which a check calls the function with this head: a method stands under its type's name, in its type's module, and one of a
+    trait under both names, in the module of the `impl`."""
+    top = max(text.rfind('\n}', 0, head.start()), 0)
+    owners = [*HEAD_OF_IMPL.finditer(text, top, head.start()), *HEAD_OF_TRAIT.finditer(text, top, head.start())]
+    if not owners:
+        return f'{crate}::{module_of(file)}{head[1]}'
+    owner = owners[-1].groupdict()
+    trait = owner.get('trait') or ''
+    module = None if trait else module_of_type(crate, owner['type'])
+    return f'{crate}::{module_of(file) if module is None else module}{owner["type"]}{trait}::{head[1]}'
 
 
 class Bug:
@@ -43,12 +77,9 @@ class Bug:
         with open(f'{ROOT}/crates/{crate}/{self.file}') as source:
             text = source.read()
         self.fits = all(text.count(old) == 1 for old, _ in self.pairs)
-        heads = [head[1] for head in HEAD_OF_FUNCTION.finditer(text, 0, text.index(self.pairs[0][0]))] if self.fits else []
-        self.module = self.file[len('src/'):-len('.rt')].replace('/', '::')
-        self.function = heads[-1] if heads else None
-
-    def place(self):
-        return self.module, self.function
+        heads = [*HEAD_OF_FUNCTION.finditer(text, 0, text.index(self.pairs[0][0]))] if self.fits else []
+        self.module = module_of(self.file).strip(':') or crate
+        self.function = path_of_function(crate, self.file, text, heads[-1]) if heads else None
 
     def change(self, text):
         for old, new in self.pairs:
@@ -104,14 +135,16 @@ def write(path, text):
         file.write(text)
 
 
-def check(crate, words):
-    """Whether the check passes, and of each function whether it is proved."""
+def check(crate, names):
+    """Whether the check of these functions and modules, or of all where there are none, passes; of each function whether it is proved; and a name that it doesn't know."""
+    words = [word for name in names for word in ('--only', name)]
     run = subprocess.run(['rt', 'check', '--jobs', '1', *words], cwd=crate, stdout=subprocess.PIPE, stderr=subprocess.STDOUT, text=True)
-    return run.returncode == 0, {name: said.startswith('proved') for name, said in VERDICT.findall(run.stdout)}
+    strange = STRANGE.search(run.stdout)
+    return run.returncode == 0, {name: said.startswith('proved') for name, said in VERDICT.findall(run.stdout)}, strange and strange[1]
 
 
-def with_bugs(folder, bugs, words):
-    """What a check says of the crate with these bugs in it."""
+def with_bugs(folder, bugs, names):
+    """What a check of these functions and modules says of the crate with these bugs in it."""
     crate = f'{folder}/crates/{bugs[0].crate}'
     right = {}
     for bug in bugs:
@@ -121,35 +154,30 @@ def with_bugs(folder, bugs, words):
         right.setdefault(path, text)
         write(path, bug.change(text))
     try:
-        return check(crate, words)
+        return check(crate, names)
     finally:
         for path, text in right.items():
             write(path, text)
         shutil.rmtree(f'{crate}/out/incremental', ignore_errors=True)
 
 
-def is_refused(bug, verdicts):
-    """Whether the function that the bug stands in was not proved."""
-    begin, end = f'{bug.crate}::{bug.module}::', f'::{bug.function}'
-    return any(not proved for name, proved in verdicts.items() if f'{name}'.startswith(begin) and f'{name}'.endswith(end))
-
-
 def try_alone(folder, bug):
-    """What comes of one bug: by its function, then by its file, then by its crate."""
-    for words in (['--only', bug.function or bug.module], ['--only', bug.module], []):
-        passes, verdicts = with_bugs(folder, [bug], words)
+    """What comes of one bug: by its function, whose whole name may not be known, then by its module, then by its crate."""
+    function = [[bug.function], [bug.function.rpartition('::')[2]]] if bug.function else []
+    for names in (*function, [bug.module], []):
+        passes, verdicts, _ = with_bugs(folder, [bug], names)
         if not all(verdicts.values()):
             return 'refused'
-        if not passes:
-            return 'not read'
-    return 'LET THROUGH'
+    return 'LET THROUGH' if passes else 'not read'
 
 
 def try_group(folder, bugs):
     """What comes of bugs of one crate, of which each stands in a function of its own."""
-    words = [word for bug in bugs for word in ('--only', bug.function)]
-    _, verdicts = with_bugs(folder, bugs, words)
-    return [(bug, 'refused' if is_refused(bug, verdicts) else try_alone(folder, bug)) for bug in bugs]
+    _, verdicts, strange = with_bugs(folder, bugs, [bug.function or bug.module for bug in bugs])
+    known = [bug for bug in bugs if bug.function != strange]
+    if 0 < len(known) < len(bugs):
+        return try_group(folder, known) + [(bug, try_alone(folder, bug)) for bug in bugs if bug not in known]
+    return [(bug, 'refused' if verdicts.get(bug.function) is False else try_alone(folder, bug)) for bug in bugs]
 
 
 def groups_of(bugs):
@@ -157,7 +185,7 @@ def groups_of(bugs):
     groups = []
     for bug in bugs:
         for group in groups:
-            if bug.function and group[0].function and group[0].crate == bug.crate and bug.place() not in {other.place() for other in group}:
+            if bug.function and group[0].function and group[0].crate == bug.crate and bug.function not in {other.function for other in group}:
                 group.append(bug)
                 break
         else:

@@ -11,7 +11,11 @@ Lucene 8 stands in /usr/share/java (Debian: liblucene8-java) and `javac` is on t
 answers the queries of the first pass on one thread, with its heap in huge pages: the least of five passes, after twenty that are not timed. Prints tables
 in Markdown; a million documents take some three minutes and 3 GB.
 
+With `--texts` the documents have ten texts of 100 bytes, each with a value of its own, and what is shown is memory: once they are loaded, once they
+are committed, and at most, with the commits of a thousand changed documents after it.
+
     PROGRAM=crates/solr_split/out/solr_split bench/search.py --documents 1000000
+    PROGRAM=crates/solr_split/out/solr_split bench/search.py --texts --commits 1000
 """
 import argparse
 import array
@@ -46,6 +50,8 @@ def arguments():
     reader.add_argument('--buckets', type=int, default=64, help='buckets of the collection (64)')
     reader.add_argument('--queries', type=int, default=100, help='queries of each kind (100)')
     reader.add_argument('--alone', action='store_true', help='without Lucene')
+    reader.add_argument('--commits', type=int, default=10, help='commits of a thousand changed documents (10)')
+    reader.add_argument('--texts', action='store_true', help='memory alone, of documents of ten texts of 100 bytes')
     reader.add_argument('--page', default='', help='a page into which the tables are written, between its lines `<!-- search -->` and `<!-- end -->`')
     return reader.parse_args()
 
@@ -77,26 +83,33 @@ def queries_of(count, turn):
     return [(words_of(one), words_of(other if other != one else one + 1)) for one, other in zip(ranks[::2], ranks[1::2])]
 
 
+def send_all(client, texts):
+    """Sends documents of JSON by four thousand, and returns how many bytes of JSON came."""
+    size, texts = 0, iter(texts)
+    while batch := list(itertools.islice(texts, 4096)):
+        text = ('[' + ','.join(batch) + ']').encode()
+        size += len(text)
+        status, _ = client.exchange(b'POST /solr/docs/update HTTP/1.1\r\nHost: localhost\r\nContent-Length: %d\r\n\r\n' % len(text) + text)
+        assert status == 200, status
+    return size
+
+
 def load(client, options, wanted):
     """Sends all documents, and returns the numbers of the documents of each word that is wanted, and how many bytes of JSON came."""
     rows = {word: array.array('I') for word in wanted}
-    batch, size = [], 0
 
-    def send():
-        status, _ = client.exchange(b'POST /solr/docs/update HTTP/1.1\r\nHost: localhost\r\nContent-Length: %d\r\n\r\n' % len(text) + text)
-        assert status == 200, status
+    def texts():
+        for number, (name, language, price, words) in enumerate(documents(options.documents)):
+            for word in set(words):
+                if word in rows:
+                    rows[word].append(number)
+            yield '{"id":"%s","lang_s":"%s","price_i":%d,"title_t":"%s"}' % (name, language, price, ' '.join(words))
+    return rows, send_all(client, texts())
 
-    for number, (name, language, price, words) in enumerate(documents(options.documents)):
-        batch.append('{"id":"%s","lang_s":"%s","price_i":%d,"title_t":"%s"}' % (name, language, price, ' '.join(words)))
-        for word in set(words):
-            if word in rows:
-                rows[word].append(number)
-        if len(batch) == 4096 or number + 1 == options.documents:
-            text = ('[' + ','.join(batch) + ']').encode()
-            size += len(text)
-            send()
-            batch = []
-    return rows, size
+
+def document_of_texts(number, draw):
+    """A document with ten texts of 100 bytes that are drawn."""
+    return '{"id":"doc-%07d",%s}' % (number, ','.join('"part_%s_s":"%0100x"' % (letter, draw.getrandbits(400)) for letter in 'abcdefghij'))
 
 
 def nanoseconds(server):
@@ -188,7 +201,7 @@ def costs(options, queries, variables):
             first_time = [search_all(server, client, one[kind]) for one in passes]
             again = [search_all(server, client, asked) for _ in range(PASSES)]
             searches[kind] = statistics.median(first_time), min(again), sum(found for _, found in asked) / len(asked)
-        for count, rounds in ((0, 50), (1, 50), (1000, 10)):
+        for count, rounds in ((0, 50), (1, 50), (1000, options.commits)):
             spans = []
             for turn in range(rounds):
                 if count:
@@ -199,6 +212,32 @@ def costs(options, queries, variables):
     finally:
         server.stop()
     return lines, searches, size / options.documents
+
+
+def memory_of_texts(options):
+    """Prints what documents of ten texts take in memory."""
+    load_before, draw = os.getloadavg()[0], random.Random(7)
+    server, port = serve(options.program, workers=1, more=['--buckets', str(options.buckets)])
+
+    def row(what, mebibytes):
+        print(f'| {what}, a document | {mebibytes * 2**20 / options.documents:.0f} bytes |')
+
+    try:
+        client = Client(port, 600)
+        size = send_all(client, (document_of_texts(number, draw) for number in range(options.documents)))
+        print(f'{os.cpu_count()} processors ({platform.machine()}), load before {load_before:.1f}; {options.documents} documents of {size / options.documents:.0f} bytes of JSON; {options.buckets} buckets.\n')
+        print('| What | takes |\n|---|---|')
+        row('memory before the first commit', server.memory()[0])
+        commit(client)
+        row('memory after it', server.memory()[0])
+        row('memory at most so far', server.memory()[1])
+        for turn in range(options.commits):
+            send_all(client, [document_of_texts((turn * 31 + 7919 * number) % options.documents, draw) for number in range(1000)])
+            commit(client)
+        row(f'memory after {options.commits} commits of 1000 changed documents', server.memory()[0])
+        row('memory at most', server.memory()[1])
+    finally:
+        server.stop()
 
 
 def tables(options):
@@ -224,5 +263,5 @@ def tables(options):
 if __name__ == '__main__':
     stop_at_signals()
     options = arguments()
-    with written_into(options.page, 'search'):
-        tables(options)
+    with written_into(options.page, 'texts' if options.texts else 'search'):
+        memory_of_texts(options) if options.texts else tables(options)

@@ -1,8 +1,7 @@
 -- A board stays sound, whatever is noted on it.
-use Rattle.std.proofs.Common.{◌≡◌, ◌≢◌, ◌∙◌, ℕ, ◌+◌, ◌-◌, ◌^◌, ◌<◌, ◌≤◌, true, false, not, List, [], ◌∷◌, ◌++◌, length, max, Option, Some, None, All, Contains, refl, sym, ap, subst, arith, length-append}
+use Rattle.std.proofs.Common.{◌≡◌, ◌∙◌, ℕ, ◌+◌, ◌-◌, ◌^◌, ◌<◌, ◌≤◌, true, false, not, List, [], ◌∷◌, ◌++◌, length, max, Option, Some, None, All, refl, sym, ap, subst, arith, length-append}
 use Rattle.std.specs.Prelude.{is_some, MatchOption, replicate, take, slice_get, slice_set}
-use Rattle.std.proofs.lemmas.Option.{same_Some, slice_get_within}
-use Rattle.std.proofs.lemmas.List.{length-map}
+use Rattle.std.proofs.lemmas.Option.{same_Some}
 use Rattle.std.specs.List.{fold, count_by, remove}
 use Rattle.sc_record.specs.declared.slice.SliceId.{SliceId}
 use Rattle.sc_cluster.specs.Limits.{most_slices}
@@ -14,18 +13,19 @@ use Rattle.sc_cluster.specs.Map.{IsMap}
 use Rattle.sc_cluster.specs.Changes.{Change, after, IsBeingSplit}
 use Rattle.sc_cluster.proofs.ListLemmas.{filter-none}
 use Rattle.sc_cluster.proofs.CountLemmas.{count_by-none}
-use Rattle.std.proofs.lemmas.List.Elements.{All-contains, All-weaker}
+use Rattle.std.proofs.lemmas.List.Elements.{All-weaker}
 use Rattle.sc_journal.specs.Limits.{greatest_journal}
 use Rattle.sc_seen.specs.declared.board.BoardEntry.{BoardEntry}
 use Rattle.sc_seen.specs.declared.board.BoardEntry.TheVariants as board
-use Rattle.sc_seen.specs.Board.{after_entry, board_map, running_split, owed_after, board_owed, BoardHasRoom, MayNote, IsLegalBoard}
-use Rattle.sc_seen.proofs.BoardLemmas.{board_map-push, running_split-push, owed_by_split, IsLegalBoard-none, IsLegalBoard-push, not_open, same_parent, Stands, running_where, owed_where_open, board_is_map, board_stands, board_ids, board_owed-begun, board_owed-recovering, board_owed-done, board_owed-failed, board_owed-dropped, board_owed-led}
+use Rattle.sc_seen.specs.Board.{board_map, running_split, owed_after, board_owed, BoardHasRoom, MayNote, IsLegalBoard}
+use Rattle.sc_seen.proofs.BoardLemmas.{running_split-push, owed_by_split, IsLegalBoard-none, not_open, same_parent, Stands, running_where, owed_where_open, board_is_map, board_stands, board_ids, board_owed-begun, board_owed-recovering, board_owed-done, board_owed-failed, board_owed-dropped, board_owed-led}
 use Rattle.sc_board.specs.Boards.{IsSoundBoard}
-use Rattle.sc_board.specs.Leaders.{leader_of, leaders_after}
+use Rattle.sc_board.specs.Leaders.{leaders_after}
 use Rattle.sc_board.specs.Events.{Notes}
 use Rattle.sc_board.specs.Kept.{BoardJournalState}
 use Rattle.sc_board.specs.declared.board.Board.{Board}
 use Rattle.sc_board.specs.declared.running.Running.{Running}
+use Rattle.sc_board.proofs.FollowLemmas.{IsAt, sound_follows, follows_noted}
 use Rattle.sc_board.proofs.LeaderLemmas.{leaders_first, leaders-begun, leaders-recovering, leaders-done, leaders-failed, leaders-dropped, leaders-led}
 
 -- ---- what follows
@@ -98,27 +98,25 @@ sound_noted : {K : Type 0} (old : Board K) (one : BoardEntry) (new : Board K) �
     → new.owed ≡ board_owed old.first (old.journal.entries ++ one ∷ [])
     → length old.journal.entries + 1 + new.owed ≤ old.limit → new.owed ≤ new.journal.room
     → is_some new.keepers ≡ not (is_some (running_split (old.journal.entries ++ one ∷ []))) → IsSoundBoard new
-sound_noted old one new sound may notes leaders owed within memory keepers = record {
-  first_map = subst IsMap (sym notes.first_is) sound.first_map;
-  first_idle = ap forming notes.first_is ∙ sound.first_idle;
-  first_ids = let same = ap greatest_id notes.first_is in let ids = sound.first_ids in omega (arith, same, ids);
-  limited = let same = notes.limit_is in let limited = sound.limited in omega (arith, same, limited);
-  legal = subst (λ first. IsLegalBoard first new.journal.entries) (sym notes.first_is)
-      (subst (IsLegalBoard old.first) (sym notes.entries) (IsLegalBoard-push old.first old.journal.entries one sound.legal may));
-  map_is = notes.map_is ∙ ap (λ slices. after_entry slices one) sound.map_is
-      ∙ sym (board_map-push old.first old.journal.entries one) ∙ ap (board_map old.first) (sym notes.entries)
-      ∙ ap (λ first. board_map first new.journal.entries) (sym notes.first_is);
-  leaders_are = leaders ∙ ap (leaders_after old.first) (sym notes.entries)
-      ∙ ap (λ first. leaders_after first new.journal.entries) (sym notes.first_is);
-  owed_is = owed ∙ ap (board_owed old.first) (sym notes.entries)
-      ∙ ap (λ first. board_owed first new.journal.entries) (sym notes.first_is);
-  room =
-      let count = ap length notes.entries in
-      let same = notes.limit_is in
-      omega (arith, count, same, length-append old.journal.entries (one ∷ []));
-  memory = memory;
-  keepers_there = keepers ∙ ap (λ j. not (is_some (running_split j))) (sym notes.entries);
-}
+sound_noted old one new sound may notes leaders owed within memory keepers =
+    let follows = follows_noted old one new (sound_follows old sound) may notes leaders in
+    record {
+      first_map = follows.first_map;
+      first_idle = follows.first_idle;
+      first_ids = let same = ap greatest_id notes.first_is in let ids = sound.first_ids in omega (arith, same, ids);
+      limited = let same = notes.limit_is in let limited = sound.limited in omega (arith, same, limited);
+      legal = follows.legal;
+      map_is = follows.map_is;
+      leaders_are = follows.leaders_are;
+      owed_is = owed ∙ ap (board_owed old.first) (sym notes.entries)
+          ∙ ap (λ first. board_owed first new.journal.entries) (sym notes.first_is);
+      room =
+          let count = ap length notes.entries in
+          let same = notes.limit_is in
+          omega (arith, count, same, length-append old.journal.entries (one ∷ []));
+      memory = memory;
+      keepers_there = keepers ∙ ap (λ j. not (is_some (running_split j))) (sym notes.entries);
+    }
 
 -- whether one runs then
 runs_after : (entries : List BoardEntry) (one : BoardEntry) (running : Option ℕ)
@@ -200,10 +198,6 @@ sound_failed old parent new keepers sound may notes leaders some owed room back 
     (board_owed-failed old.first old.journal.entries parent) some owed room
     (ap is_some back ∙ runs_after old.journal.entries one None (running_split-push old.journal.entries one))
 
--- a slice stands at a place of the board's map
-abbrev pub IsAt : {K : Type 0} → Board K → ℕ → SliceId → Type 0
-IsAt it at id = (slice : Slice) × (slice_get it.map at ≡ Some slice) × (slice.id ≡ id)
-
 pub sound_dropped : {K : Type 0} (old : Board K) (slice : SliceId) (at : ℕ) (new : Board K) → IsSoundBoard old → IsAt old at slice
     → MayNote old.first old.journal.entries (board.Dropped slice) → Notes old (board.Dropped slice) new
     → new.leaders ≡ remove old.leaders at → new.owed ≡ old.owed - 1 → new.journal.room ≡ old.journal.room - 1 → new.keepers ≡ old.keepers → IsSoundBoard new
@@ -232,29 +226,6 @@ sound_led old slice replica at new sound (there, is, named) may notes leaders fi
     (subst (λ s. slice_get s at ≡ Some there) sound.map_is is) named))
     (omega (arith, owed, was, as_before)) (omega (arith, owed, was, fits)) (omega (arith, owed, memory, room))
     (stays old one new sound same (running_split-push old.journal.entries one))
-
--- what is found of a slice that is there is its place
-abbrev IsPlaceOf : {K : Type 0} → Board K → SliceId → Option ℕ → Type 0
-IsPlaceOf it id found = MatchOption found (All (λ (slice : Slice). slice.id ≢ id) it.map) (λ at. IsAt it at id)
-
-pub place_there : {K : Type 0} (it : Board K) (found : Option ℕ) (id : SliceId) (slice : Slice) → IsSoundBoard it → IsPlaceOf it id found
-    → Contains (board_map it.first it.journal.entries) slice → slice.id ≡ id → is_some found ≡ true
-place_there it None id slice sound none there named =
-    absurd (All-contains (λ (other : Slice). other.id ≢ id) it.map slice none
-    (subst (λ s. Contains s slice) (sym sound.map_is) there) named)
-place_there it (Some at) id slice sound is there named = refl
-
-pub place_is : {K : Type 0} (it : Board K) (found : Option ℕ) (at : ℕ) (id : SliceId) → IsPlaceOf it id found → found ≡ Some at → IsAt it at id
-place_is it found at id is place = subst (IsPlaceOf it id) place is
-
--- a slice of the map has a leader
-pub leader_there : {K : Type 0} (it : Board K) (at : ℕ) (id : SliceId) → IsSoundBoard it → IsAt it at id → at < length it.leaders
-leader_there it at id sound (there, is, named) =
-    let slices = board_map it.first it.journal.entries in
-    let within = slice_get_within it.map at there is in
-    let count = ap length sound.map_is in
-    let leaders = ap length sound.leaders_are in
-    omega (arith, within, count, leaders, length-map slices (λ (slice : Slice). leader_of it.journal.entries slice.id))
 
 -- what may be dropped may be dropped from the map as it is kept; and so for the others
 pub owed_is_some : {K : Type 0} (old : Board K) (one : BoardEntry) → IsSoundBoard old

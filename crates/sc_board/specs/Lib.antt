@@ -1,4 +1,5 @@
--- What a board keeps, which replicas lead, what is true of it, why a call is refused, and what a call changes.
+-- What a board keeps, which replicas lead, what is true of it, why a call is refused, what a call changes, and what is true of a board that
+-- follows a journal which was kept.
 pub mod Kept
 pub mod Leaders
 pub mod Boards
@@ -6,3 +7,4 @@ pub mod Splits
 pub mod Drops
 pub mod Leads
 pub mod Events
+pub mod Restored

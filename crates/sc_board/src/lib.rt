@@ -13,7 +13,8 @@
 //! that runs, and take no memory; `check_drop` refuses by the first cause of `PreventsDrop`, and else names a slice that may be dropped;
 //! `check_lead` refuses by the first cause of `PreventsLead`, or for want of memory, changes nothing but room, and else names a slice
 //! each of whose replicas may be noted as its leader by `led`, which takes no memory; `leaders` has that of each slice; `keepers` lends
-//! the keepers of all buckets while no split runs, and nothing else of the board.
+//! the keepers of all buckets while no split runs, and nothing else of the board; `restored` has just the journal that is handed in, of
+//! which it makes all else, and `with_keepers` puts keepers into such a board and changes nothing else.
 //!
 //! Tested alone: nothing here; the layers above run splits.
 //!
@@ -35,6 +36,7 @@ mod board;
 mod dropping;
 mod going_on;
 mod leading;
+mod restored;
 mod running;
 
 pub use board::Board;

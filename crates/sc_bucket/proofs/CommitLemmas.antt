@@ -64,7 +64,7 @@ ids_among some all id among there =
     subst (Contains (map id_of all)) is (Contains-map id_of all write one)
 
 -- writes whose ids ascend are no more than all those among which they are
-length-among : (some all : List Write) → AscendById some → All (Contains all) some → length some ≤ length all
+pub length-among : (some all : List Write) → AscendById some → All (Contains all) some → length some ≤ length all
 length-among some all ascend among =
     let distinct : IsDistinct same_id (map id_of some) = IsDistinct-from_sorted (slice_cmp nat_cmp) (map id_of some) ascend in
     let fewer : length (map id_of some) ≤ length (map id_of all) =

@@ -12,7 +12,7 @@ use Rattle.sc_replica.proofs.CoreLemmas.{IsCore-led, IsCore-fed, IsCore-received
 use Rattle.sc_replicas.specs.Cores.{IsNewCore, without_room, IsCoreWithoutRoom}
 
 -- so it is of each core
-in_order-of : (core : Core) → IsCore core → IsCoreWithoutRoom core
+pub in_order-of : (core : Core) → IsCore core → IsCoreWithoutRoom core
 in_order-of core is = record {
   ascends = is.ascends;
   from_zero = is.from_zero;

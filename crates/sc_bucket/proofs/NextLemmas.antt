@@ -39,11 +39,11 @@ use Rattle.sc_bucket.proofs.UncommittedLemmas.{writes-committed}
 use Rattle.sc_bucket.proofs.WriteLemmas.{Contains-find}
 
 -- what passes the one test passes the other
-abbrev Implies : {A : Type 0} → (p q : A → Bool) → A → Type 0
+abbrev pub Implies : {A : Type 0} → (p q : A → Bool) → A → Type 0
 Implies p q x = p x ≡ true → q x ≡ true
 
 -- so the other leaves out none of those that pass the one
-filter_implied : {A : Type 0} (p q : A → Bool) (xs : List A) → All (Implies p q) xs → filter p (filter q xs) ≡ filter p xs
+pub filter_implied : {A : Type 0} (p q : A → Bool) (xs : List A) → All (Implies p q) xs → filter p (filter q xs) ≡ filter p xs
 filter_implied p q [] implied = refl
 filter_implied {A} p q (x ∷ xs) implied =
     by (q x) (p x) refl refl (All-head (Implies p q) x xs implied) (filter_implied p q xs (All-tail (Implies p q) x xs implied)) where

@@ -1,4 +1,4 @@
-ghost use Rattle.std.specs.Prelude.{◌≡◌, ◌<◌, ◌-◌, ◌==◌, [], ◌∷◌, ◌++◌, filter, not, max, OnOk, OnErr, ◌↔◌, IsTrue, Contains};
+ghost use Rattle.std.specs.Prelude.{◌≡◌, ◌<◌, ◌-◌, ◌==◌, [], ◌∷◌, ◌++◌, filter, not, length, max, OnOk, OnErr, ◌↔◌, IsTrue, Contains};
 
 use std::alloc::{AllocError, Global};
 use std::marker::Model;
@@ -32,6 +32,12 @@ impl Unsettled {
             places: Vec::new(alloc),
             room: 0,
         }
+    }
+
+    pub fn len(&self) -> usize
+        ensures { result ≡ length self.now.places }
+    {
+        self.places.len()
     }
 
     /// Whether the place is among them.

@@ -5,6 +5,7 @@ pub mod FollowerLemmas
 pub mod PlaceLemmas
 pub mod DeskLemmas
 pub mod NewLemmas
+pub mod OpenedLemmas
 pub mod HoldLemmas
 pub mod GiveLemmas
 pub mod BoardLemmas

@@ -1,5 +1,5 @@
 -- How a desk hands out the buckets of a collection and its board, what a commit of all buckets leaves, which nodes of cores that were
--- noted as down could not be reached, and what a trail keeps.
+-- noted as down could not be reached, what a trail keeps, and what a collection may be opened with.
 pub mod Kept
 pub mod Packed
 pub mod Downs
@@ -12,3 +12,4 @@ pub mod Known
 pub mod Committing
 pub mod Looks
 pub mod Alone
+pub mod Opened

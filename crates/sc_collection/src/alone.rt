@@ -11,6 +11,7 @@ ghost use Rattle.sc_collection.specs.Desks.{Held, IsBoardOf, MayReplaceBoard, St
 ghost use Rattle.sc_collection.specs.Handing.{TakesBackBoard, desk_state};
 ghost use Rattle.sc_seen.specs.Seen.{nothing_opened};
 ghost use Rattle.sc_collection.specs.Shapes.{IsShape, HasShape, SeesOpened};
+ghost use Rattle.sc_collection.specs.Opened.{in_slots, desk_with, MayBeOpened};
 
 use crate::desk::Desk;
 use crate::opened::OpenedWith;
@@ -20,14 +21,14 @@ use http_server::Log;
 use sc_board::Board;
 use sc_bucket::Bucket;
 use sc_cluster::ClusterMap;
-use sc_record::CloneIn;
+use sc_record::{CloneIn, List};
 use std::alloc::{AllocError, Global};
 use std::marker::Model;
 use std::mem::forget;
 
 /// A desk for one thread, which keeps all buckets in a plain list, and the board beside it. Nobody else takes a bucket or the board, so
 /// what is handed out is what was seen of it. Its keepers have nothing, since there is nobody else whom they could keep out. No call but
-/// `new` takes memory.
+/// `new` and `of` takes memory.
 #[derive(Drop)]
 pub struct Alone {
     /// Each bucket by its number; none while it is out.
@@ -77,6 +78,17 @@ fn new_slots(
     Ok(slots)
 }
 
+// Each of the buckets in a slot.
+fn full_slots(alloc: Global, buckets: List<Bucket>) -> Result<Vec<Slot>, AllocError>
+    ensures { IfOk result (λ slots. slots.items ≡ in_slots buckets) }
+{
+    let mut slots = Vec::with_capacity(alloc, buckets.len())?;
+    for bucket in buckets.into_vec() {
+        slots.push_reserved(Slot::full(alloc, bucket)?);
+    }
+    Ok(slots)
+}
+
 impl Alone {
     /// A desk of this shape, on which nothing happened yet. An error means out of memory.
     pub fn new(alloc: Global, shape: &Shape) -> Result<Alone, AllocError>
@@ -95,6 +107,34 @@ impl Alone {
             first,
             limit: shape.log_limit,
             opened: OpenedWith::nothing(),
+            board: Some(board),
+            out: Log::new(),
+            board_out: Log::new(),
+        })
+    }
+
+    /// A desk of this shape over these buckets, which are in the order of their numbers, and this board. What their journals have is
+    /// nobody's own. An error means out of memory; the buckets and the board are gone then.
+    pub fn of(
+        alloc: Global,
+        shape: &Shape,
+        buckets: List<Bucket>,
+        board: Board<()>,
+    ) -> Result<Alone, AllocError>
+        requires shape { IsShape shape.now }
+        requires opened { MayBeOpened shape.now buckets board }
+        ensures desk { IfOk result (λ desk. desk ≡ desk_with shape.now buckets board) }
+        ensures layout { IfOk result (λ desk. HasShape shape.now desk.layout) }
+        ensures seen { IfOk result (λ desk. SeesOpened desk.layout.opened (seen_alone desk)) }
+    {
+        let opened = OpenedWith::of(buckets.as_slice(), &board);
+        let first = board.first.clone_in(alloc)?;
+        Ok(Alone {
+            slots: full_slots(alloc, buckets)?,
+            nodes: shape.nodes,
+            first,
+            limit: shape.log_limit,
+            opened,
             board: Some(board),
             out: Log::new(),
             board_out: Log::new(),

@@ -12,12 +12,13 @@
 //! the keepers of all buckets while no split runs, and each bucket is then as the board says. `Alone` keeps all buckets in a plain list,
 //! for one thread. A desk keeps each bucket in a slot (`FullSlot`, and `EmptySlot` while the bucket is out), which is small: one copy takes
 //! a bucket out, another puts it back, and neither takes memory. What stood in the journals when a collection was opened (`OpenedWith`) is
-//! nobody's own; of a new one that is nothing.
+//! nobody's own; of a new one that is nothing, and of one that is opened with buckets and a board all that they have.
 //!
 //! Proved: `Alone` keeps the clauses of `Desk`: what it hands out is sound, the bucket that was asked for, with the part that its keeper
 //! left, and extends what was seen; the board that it hands out is sound, and where it has the keepers each bucket has the board's map, no
 //! split open, each core active, no feed, and of its keeper's entries just those that go with the board's, beside those that say that a
-//! core is up again or leads. Each shape gives its layout. `commit_all` over any desk commits every bucket in order, each at its stop, and
+//! core is up again or leads. Each shape gives its layout. `Alone::of` is just the desk over the buckets and the board that are handed in,
+//! where each bucket is as the board says (`MayBeOpened`). `commit_all` over any desk commits every bucket in order, each at its stop, and
 //! reports the worst that came of it (`CommitsAll`). `take_searchers` looks at a bucket at a stop of its own, and takes the searchers of
 //! the slices that a route asks for (`AreAsked`). A `Trail` has the stops that it was given, in order, and a count of requests, and is full
 //! exactly at the limits of a connection.

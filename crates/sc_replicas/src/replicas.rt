@@ -47,6 +47,13 @@ impl Replicas {
         Ok(Replicas { replicas })
     }
 
+    /// These cores, with no copy.
+    pub fn from_vec(replicas: Vec<Replica>) -> Replicas
+        ensures { result ≡ replicas.items }
+    {
+        Replicas { replicas }
+    }
+
     /// How many cores there are.
     pub fn len(&self) -> usize
         ensures { result ≡ length self.now }

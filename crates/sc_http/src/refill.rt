@@ -50,5 +50,10 @@ fn make_room(bytes: &mut Vec<u8>, limit: usize) -> Result<(), AllocError>
     let len = bytes.len();
     let more = len.max(LEAST_ROOM).min(limit - len);
     bytes.reserve_exact(more)?;
-    bytes.resize(len + more, 0)
+    let mut left = more;
+    'zeros: while left > LEAST_ROOM {
+        bytes.extend_from_slice(&[0; LEAST_ROOM])?;
+        left -= LEAST_ROOM;
+    }
+    bytes.extend_from_slice(&[0; LEAST_ROOM][..left])
 }

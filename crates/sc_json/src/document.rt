@@ -1,6 +1,8 @@
 //! A document as it is shown.
 
 ghost use Rattle.std.specs.Prelude.{◌≡◌, ◌∷◌, [], length, OnOk, IfOk, Some, map};
+ghost use Rattle.std.specs.Cmp.Lexicographic.{slice_cmp};
+ghost use Rattle.std.specs.Ordering.{nat_cmp};
 ghost use Rattle.serde.specs.Event.{Logs};
 ghost use Rattle.serde_json.specs.Events.{SendsValue, number_event};
 ghost use Rattle.serde_json.specs.Find.{of_integer};
@@ -13,6 +15,7 @@ ghost use Rattle.sc_json.specs.Sent.{SendsMember, SendsEach, SendsBefore, with_n
 use sc_record::{Id, Write, kind_of};
 use sc_spelling::{FieldRef, Fields, ValueRef, Values};
 use serde::{Described, Serialize, Serializer};
+use std::cmp::Ordering;
 
 /// The document of a write, with its id and its version, as it is written into an answer (Solr Reference Guide, "Response
 /// Writers"): a field that may have one value is that value, any other the list of its values. A deletion is null.
@@ -70,13 +73,23 @@ fn send_before<'a, S: Serializer>(
 {
     let mut next = next;
     while let Some(field) = next {
-        if !field.name.cmp(name).is_lt() {
+        if !name_cmp(field.name, name).is_lt() {
             return Ok(Some(field));
         }
         send_field(out, field)?;
         next = fields.next();
     }
     Ok(None)
+}
+
+/// The order of two names, of which most differ in their first bytes.
+fn name_cmp(left: &str, right: &str) -> Ordering
+    ensures { result ≡ slice_cmp nat_cmp left.now right.now }
+{
+    match (left.as_bytes(), right.as_bytes()) {
+        ([first, ..], [other, ..]) if *first != *other => first.cmp(other),
+        _ => left.cmp(right),
+    }
 }
 
 /// Sends the members that the next field and those after it are.

@@ -11,10 +11,15 @@ ghost use Rattle.sc_json.specs.RawDocs.{raw_value, raw_fields, raw_fields_of};
 
 use crate::flat_value::{Unread, next_flat};
 use json::{Reader, Scratch, Token};
+use memchr::{memchr, memchr2};
 use sc_record::{List, MAX_ORDERS, Text};
 use sc_schema::{RawDoc, RawField, RawValue};
 use std::alloc::{AllocError, Global};
 use std::cmp::Ordering;
+
+/// The most bytes of a body of which the brackets are looked at before it is read: in the time that the reader takes to begin, a
+/// few hundred bytes are read.
+const SHORT_BODY: usize = 1024;
 
 /// For how many members a document takes room with its first.
 const FEW_MEMBERS: usize = 8;
@@ -23,11 +28,14 @@ const FEW_MEMBERS: usize = 8;
 const MOST_MEMBERS: usize = 64;
 
 /// The documents of a body that is an array of no more flat objects than an update has orders, each of which has at most 64 keys,
-/// each once. `None` says nothing of a body.
+/// each once. `None` says nothing of a body: it comes at each of another form, and at a short one that looks nested.
 pub fn flat_docs(alloc: Global, body: &[u8]) -> Result<Option<List<RawDoc>>, AllocError>
     ensures { IfOk result (λ found. IfSome found
         (λ docs. option_and_then flat.docs_of (json_of body.now) ≡ Some (map flat.doc_fields docs))) }
 {
+    if looks_nested(body) {
+        return Ok(None);
+    }
     let Ok(text) = simdutf8::compat::from_utf8(body) else {
         return Ok(None);
     };
@@ -36,6 +44,26 @@ pub fn flat_docs(alloc: Global, body: &[u8]) -> Result<Option<List<RawDoc>>, All
         Ok(docs) => Ok(Some(docs)),
         Err(Unread::Other) => Ok(None),
         Err(Unread::Memory) => Err(AllocError),
+    }
+}
+
+/// Whether a short body is an object, or the first of its objects has another in it, as an atomic update has. It is told by the
+/// first brackets, those within texts among them, so that a body of flat objects may look so too.
+fn looks_nested(body: &[u8]) -> bool {
+    if body.len() > SHORT_BODY {
+        return false;
+    }
+    let Some(begin) = memchr(b'{', body) else {
+        return false;
+    };
+    begin == 0 || opens_again(&body[begin + 1..])
+}
+
+/// Whether an object opens before one closes.
+fn opens_again(bytes: &[u8]) -> bool {
+    match memchr2(b'{', b'}', bytes) {
+        Some(at) => bytes[at] == b'{',
+        None => false,
     }
 }
 

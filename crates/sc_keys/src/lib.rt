@@ -7,7 +7,8 @@
 //! Each 32nd head is a top, among which `search` seeks a key first. A `Steps` counts the comparisons. The crate depends on std alone.
 //!
 //! Proved: `search` gives where a key stands, or else where it would have to stand, within a bound on comparisons; `Keys::at` has, for each
-//! of these places, a key that compares equal to the one that is stored there.
+//! of these places, a key that compares equal to the one that is stored there, and of the keys that are stored few have no place: at most
+//! a sixteenth of those that have one, or 64 where that is more (`AreTrim`).
 //!
 //! Neither: speed.
 #![tactic(auto)]

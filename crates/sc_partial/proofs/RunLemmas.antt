@@ -20,15 +20,15 @@ use Rattle.std.specs.Iterator.{YieldsFirstBy}
 use Rattle.sc_record.proofs.DocumentLemmas.{spelling_read}
 use Rattle.sc_partial.specs.Changed.{can_change, changed}
 use Rattle.sc_partial.specs.Resolved.{some_field, IsChanged, first_refused}
-use Rattle.sc_partial.specs.Runs.{spelled, next_fields, IsEmpty, Adds}
-use Rattle.sc_partial.specs.declared.run.FieldRun.{FieldRun}
+use Rattle.sc_record.specs.DocParts.{DocParts, no_parts, spelled, Adds}
+use Rattle.sc_partial.specs.Runs.{next_fields}
 use Rattle.sc_partial.proofs.NameLemmas.{IsBefore}
 use Rattle.sc_partial.proofs.StepLemmas.{IsMergedSoFar, begun, done, kept, changed_same, changed_missing}
 
 -- the run is of these fields, which fit
-pub record IsRunOf (new : List Field) (run : FieldRun) : Type 0 where
+pub record IsRunOf (new : List Field) (run : DocParts) : Type 0 where
   pub count : run.count ≡ length new
-  pub bytes : run.bytes.items ≡ flat_map spelling_of_field new
+  pub bytes : run.bytes ≡ flat_map spelling_of_field new
   pub each : AllByRecursion FitsField new
 
 fit_all : (fields others : List Field) → AllByRecursion FitsField fields → AllByRecursion FitsField others → AllByRecursion FitsField (fields ++ others)
@@ -36,7 +36,7 @@ fit_all [] others a b = b
 fit_all (field ∷ fields) others a b = (a.0, fit_all fields others a.1 b)
 
 -- fields that fit are put after it
-added : (new fields : List Field) (run next : FieldRun) → IsRunOf new run → AllByRecursion FitsField fields → Adds fields run next → IsRunOf (new ++ fields) next
+added : (new fields : List Field) (run next : DocParts) → IsRunOf new run → AllByRecursion FitsField fields → Adds fields run next → IsRunOf (new ++ fields) next
 added new fields run next is fits adds = record {
   count = omega (arith, is.count, adds.count, length-append new fields);
   bytes = adds.bytes ∙ ap (λ (t : List ℕ). t ++ flat_map spelling_of_field fields) is.bytes ∙ sym (flat_map-append spelling_of_field new fields);
@@ -44,28 +44,28 @@ added new fields run next is fits adds = record {
 }
 
 -- the fields that are new are spelled, and those that are left fit
-pub record IsSpelledSoFar (old : List Field) (all : List FieldChange) (left : List Field) (changes : List FieldChange) (run : FieldRun) : Type 0 where
+pub record IsSpelledSoFar (old : List Field) (all : List FieldChange) (left : List Field) (changes : List FieldChange) (run : DocParts) : Type 0 where
   pub new : List Field
   pub merged : IsMergedSoFar old all left changes new
   pub spelled : IsRunOf new run
   pub fit : AllByRecursion FitsField left
 
 -- the same of equal lists
-pub same_left : {old : List Field} {all : List FieldChange} {left left' : List Field} {changes changes' : List FieldChange} {run : FieldRun}
+pub same_left : {old : List Field} {all : List FieldChange} {left left' : List Field} {changes changes' : List FieldChange} {run : DocParts}
     → left ≡ left' → changes ≡ changes' → IsSpelledSoFar old all left changes run → IsSpelledSoFar old all left' changes' run
 same_left {old = old} {all = all} {left = left} {left' = left'} {changes = changes} {changes' = changes'} {run = run} f c so_far =
     subst (λ (x : List Field). IsSpelledSoFar old all x changes' run) f (subst (λ (x : List FieldChange). IsSpelledSoFar old all left x run) c so_far)
 
-pub none_spelled : (old : List Field) (all : List FieldChange) (run : FieldRun) → IsDocument old → AreFieldChanges all → IsEmpty run → IsSpelledSoFar old all old all run
+pub none_spelled : (old : List Field) (all : List FieldChange) (run : DocParts) → IsDocument old → AreFieldChanges all → run ≡ no_parts → IsSpelledSoFar old all old all run
 none_spelled old all run document lawful empty = record {
   new = [];
   merged = begun old all (record { each = document.each; ascends = document.ascends }) lawful;
-  spelled = record { count = empty.count; bytes = empty.bytes; each = tt };
+  spelled = record { count = ap (λ (p : DocParts). p.count) empty; bytes = ap (λ (p : DocParts). p.bytes) empty; each = tt };
   fit = document.fits.each;
 }
 
 -- a field that no change names is put at the end
-pub kept_spelled : (old : List Field) (all : List FieldChange) (field : Field) (fields : List Field) (change : FieldChange) (changes : List FieldChange) (run next : FieldRun)
+pub kept_spelled : (old : List Field) (all : List FieldChange) (field : Field) (fields : List Field) (change : FieldChange) (changes : List FieldChange) (run next : DocParts)
     → IsSpelledSoFar old all (field ∷ fields) (change ∷ changes) run → IsBefore field.name change.name → Adds (field ∷ []) run next
     → IsSpelledSoFar old all fields (change ∷ changes) next
 kept_spelled old all field fields change changes run next so_far before adds = record {
@@ -76,7 +76,7 @@ kept_spelled old all field fields change changes run next so_far before adds = r
 }
 
 -- the first change names the first field
-pub same_spelled : (old : List Field) (all : List FieldChange) (field : Field) (fields : List Field) (change : FieldChange) (changes : List FieldChange) (run next : FieldRun)
+pub same_spelled : (old : List Field) (all : List FieldChange) (field : Field) (fields : List Field) (change : FieldChange) (changes : List FieldChange) (run next : DocParts)
     → IsSpelledSoFar old all (field ∷ fields) (change ∷ changes) run → slice_cmp nat_cmp field.name change.name ≡ Equal
     → IsTrue (can_change change.name field.values change.how)
     → AllByRecursion FitsField (some_field change.name (changed change.name field.values change.how))
@@ -90,7 +90,7 @@ same_spelled old all field fields change changes run next so_far equal can fits 
 }
 
 -- the first change names no field
-pub missing_spelled : (old : List Field) (all : List FieldChange) (fields : List Field) (change : FieldChange) (changes : List FieldChange) (run next : FieldRun)
+pub missing_spelled : (old : List Field) (all : List FieldChange) (fields : List Field) (change : FieldChange) (changes : List FieldChange) (run next : DocParts)
     → IsSpelledSoFar old all fields (change ∷ changes) run → IsBelowFirst change.name fields
     → IsTrue (can_change change.name [] change.how)
     → AllByRecursion FitsField (some_field change.name (changed change.name [] change.how))
@@ -104,13 +104,13 @@ missing_spelled old all fields change changes run next so_far below can fits add
 }
 
 -- of the bytes of a document that changes made
-pub record IsMade (old : List Field) (all : List FieldChange) (run : FieldRun) : Type 0 where
+pub record IsMade (old : List Field) (all : List FieldChange) (run : DocParts) : Type 0 where
   pub accepted : first_refused old all ≡ None
   pub whole : rest_of (document_at (spelled run)) ≡ Some []
   pub document : IsChanged old all (read_of (document_at (spelled run)))
 
 -- no change is left: the fields that are left are put at the end
-pub all_spelled : (old : List Field) (all : List FieldChange) (left : List Field) (run next : FieldRun) → IsSpelledSoFar old all left [] run → Adds left run next
+pub all_spelled : (old : List Field) (all : List FieldChange) (left : List Field) (run next : DocParts) → IsSpelledSoFar old all left [] run → Adds left run next
     → next.count < 2 ^ 32 → IsMade old all next
 all_spelled old all left run next so_far adds few =
     let fields : List Field = so_far.new ++ left in

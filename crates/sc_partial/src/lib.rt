@@ -24,9 +24,8 @@ mod fault;
 mod change;
 mod value;
 
-// The document after all changes: its bytes, and the fields that they are put together of.
+// The document after all changes.
 mod merge;
-mod run;
 
 // What follows from the definitions.
 mod laws;

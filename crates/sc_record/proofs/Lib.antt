@@ -1,5 +1,6 @@
 -- The lemmas of this crate, lowest first.
 pub mod DocumentLemmas
+pub mod DocPartsLemmas
 pub mod TermLemmas
 pub mod TermReadLemmas
 pub mod TermPushLemmas

@@ -1,4 +1,5 @@
--- How a document and a write are kept, the lengths of ids, the names of cores, orders and the changes that they ask for, terms, versions, and writes by their ids.
+-- How a document and a write are made and kept, the lengths of ids, the names of cores, orders and the changes that they ask for, terms, versions, and writes by their ids.
+pub mod DocParts
 pub mod Documents
 pub mod Ids
 pub mod Names

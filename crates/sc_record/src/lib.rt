@@ -2,7 +2,7 @@
 //! versioned writes, the entries of a journal, and the names of slices and cores.
 //!
 //! It may depend on `sc_values`, whose names it hands on, `sc_spelling` and `thiserror` alone, and does no input and no output. The layers
-//! above make a `Doc` of fields with `AreFields`, read it as its fields with `IsDocument`, build its terms by a `TermsBuilder`, show a write's
+//! above make a `Doc` of fields with `AreFields`, or by a `DocBuilder` of a field after another, read it as its fields with `IsDocument`, build its terms by a `TermsBuilder`, show a write's
 //! version by `shown` and `found`, test an order's condition by `meets`, and give each new write the
 //! version of `next_version`, which is above the clock and at least the timestamp's.
 //!
@@ -21,6 +21,7 @@ mod id;
 
 // A document, what it is found by, a write of it, and what a client is told of that.
 mod ack;
+mod doc_builder;
 mod document;
 mod term;
 mod term_push;
@@ -44,6 +45,7 @@ mod entry;
 mod laws;
 
 pub use ack::Ack;
+pub use doc_builder::DocBuilder;
 pub use document::Doc;
 pub use entry::Entry;
 pub use id::{Id, IdFault, MAX_ID_LENGTH};

@@ -19,7 +19,7 @@ use Rattle.sc_record.specs.TermRuns.{terms_of_run}
 use Rattle.sc_record.specs.declared.term_run.TermRun.{TermRun}
 use Rattle.sc_schema.specs.Values.{flag_text}
 use Rattle.sc_schema.specs.Terms.{term, AreTerms, by_words, keys_of}
-use Rattle.sc_schema.specs.Keys.{Found, found_in_field, found_so_far, fields_from_id, AreKeys, AreTermsInOrder, Builds, BuildsSoFar, with_keys, IsBelowId, IsPlaceOfId}
+use Rattle.sc_schema.specs.Keys.{Found, found_in_field, found_so_far, fields_from_id, AreKeys, AreTermsInOrder, Builds, BuildsSoFar, with_keys, IsBelowId, IsPlaceOfId, PutsKeys}
 use Rattle.sc_schema.proofs.KeyLemmas.{Adds-more, Adds-none, Adds-one, AreKeys-one}
 use Rattle.sc_schema.proofs.PlaceLemmas.{terms-with_id}
 
@@ -43,6 +43,14 @@ Builds-one found keys old mid new first then are = record {
       Adds-one found keys old.terms new.terms are
       (ap (λ (s : TermsState). s.terms) then ∙ ap (λ (s : TermsState). s.terms ++ map (term s.field) keys) first);
 }
+
+-- the keys that were put are those of one field
+pub Builds-put : (name : List ℕ) (split : Bool) (values : List Value) (old mid new : TermsState) → split ≡ by_words (kind_of name) → split ≡ true
+    → mid ≡ begun name old → PutsKeys (flat_map (keys_of true) values) mid new → Builds ((name, flat_map (keys_of (by_words (kind_of name))) values) ∷ []) old new
+Builds-put name split values old mid new by on first put =
+    let same : flat_map (keys_of true) values ≡ flat_map (keys_of (by_words (kind_of name))) values = ap (λ b. flat_map (keys_of b) values) (sym on ∙ by) in
+    Builds-one (name, flat_map (keys_of (by_words (kind_of name))) values) put.keys old mid new first put.put
+    (subst (λ (found : List (List ℕ)). AreKeys found put.keys) same put.are)
 
 -- the term of the id
 pub Builds-id : (old new : TermsState) → new ≡ with_id old → Builds ((codes "id", old.id ∷ []) ∷ []) old new
@@ -70,9 +78,10 @@ none_left [] one = refl
 none_left (v ∷ rest) one = absurd (omega (arith, one))
 
 -- the keys of the only value are those of all
-pub only_value : (values rest : List Value) (value : Value) → length values ≡ 1 → values ≡ value ∷ rest → flat_map (keys_of false) values ≡ keys_of false value
-only_value values rest value one is =
-    ap (flat_map (keys_of false)) (is ∙ ap (λ vs. value ∷ vs) (none_left rest (sym (ap length is) ∙ one))) ∙ append-nil (keys_of false value)
+pub only_value : (split : Bool) (values rest : List Value) (value : Value) → length values ≡ 1 → values ≡ value ∷ rest
+    → flat_map (keys_of split) values ≡ keys_of split value
+only_value split values rest value one is =
+    ap (flat_map (keys_of split)) (is ∙ ap (λ vs. value ∷ vs) (none_left rest (sym (ap length is) ∙ one))) ∙ append-nil (keys_of split value)
 
 -- one key is put as all that there are
 pub with_only : (keys : List (List ℕ)) (key : List ℕ) (old new : TermsState) → keys ≡ key ∷ [] → new ≡ with_key key old → new ≡ with_keys keys old
@@ -84,7 +93,7 @@ pub AreKeys-whole : (name : List ℕ) (values : List Value) (split : Bool) → s
 AreKeys-whole name [] split by off one = cc
 AreKeys-whole name (value ∷ more) split by off one =
     let (key, is) = only_key value in
-    let whole : flat_map (keys_of false) (value ∷ more) ≡ key ∷ [] = only_value (value ∷ more) more value one refl ∙ is in
+    let whole : flat_map (keys_of false) (value ∷ more) ≡ key ∷ [] = only_value false (value ∷ more) more value one refl ∙ is in
     let same : flat_map (keys_of (by_words (kind_of name))) (value ∷ more) ≡ key ∷ [] =
     ap (λ b. flat_map (keys_of b) (value ∷ more)) (sym by ∙ off) ∙ whole in
     subst (λ found. AreKeys found (flat_map (keys_of false) (value ∷ more))) (sym same) (subst (AreKeys (key ∷ [])) (sym whole) (AreKeys-one key))

@@ -40,6 +40,12 @@ pub record AddsTerms (found : List Found) (old new : List Term) : Type 0 where
 abbrev pub with_keys : List (List ℕ) → TermsState → TermsState
 with_keys keys state = record { id = state.id; fields = state.fields; field = state.field; terms = state.terms ++ map (term state.field) keys }
 
+-- the keys that were found are put at the end, ascending, each once
+pub record PutsKeys (found : List (List ℕ)) (old new : TermsState) : Type 0 where
+  pub keys : List (List ℕ)
+  pub are : AreKeys found keys
+  pub put : new ≡ with_keys keys old
+
 -- a builder of the same document's terms has those of what was found at their end
 pub record Builds (found : List Found) (old new : TermsState) : Type 0 where
   pub id : new.id ≡ old.id

@@ -1,15 +1,16 @@
-ghost use Rattle.std.specs.Prelude.{◌≡◌, IfOk, IfErr, Ok, option_copied, codes, filter_map, IsTrue};
+ghost use Rattle.std.specs.Prelude.{◌≡◌, IfOk, IfErr, Ok, option_copied, codes};
 ghost use Rattle.std.specs.List.{list_any};
 ghost use Rattle.sc_record.specs.Orders.{IsChangeOfOrder};
 ghost use Rattle.sc_record.specs.declared.order.Order.{Order};
 ghost use Rattle.sc_schema.specs.declared.raw.RawField.{RawField};
-ghost use Rattle.sc_schema.specs.Documents.{content_of, change_of_members, how_of_member, version_condition, condition_text, document_order, field_of, id_of, id_text, is_field_name, is_object, IsDocumentFault, member, NamesFields, member_change, member_changes};
+ghost use Rattle.sc_schema.specs.Documents.{content_of, change_of_members, how_of_member, version_condition, condition_text, document_order, found_map, id_of, id_text, is_field_name, is_object, IsDocumentFault, member, NamesFields, member_change, member_changes};
 
 use crate::change::how_of;
 use crate::fault::DocFault;
+use crate::new_document::new_document;
 use crate::raw::{RawDoc, RawField, RawFlat, RawOne, RawValue};
 use crate::value::{decimal, number_text};
-use sc_record::{Change, Doc, Field, FieldChange, How, Id, IdFault, List, Order, Text, kind_of};
+use sc_record::{Change, FieldChange, Id, IdFault, List, Order, Text, kind_of};
 use std::alloc::{AllocError, Global};
 
 /// The order that a document's members ask for, or the first of their faults.
@@ -21,8 +22,7 @@ pub fn check_doc(alloc: Global, raw: &RawDoc) -> Result<Order, DocFault>
     let fields = raw.fields.as_slice();
     let id = id_of(alloc, member(fields, "id"))?;
     let condition = condition_of(alloc, member(fields, "_version_"))?;
-    let parts = parts_of(alloc, fields)?;
-    let change = change_of(alloc, raw, parts)?;
+    let change = change_of(alloc, raw)?;
     Ok(Order {
         id,
         condition,
@@ -101,7 +101,7 @@ fn parts_of(alloc: Global, fields: &[RawField]) -> Result<List<FieldChange>, Doc
 }
 
 /// Whether the name is neither that of the id nor that of the version.
-fn is_field_name(name: &str) -> bool
+pub fn is_field_name(name: &str) -> bool
     ensures { result ≡ is_field_name name.now }
 {
     name != "id" && name != "_version_"
@@ -137,17 +137,18 @@ fn condition_text(alloc: Global, text: &str) -> Result<i64, DocFault>
     Err(DocFault::WrongValue(Text::new(alloc, "_version_")?))
 }
 
-/// The change that the document asks for.
-fn change_of(alloc: Global, raw: &RawDoc, parts: List<FieldChange>) -> Result<Change, AllocError>
-    requires { member_changes raw.now.fields ≡ Ok parts }
-    ensures value { IfOk result (λ change. change ≡ change_of_members raw.now.fields parts) }
+/// The change that the document asks for, or the first fault of a field.
+fn change_of(alloc: Global, raw: &RawDoc) -> Result<Change, DocFault>
+    ensures ok { IfOk result (λ change. found_map (change_of_members raw.now.fields) (member_changes raw.now.fields) ≡ Ok change) }
+    ensures fault { IfErr result (IsDocumentFault (member_changes raw.now.fields)) }
     ensures lawful { IfOk result IsChangeOfOrder }
+    ensures names { IfOk result (NamesFields raw.now.fields) }
 {
-    if is_update(raw.fields.as_slice()) {
-        return Ok(Change::Parts(parts));
+    let fields = raw.fields.as_slice();
+    if is_update(fields) {
+        return Ok(Change::Parts(parts_of(alloc, fields)?));
     }
-    let fields = set_fields(alloc, parts)?;
-    Ok(Change::Whole(Doc::new(alloc, fields.as_slice())?))
+    Ok(Change::Whole(new_document(alloc, raw)?))
 }
 
 /// Whether the value of a member is an object.
@@ -157,31 +158,4 @@ fn is_update(fields: &[RawField]) -> bool
     fields
         .iter()
         .any(|field| matches!(field.value, RawValue::Change { .. }))
-}
-
-/// The fields of a new document that these changes make.
-fn set_fields(alloc: Global, parts: List<FieldChange>) -> Result<List<Field>, AllocError>
-    ensures { IfOk result (λ fields. fields ≡ filter_map field_of parts) }
-{
-    let mut fields = List::from_vec(Vec::with_capacity(alloc, parts.len())?);
-    for part in parts.into_vec() {
-        if let Some(field) = set_field(part) {
-            fields.push(field)?;
-        }
-    }
-    Ok(fields)
-}
-
-/// The field of a new document that this change makes.
-fn set_field(part: FieldChange) -> Option<Field>
-    ensures { result ≡ field_of part }
-{
-    let FieldChange { name, how } = part;
-    let How::Set(values) = how else {
-        return None;
-    };
-    if values.is_empty() {
-        return None;
-    }
-    Some(Field { name, values })
 }

@@ -24,12 +24,14 @@ mod raw;
 mod fault;
 
 // What values are to a field of their kind.
+mod lent;
 mod value;
 mod values;
 
 // What members change, and the order that they ask for together.
 mod change;
 mod document;
+mod new_document;
 
 // What a document is found by.
 mod key;

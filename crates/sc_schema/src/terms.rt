@@ -1,16 +1,19 @@
-ghost use Rattle.std.specs.Prelude.{◌≡◌, ◌∷◌, [], ◌++◌, List, flat_map, length, IfOk, OnOk, IsSome, false};
+ghost use Rattle.std.specs.Prelude.{◌≡◌, ◌∷◌, [], ◌++◌, List, map, flat_map, length, IfOk, OnOk, IsSome, true, false, IsAscii};
+ghost use Rattle.std.specs.List.{list_all};
+ghost use Rattle.unicode_segmentation.specs.Word.{words};
 ghost use Rattle.std.specs.Cmp.Lexicographic.{slice_cmp};
 ghost use Rattle.std.specs.Ordering.{nat_cmp};
 ghost use Rattle.sc_values.specs.Fields.{kind_of};
 ghost use Rattle.sc_values.specs.declared.field.Field.{Field};
 ghost use Rattle.sc_spelling.specs.Lent.{field_of, value_of};
 ghost use Rattle.sc_record.specs.TermRuns.{run_at, terms_of_run};
-ghost use Rattle.sc_schema.specs.Terms.{by_words, keys_of, AreTerms};
+ghost use Rattle.sc_schema.specs.Terms.{by_words, folded, keys_of, AreTerms};
+ghost use Rattle.sc_schema.specs.Runs.{is_plain, runs};
 ghost use Rattle.sc_record.specs.TermsStates.{TermsState};
-ghost use Rattle.sc_schema.specs.Keys.{found_in_field, with_keys, AreKeys, Builds, BuildsSoFar};
+ghost use Rattle.sc_schema.specs.Keys.{found_in_field, with_keys, AreKeys, Builds, BuildsSoFar, PutsKeys};
 
 use crate::value::decimal;
-use crate::word::push_words;
+use crate::word::{has_capital, in_small_letters, is_plain, push_words, runs_of};
 use sc_record::{Doc, Id, Kind, TermRun, TermsBuilder, Text, kind_of};
 use sc_spelling::{FieldRef, ValueRef, Values};
 use std::alloc::{AllocError, Global};
@@ -74,11 +77,14 @@ fn push_field<'a>(
     terms.begin(&field);
     let FieldRef { name, values } = field;
     let split = is_found_by_words(name);
-    if !split && values.len() == 1 {
-        return push_only(alloc, terms, values);
+    if values.len() != 1 {
+        let keys = keys_of(alloc, split, values)?;
+        return push_keys(terms, keys.as_slice());
     }
-    let keys = keys_of(alloc, split, values)?;
-    push_keys(terms, keys.as_slice())
+    if split {
+        return push_only_words(alloc, terms, values);
+    }
+    push_only(alloc, terms, values)
 }
 
 /// Whether the field of this name is found word by word.
@@ -109,14 +115,80 @@ fn push_only(
     }
 }
 
+/// Puts the words of the only value at the end, which ascend, each once.
+fn push_only_words(
+    alloc: Global,
+    terms: &mut TermsBuilder<'_>,
+    values: Values<'_>,
+) -> Result<(), AllocError>
+    requires { length values ≡ 1 }
+    ensures { OnOk result (PutsKeys (flat_map (keys_of true) values.entry) terms.old terms.new) }
+{
+    let mut values = values;
+    match values.next() {
+        Some(ValueRef::Text(text)) if is_plain(text) => push_plain_words(alloc, terms, text),
+        Some(value) => push_words_of(alloc, terms, &value),
+        None => Ok(()),
+    }
+}
+
+/// Puts the words of a value at the end, which ascend, each once.
+fn push_words_of(
+    alloc: Global,
+    terms: &mut TermsBuilder<'_>,
+    value: &ValueRef<'_>,
+) -> Result<(), AllocError>
+    ensures { OnOk result (PutsKeys (keys_of true (value_of value.now)) terms.old terms.new) }
+{
+    let mut keys = Vec::with_capacity(alloc, LIKELY_KEYS)?;
+    push_value(alloc, &mut keys, true, value)?;
+    let keys = in_order(keys);
+    push_keys(terms, keys.as_slice())
+}
+
+/// Puts the words of a plain text at the end, which ascend, each once.
+fn push_plain_words(
+    alloc: Global,
+    terms: &mut TermsBuilder<'_>,
+    text: &str,
+) -> Result<(), AllocError>
+    requires { list_all is_plain text.now ≡ true }
+    ensures { OnOk result (PutsKeys (map folded (words text.now)) terms.old terms.new) }
+{
+    if has_capital(text) {
+        let lower = in_small_letters(alloc, text)?;
+        return push_runs(alloc, terms, lower.as_str());
+    }
+    push_runs(alloc, terms, text)
+}
+
+/// Puts the runs of letters and digits of an ASCII text at the end, which ascend, each once.
+fn push_runs(alloc: Global, terms: &mut TermsBuilder<'_>, text: &str) -> Result<(), AllocError>
+    requires { IsAscii text.now }
+    ensures { OnOk result (PutsKeys (runs text.now) terms.old terms.new) }
+{
+    let mut words = runs_of(alloc, text)?;
+    words.sort_unstable_by(|left, right| key_cmp(left, right));
+    words.dedup();
+    push_lent_keys(terms, words.as_slice())
+}
+
 /// The keys of values of one field, which ascend, each once.
 fn keys_of(alloc: Global, split: bool, values: Values<'_>) -> Result<Vec<Text>, AllocError>
     ensures { IfOk result (λ keys. AreKeys (flat_map (keys_of split) values.entry) keys.items) }
 {
-    let mut keys = found_keys(alloc, split, values)?;
+    let keys = found_keys(alloc, split, values)?;
+    Ok(in_order(keys))
+}
+
+/// Keys that were found, which then ascend, each once.
+fn in_order(found: Vec<Text>) -> Vec<Text>
+    ensures { AreKeys found.items result.items }
+{
+    let mut keys = found;
     keys.sort_unstable_by(|left, right| key_cmp(left.as_str(), right.as_str()));
     keys.dedup();
-    Ok(keys)
+    keys
 }
 
 /// The same as they are found.
@@ -176,6 +248,16 @@ fn push_keys(terms: &mut TermsBuilder<'_>, keys: &[Text]) -> Result<(), AllocErr
 {
     for key in keys {
         terms.push(key.as_str(), NOWHERE)?;
+    }
+    Ok(())
+}
+
+/// The same of keys that are lent.
+fn push_lent_keys(terms: &mut TermsBuilder<'_>, keys: &[&str]) -> Result<(), AllocError>
+    ensures { OnOk result (terms.new ≡ with_keys (map (λ key. key.now) keys.now) terms.old) }
+{
+    for key in keys {
+        terms.push(key, NOWHERE)?;
     }
     Ok(())
 }

@@ -71,7 +71,7 @@ pub fn number_text(text: &str) -> Option<i64>
 }
 
 /// The truth value that the value is.
-fn flag_of(one: &RawOne) -> Option<bool>
+pub fn flag_of(one: &RawOne) -> Option<bool>
     ensures { result ≡ flag_of one.now }
 {
     match one {

@@ -45,7 +45,7 @@ pub fn some_values_for(
 }
 
 /// The values that are given: null is none.
-fn given(flat: &RawFlat) -> &[RawOne]
+pub fn given(flat: &RawFlat) -> &[RawOne]
     ensures { result.now ≡ given flat.now }
 {
     match flat {

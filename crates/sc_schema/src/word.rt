@@ -2,6 +2,7 @@ ghost use Rattle.std.specs.Prelude.{◌≡◌, ◌++◌, map, true, IfOk, OnOk, 
 ghost use Rattle.unicode_segmentation.specs.Word.{words};
 ghost use Rattle.std.specs.Char.{is_ascii_uppercase, to_ascii_lowercase};
 ghost use Rattle.std.specs.List.{list_all, list_any};
+ghost use Rattle.std.specs.String.{string_bytes};
 ghost use Rattle.sc_schema.specs.Terms.{folded, only_word};
 ghost use Rattle.sc_schema.specs.Runs.{is_plain, closed, runs};
 
@@ -9,6 +10,9 @@ use caseless::default_case_fold_str;
 use sc_record::Text;
 use std::alloc::{AllocError, Global};
 use unicode_segmentation::UnicodeSegmentation;
+
+/// For so many runs of a text there is room at once.
+const LIKELY_RUNS: usize = 16;
 
 /// The one word of the text (Unicode Standard Annex 29), folded by default case folding. `None` where it has no word or
 /// several.
@@ -50,13 +54,20 @@ fn folded_ascii(alloc: Global, text: &str) -> Result<Text, AllocError>
 fn lowered(alloc: Global, text: &str) -> Result<Text, AllocError>
     ensures { IfOk result (λ kept. kept ≡ map to_ascii_lowercase text.now) }
 {
+    Text::from_string(alloc, in_small_letters(alloc, text)?)
+}
+
+/// The same as a string.
+pub fn in_small_letters(alloc: Global, text: &str) -> Result<String, AllocError>
+    ensures { IfOk result (λ lower. string_bytes lower ≡ map to_ascii_lowercase text.now) }
+{
     let mut lower = String::from_str(alloc, text)?;
     lower.make_ascii_lowercase();
-    Text::from_string(alloc, lower)
+    Ok(lower)
 }
 
 /// Whether one of the letters `A` to `Z` stands in the text.
-fn has_capital(text: &str) -> bool
+pub fn has_capital(text: &str) -> bool
     ensures { result ≡ list_any is_ascii_uppercase text.now }
 {
     let mut capital = false;
@@ -80,7 +91,7 @@ pub fn push_words(alloc: Global, keys: &mut Vec<Text>, text: &str) -> Result<(),
 }
 
 /// Whether the words of the text are just the runs of its letters and digits.
-fn is_plain(text: &str) -> bool
+pub fn is_plain(text: &str) -> bool
     ensures { result ≡ list_all is_plain text.now }
 {
     let mut plain = true;
@@ -111,8 +122,7 @@ fn push_plain_words(alloc: Global, keys: &mut Vec<Text>, text: &str) -> Result<(
     ensures { OnOk result (keys.new.items ≡ keys.old.items ++ map folded (words text.now)) }
 {
     if has_capital(text) {
-        let mut lower = String::from_str(alloc, text)?;
-        lower.make_ascii_lowercase();
+        let lower = in_small_letters(alloc, text)?;
         return push_runs(alloc, keys, lower.as_str());
     }
     push_runs(alloc, keys, text)
@@ -123,23 +133,37 @@ fn push_runs(alloc: Global, keys: &mut Vec<Text>, text: &str) -> Result<(), Allo
     requires { IsAscii text.now }
     ensures { OnOk result (keys.new.items ≡ keys.old.items ++ runs text.now) }
 {
+    let runs = runs_of(alloc, text)?;
+    for run in runs.as_slice() {
+        keys.push(Text::new(alloc, run)?)?;
+    }
+    Ok(())
+}
+
+/// The runs of letters and digits of an ASCII text, lent by it.
+pub fn runs_of(alloc: Global, text: &str) -> Result<Vec<&str>, AllocError>
+    requires { IsAscii text.now }
+    ensures { IfOk result (λ found. map (λ run. run.now) found.items ≡ runs text.now) }
+{
     let bytes = text.as_bytes();
+    let mut found = Vec::with_capacity(alloc, LIKELY_RUNS)?;
     let mut start = 0;
     for at in 0..bytes.len() {
         if !bytes[at].is_ascii_alphanumeric() {
-            push_run(alloc, keys, &text[start..at])?;
+            push_run(&mut found, &text[start..at])?;
             start = at + 1;
         }
     }
-    push_run(alloc, keys, &text[start..])
+    push_run(&mut found, &text[start..])?;
+    Ok(found)
 }
 
 /// Puts a run at the end, where it has a byte.
-fn push_run(alloc: Global, keys: &mut Vec<Text>, run: &str) -> Result<(), AllocError>
-    ensures { OnOk result (keys.new.items ≡ keys.old.items ++ closed run.now) }
+fn push_run<'a>(found: &mut Vec<&'a str>, run: &'a str) -> Result<(), AllocError>
+    ensures { OnOk result (map (λ r. r.now) found.new.items ≡ map (λ r. r.now) found.old.items ++ closed run.now) }
 {
     if run.is_empty() {
         return Ok(());
     }
-    Ok(keys.push(Text::new(alloc, run)?)?)
+    Ok(found.push(run)?)
 }

@@ -124,6 +124,7 @@ impl Key for TermKey {
     }
 
     /// The first bytes of the text.
+    #[inline]
     fn head(&self) -> Head {
         Head::new(front_number(self.term.key.as_str().as_bytes()))
     }

@@ -10,4 +10,6 @@ abbrev pub text_bytes : Kept → List ℕ
 text_bytes (kept.Short short) = short
 text_bytes (kept.Small small) = (arc_value small).bytes
 text_bytes (kept.Medium medium) = (arc_value medium).bytes
+text_bytes (kept.Large large) = (arc_value large).bytes
+text_bytes (kept.Huge huge) = (arc_value huge).bytes
 text_bytes (kept.Long long) = string_bytes (arc_value long)

@@ -20,6 +20,12 @@ const MAX_SMALL_LENGTH: usize = 24;
 /// The most bytes of a text that is shared as one piece of memory of 64 bytes.
 const MAX_MEDIUM_LENGTH: usize = 40;
 
+/// The most bytes of a text that is shared as one piece of memory of 96 bytes.
+const MAX_LARGE_LENGTH: usize = 72;
+
+/// The most bytes of a text that is shared as one piece of memory of 128 bytes.
+const MAX_HUGE_LENGTH: usize = 104;
+
 /// How a text is kept.
 #[derive(Drop)]
 enum Kept {
@@ -29,12 +35,16 @@ enum Kept {
     Small(Arc<ArrayString<MAX_SMALL_LENGTH>>),
     /// The same, in a larger piece.
     Medium(Arc<ArrayString<MAX_MEDIUM_LENGTH>>),
-    /// Shared by all copies of the text.
+    /// The same, in a larger piece still.
+    Large(Arc<ArrayString<MAX_LARGE_LENGTH>>),
+    /// The same, in the largest piece.
+    Huge(Arc<ArrayString<MAX_HUGE_LENGTH>>),
+    /// Shared by all copies of the text, in two pieces of memory.
     Long(Arc<String>),
 }
 
 /// A text that is kept, which contracts see as its UTF-8 bytes. It takes 16 bytes: one of at most 14 bytes lies in it, and a
-/// longer one is shared with its copies.
+/// longer one is shared with its copies, in one piece of memory up to 104 bytes.
 #[derive(Drop)]
 pub struct Text {
     kept: Kept,
@@ -52,7 +62,7 @@ impl Model for Text {
 impl Kept {
     ghost use Rattle.sc_values.specs.Texts.{text_bytes};
 
-    /// A copy of the text, where it has at most 40 bytes.
+    /// A copy of the text, where it has at most 104 bytes.
     fn within(alloc: Global, text: &str) -> Result<Option<Kept>, AllocError>
         ensures { IfOk result (λ kept. IfSome kept (λ kept. text_bytes kept ≡ text.now)) }
     {
@@ -62,8 +72,14 @@ impl Kept {
         if let Ok(small) = ArrayString::from(text) {
             return Ok(Some(Kept::Small(Arc::new(alloc, small)?)));
         }
+        if let Ok(medium) = ArrayString::from(text) {
+            return Ok(Some(Kept::Medium(Arc::new(alloc, medium)?)));
+        }
+        if let Ok(large) = ArrayString::from(text) {
+            return Ok(Some(Kept::Large(Arc::new(alloc, large)?)));
+        }
         match ArrayString::from(text) {
-            Ok(medium) => Ok(Some(Kept::Medium(Arc::new(alloc, medium)?))),
+            Ok(huge) => Ok(Some(Kept::Huge(Arc::new(alloc, huge)?))),
             Err(_) => Ok(None),
         }
     }
@@ -95,7 +111,7 @@ impl Text {
         Ok(Text { kept })
     }
 
-    /// The same text, with no copy of one of more than 40 bytes.
+    /// The same text, with no copy of one of more than 104 bytes.
     pub fn from_string(alloc: Global, text: String) -> Result<Text, AllocError>
         ensures { IfOk result (λ kept. kept ≡ string_bytes text) }
     {
@@ -114,6 +130,8 @@ impl Text {
             Kept::Short(short) => short.as_str(),
             Kept::Small(small) => small.as_str(),
             Kept::Medium(medium) => medium.as_str(),
+            Kept::Large(large) => large.as_str(),
+            Kept::Huge(huge) => huge.as_str(),
             Kept::Long(long) => long.as_str(),
         }
     }
@@ -145,6 +163,8 @@ impl Clone for Text {
             Kept::Short(short) => Kept::Short(short.copy()),
             Kept::Small(small) => Kept::Small(Arc::try_clone(small)?),
             Kept::Medium(medium) => Kept::Medium(Arc::try_clone(medium)?),
+            Kept::Large(large) => Kept::Large(Arc::try_clone(large)?),
+            Kept::Huge(huge) => Kept::Huge(Arc::try_clone(huge)?),
             Kept::Long(long) => Kept::Long(Arc::try_clone(long)?),
         };
         Ok(Text { kept })

@@ -11,7 +11,8 @@ use Rattle.sc_spelling.specs.Lent.{field_of}
 use Rattle.sc_spelling.specs.declared.field.FieldRef.{FieldRef}
 use Rattle.sc_partial.specs.Changed.{can_change, changed}
 use Rattle.sc_partial.specs.Resolved.{some_field, IsRefusalOf}
-use Rattle.sc_partial.specs.Runs.{Adds, next_fields}
+use Rattle.sc_record.specs.DocParts.{Adds}
+use Rattle.sc_partial.specs.Runs.{next_fields}
 use Rattle.sc_partial.proofs.StepLemmas.{refused_same, refused_missing, below_first}
 use Rattle.sc_partial.proofs.RunLemmas.{same_left, kept_spelled, same_spelled, missing_spelled, all_spelled, next_all}
 use Rattle.sc_partial.proofs.merge.merged.Goals as goal
@@ -28,7 +29,7 @@ loop-change-preserved-in-Less c =
     let before : slice_cmp nat_cmp c.in-Some-next.field.name.now c.in-Some.change.now.name ≡ Less = search rules in
     let so_far = same_left head first c.loop-change.invariant in
     let left = next_all c.next-next-in-Less.result c.loop-change.fields c.next-next-in-Less.new.self c.next-next-in-Less.ensures.steps in
-    same_left left (sym first) (kept_spelled _ _ _ _ _ _ _ _ so_far before c.in_ok-push-in-Less.ensures)
+    same_left left (sym first) (kept_spelled _ _ _ _ _ _ _ _ so_far before c.in_ok-push_lent-in-Less.ensures)
 
 pub loop-change-preserved-in-Equal : goal.loop-change-preserved-in-Equal
 loop-change-preserved-in-Equal c =
@@ -41,7 +42,7 @@ loop-change-preserved-in-Equal c =
     c.in_ok-add_changed-in-Equal.ensures.accepted in
     let fits = subst (λ (v : List Value). AllByRecursion FitsField (some_field c.in-Some.change.now.name (changed c.in-Some.change.now.name v c.in-Some.change.now.how))) values
     c.in_ok-add_changed-in-Equal.ensures.fits in
-    let adds = subst (λ (v : List Value). Adds (some_field c.in-Some.change.now.name (changed c.in-Some.change.now.name v c.in-Some.change.now.how)) c.loop-change.run c.add_changed-in-Equal.new.run)
+    let adds = subst (λ (v : List Value). Adds (some_field c.in-Some.change.now.name (changed c.in-Some.change.now.name v c.in-Some.change.now.how)) c.loop-change.made c.add_changed-in-Equal.new.made)
     values c.in_ok-add_changed-in-Equal.ensures.added in
     let left = next_all c.next-next-in-Equal.result c.loop-change.fields c.next-next-in-Equal.new.self c.next-next-in-Equal.ensures.steps in
     same_left left refl (same_spelled _ _ _ _ _ _ _ _ so_far same can fits adds)
@@ -89,9 +90,9 @@ returns-in_err-add_changed-in-Greater-clause-refused c =
 pub returns-clause-whole : goal.returns-clause-whole
 returns-clause-whole c =
     let none = empty_list c.loop-change.changes_left.now c.in_default.ensures.cases in
-    (all_spelled _ _ _ _ _ (same_left refl none c.loop-change.invariant) c.in_ok-push_left.ensures c.count-count.ensures.few).whole
+    (all_spelled _ _ _ _ _ (same_left refl none c.loop-change.invariant) c.in_ok-push_left.ensures c.len-count.ensures.few).whole
 
 pub returns-clause-document : goal.returns-clause-document
 returns-clause-document c =
     let none = empty_list c.loop-change.changes_left.now c.in_default.ensures.cases in
-    (all_spelled _ _ _ _ _ (same_left refl none c.loop-change.invariant) c.in_ok-push_left.ensures c.count-count.ensures.few).document
+    (all_spelled _ _ _ _ _ (same_left refl none c.loop-change.invariant) c.in_ok-push_left.ensures c.len-count.ensures.few).document

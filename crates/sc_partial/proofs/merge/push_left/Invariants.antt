@@ -7,6 +7,6 @@ use Rattle.sc_partial.proofs.merge.push_left.Given as goal
 
 abbrev pub invariant-loop-field : goal.invariant-loop-field
 invariant-loop-field l =
-    (l.run.count + length l.field-iterator ≡ l.fn.run.count + length (next_fields l.fn.next l.fn.others))
-    × (l.run.bytes.items ++ flat_map spelling_of_field l.field-iterator
-    ≡ l.fn.run.bytes.items ++ flat_map spelling_of_field (next_fields l.fn.next l.fn.others))
+    (l.made.count + length l.field-iterator ≡ l.fn.made.count + length (next_fields l.fn.next l.fn.others))
+    × (l.made.bytes ++ flat_map spelling_of_field l.field-iterator
+    ≡ l.fn.made.bytes ++ flat_map spelling_of_field (next_fields l.fn.next l.fn.others))

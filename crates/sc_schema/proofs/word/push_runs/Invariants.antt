@@ -1,10 +1,6 @@
--- The runs so far, then the one that has begun and those of the bytes left.
-use Rattle.std.proofs.Common.{◌≡◌, ◌≤◌, ◌-◌, ◌++◌, take, drop}
-use Rattle.sc_schema.specs.Runs.{runs, runs_from}
+-- The runs so far were put at the end.
+use Rattle.std.proofs.Common.{◌≡◌, ◌++◌, map, take}
 use Rattle.sc_schema.proofs.word.push_runs.Given as goal
 
-abbrev pub invariant-loop-at : goal.invariant-loop-at
-invariant-loop-at l = record {
-  begun : l.start ≤ l.at;
-  found : l.keys.items ++ runs_from (take (l.at - l.start) (drop l.start l.text)) (drop l.at l.text) ≡ l.initial.keys.items ++ runs l.text;
-}
+abbrev pub invariant-loop-run : goal.invariant-loop-run
+invariant-loop-run l = l.keys.items ≡ l.initial.keys.items ++ map (λ r. r.now) (take l.run-index l.run-items)
